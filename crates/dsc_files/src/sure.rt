@@ -108,6 +108,16 @@ impl SureSink {
     {
         &self.kept
     }
+
+    /// Keeps as many of these bytes as have room.
+    fn keep(&mut self, bytes: &[u8])
+        ensures { self.new ≡ stored self.old bytes.now }
+    {
+        let fits = bytes.len().min(self.room - self.kept.len());
+        self.whole = self.whole && fits == bytes.len();
+        // It has the capacity.
+        let _ = self.kept.extend_from_slice(&bytes[..fits]);
+    }
 }
 
 impl Sink for SureSink {
@@ -131,10 +141,7 @@ impl Sink for SureSink {
         ensures kept { IfOk result (λ n. self.new ≡ stored self.old (take n piece.now)) }
     {
         let n = piece.len().min(self.piece);
-        let fits = n.min(self.room - self.kept.len());
-        // It has the capacity.
-        let _ = self.kept.extend_from_slice(&piece[..fits]);
-        self.whole = self.whole && fits == n;
+        self.keep(&piece[..n]);
         Ok(n)
     }
 
