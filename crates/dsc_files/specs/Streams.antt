@@ -1,5 +1,5 @@
 -- What a source loses and a sink gains: this project's profile.
-use Rattle.std.specs.Prelude.{◌≡◌, ℕ, ◌<◌, ◌-◌, ◌^◌, List, [], ◌++◌, length, Option, Some, None, ◌⊎◌}
+use Rattle.std.specs.Prelude.{◌≡◌, ℕ, ◌+◌, ◌-◌, ◌^◌, ◌<◌, min, List, [], ◌++◌, length, Option, Some, None, ◌⊎◌}
 
 -- what is left now was left behind these bytes, where it is told; and it was told before
 abbrev pub Loses : Option (List ℕ) → Option (List ℕ) → List ℕ → Type 0
@@ -28,3 +28,7 @@ Told old new = (bytes : List ℕ) → new ≡ Some bytes → (before : List ℕ)
 -- a count of faults has risen; one that is at its last value stays there
 abbrev pub Rises : ℕ → ℕ → Type 0
 Rises old new = (old < new) ⊎ ((old ≡ 2 ^ 64 - 1) × (new ≡ 2 ^ 64 - 1))
+
+-- the next value of a count of 64 bits, which stays at its last
+abbrev pub next : ℕ → ℕ
+next count = min (count + 1) (2 ^ 64 - 1)

@@ -27,5 +27,5 @@ told s = if s.whole then Some s.kept else None
 abbrev pub stored : Store → List ℕ → Store
 stored s bytes = record s {
   kept = take s.room (s.kept ++ bytes);
-  whole = s.whole && nat_le (length s.kept + length bytes) s.room
+  whole = s.whole && nat_le (length s.kept + length bytes) s.room;
 }

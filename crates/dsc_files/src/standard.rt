@@ -1,6 +1,7 @@
 ghost use Rattle.std.specs.Prelude.{◌≡◌, None};
 ghost use Rattle.dsc_files.specs.Streams.{Rises};
 
+use crate::streams::after;
 use crate::{Failed, Sink, Source};
 use std::io::{Read, Write};
 use std::marker::Model;
@@ -38,7 +39,7 @@ impl<R: Read> Source for StdSource<R> {
         match self.reader.read(into) {
             Ok(n) => Ok(n),
             Err(_) => {
-                self.faults = self.faults.saturating_add(1);
+                self.faults = after(self.faults);
                 Err(Failed)
             }
         }
@@ -72,7 +73,7 @@ impl<W: Write> StdSink<W> {
     fn fail(&mut self) -> Failed
         ensures { Rises self.old self.new }
     {
-        self.faults = self.faults.saturating_add(1);
+        self.faults = after(self.faults);
         Failed
     }
 }

@@ -1,9 +1,17 @@
 ghost use Rattle.std.specs.Prelude.{◌≡◌, ℕ, ◌<◌, ◌≤◌, Option, List, [], length, take, IfOk, OnOk, OnErr, MatchResult};
-ghost use Rattle.dsc_files.specs.Streams.{Loses, Gains, Rises, IsEnded, IsFlushed};
+ghost use Rattle.dsc_files.specs.Streams.{Loses, Gains, Rises, IsEnded, IsFlushed, next};
 
 /// A read, a write or a flush that did not come about.
 #[derive(Clone, Copy, Debug, PartialEq, Eq)]
 pub struct Failed;
+
+/// The next value of a count, which stays at 2^64 - 1.
+pub(crate) fn after(count: u64) -> u64
+    ensures value { result ≡ next count }
+    ensures rises { Rises count result }
+{
+    count.saturating_add(1)
+}
 
 /// Where bytes come from.
 pub trait Source {

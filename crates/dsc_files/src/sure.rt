@@ -1,4 +1,4 @@
-ghost use Rattle.std.specs.Prelude.{◌≡◌, ◌+◌, ◌<◌, ◌≤◌, Some, [], true, length, take, IfOk, IsOk, OnOk, OnErr, MatchResult};
+ghost use Rattle.std.specs.Prelude.{◌≡◌, ◌+◌, ◌-◌, ◌<◌, ◌≤◌, Some, [], true, length, take, IfOk, IsOk, OnOk, OnErr, MatchResult};
 ghost use Rattle.dsc_files.specs.Streams.{Loses, Gains, Rises, IsEnded, IsFlushed};
 ghost use Rattle.dsc_files.specs.Sure.{no_faults, told, stored};
 
@@ -107,6 +107,13 @@ impl SureSink {
         ensures { result.now ≡ self.now.kept }
     {
         &self.kept
+    }
+
+    /// How many more bytes it can keep.
+    pub(crate) fn room_left(&self) -> usize
+        ensures { result ≡ self.now.room - length self.now.kept }
+    {
+        self.room - self.kept.len()
     }
 
     /// Keeps as many of these bytes as have room.

@@ -34,7 +34,11 @@ impl From<NoMemory> for ReadError {
 }
 
 /// Reads to the end of the source, or until it has taken more than `limit` bytes, and gives the bytes.
-pub fn read_at_most<S: Source>(alloc: Global, source: &mut S, limit: usize) -> Result<Vec<u8>, ReadError>
+pub fn read_at_most<S: Source>(
+    alloc: Global,
+    source: &mut S,
+    limit: usize,
+) -> Result<Vec<u8>, ReadError>
     ensures bytes { IfOk result (λ bytes. Loses (S.left source.old) (S.left source.new) bytes.items) }
     ensures end { IfOk result (λ bytes. length bytes.items ≤ limit → IsEnded (S.left source.new)) }
     ensures sound { OnOk result (S.faults source.new ≡ S.faults source.old) }

@@ -5,7 +5,7 @@ use Rattle.dsc_files.proofs.whole.read_at_most.Given as goal
 abbrev pub invariant-loop-piece : goal.invariant-loop-piece
 invariant-loop-piece g l = record {
   lost : Loses (g.S.Source.left l.initial.source) (g.S.Source.left l.source) l.bytes.items;
-  sound : g.S.Source.faults l.source ≡ g.S.Source.faults l.initial.source
+  sound : g.S.Source.faults l.source ≡ g.S.Source.faults l.initial.source;
 }
 
 abbrev pub decreases-loop-piece : goal.decreases-loop-piece

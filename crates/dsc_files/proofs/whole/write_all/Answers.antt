@@ -8,5 +8,5 @@ loop-rest-preserved g c =
     record {
       front = front_more _ _ _ _ was.front.0 _ _ _ was.front.1 c.split_at.ensures.back was.front.2 c.in_ok-n.ensures.bytes;
       sound = c.in_ok-n.ensures.cause ∙ was.sound;
-      flushed = c.in_ok-n.ensures.not_flushed ∙ was.flushed
+      flushed = c.in_ok-n.ensures.not_flushed ∙ was.flushed;
     }

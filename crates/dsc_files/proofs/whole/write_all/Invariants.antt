@@ -6,7 +6,7 @@ abbrev pub invariant-loop-rest : goal.invariant-loop-rest
 invariant-loop-rest g l = record {
   front : (front : List ℕ) × (l.text ≡ front ++ l.rest) × Gains (g.K.Sink.written l.initial.sink) (g.K.Sink.written l.sink) front;
   sound : g.K.Sink.faults l.sink ≡ g.K.Sink.faults l.initial.sink;
-  flushed : g.K.Sink.flushed l.sink ≡ g.K.Sink.flushed l.initial.sink
+  flushed : g.K.Sink.flushed l.sink ≡ g.K.Sink.flushed l.initial.sink;
 }
 
 abbrev pub decreases-loop-rest : goal.decreases-loop-rest
