@@ -1,4 +1,4 @@
-ghost use Rattle.std.specs.Prelude.{◌≡◌, ℕ, ◌≤◌, List, ◌++◌, length, IfOk, OnOk, OnErr, IsErrOf};
+ghost use Rattle.std.specs.Prelude.{◌≡◌, ℕ, ◌+◌, ◌≤◌, List, ◌++◌, length, IfOk, OnOk, OnErr, IsErrOf};
 ghost use Rattle.dsc_files.specs.declared.whole.ReadError.TheVariants.{Failed as failed, Memory as memory};
 ghost use Rattle.dsc_files.specs.Streams.{Loses, Gains, Rises, IsEnded, Told};
 
@@ -34,6 +34,7 @@ impl From<NoMemory> for ReadError {
 }
 
 /// Reads to the end of the source, or until it has taken more than `limit` bytes, and gives the bytes.
+/// It asks for 4,096 at once.
 pub fn read_at_most<S: Source>(
     alloc: Global,
     source: &mut S,
@@ -41,6 +42,7 @@ pub fn read_at_most<S: Source>(
 ) -> Result<Vec<u8>, ReadError>
     ensures bytes { IfOk result (λ bytes. Loses (S.left source.old) (S.left source.new) bytes.items) }
     ensures end { IfOk result (λ bytes. length bytes.items ≤ limit → IsEnded (S.left source.new)) }
+    ensures most { IfOk result (λ bytes. length bytes.items ≤ limit + 4096) }
     ensures sound { OnOk result (S.faults source.new ≡ S.faults source.old) }
     ensures lost { OnErr result ((bytes : List ℕ) × Loses (S.left source.old) (S.left source.new) bytes) }
     ensures failed { IsErrOf result ReadError.Failed → Rises (S.faults source.old) (S.faults source.new) }
