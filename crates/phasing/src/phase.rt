@@ -1,4 +1,4 @@
-ghost use Rattle.std.specs.Prelude.{◌≡◌, ◌≤◌, length, IfSome};
+ghost use Rattle.std.specs.Prelude.{◌≡◌, ◌+◌, ◌<◌, ◌≤◌, length, IfSome};
 ghost use Rattle.phasing.specs.Origin as sequence;
 
 use crate::reception::shows;
@@ -10,7 +10,10 @@ fn dx_right(e: &[Element], lead: u32) -> usize
     requires lead { lead ≤ 1000150 }
     ensures { result ≡ sequence.dx_right e.now lead }
 {
-    [0, 2, 4, 6, 8, 10].iter().filter(|slot| shows(e, lead, **slot, 125)).count()
+    [0, 2, 4, 6, 8, 10]
+        .iter()
+        .filter(|slot| shows(e, lead, **slot, 125))
+        .count()
 }
 
 /// How many RX slots show theirs.
@@ -31,8 +34,13 @@ fn is_phased(e: &[Element], lead: u32) -> bool
     requires lead { lead ≤ 1000150 }
     ensures { result ≡ sequence.is_phased e.now lead }
 {
-    let dx = dx_right(e, lead);
-    let rx = rx_right(e, lead);
+    is_enough(dx_right(e, lead), rx_right(e, lead))
+}
+
+/// Whether so many right phasing symbols are enough.
+fn is_enough(dx: usize, rx: usize) -> bool
+    ensures { result ≡ sequence.is_enough dx rx }
+{
     dx >= 2 && rx >= 1 || rx >= 2 && dx >= 1 || rx >= 3
 }
 
@@ -40,7 +48,8 @@ fn is_phased(e: &[Element], lead: u32) -> bool
 /// `None` comes exactly where no origin from -150 on is phased.
 pub fn lead(e: &[Element]) -> Option<u32>
     requires { length e.now ≤ 1000000 }
-    ensures { result ≡ sequence.lead_of e.now }
+    ensures least { result ≡ sequence.lead_of e.now }
+    ensures within { IfSome result (λ lead. lead < length e.now + 150) }
 {
     (0..e.len() as u32 + 150).find(|lead| is_phased(e, *lead))
 }
