@@ -5,11 +5,11 @@ use Rattle.phasing.specs.Slot.{shows}
 use Rattle.phasing.specs.Origin.{lead_of}
 
 -- a set of symbols is its test
-abbrev pub Symbols : Type 1
+abbrev pub Symbols : Type 0
 Symbols = ℕ → Bool
 
 -- facts: the symbols that each place showed
-abbrev pub Facts : Type 1
+abbrev pub Facts : Type 0
 Facts = ℕ → ℕ → Bool
 
 -- no place showed a symbol

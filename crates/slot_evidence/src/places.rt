@@ -1,7 +1,6 @@
-ghost use Rattle.std.specs.Prelude.{◌≡◌, ◌||◌, ◌<◌, MatchOption};
+ghost use Rattle.std.specs.Prelude.{◌≡◌, ◌||◌, ◌<◌, ◌≤◌, MatchOption};
 ghost use Rattle.slot_evidence.specs.Facts.{Symbols};
-ghost use Rattle.slot_evidence.specs.Seen.{IsSeen, IsLawful};
-ghost use Rattle.slot_evidence.specs.Span.{IsSpan, ShowsNone, IsSpanOf};
+ghost use Rattle.slot_evidence.specs.Seen.{ShowsNone, IsSpan, IsSeen, IsLawful, IsLawfulSpan};
 
 /// What is known of a place: no symbol was shown, one and no other, or several, of which the least and the
 /// greatest are kept.
@@ -13,21 +12,24 @@ pub enum Seen {
 }
 
 impl Seen {
-    /// What is kept of the symbols that two of these showed together.
+    /// What is kept of all the symbols that two of these were kept of.
     pub fn meet(self, other: Seen) -> Seen
         ensures union { (S T : Symbols) → IsSeen S self → IsSeen T other → IsSeen (λ v. S v || T v) result }
         ensures lawful { IsLawful self → IsLawful other → IsLawful result }
     {
-        match (self.span(), other.span()) {
-            (Some((a, b)), Some((c, d))) => Seen::of_span(a.min(c), b.max(d)),
-            (Some(_), None) => self,
-            (None, _) => other,
-        }
+        let Some((least, greatest)) = self.span() else {
+            return other;
+        };
+        let Some((other_least, other_greatest)) = other.span() else {
+            return self;
+        };
+        Seen::of_span(least.min(other_least), greatest.max(other_greatest))
     }
 
     /// The least and the greatest symbol, if there is one.
     fn span(self) -> Option<(u8, u8)>
-        ensures { result ≡ span_of self }
+        ensures ends { (S : Symbols) → IsSeen S self → MatchOption result (ShowsNone S) (λ ends. IsSpan S ends.0 ends.1) }
+        ensures lawful { IsLawful self → MatchOption result (Unit {0}) IsLawfulSpan }
     {
         match self {
             Seen::None => None,
@@ -38,7 +40,8 @@ impl Seen {
 
     /// What is kept of symbols of which these are the least and the greatest.
     fn of_span(least: u8, greatest: u8) -> Seen
-        ensures { result ≡ seen_of least greatest }
+        ensures ends { (S : Symbols) → IsSpan S least greatest → IsSeen S result }
+        ensures lawful { IsLawfulSpan (least, greatest) → IsLawful result }
     {
         if least == greatest {
             Seen::One(least)

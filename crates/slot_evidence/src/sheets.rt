@@ -1,7 +1,7 @@
-ghost use Rattle.std.specs.Prelude.{◌≡◌, ℕ, ◌<◌, ◌≤◌, length, replicate};
-ghost use Rattle.slot_evidence.specs.Facts.{Facts, no_facts, one_fact, union};
+ghost use Rattle.std.specs.Prelude.{◌≡◌, ℕ, ◌||◌, ◌<◌, ◌≤◌, length, replicate};
+ghost use Rattle.slot_evidence.specs.Facts.{Facts, Symbols, no_facts, one_fact, union};
 ghost use Rattle.slot_evidence.specs.Seen.{IsSeen, IsLawful};
-ghost use Rattle.slot_evidence.specs.Sheet.{IsEnds, seen_at};
+ghost use Rattle.slot_evidence.specs.Sheet.{IsSheet, IsEnds, seen_at};
 
 use crate::places::Seen;
 use std::marker::Model;
@@ -27,6 +27,14 @@ impl Model for Sheet {
 }
 
 impl Sheet {
+    /// The sheet that keeps this of each place.
+    pub(crate) fn of_places(places: [Seen; 64]) -> Sheet
+        requires { IsSheet places }
+        ensures { result ≡ places }
+    {
+        Sheet { places }
+    }
+
     /// The sheet of no facts.
     pub fn empty() -> Sheet
         ensures ends { IsEnds no_facts result }
@@ -62,6 +70,20 @@ impl Sheet {
         let seen = self.places[p as usize].meet(Seen::One(symbol));
         self.places[p as usize] = seen;
     }
+}
+
+/// What is kept of each place by two sheets together.
+fn met(ours: &[Seen; 64], theirs: &[Seen; 64]) -> [Seen; 64]
+    ensures union {
+        (p : ℕ) (S T : Symbols) → IsSeen S (seen_at ours.now p) → IsSeen T (seen_at theirs.now p) → IsSeen (λ v. S v || T v) (seen_at result p)
+    }
+    ensures lawful { IsSheet ours.now → IsSheet theirs.now → IsSheet result }
+{
+    let mut places = *ours;
+    for p in 0..64 {
+        places[p] = ours[p].meet(theirs[p]);
+    }
+    places
 }
 
 /// Every sheet keeps the ends of some facts, so what is said of all facts with a sheet speaks of some.
