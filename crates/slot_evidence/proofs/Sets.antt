@@ -1,10 +1,10 @@
 -- sets of symbols: what is kept of one is determined, and what is kept of two together
-use Rattle.std.proofs.Common.{◌≡◌, ℕ, ◌<◌, ◌≤◌, min, max, Bool, true, false, ◌||◌, refl, arith, ap, sym, ◌∙◌, inl, inr}
-use Rattle.std.proofs.lemmas.Bool.{or_cases, or_left, or_right, or_from, cases_lt}
+use Rattle.std.proofs.Common.{◌≡◌, ℕ, min, max, Bool, true, false, ◌||◌, refl, arith, ap, sym, ◌∙◌, inl, inr, subst}
+use Rattle.std.proofs.lemmas.Bool.{or_cases, or_left, or_right, cases_lt}
 use Rattle.slot_evidence.specs.declared.places.Seen.{Seen}
 use Rattle.slot_evidence.specs.declared.places.Seen.TheVariants as seen
 use Rattle.slot_evidence.specs.Facts.{Symbols}
-use Rattle.slot_evidence.specs.Seen.{ShowsNone, ShowsOne, ShowsSeveral, IsSpan, IsSeen}
+use Rattle.slot_evidence.specs.Seen.{ShowsNone, ShowsOne, ShowsSeveral, IsSpan, IsSeen, IsLawful}
 
 -- the same set is kept in the same way
 pub IsSeen-same : (S T : Symbols) (x : Seen) → ((v : ℕ) → S v ≡ T v) → IsSeen S x → IsSeen T x
@@ -46,7 +46,7 @@ one_seen S (seen.Differ a b) (seen.Differ c d) p q = several_same S a b c d p q
 pub none_or : (S T : Symbols) (x : Seen) → ShowsNone S → IsSeen T x → IsSeen (λ v. S v || T v) x
 none_or S T x none t = IsSeen-same T (λ v. S v || T v) x (λ v. sym (ap (λ b. b || T v) (none v))) t
 
-or_none : (b c : Bool) → c ≡ false → b ≡ (b || c)
+pub or_none : (b c : Bool) → c ≡ false → b ≡ (b || c)
 or_none true c h = refl
 or_none false c h = sym h
 
@@ -69,14 +69,28 @@ has_max S T b d s t =
     ]
 
 -- the spans of two sets make the span of both
-pub span_or : (S T : Symbols) (a b c d : ℕ) → IsSpan S a b → IsSpan T c d → IsSpan (λ v. S v || T v) (min a c) (max b d)
-span_or S T a b c d s t = record {
+span_min_max : (S T : Symbols) (a b c d : ℕ) → IsSpan S a b → IsSpan T c d → IsSpan (λ v. S v || T v) (min a c) (max b d)
+span_min_max S T a b c d s t = record {
   has_least = has_min S T a c s.has_least t.has_least;
   has_greatest = has_max S T b d s.has_greatest t.has_greatest;
   between =
-    λ w shown.
-    elim (or_cases (S w) (T w) shown) [
-      | inl one ↦ let h = s.between w one in (omega (arith, h), omega (arith, h))
-      | inr other ↦ let h = t.between w other in (omega (arith, h), omega (arith, h))
-    ];
+      λ w shown.
+      elim (or_cases (S w) (T w) shown) [
+        | inl one ↦ let h = s.between w one in (omega (arith, h), omega (arith, h))
+        | inr other ↦ let h = t.between w other in (omega (arith, h), omega (arith, h))
+      ];
 }
+
+pub span_or : (S T : Symbols) (a b c d least greatest : ℕ) → IsSpan S a b → IsSpan T c d → least ≡ min a c → greatest ≡ max b d → IsSpan (λ v. S v || T v) least greatest
+span_or S T a b c d least greatest s t low high =
+    let both = span_min_max S T a b c d s t in
+    subst (λ (x : ℕ). IsSpan (λ v. S v || T v) x greatest) (sym low)
+    (subst (λ (x : ℕ). IsSpan (λ v. S v || T v) (min a c) x) (sym high) both)
+
+-- what is kept of two sets together
+pub record IsMet (x y z : Seen) : Type 0 where
+  pub seen : (S T : Symbols) → IsSeen S x → IsSeen T y → IsSeen (λ v. S v || T v) z
+  pub lawful : IsLawful x → IsLawful y → IsLawful z
+
+pub IsMet-none : IsMet seen.None seen.None seen.None
+IsMet-none = record { seen = λ S T s t. none_or S T seen.None s t; lawful = λ h k. tt }

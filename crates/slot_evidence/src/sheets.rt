@@ -40,9 +40,7 @@ impl Sheet {
         ensures ends { IsEnds no_facts result }
         ensures blank { result ≡ replicate 64 Seen.None }
     {
-        Sheet {
-            places: [Seen::None; 64],
-        }
+        Sheet::of_places([Seen::None; 64])
     }
 
     /// What the sheet says of a place below 64.
@@ -74,9 +72,7 @@ impl Sheet {
 
 /// What is kept of each place by two sheets together.
 fn met(ours: &[Seen; 64], theirs: &[Seen; 64]) -> [Seen; 64]
-    ensures union {
-        (p : ℕ) (S T : Symbols) → IsSeen S (seen_at ours.now p) → IsSeen T (seen_at theirs.now p) → IsSeen (λ v. S v || T v) (seen_at result p)
-    }
+    ensures union { (p : ℕ) (S T : Symbols) → IsSeen S (seen_at ours.now p) → IsSeen T (seen_at theirs.now p) → IsSeen (λ v. S v || T v) (seen_at result p) }
     ensures lawful { IsSheet ours.now → IsSheet theirs.now → IsSheet result }
 {
     let mut places = *ours;
@@ -90,4 +86,5 @@ fn met(ours: &[Seen; 64], theirs: &[Seen; 64]) -> [Seen; 64]
 pub fn sheet_has_facts(sheet: &Sheet)
     ensures { (F : Facts) × IsEnds F sheet.now }
 {
+    let _places = &sheet.places;
 }
