@@ -1,0 +1,4 @@
+pub mod Faults
+pub mod JoinLine
+pub mod Lines
+pub mod Receptions

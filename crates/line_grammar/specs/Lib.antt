@@ -1,0 +1,4 @@
+pub mod Columns
+pub mod Grammar
+pub mod Reading
+pub mod Tokens
