@@ -4,6 +4,8 @@
 mod faults;
 mod joining;
 mod laws;
+mod line;
+mod receptions;
 
 pub use faults::{Fault, FirstFault, LinesError};
 pub use joining::join_lines;

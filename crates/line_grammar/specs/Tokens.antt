@@ -4,7 +4,7 @@ use Rattle.std.specs.List.{list_any, list_all}
 
 -- a test of bytes: whether it is one of these
 abbrev pub is_one_of : List ℕ → ℕ → Bool
-is_one_of bytes b = list_any (λ c. b == c) bytes
+is_one_of bytes b = list_any (λ c. c == b) bytes
 
 -- a token: one or more of these bytes
 pub data Token : Type 0 where

@@ -3,4 +3,4 @@
 
 mod reading;
 
-pub use reading::left;
+pub use reading::{column, end, run, word};
