@@ -35,6 +35,11 @@ pub record IsFirstFault (lines : List (List ℕ)) (number : ℕ) (fault : Fault)
   pub is_fault : IsFault number text fault
   pub faultless : IsFaultless before
 
+-- an error names this line and its fault, or want of memory
+abbrev pub IsLineError : (number : ℕ) → (text : List ℕ) → LinesError → Type 0
+IsLineError number text (error.Fault first) = (first.line ≡ number) × IsFault number text first.fault
+IsLineError number text error.Memory = Unit {0}
+
 -- an error names the first fault of the lines, or want of memory
 abbrev pub IsError : List (List ℕ) → LinesError → Type 0
 IsError lines (error.Fault first) = IsFirstFault lines first.line first.fault

@@ -1,4 +1,5 @@
 ghost use Rattle.std.specs.Prelude.{◌≡◌};
+ghost use Rattle.join_lines.specs.declared.faults.LinesError.TheVariants.{Memory as memory};
 
 use std::alloc::AllocError;
 
@@ -28,4 +29,12 @@ pub enum LinesError {
     Fault(FirstFault),
     /// There was no memory for a reception.
     Memory,
+}
+
+impl From<AllocError> for LinesError {
+    ghost from_gives = { λ _ e. e ≡ memory };
+
+    fn from(_: AllocError) -> Self {
+        LinesError::Memory
+    }
 }

@@ -3,9 +3,9 @@ ghost use Rattle.line_grammar.specs.Columns.{IsColumn};
 ghost use Rattle.line_grammar.specs.Grammar.{part, none};
 ghost use Rattle.line_grammar.specs.Reading.{read};
 ghost use Rattle.join_lines.specs.declared.faults.Fault.{Fault};
-ghost use Rattle.join_lines.specs.Lines.{lines_of};
-ghost use Rattle.join_lines.specs.JoinLine.{IsLine, nothing};
-ghost use Rattle.join_lines.specs.JoinLine as lines;
+ghost use Rattle.std.specs.List.{prefix_len};
+ghost use Rattle.join_lines.specs.Lines.{lines_of, is_inside};
+ghost use Rattle.join_lines.specs.JoinLine.{JoinLine, IsLine};
 ghost use Rattle.join_lines.specs.Reading.{body_grammar, reception_grammar, parts_of};
 ghost use Rattle.join_lines.specs.Receptions.{receptions_in, element_of};
 ghost use Rattle.join_lines.specs.Faults.{IsFault};
@@ -19,15 +19,25 @@ const MOST_LINES: usize = 4096;
 /// A line has at most this many bytes.
 const LONGEST_LINE: usize = 4200;
 
+/// How many bytes stand before the first line feed.
+fn line_length(bytes: &[u8]) -> usize
+    ensures length { result ≡ prefix_len is_inside bytes.now }
+    ensures most { result ≤ length bytes.now }
+{
+    bytes.iter().take_while(|b| **b != b'\n').count()
+}
+
 /// The first line of these bytes, and those behind it.
 pub(crate) fn first_line(bytes: &[u8]) -> (&[u8], &[u8])
     requires { 0 < length bytes.now }
     ensures lines { lines_of bytes.now ≡ result.0.now ∷ lines_of result.1.now }
     ensures less { length result.1.now < length bytes.now }
 {
-    match bytes.iter().position(|b| *b == b'\n') {
-        Some(at) => (&bytes[..at], &bytes[at + 1..]),
-        None => (bytes, &[]),
+    let at = line_length(bytes);
+    if at < bytes.len() {
+        (&bytes[..at], &bytes[at + 1..])
+    } else {
+        (bytes, &[])
     }
 }
 
@@ -51,21 +61,26 @@ fn reception(text: &[u8]) -> Result<&[u8], usize>
     if rest.is_empty() {
         return Ok(rest);
     }
-    body(rest)
+    let signs = body(rest)?;
+    Ok(signs)
 }
 
 /// The signs of a line that is a reception, or `None` for a line that says nothing. An error is the column.
 fn signs_of(text: &[u8]) -> Result<Option<&[u8]>, usize>
     requires { length text.now ≤ 4200 }
-    ensures signs { IfOk result (λ signs. MatchOption signs (IsLine nothing text.now) (λ signs. IsLine (lines.reception (map element_of signs.now)) text.now)) }
+    ensures line { OnOk result ((line : JoinLine) × IsLine line text.now) }
+    ensures signs { IfOk result (λ signs. MatchOption signs (receptions_in text.now ≡ []) (λ signs. receptions_in text.now ≡ map element_of signs.now ∷ [])) }
     ensures column { IfErr result (λ n. IsColumn IsLine text.now n) }
 {
-    match text.first() {
-        None | Some(b'#') => Ok(None),
-        Some(_) => match reception(text) {
-            Ok(signs) => Ok(Some(signs)),
-            Err(left) => Err(column(text, left)),
-        },
+    let Some((first, _)) = text.split_first() else {
+        return Ok(None);
+    };
+    if *first == b'#' {
+        return Ok(None);
+    }
+    match reception(text) {
+        Ok(signs) => Ok(Some(signs)),
+        Err(left) => Err(column(text, left)),
     }
 }
 

@@ -43,10 +43,11 @@ pub(crate) fn shown_by(alloc: Global, signs: &[u8]) -> Result<Sheet, AllocError>
 pub(crate) fn joined(found: Option<Sheet>, shown: &Sheet) -> Sheet
     ensures { (before : List (List Tone)) (e : List Tone) → IsJoined before found → IsEnds (facts_of e) shown.now → IsJoined (before ++ e ∷ []) (Some result) }
 {
-    let mut sheet = match found {
-        Some(sheet) => sheet,
-        None => Sheet::empty(),
-    };
-    sheet.meet(shown);
-    sheet
+    match found {
+        Some(mut sheet) => {
+            sheet.meet(shown);
+            sheet
+        }
+        None => *shown,
+    }
 }

@@ -44,7 +44,7 @@ all_step : (p : ℕ → Bool) (x n : ℕ) (xs : List ℕ) (b : Bool) → p x ≡
 all_step p x n xs true e h = subst (λ (k : ℕ). list_all p (take k (x ∷ xs)) ≡ true) (sym (one_more n)) (and_from (p x) (list_all p (take n xs)) e h)
 all_step p x n xs false e h = refl
 
-all_run : (p : ℕ → Bool) (xs : List ℕ) → list_all p (take (prefix_len p xs) xs) ≡ true
+pub all_run : (p : ℕ → Bool) (xs : List ℕ) → list_all p (take (prefix_len p xs) xs) ≡ true
 all_run p [] = refl
 all_run p (x ∷ xs) = all_step p x (prefix_len p xs) xs (p x) refl (all_run p xs)
 

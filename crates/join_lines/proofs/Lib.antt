@@ -1,0 +1,5 @@
+pub mod Cutting
+pub mod Spelled
+pub mod Readers
+pub mod Sound
+pub mod Shown

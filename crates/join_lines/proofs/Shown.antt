@@ -1,0 +1,51 @@
+-- what receptions show together
+use Rattle.std.proofs.Common.{◌≡◌, ◌≢◌, ℕ, ◌↔◌, Contains, Bool, true, false, ◌||◌, List, [], ◌∷◌, ◌++◌, length, Option, Some, None, refl, sym, ◌∙◌, ap, subst, arith, length-append}
+use Rattle.std.specs.List.{list_any}
+use Rattle.std.proofs.lemmas.List.Folds.{list_any-append}
+use Rattle.ten_unit.specs.declared.character.Element.{Element}
+use Rattle.phasing.specs.Origin.{lead_of}
+use Rattle.slot_evidence.specs.declared.places.Seen.{Seen}
+use Rattle.slot_evidence.specs.Facts.{Facts, no_facts, union, facts_at, facts_of}
+use Rattle.slot_evidence.specs.Sheet.{IsEnds}
+use Rattle.slot_evidence.proofs.Ends.{IsEnds-same}
+use Rattle.join_lines.specs.Receptions.{facts_of_all, IsJoined}
+
+-- a reception without origin shows nothing
+no_origin : (e : List Element) (p v : ℕ) → lead_of e ≡ None → no_facts p v ≡ facts_of e p v
+unfolding facts_of
+no_origin e p v h = sym (ap (λ (o : Option ℕ). facts_at e o p v) h)
+
+pub ends_of_none : (e : List Element) (s : List Seen) → lead_of e ≡ None → IsEnds no_facts s → IsEnds (facts_of e) s
+ends_of_none e s h ends = IsEnds-same no_facts (facts_of e) s (λ p v. no_origin e p v h) ends
+
+or_nothing : (a : Bool) → a ≡ (a || false)
+or_nothing true = refl
+or_nothing false = refl
+
+facts_one : (e : List Element) (p v : ℕ) → facts_of e p v ≡ facts_of_all (e ∷ []) p v
+unfolding facts_of_all
+facts_one e p v = or_nothing (facts_of e p v)
+
+pub facts_groups : (d e : List (List Element)) (p v : ℕ) → facts_of_all (d ++ e) p v ≡ (facts_of_all d p v || facts_of_all e p v)
+unfolding facts_of_all
+facts_groups d e p v = list_any-append (λ (x : List Element). facts_of x p v) d e
+
+facts_push : (d : List (List Element)) (e : List Element) (p v : ℕ) → union (facts_of_all d) (facts_of e) p v ≡ facts_of_all (d ++ (e ∷ [])) p v
+facts_push d e p v = ap (λ (b : Bool). facts_of_all d p v || b) (facts_one e p v) ∙ sym (facts_groups d (e ∷ []) p v)
+
+pushed : (d : List (List Element)) (e : List Element) → d ++ (e ∷ []) ≢ []
+pushed d e h = omega (arith, ap length h, length-append d (e ∷ []))
+
+pub joined_more : (d : List (List Element)) (e : List Element) (old new : List Seen) → IsJoined d (Some old) → IsEnds (union (facts_of_all d) (facts_of e)) new → IsJoined (d ++ (e ∷ [])) (Some new)
+joined_more d e old new h ends =
+    (pushed d e, IsEnds-same (union (facts_of_all d) (facts_of e)) (facts_of_all (d ++ (e ∷ []))) new (facts_push d e) ends)
+
+pub joined_first : (d : List (List Element)) (e : List Element) (s : List Seen) → d ≡ [] → IsEnds (facts_of e) s → IsJoined (d ++ (e ∷ [])) (Some s)
+joined_first d e s h ends =
+    subst (λ (l : List (List Element)). IsJoined (l ++ (e ∷ [])) (Some s)) (sym h)
+    (pushed [] e, IsEnds-same (facts_of e) (facts_of_all (e ∷ [])) s (facts_one e) ends)
+
+-- neither order nor repetition matters
+pub facts_order : (d e : List (List Element)) (p v : ℕ) → ((x : List Element) → Contains d x ↔ Contains e x) → facts_of_all d p v ≡ facts_of_all e p v
+unfolding facts_of_all
+facts_order d e p v same = ?
