@@ -3,3 +3,5 @@ pub mod Spelled
 pub mod Readers
 pub mod Sound
 pub mod Shown
+pub mod First
+pub mod Grown

@@ -1,7 +1,8 @@
 -- what receptions show together
-use Rattle.std.proofs.Common.{◌≡◌, ◌≢◌, ℕ, ◌↔◌, Contains, Bool, true, false, ◌||◌, List, [], ◌∷◌, ◌++◌, length, Option, Some, None, refl, sym, ◌∙◌, ap, subst, arith, length-append}
+use Rattle.std.proofs.Common.{◌≡◌, ◌≢◌, ℕ, suc, ◌<◌, inl, inr, ◌↔◌, Contains, Bool, true, false, ◌||◌, List, [], ◌∷◌, ◌++◌, length, slice_index_or, Option, Some, None, refl, sym, ◌∙◌, ap, subst, arith, length-append}
 use Rattle.std.specs.List.{list_any}
-use Rattle.std.proofs.lemmas.List.Folds.{list_any-append}
+use Rattle.std.proofs.lemmas.List.Folds.{list_any-append, list_any_at}
+use Rattle.std.proofs.lemmas.Bool.{or_cases}
 use Rattle.ten_unit.specs.declared.character.Element.{Element}
 use Rattle.phasing.specs.Origin.{lead_of}
 use Rattle.slot_evidence.specs.declared.places.Seen.{Seen}
@@ -46,6 +47,26 @@ joined_first d e s h ends =
     (pushed [] e, IsEnds-same (facts_of e) (facts_of_all (e ∷ [])) s (facts_one e) ends)
 
 -- neither order nor repetition matters
+any_has : (f : List Element → Bool) (d : List (List Element)) → list_any f d ≡ true → (x : List Element) × Contains d x × (f x ≡ true)
+any_has f [] h = absurd (cc)
+any_has f (y ∷ d) h =
+    elim (or_cases (f y) (list_any f d) h) [
+      | inl here ↦ (y, (0, omega arith, refl), here)
+      | inr more ↦ (let x = any_has f d more in (x.0, (suc x.1.0, omega (arith, x.1.1), x.1.2), x.2))
+    ]
+
+has_any : (f : List Element → Bool) (d : List (List Element)) (x : List Element) → Contains d x → f x ≡ true → list_any f d ≡ true
+has_any f d x c h = list_any_at f d c.0 x c.1 (ap f c.2 ∙ h)
+
+same_tests : (a b : Bool) → (a ≡ true → b ≡ true) → (b ≡ true → a ≡ true) → a ≡ b
+same_tests true b to back = sym (to refl)
+same_tests false true to back = back refl
+same_tests false false to back = refl
+
 pub facts_order : (d e : List (List Element)) (p v : ℕ) → ((x : List Element) → Contains d x ↔ Contains e x) → facts_of_all d p v ≡ facts_of_all e p v
 unfolding facts_of_all
-facts_order d e p v same = ?
+facts_order d e p v same =
+    let f : List Element → Bool = λ x. facts_of x p v in
+    same_tests (list_any f d) (list_any f e)
+    (λ h. let x = any_has f d h in has_any f e x.0 ((same x.0).0 x.1) x.2)
+    (λ h. let x = any_has f e h in has_any f d x.0 ((same x.0).1 x.1) x.2)
