@@ -51,3 +51,6 @@ pub fn join_lines(alloc: Global, input: &[u8]) -> Result<Option<Sheet>, LinesErr
     }
     Ok(found)
 }
+
+#[cfg(test)]
+mod tests;

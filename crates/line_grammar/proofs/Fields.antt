@@ -71,7 +71,7 @@ field_past token G bytes front back left follow m s [] q r e short f =
     omega (arith, ap length e, ap length s.list, length-append s.front s.back, s.left_is)
 field_past token G bytes front back left follow m s (x ∷ d) q r e short f =
     let heads : (y : ℕ) (rest : List ℕ) → (x ∷ d) ++ r ≡ y ∷ rest → (more : List ℕ) × (back ≡ y ∷ more) =
-        λ y rest k. (d ++ q, (let same : x ≡ y = cc in e ∙ ap (λ (b : ℕ). b ∷ (d ++ q)) same)) in
+    λ y rest k. (d ++ q, (let same : x ≡ y = cc in e ∙ ap (λ (b : ℕ). b ∷ (d ++ q)) same)) in
     let same = seam token G bytes front back ((x ∷ d) ++ r) f follow m heads in
     s.past (x ∷ d) q e short (record { value = f.parts; rest = r; whole = subst (λ (l : List ℕ). Spells G f.parts l) same f.spelled })
 

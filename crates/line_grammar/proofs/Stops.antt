@@ -56,13 +56,13 @@ pub record IsChoice {U V W : Type 0} (L : U → List ℕ → Type 0) (M : V → 
 pub Stops-choice : {U V W : Type 0} (L : U → List ℕ → Type 0) (M : V → List ℕ → Type 0) (N : W → List ℕ → Type 0) (bytes : List ℕ) (m n : ℕ) → IsChoice L M N → Stops L bytes m → Stops M bytes n → Stops N bytes (min m n)
 Stops-choice L M N bytes m n both s t =
     let past : (p q : List ℕ) → bytes ≡ p ++ q → length q < min m n → Begins N p → ⊥ =
-        λ p q e short b.
-        elim (both.back b.value (p ++ b.rest) b.whole) [
-          | inl l ↦ s.past p q e (omega arith) (record { value = l.0; rest = b.rest; whole = l.1 })
-          | inr r ↦ t.past p q e (omega arith) (record { value = r.0; rest = b.rest; whole = r.1 })
-        ] in
+    λ p q e short b.
+    elim (both.back b.value (p ++ b.rest) b.whole) [
+      | inl l ↦ s.past p q e (omega arith) (record { value = l.0; rest = b.rest; whole = l.1 })
+      | inr r ↦ t.past p q e (omega arith) (record { value = r.0; rest = b.rest; whole = r.1 })
+    ] in
     let none : (w : _) → N w bytes → ⊥ =
-        λ w h. elim (both.back w bytes h) [ inl l ↦ s.none l.0 l.1 | inr r ↦ t.none r.0 r.1 ] in
+    λ w h. elim (both.back w bytes h) [ inl l ↦ s.none l.0 l.1 | inr r ↦ t.none r.0 r.1 ] in
     elim (cases_lt m n) [
       | inl less ↦
           let b = both.left s.begins.value (s.front ++ s.begins.rest) s.begins.whole in
