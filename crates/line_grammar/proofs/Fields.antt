@@ -10,7 +10,7 @@ use Rattle.line_grammar.proofs.Stops.{Stops}
 use Rattle.line_grammar.proofs.Tokens.{Munches, Misses, has}
 
 -- no line of what follows a token begins with a byte of it
-follows : (token : Token) (G : Grammar) (parts : Parts) (y : ℕ) (s : List ℕ) → may_follow token G ≡ true → Spells G parts (y ∷ s) → may_have token y ≡ false
+pub follows : (token : Token) (G : Grammar) (parts : Parts) (y : ℕ) (s : List ℕ) → may_follow token G ≡ true → Spells G parts (y ∷ s) → may_have token y ≡ false
 follows token finish none y s h k = absurd (cc)
 follows token anything parts y s h k = absurd (cc)
 follows token (word [] rest) parts y s h k =

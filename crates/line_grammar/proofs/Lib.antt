@@ -5,3 +5,4 @@ pub mod Tokens
 pub mod Fields
 pub mod Grammars
 pub mod Steps
+pub mod Apart

@@ -36,6 +36,20 @@ all_have p (x ∷ a) b y h = all_have p a b y (and_parts (p x) (list_all p (a ++
 pub has : (token : Token) (front a b : List ℕ) (y : ℕ) → IsToken token front → front ≡ a ++ (y ∷ b) → may_have token y ≡ true
 has (run signs) front a b y h e = all_have (is_one_of signs) a b y (subst (λ (l : List ℕ). list_all (is_one_of signs) l ≡ true) e h.1)
 
+-- a token has a byte, and begins with one that it may have
+not_nothing : (token : Token) → IsToken token [] → ⊥
+not_nothing (run signs) h = h.0 refl
+
+pub no_token : (token : Token) (front back : List ℕ) → IsToken token front → [] ≡ front ++ back → ⊥
+no_token token [] back h e = not_nothing token h
+no_token token (y ∷ front) back h e = absurd (cc)
+
+pub some_byte : (token : Token) (front back : List ℕ) (c : ℕ) (s : List ℕ) → IsToken token front → c ∷ s ≡ front ++ back → may_have token c ≡ true
+some_byte token [] back c s h e = absurd (not_nothing token h)
+some_byte token (y ∷ front) back c s h e =
+    let same : y ≡ c = cc in
+    subst (λ (b : ℕ). may_have token b ≡ true) same (has token (y ∷ front) [] front y h refl)
+
 -- a run is as long as its signs go
 one_more : (n : ℕ) → 1 + n ≡ suc n
 one_more n = omega arith

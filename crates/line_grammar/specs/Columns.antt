@@ -1,5 +1,5 @@
 -- Lines, their languages, and the column of an ill-formed line: this project's profile.
-use Rattle.std.specs.Prelude.{◌≡◌, ℕ, ◌+◌, ◌<◌, ◌≤◌, List, ◌++◌, length, take, Result, Ok, Err}
+use Rattle.std.specs.Prelude.{◌≡◌, ℕ, ◌+◌, ◌-◌, ◌<◌, ◌≤◌, List, ◌++◌, length, take, Result, Ok, Err}
 
 -- which bytes spell which values
 abbrev pub Spelling : Type 0 → Type 1
@@ -23,3 +23,8 @@ pub record IsColumn {W : Type 0} (L : W → List ℕ → Type 0) (bytes : List �
 abbrev pub Answers : {W : Type 0} (L : W → List ℕ → Type 0) (bytes : List ℕ) → Result W ℕ → Type 0
 Answers {W = W} L bytes (Ok w) = L w bytes × ((u : W) → L u bytes → u ≡ w)
 Answers L bytes (Err n) = IsColumn L bytes n
+
+-- an answer that tells how many bytes are left at the fault, with the column in their place
+abbrev pub with_column : {W : Type 0} (bytes : List ℕ) → Result W ℕ → Result W ℕ
+with_column bytes (Ok w) = Ok w
+with_column bytes (Err left) = Err (length bytes + 1 - left)
