@@ -10,7 +10,7 @@ use Rattle.line_grammar.specs.Soundness.{may_have, may_follow, is_some_token, is
 use Rattle.line_grammar.specs.Reading.{read}
 use Rattle.line_grammar.proofs.Splits.{split}
 use Rattle.line_grammar.proofs.Stops.{Stops, Reads, left_le, IsColumn-stops}
-use Rattle.line_grammar.proofs.Tokens.{has, some_byte, no_token}
+use Rattle.line_grammar.proofs.Munching.{has, some_byte, no_token}
 use Rattle.line_grammar.proofs.Fields.{follows}
 use Rattle.line_grammar.proofs.Grammars.{reads}
 

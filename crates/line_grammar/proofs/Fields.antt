@@ -7,7 +7,8 @@ use Rattle.line_grammar.specs.Grammar.{Grammar, finish, anything, word, field, e
 use Rattle.line_grammar.specs.Soundness.{may_have, may_follow}
 use Rattle.line_grammar.proofs.Splits.{split}
 use Rattle.line_grammar.proofs.Stops.{Stops}
-use Rattle.line_grammar.proofs.Tokens.{Munches, Misses, has}
+use Rattle.line_grammar.proofs.Tokens.{Munches, Misses}
+use Rattle.line_grammar.proofs.Munching.{has}
 
 -- no line of what follows a token begins with a byte of it
 pub follows : (token : Token) (G : Grammar) (parts : Parts) (y : ℕ) (s : List ℕ) → may_follow token G ≡ true → Spells G parts (y ∷ s) → may_have token y ≡ false

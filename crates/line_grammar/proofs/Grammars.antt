@@ -8,7 +8,8 @@ use Rattle.line_grammar.specs.Soundness.{may_have, may_follow, is_some_token, is
 use Rattle.line_grammar.specs.Reading.{ended, after, read_token, and_then, named, and_part, further, read}
 use Rattle.line_grammar.proofs.Stops.{Stops, Reads, IsChoice, Stops-choice, IsAlike, Stops-alike}
 use Rattle.line_grammar.proofs.Words.{IsByte, Stops-byte, Stops-other, Stops-short}
-use Rattle.line_grammar.proofs.Tokens.{TokenReads, some_token, token_reads}
+use Rattle.line_grammar.proofs.Tokens.{TokenReads}
+use Rattle.line_grammar.proofs.Munching.{some_token, token_reads}
 use Rattle.line_grammar.proofs.Fields.{Stops-field, Stops-miss}
 
 -- a grammar has a line

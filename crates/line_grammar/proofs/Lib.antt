@@ -2,6 +2,8 @@ pub mod Stops
 pub mod Words
 pub mod Splits
 pub mod Tokens
+pub mod Numbers
+pub mod Munching
 pub mod Fields
 pub mod Grammars
 pub mod Steps

@@ -1,17 +1,19 @@
 -- Which grammars a reader may read by going as far as each token goes: this project's profile.
-use Rattle.std.specs.Prelude.{ℕ, Bool, true, false, not, ◌&&◌, ◌||◌, ◌==◌, if◌then◌else◌, List, [], ◌∷◌, ◌++◌}
+use Rattle.std.specs.Prelude.{ℕ, Bool, true, false, not, nat_le, ◌&&◌, ◌||◌, ◌==◌, if◌then◌else◌, List, [], ◌∷◌, ◌++◌}
 use Rattle.std.specs.List.{flat_map, list_any, list_all}
-use Rattle.line_grammar.specs.Tokens.{Token, run, is_one_of}
+use Rattle.line_grammar.specs.Tokens.{Token, run, number, is_one_of, is_digit}
 use Rattle.line_grammar.specs.Grammar.{Grammar, finish, anything, word, field, either}
 
 -- a test of bytes: whether a token may have it
 abbrev pub may_have : Token → ℕ → Bool
 may_have (run signs) b = is_one_of signs b
+may_have (number least most) b = is_digit b
 
 -- there is such a token
 abbrev pub is_some_token : Token → Bool
 is_some_token (run []) = false
 is_some_token (run (c ∷ signs)) = true
+is_some_token (number least most) = nat_le least most
 
 -- no byte of the token begins what follows it
 abbrev pub may_follow : Token → Grammar → Bool
