@@ -1,7 +1,7 @@
 -- a line of a plain grammar has one reading
-use Rattle.std.proofs.Common.{◌≡◌, ℕ, ◌+◌, ◌-◌, ◌<◌, Bool, true, false, not, ◌&&◌, ◌||◌, ◌==◌, if◌then◌else◌, List, [], ◌∷◌, ◌++◌, length, ◌⊎◌, inl, inr, Result, Ok, Err, refl, sym, ◌∙◌, ap, subst, append_assoc, append-nil, arith}
+use Rattle.std.proofs.Common.{◌≡◌, ℕ, ◌+◌, ◌-◌, Bool, true, false, ◌&&◌, ◌==◌, if◌then◌else◌, List, [], ◌∷◌, ◌++◌, length, ◌⊎◌, inl, inr, Result, Ok, Err, refl, sym, ◌∙◌, ap, subst, append-nil, arith}
 use Rattle.std.specs.List.{flat_map, list_any, list_all}
-use Rattle.std.proofs.lemmas.Bool.{and_parts, or_left, or_right, eq-eqb, eqb-true, not-true, cond-true}
+use Rattle.std.proofs.lemmas.Bool.{and_parts, or_left, or_right, eq-eqb, not-true}
 use Rattle.std.proofs.lemmas.List.{append_cancel_left}
 use Rattle.line_grammar.specs.Columns.{Answers, with_column}
 use Rattle.line_grammar.specs.Tokens.{Token, IsToken}
@@ -9,7 +9,7 @@ use Rattle.line_grammar.specs.Grammar.{Grammar, finish, anything, word, field, e
 use Rattle.line_grammar.specs.Soundness.{may_have, may_follow, is_some_token, is_sound, cut, cut_all, may_end, differs, is_plain}
 use Rattle.line_grammar.specs.Reading.{read}
 use Rattle.line_grammar.proofs.Splits.{split}
-use Rattle.line_grammar.proofs.Stops.{Stops, Reads, left_le, IsColumn-stops}
+use Rattle.line_grammar.proofs.Stops.{Reads, left_le, IsColumn-stops}
 use Rattle.line_grammar.proofs.Munching.{has, some_byte, no_token}
 use Rattle.line_grammar.proofs.Fields.{follows}
 use Rattle.line_grammar.proofs.Grammars.{reads}

@@ -1,5 +1,5 @@
 -- tokens are read as far as they go
-use Rattle.std.proofs.Common.{◌≡◌, ℕ, Bool, true, false, ◌==◌, List, [], ◌∷◌, ◌++◌, Result, Ok, Err, refl, subst}
+use Rattle.std.proofs.Common.{◌≡◌, ℕ, true, ◌==◌, List, [], ◌∷◌, ◌++◌, refl, subst}
 use Rattle.std.specs.List.{prefix_len, list_all}
 use Rattle.std.proofs.lemmas.Bool.{leb-true}
 use Rattle.line_grammar.specs.Tokens.{Token, run, number, is_one_of, is_digit, IsToken}
