@@ -1,5 +1,5 @@
 -- the first fault of lines: there is at most one, and it can be found
-use Rattle.std.proofs.Common.{◌≡◌, ℕ, ◌+◌, ◌-◌, ◌<◌, List, [], ◌∷◌, ◌++◌, length, slice_index_or, ◌⊎◌, inl, inr, Result, Ok, Err, refl, sym, ◌∙◌, ap, subst, arith, append_assoc, append-nil}
+use Rattle.std.proofs.Common.{◌≡◌, ℕ, ◌≤◌, length-append, ◌+◌, ◌-◌, ◌<◌, List, [], ◌∷◌, ◌++◌, length, slice_index_or, ◌⊎◌, inl, inr, Result, Ok, Err, refl, sym, ◌∙◌, ap, subst, arith, append_assoc, append-nil}
 use Rattle.std.proofs.lemmas.List.{get_or_append_left, get_or_at}
 use Rattle.std.proofs.lemmas.Bool.{cases_lt, cases_order}
 use Rattle.line_grammar.specs.Columns.{IsColumn}
@@ -104,3 +104,33 @@ first_from before (text ∷ lines) h =
 
 pub first_or_none : (lines : List (List ℕ)) → ((n : ℕ) × (f : Fault) × IsFirstFault lines n f) ⊎ IsFaultless lines
 first_or_none lines = first_from [] lines no_lines
+
+-- lines without a fault are few and short
+pub few_lines : (lines : List (List ℕ)) → IsFaultless lines → length lines ≤ 4096
+few_lines lines h =
+    elim (cases_lt 4096 (length lines)) [
+      | inl many ↦ absurd (h 4096 fault.TooManyLines many (omega arith))
+      | inr few ↦ few
+    ]
+
+pub short_lines : (lines : List (List ℕ)) → IsFaultless lines → (k : ℕ) → k < length lines → length (slice_index_or lines k []) ≤ 4200
+short_lines lines h k below =
+    elim (cases_lt 4200 (length (slice_index_or lines k []))) [
+      | inl long ↦ absurd (h k fault.TooLong below (omega (arith, few_lines lines h), long))
+      | inr short ↦ short
+    ]
+
+-- lines without a fault have no first one
+pub none_first : (lines : List (List ℕ)) (n : ℕ) (f : Fault) → IsFaultless lines → IsFirstFault lines n f → ⊥
+none_first lines n f none h =
+    let long : length lines ≡ length h.before + length (h.text ∷ h.after) = ap length h.list ∙ length-append h.before (h.text ∷ h.after) in
+    let at = subst (λ (i : ℕ). IsFault i h.text f) h.at h.is_fault in
+    none (length h.before) f (omega (arith, long)) (subst (λ (l : List ℕ). IsFault (length h.before + 1) l f) (sym (here lines n f h)) at)
+
+-- and are well-formed
+pub well_formed : (lines : List (List ℕ)) → IsFaultless lines → (k : ℕ) → k < length lines → (line : JoinLine) × IsLine line (slice_index_or lines k [])
+well_formed lines none k below =
+    elim (line_or_column (slice_index_or lines k [])) [
+      | inl line ↦ line
+      | inr column ↦ absurd (none k (fault.Column column.0) below (omega (arith, few_lines lines none), (short_lines lines none k below, column.1)))
+    ]

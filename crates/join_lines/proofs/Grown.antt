@@ -1,11 +1,10 @@
 -- an input that goes on: its lines grow
 use Rattle.std.proofs.Common.{◌≡◌, ℕ, suc, ◌+◌, ◌*◌, ◌<◌, ◌≤◌, Bool, true, false, if◌then◌else◌, List, [], ◌∷◌, ◌++◌, length, slice_index_or, ◌⊎◌, inl, inr, refl, sym, ◌∙◌, ap, subst, arith, append-nil, length-append}
-use Rattle.std.proofs.lemmas.Bool.{cases_lt}
 use Rattle.join_lines.specs.declared.faults.Fault.{Fault}
 use Rattle.join_lines.specs.declared.faults.Fault.TheVariants as fault
 use Rattle.join_lines.specs.Lines.{lines_of, lengthened, is_inside}
 use Rattle.join_lines.specs.Faults.{IsFault, IsFaultless, IsFirstFault}
-use Rattle.join_lines.proofs.First.{first_or_none}
+use Rattle.join_lines.proofs.First.{first_or_none, few_lines, short_lines}
 
 -- how many bytes lines take with their ends
 abbrev span : List (List ℕ) → ℕ
@@ -36,21 +35,7 @@ span_le (text ∷ lines) h =
     let first = h 0 (omega arith) in
     omega (arith, more, first)
 
--- lines without a fault are few and short
-few_lines : (lines : List (List ℕ)) → IsFaultless lines → length lines ≤ 4096
-few_lines lines h =
-    elim (cases_lt 4096 (length lines)) [
-      | inl many ↦ absurd (h 4096 fault.TooManyLines many (omega arith))
-      | inr few ↦ few
-    ]
-
-short_lines : (lines : List (List ℕ)) → IsFaultless lines → (k : ℕ) → k < length lines → length (slice_index_or lines k []) ≤ 4200
-short_lines lines h k below =
-    elim (cases_lt 4200 (length (slice_index_or lines k []))) [
-      | inl long ↦ absurd (h k fault.TooLong below (omega (arith, few_lines lines h), long))
-      | inr short ↦ short
-    ]
-
+-- lines without a fault take few bytes
 span_faultless : (lines : List (List ℕ)) → IsFaultless lines → span lines ≤ 4201 * length lines
 span_faultless lines h = span_le lines (short_lines lines h)
 

@@ -1,9 +1,9 @@
-ghost use Rattle.std.specs.Prelude.{◌≡◌, ℕ, ◌*◌, ◌<◌, ◌||◌, ◌↔◌, List, [], ◌∷◌, ◌++◌, length, Contains};
+ghost use Rattle.std.specs.Prelude.{◌≡◌, ℕ, ◌*◌, ◌<◌, ◌||◌, ◌↔◌, List, [], ◌∷◌, ◌++◌, length, slice_index_or, Contains, ◌⊎◌};
 ghost use Rattle.ten_unit.specs.declared.character.Element.{Element};
 ghost use Rattle.join_lines.specs.declared.faults.Fault.{Fault};
 ghost use Rattle.join_lines.specs.JoinLine.{JoinLine, IsLine, reception, nothing};
 ghost use Rattle.join_lines.specs.Lines.{lines_of};
-ghost use Rattle.join_lines.specs.Faults.{IsFirstFault};
+ghost use Rattle.join_lines.specs.Faults.{IsFaultless, IsFirstFault};
 ghost use Rattle.join_lines.specs.Receptions.{receptions_in, facts_of_all};
 
 /// An input of more than 4,096 lines of 4,200 bytes has a first fault, and a reader that stopped there knows it: it
@@ -14,9 +14,16 @@ pub fn early_fault()
         → IsFirstFault (lines_of taken) number fault → IsFirstFault (lines_of (taken ++ rest)) number fault }
 {}
 
-/// The first fault of lines is one, at one line.
+/// Lines have one first fault, at one line, or none.
 pub fn one_first_fault()
-    ensures { (lines : List (List ℕ)) (m n : ℕ) (a b : Fault) → IsFirstFault lines m a → IsFirstFault lines n b → (m ≡ n) × (a ≡ b) }
+    ensures one { (lines : List (List ℕ)) (m n : ℕ) (a b : Fault) → IsFirstFault lines m a → IsFirstFault lines n b → (m ≡ n) × (a ≡ b) }
+    ensures none { (lines : List (List ℕ)) (number : ℕ) (fault : Fault) → IsFaultless lines → IsFirstFault lines number fault → ⊥ }
+    ensures either { (lines : List (List ℕ)) → ((number : ℕ) × (fault : Fault) × IsFirstFault lines number fault) ⊎ IsFaultless lines }
+{}
+
+/// Lines without a fault are well-formed.
+pub fn faultless_lines()
+    ensures { (lines : List (List ℕ)) → IsFaultless lines → (k : ℕ) → k < length lines → (line : JoinLine) × IsLine line (slice_index_or lines k []) }
 {}
 
 /// A well-formed line is one line: a reception of these elements, or nothing.

@@ -9,4 +9,4 @@ mod receptions;
 
 pub use faults::{Fault, FirstFault, LinesError};
 pub use joining::join_lines;
-pub use laws::{early_fault, facts_forget_order, one_first_fault, one_line};
+pub use laws::{early_fault, facts_forget_order, faultless_lines, one_first_fault, one_line};

@@ -3,6 +3,7 @@ pub mod Words
 pub mod Splits
 pub mod Tokens
 pub mod Numbers
+pub mod DigitSteps
 pub mod Munching
 pub mod Fields
 pub mod Grammars

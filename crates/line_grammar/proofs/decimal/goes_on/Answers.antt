@@ -1,5 +1,5 @@
 use Rattle.std.proofs.Common.{refl, arith}
-use Rattle.line_grammar.proofs.Numbers.{reach_next, reach_all}
+use Rattle.line_grammar.proofs.DigitSteps.{reach_next, reach_all}
 use Rattle.line_grammar.proofs.decimal.goes_on.Goals as goal
 
 pub loop-high-init : goal.loop-high-init

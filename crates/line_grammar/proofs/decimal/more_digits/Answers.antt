@@ -1,4 +1,4 @@
-use Rattle.line_grammar.proofs.Numbers.{walked_none, walked_more, halts_end, halts_stop, walked_all}
+use Rattle.line_grammar.proofs.DigitSteps.{walked_none, walked_more, halts_end, halts_stop, walked_all}
 use Rattle.line_grammar.proofs.decimal.more_digits.Goals as goal
 
 pub loop-byte-init : goal.loop-byte-init

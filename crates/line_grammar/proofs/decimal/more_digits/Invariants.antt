@@ -1,5 +1,5 @@
 use Rattle.std.proofs.Common.{◌≤◌, length}
-use Rattle.line_grammar.proofs.Numbers.{Walked}
+use Rattle.line_grammar.proofs.DigitSteps.{Walked}
 use Rattle.line_grammar.proofs.decimal.more_digits.Given as goal
 
 abbrev pub invariant-loop-byte : goal.invariant-loop-byte

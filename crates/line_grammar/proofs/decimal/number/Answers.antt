@@ -1,5 +1,5 @@
 use Rattle.std.proofs.Common.{◌∷◌, [], refl}
-use Rattle.line_grammar.proofs.Numbers.{number_end, number_zero, number_no_zero, number_none, number_low, number_ok}
+use Rattle.line_grammar.proofs.DigitSteps.{number_end, number_zero, number_no_zero, number_none, number_low, number_ok}
 use Rattle.line_grammar.proofs.decimal.number.Goals as goal
 
 pub returns-in_default-clause-left : goal.returns-in_default-clause-left

@@ -1,5 +1,5 @@
 use Rattle.std.proofs.Common.{rules, sym, ◌∙◌}
-use Rattle.line_grammar.proofs.Numbers.{reach_most}
+use Rattle.line_grammar.proofs.DigitSteps.{reach_most}
 use Rattle.line_grammar.proofs.decimal.with_digit.Goals as goal
 
 pub returns-then-goes_on : goal.returns-then-goes_on
