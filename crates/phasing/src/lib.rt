@@ -8,3 +8,6 @@ mod reception;
 pub use laws::{none_past_the_end, origin_is_least};
 pub use phase::{lead, origin};
 pub use reception::slot_symbol;
+
+#[cfg(test)]
+mod tests;
