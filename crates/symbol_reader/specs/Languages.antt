@@ -24,3 +24,8 @@ pub record Then {U V : Type 0} (first : U → List ℕ → Type 0) (second : U �
 pub record Choice {V : Type 0} (test : Bool) (first : V → List ℕ → Type 0) (second : V → List ℕ → Type 0) (v : V) (word : List ℕ) : Type 0 where
   pub yes : test ≡ true → first v word
   pub no : test ≡ false → second v word
+
+-- a lawful value is spelled by its list
+pub record Spelled {V : Type 0} (lawful : V → Type 0) (spelling : V → List ℕ) (v : V) (word : List ℕ) : Type 0 where
+  pub is_lawful : lawful v
+  pub list : word ≡ spelling v
