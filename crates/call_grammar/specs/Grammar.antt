@@ -61,7 +61,7 @@ longitude_minutes hundreds ones = if (hundreds % 10 == 1) && (ones == 80) then E
 -- the place whose ten digits stand in these five characters
 abbrev pub fix_of : ℕ → ℕ → ℕ → ℕ → ℕ → Fix
 fix_of a b c d e =
-    record { quadrant = a / 10; lat_deg = 10 * (a % 10) + b / 10; lat_min = 10 * (b % 10) + c / 10; lon_deg = 100 * (c % 10) + d; lon_min = e }
+    record { quadrant = a / 10; lat_deg = a % 10 * 10 + b / 10; lat_min = b % 10 * 10 + c / 10; lon_deg = c % 10 * 100 + d; lon_min = e }
 
 -- the rest of a position that is known, after its first character
 abbrev pub KnownRest : ℕ → Option Fix → List ℕ → Type 0

@@ -1,0 +1,6 @@
+pub mod Digits
+pub mod IdentityParts
+pub mod SymbolParts
+pub mod TimeParts
+pub mod PositionParts
+pub mod CallParts
