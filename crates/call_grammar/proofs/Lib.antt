@@ -4,3 +4,5 @@ pub mod SymbolParts
 pub mod TimeParts
 pub mod PositionParts
 pub mod CallParts
+pub mod Steps
+pub mod Checks

@@ -3,6 +3,7 @@
 
 mod fields;
 mod forms;
+mod judging;
 mod laws;
 mod walking;
 

@@ -1,6 +1,7 @@
 ghost use Rattle.std.specs.Prelude.{◌≡◌, ◌<◌, []};
 ghost use Rattle.call_grammar.specs.Walk.{IsStep, IsDone};
 
+use crate::judging::judge;
 use arrayvec::ArrayVec;
 use call_values::Call;
 use std::marker::Model;
@@ -26,13 +27,14 @@ pub struct Walk {
 
 impl Model for Walk {
     ghost use Rattle.std.specs.Prelude.{List, ℕ, [], ◌≡◌, ◌⊎◌};
-    ghost use Rattle.call_grammar.specs.Walk.{IsOpen, IsDone};
+    ghost use Rattle.call_grammar.specs.Walk.{IsDone};
+    ghost use Rattle.call_grammar.specs.Judging.{IsWalking};
 
     ghost Value = { List ℕ };
 
     ghost view = { λ walk. walk.taken.items };
 
-    ghost invariant = { λ walk. (walk.taken.items ≡ []) ⊎ IsOpen walk.taken.items ⊎ IsDone walk.taken.items };
+    ghost invariant = { λ walk. (walk.taken.items ≡ []) ⊎ IsWalking walk.taken.items ⊎ IsDone walk.taken.items };
 }
 
 impl Walk {
@@ -52,6 +54,15 @@ impl Walk {
         requires open { IsDone self.old → ⊥ }
         ensures step { IsStep self.old x result self.new }
     {
-        Step::Outside
+        let before = self.taken.len();
+        if before == 0 {
+            self.taken.push(x);
+        }
+        self.taken.push(x);
+        let step = judge(self.taken.as_slice());
+        if matches!(step, Step::Outside | Step::Check { .. }) {
+            self.taken.truncate(before);
+        }
+        step
     }
 }

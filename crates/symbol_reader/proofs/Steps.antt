@@ -132,7 +132,7 @@ nothing_fits x y (z ∷ s) t e =
     absurd (omega (arith, length-append s (y ∷ t)))
 
 -- a word that ends within what the language wants a symbol after is none
-shorter : {U : Type 0} (first : U → List ℕ → Type 0) (u : U) (word front : List ℕ) (x y : ℕ) (t : List ℕ)
+pub shorter : {U : Type 0} (first : U → List ℕ → Type 0) (u : U) (word front : List ℕ) (x y : ℕ) (t : List ℕ)
     → Good first → first u word → Wants first front → front ++ (x ∷ []) ≡ word ++ (y ∷ t) → ⊥
 shorter first u word front x y t g p wants e =
     elim (split word (y ∷ t) front (x ∷ []) (sym e)) [

@@ -1,0 +1,1 @@
+use Rattle.call_grammar.proofs.Steps.{refl}
