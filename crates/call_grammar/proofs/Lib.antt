@@ -6,3 +6,5 @@ pub mod PositionParts
 pub mod CallParts
 pub mod Steps
 pub mod Checks
+pub mod Lengths
+pub mod Fronts

@@ -1,7 +1,6 @@
 -- Natures of distress and subsequent communications, a symbol each.
-use Rattle.std.proofs.Common.{◌≡◌, ℕ, List, [], ◌∷◌, refl}
+use Rattle.std.proofs.Common.{ℕ, [], ◌∷◌}
 use Rattle.symbol_reader.specs.declared.letters.Letter.TheVariants.{Nature, Comm}
-use Rattle.symbol_reader.specs.Letters.{Allows}
 use Rattle.symbol_reader.specs.Languages.{One, Spelled}
 use Rattle.symbol_reader.proofs.Laws.{Good, Alike, alike_good}
 use Rattle.symbol_reader.proofs.Steps.{letter_good}

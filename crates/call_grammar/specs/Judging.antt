@@ -1,5 +1,5 @@
 -- What is read of a list on which the format specifier stands once.
-use Rattle.std.specs.Prelude.{◌≡◌, ℕ, ◌≢◌, ◌⊎◌, List, ◌∷◌, ◌++◌}
+use Rattle.std.specs.Prelude.{◌≡◌, ℕ, ◌≢◌, ◌⊎◌, Bool, true, false, List, ◌∷◌, ◌++◌}
 use Rattle.symbol_reader.specs.Reading.{Wants, Leaves}
 use Rattle.call_values.specs.declared.alerts.Call.{Call}
 use Rattle.call_values.specs.Calls.{IsCall}
@@ -36,6 +36,13 @@ Judges l More = Wants Opened l ⊎ IsCovered l
 Judges l (Done call) = IsRight l call
 Judges l Outside = (new : List ℕ) × Leaves Opened l new
 Judges l (Check want got) = IsWrong l want got
+
+-- whether the step takes the symbol
+abbrev pub is_taken : Step → Bool
+is_taken More = true
+is_taken (Done call) = true
+is_taken Outside = false
+is_taken (Check want got) = false
 
 -- a walk that wants more has taken nothing, or the format specifier twice at least
 pub record IsWalking (l : List ℕ) : Type 0 where

@@ -1,5 +1,5 @@
 -- The lists of calls: ITU-R M.493, composition of call sequences and their fields.
-use Rattle.std.specs.Prelude.{◌≡◌, ℕ, ◌+◌, ◌*◌, ◌/◌, ◌%◌, List, [], ◌∷◌, ◌++◌, Option, Some, None, bit_xor}
+use Rattle.std.specs.Prelude.{ℕ, ◌+◌, ◌*◌, ◌/◌, ◌%◌, List, [], ◌∷◌, ◌++◌, Option, Some, None, bit_xor}
 use Rattle.call_values.specs.declared.places.Fix.{Fix}
 use Rattle.call_values.specs.declared.alerts.Casualty.{Casualty}
 use Rattle.call_values.specs.declared.alerts.Call.{Call}

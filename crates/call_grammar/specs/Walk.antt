@@ -1,5 +1,5 @@
 -- Walks through the lists of calls, symbol by symbol: this project's profile, over the lists of ITU-R M.493.
-use Rattle.std.specs.Prelude.{◌≡◌, ℕ, ◌⊎◌, List, [], ◌∷◌, ◌++◌, drop}
+use Rattle.std.specs.Prelude.{◌≡◌, ℕ, List, [], ◌∷◌, ◌++◌, drop}
 use Rattle.call_values.specs.declared.alerts.Call.{Call}
 use Rattle.call_values.specs.Calls.{IsCall}
 use Rattle.call_grammar.specs.Spelling.{spell, front, up_to_end, check_of}

@@ -1,5 +1,6 @@
 ghost use Rattle.std.specs.Prelude.{◌≡◌, ◌<◌, []};
 ghost use Rattle.call_grammar.specs.Walk.{IsStep, IsDone};
+ghost use Rattle.call_grammar.specs.Judging.{is_taken};
 
 use crate::judging::judge;
 use arrayvec::ArrayVec;
@@ -17,6 +18,18 @@ pub enum Step {
     Outside,
     /// The symbol stands at the place of the error check character and isn't the right one. It was left.
     Check { want: u8, got: u8 },
+}
+
+impl Step {
+    /// Whether the symbol was taken.
+    fn is_taken(&self) -> bool
+        ensures { result ≡ is_taken self.now }
+    {
+        match self {
+            Step::More | Step::Done(_) => true,
+            Step::Outside | Step::Check { .. } => false,
+        }
+    }
 }
 
 /// A walk through the lists of calls, the list taken so far, in which the format specifier stands twice.
@@ -60,7 +73,7 @@ impl Walk {
         }
         self.taken.push(x);
         let step = judge(self.taken.as_slice());
-        if matches!(step, Step::Outside | Step::Check { .. }) {
+        if !step.is_taken() {
             self.taken.truncate(before);
         }
         step

@@ -234,21 +234,21 @@ not_chosen {test = test} {first = first} {second = second} e p = alike (Choice-n
 
 -- the exit of `?` keeps the refusal
 pub fail : {V : Type 0} {language : V → List ℕ → Type 0} {old new : List ℕ} {why : Stop} {r : Result V Stop}
-  → IsErrAnd r (λ y. y ≡ why) → Reads language old (Err why) new → Reads language old r new
+    → IsErrAnd r (λ y. y ≡ why) → Reads language old (Err why) new → Reads language old r new
 fail {language = language} {old = old} {new = new} {why = why} {r = r} h p =
-  let k = err_from_is_err_and r h in
-  let m : r ≡ Err k.0 = k.1 in
-  subst (λ x. Reads language old x new) (sym (m ∙ ap (λ y. Err y) k.2)) p
+    let k = err_from_is_err_and r h in
+    let m : r ≡ Err k.0 = k.1 in
+    subst (λ x. Reads language old x new) (sym (m ∙ ap (λ y. Err y) k.2)) p
 
 -- a symbol and then a word of what follows it
 pub one_then : {V : Type 0} {letter : ℕ → Type 0} {second : ℕ → V → List ℕ → Type 0} {v : V} {l : List ℕ}
-  (x : ℕ) → letter x → second x v l → Then (One letter) second v (x ∷ l)
+    (x : ℕ) → letter x → second x v l → Then (One letter) second v (x ∷ l)
 one_then {l = l} x h p = record { chosen = x; front = x ∷ []; back = l; before = record { allowed = h; list = refl }; after = p; list = refl }
 
 -- the list of a symbol and of what follows it
 pub joined : {V : Type 0} {letter : ℕ → Type 0} {second : ℕ → V → List ℕ → Type 0} {v : V} {word l : List ℕ}
-  (p : Then (One letter) second v word) → p.back ≡ l → word ≡ p.chosen ∷ l
+    (p : Then (One letter) second v word) → p.back ≡ l → word ≡ p.chosen ∷ l
 joined {word = word} {l = l} p e =
-  let k : word ≡ p.front ++ p.back = p.list in
-  let m : p.front ≡ p.chosen ∷ [] = p.before.list in
-  k ∙ ap (λ a. a ++ p.back) m ∙ ap (λ a. p.chosen ∷ a) e
+    let k : word ≡ p.front ++ p.back = p.list in
+    let m : p.front ≡ p.chosen ∷ [] = p.before.list in
+    k ∙ ap (λ a. a ++ p.back) m ∙ ap (λ a. p.chosen ∷ a) e

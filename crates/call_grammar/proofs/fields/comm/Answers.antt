@@ -10,5 +10,5 @@ returns-in_err-symbol c = fail c.from_residual.ensures.1 (alike (symbol_alike Is
 
 pub returns : goal.returns
 returns c =
-  let value : c.unwrap.result ≡ c.in_ok-symbol.symbol = grind (arith, common_steps) in
-  rw value (alike (symbol_alike IsComm) c.in_ok-symbol.ensures.reads)
+    let value : c.unwrap.result ≡ c.in_ok-symbol.symbol = grind (arith, common_steps) in
+    rw value (alike (symbol_alike IsComm) c.in_ok-symbol.ensures.reads)
