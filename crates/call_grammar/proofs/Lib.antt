@@ -1,0 +1,10 @@
+pub mod Digits
+pub mod IdentityParts
+pub mod SymbolParts
+pub mod TimeParts
+pub mod PositionParts
+pub mod CallParts
+pub mod Steps
+pub mod Checks
+pub mod Lengths
+pub mod Fronts

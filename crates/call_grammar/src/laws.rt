@@ -1,0 +1,25 @@
+ghost use Rattle.std.specs.Prelude.{◌≡◌, ℕ, ◌≤◌, ◌⊎◌, List, [], ◌++◌, length};
+ghost use Rattle.call_values.specs.declared.alerts.Call.{Call};
+ghost use Rattle.call_values.specs.Calls.{IsCall};
+ghost use Rattle.call_grammar.specs.Spelling.{spell, front};
+ghost use Rattle.call_grammar.specs.Walk.{IsOpen, IsDone};
+
+/// The law that no call's list up to its check begins another call's. It does nothing.
+pub fn fronts_differ()
+    ensures { (c d : Call) (rest : List ℕ) → IsCall c → IsCall d → front d ≡ front c ++ rest → (c ≡ d) × (rest ≡ []) }
+{}
+
+/// The law that no list belongs to two calls. It does nothing.
+pub fn one_list()
+    ensures { (c d : Call) → IsCall c → IsCall d → spell c ≡ spell d → c ≡ d }
+{}
+
+/// The law that a call's list has from 4 to 32 symbols. It does nothing.
+pub fn lists_are_short()
+    ensures { (c : Call) → IsCall c → (4 ≤ length (spell c)) × (length (spell c) ≤ 32) }
+{}
+
+/// The law that a list which still wants symbols up to a check isn't done. It does nothing.
+pub fn open_is_not_done()
+    ensures { (l : List ℕ) → (l ≡ []) ⊎ IsOpen l → IsDone l → ⊥ }
+{}
