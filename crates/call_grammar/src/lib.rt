@@ -7,5 +7,5 @@ mod judging;
 mod laws;
 mod walking;
 
-pub use laws::{fronts_differ, lists_are_short, one_list, open_is_not_done};
+pub use laws::{formats_begin_calls, fronts_differ, lists_are_short, one_list, open_is_not_done};
 pub use walking::{Step, Walk};

@@ -13,7 +13,7 @@ pub enum Seen {
 
 impl Seen {
     /// What is kept of all the symbols that two of these were kept of.
-    pub(crate) fn meet(self, other: Seen) -> Seen
+    pub fn meet(self, other: Seen) -> Seen
         ensures union { (S T : Symbols) → IsSeen S self → IsSeen T other → IsSeen (λ v. S v || T v) result }
         ensures lawful { IsLawful self → IsLawful other → IsLawful result }
     {

@@ -26,9 +26,9 @@ pub agree : (F : Facts) (l m : List ℕ) → IsShown F l → IsShown F m → len
 agree F l m a b le =
     let len : length (take (length l) m) ≡ length l = length-take-le (length l) m le in
     let front_same : take (length l) m ≡ l =
-        ext_get_or 0 (take (length l) m) l len
-        (λ i h. let below : i < length l = omega (arith, len) in
-            get_or-take (length l) m i 0 below ∙ sym (same_at F l m a b i below (omega arith))) in
+    ext_get_or 0 (take (length l) m) l len
+    (λ i h. let below : i < length l = omega (arith, len) in
+    get_or-take (length l) m i 0 below ∙ sym (same_at F l m a b i below (omega arith))) in
     sym (take-append-drop (length l) m) ∙ ap (λ (x : List ℕ). x ++ drop (length l) m) front_same
 
 pub two : (F : Facts) (l : List ℕ) → IsShown F l → 2 ≤ length l

@@ -1,13 +1,14 @@
 -- What a walk that is still open says of the answer.
-use Rattle.std.proofs.Common.{◌≡◌, ℕ, ◌+◌, ◌≤◌, List, [], ◌∷◌, ◌++◌, length, drop, refl, sym, ap, subst, ◌∙◌, inl, inr, append_assoc, arith, length-append}
+use Rattle.std.proofs.Common.{◌≡◌, ℕ, ◌+◌, ◌≤◌, ◌<◌, List, [], ◌∷◌, ◌++◌, length, drop, refl, sym, ap, subst, ◌∙◌, inl, inr, append_assoc, arith, length-append}
 use Rattle.call_values.specs.declared.alerts.Call.{Call}
 use Rattle.call_values.specs.Calls.{IsCall}
-use Rattle.call_grammar.specs.Spelling.{front, check_of}
+use Rattle.call_grammar.specs.Spelling.{front, spell, end_of, check_of}
 use Rattle.call_grammar.specs.Walk.{IsViable, IsOpen, IsAtCheck, after}
 use Rattle.slot_evidence.specs.declared.places.Seen.{Seen}
 use Rattle.slot_evidence.specs.declared.places.Seen.TheVariants as seen
 use Rattle.slot_evidence.specs.Facts.{Facts}
 use Rattle.slot_evidence.specs.Seen.{IsSeen, ShowsNone, ShowsOne, ShowsSeveral}
+use Rattle.slot_evidence.specs.Sheet.{IsEnds, seen_at}
 use Rattle.slot_join.specs.declared.joined.Joined.{Joined}
 use Rattle.slot_join.specs.declared.joined.Joined.TheVariants.{Reported, Missing, Differ, Outside, Check}
 use Rattle.slot_join.specs.declared.joined.Extra.TheVariants.{Absent}
@@ -78,3 +79,20 @@ pub goes_on : (F : Facts) (l : List ℕ) (n v : ℕ) → length l ≡ n → IsSh
 goes_on F l n v len shown one =
     let here : ShowsOne (F (length l)) v = subst (λ (k : ℕ). ShowsOne (F k) v) (sym len) one in
     subst (λ (x : List ℕ). IsShown F x) (sym (after_shown F l v shown)) (push_shown F l v shown here)
+
+-- what stands at a place of the sheet was seen there
+pub seen_there : (F : Facts) (sheet : List Seen) (n : ℕ) (seen : Seen) → IsEnds F sheet → seen ≡ seen_at sheet n → IsSeen (F n) seen
+seen_there F sheet n seen ends is = subst (λ (s : Seen). IsSeen (F n) s) (sym is) (ends.each n)
+
+-- a list that has begun grows by one
+pub after_long : (l : List ℕ) (v : ℕ) → 1 ≤ length l → length (after l v) ≡ length l + 1
+after_long [] v some = absurd (omega arith)
+after_long (f ∷ l) v some = omega (arith, length-append l (v ∷ []))
+
+-- calls are short, and so is what begins one
+pub open_short : ((c : Call) → IsCall c → (4 ≤ length (spell c)) × (length (spell c) ≤ 32)) → (l : List ℕ) → IsOpen l → length l < 32
+open_short short l o =
+    let whole : length (spell o.call) ≡ length (front o.call) + 2 = length-append (front o.call) (end_of o.call ∷ end_of o.call ∷ []) in
+    let part : length (front o.call) ≡ length l + length (o.next ∷ o.rest) = ap length o.list ∙ length-append l (o.next ∷ o.rest) in
+    let most : length (spell o.call) ≤ 32 = (short o.call o.lawful).1 in
+    omega arith

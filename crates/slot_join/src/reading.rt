@@ -8,7 +8,9 @@ ghost use Rattle.slot_join.specs.Answer as answers;
 ghost use Rattle.slot_join.specs.Answer.{IsAnswer, IsReported, IsStopped, BehindFormat};
 
 use crate::joined::{Extra, Joined};
-use call_grammar::{Step, Walk, formats_begin_calls, fronts_differ, lists_are_short, open_is_not_done};
+use call_grammar::{
+    Step, Walk, formats_begin_calls, fronts_differ, lists_are_short, open_is_not_done,
+};
 use slot_evidence::{Seen, Sheet};
 
 /// The answer to every set of facts that has this sheet: it reads the places one after the other, until one
