@@ -11,7 +11,7 @@ use Rattle.dsc_cmd.specs.Endings.{WritesSome}
 -- a built input has at most 4,201 bytes
 built_short : (input : List ℕ) (es : List Element) → IsBuilt input es → length input ≤ 4201
 built_short input es b =
-    let end : length b.end ≤ 1 = elim b.ends [ | inl none ↦ omega (arith, ap length none) | inr one ↦ omega (arith, ap length one) ] in
+    let end : length b.end ≤ 1 = elim b.ends [ inl none ↦ omega (arith, ap length none) | inr one ↦ omega (arith, ap length one) ] in
     let all : length input ≡ 2 + length (map sign_of es ++ b.end) = ap length b.line ∙ length-append (114 ∷ 32 ∷ []) (map sign_of es ++ b.end) in
     omega (arith, length-append (map sign_of es) b.end, length-map es sign_of, b.most)
 

@@ -5,8 +5,8 @@ mod input;
 mod running;
 mod words;
 
-pub use running::run;
 pub use dsc_files::{
     ByteSink, ByteSource, Failed, NoMemory, Sink, Source, Status, StdSink, StdSource, SureSink,
     SureSource,
 };
+pub use running::run;

@@ -94,7 +94,7 @@ fn write_answer<K: Sink>(elements: &[Element], sink: &mut K) -> Status
     requires { length elements.now ≤ 4198 }
     ensures done { IsFinished result
         → (answer : Joined) × (IsAnswer (facts_of elements.now) answer × Writes (K.written sink.old) (K.written sink.new) (K.flushed sink.new) (answer_line answer)
-            × (result ≡ status_of answer)) }
+        × (result ≡ status_of answer)) }
     ensures cut { result ≡ 5 → (answer : Joined) × (IsAnswer (facts_of elements.now) answer × WritesFront (K.written sink.old) (K.written sink.new) (answer_line answer)) }
     ensures cause { result ≡ 5 → Rises (K.faults sink.old) (K.faults sink.new) }
     ensures sound { result ≢ 5 → K.faults sink.new ≡ K.faults sink.old }

@@ -15,9 +15,10 @@ pub returns-in-len2 : goal.returns-in-len2
 returns-in-len2 c =
     let command = c.command-item.result in
     let both = two_words c.args.words.now command c.in-len2.len_at_least c.in-len2.len_below c.command-item.is in
-    let decides = bytes_decides c.as_str.result.now (codes "join") in
-    (λ yes. record {
+    let decides = bytes_decides c.as_str.result.now (codes "join") in (
+      λ yes. record {
         name = string_bytes (get_or c.args.words.now 0 command);
         words_are = both ∙ ap (λ (x : List ℕ). string_bytes (get_or c.args.words.now 0 command) ∷ x ∷ []) (sym c.as_str.ensures.value ∙ decides.0 (sym c.eq.ensures ∙ yes));
       },
-     λ is. c.eq.ensures ∙ decides.1 (c.as_str.ensures.value ∙ ap (λ (l : List (List ℕ)). get_or l 1 []) (sym both ∙ is.words_are)))
+      λ is. c.eq.ensures ∙ decides.1 (c.as_str.ensures.value ∙ ap (λ (l : List (List ℕ)). get_or l 1 []) (sym both ∙ is.words_are)),
+    )
