@@ -1,11 +1,10 @@
 -- what the slots of a transmission show
-use Rattle.std.proofs.Common.{◌≡◌, ℕ, ◌+◌, ◌-◌, ◌*◌, ◌/◌, ◌%◌, ◌<◌, ◌≤◌, ◌⊎◌, Bool, true, false, cond, nat_eq, nat_lt, List, [], ◌∷◌, length, slice_index, inl, inr, refl, arith, All, map, ap, ◌∙◌, subst, sym}
-use Rattle.std.specs.List.{range_with_len}
+use Rattle.std.proofs.Common.{◌≡◌, ℕ, ◌+◌, ◌-◌, ◌*◌, ◌/◌, ◌<◌, ◌≤◌, ◌⊎◌, List, length, slice_index, inl, inr, arith, All}
 use Rattle.std.proofs.lemmas.List.FromFn.{length-map-range_with_len, get_or-map-range_with_len}
 use Rattle.std.proofs.lemmas.List.{get_or_past}
 use Rattle.std.proofs.lemmas.Bool.Decides.{nat_tests}
 use Rattle.time_diversity.specs.Slots.{dx_slot, rx_slot, IsSlotOf}
-use Rattle.time_diversity.specs.OnAir.{phasing_symbol, dx_symbol, rx_symbol, slot_symbol, on_air}
+use Rattle.time_diversity.specs.OnAir.{phasing_symbol, slot_symbol, on_air}
 
 half-dx : (slot p : ℕ) → slot ≡ 12 + 2 * p → (slot - 12) / 2 ≡ p
 half-dx slot p e = omega arith

@@ -1,4 +1,4 @@
-use Rattle.std.proofs.Common.{◌≡◌, ◌+◌, ◌*◌, ◌<◌, ◌≤◌, All, length, ℕ, map}
+use Rattle.std.proofs.Common.{◌≡◌, map}
 use Rattle.std.specs.List.{range_with_len}
 use Rattle.time_diversity.specs.OnAir.{slot_symbol}
 use Rattle.time_diversity.proofs.sending.on_air.Given as goal

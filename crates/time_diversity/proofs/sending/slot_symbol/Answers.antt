@@ -1,4 +1,4 @@
-use Rattle.std.proofs.Common.{◌≡◌, ◌+◌, ◌*◌, ◌<◌, ◌≤◌, ◌⊎◌, length, refl, sym, ◌∙◌, arith}
+use Rattle.std.proofs.Common.{◌≡◌, ◌≤◌, ◌⊎◌, refl, sym, ◌∙◌, arith}
 use Rattle.time_diversity.specs.Slots.{IsNoPlace}
 use Rattle.time_diversity.proofs.Shows.{shows_character, shows_phasing}
 use Rattle.time_diversity.proofs.sending.slot_symbol.Goals as goal
