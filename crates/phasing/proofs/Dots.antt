@@ -1,7 +1,6 @@
 -- the dot pattern grows by one dot at its end
-use Rattle.std.proofs.Common.{◌≡◌, ℕ, ◌+◌, List, [], ◌∷◌, ◌++◌, length, refl, arith}
+use Rattle.std.proofs.Common.{◌≡◌, ℕ, ◌+◌, [], ◌∷◌, ◌++◌, length, refl, arith}
 use Rattle.std.proofs.lemmas.List.FromFn.{length-map-range_with_len, map-range_with_len_more}
-use Rattle.ten_unit.specs.declared.character.Element.{Element}
 use Rattle.phasing.specs.Sent.{dot, dots}
 
 pub dots-none : [] ≡ dots 0

@@ -1,4 +1,4 @@
-use Rattle.std.proofs.Common.{◌≡◌, ◌<◌, length, ap, ◌∙◌, lit<, arith}
+use Rattle.std.proofs.Common.{◌≡◌, length, ap, ◌∙◌, lit<, arith}
 use Rattle.phasing.proofs.Dots.{dots-none, length-dots, dots-more}
 use Rattle.phasing.proofs.sending.dot_pattern.Goals as goal
 
@@ -8,7 +8,7 @@ loop-number-init c = c.new-elements.ensures ∙ dots-none
 pub push-requires : goal.push-requires
 push-requires c =
     let long : length c.loop-number.elements.items ≡ c.loop-number.number =
-        ap length c.loop-number.invariant ∙ length-dots c.loop-number.number
+    ap length c.loop-number.invariant ∙ length-dots c.loop-number.number
     in
     (lit< tt, omega arith)
 

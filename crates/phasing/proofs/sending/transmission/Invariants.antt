@@ -6,5 +6,5 @@ use Rattle.phasing.proofs.sending.transmission.Given as goal
 abbrev pub invariant-loop-symbol : goal.invariant-loop-symbol
 invariant-loop-symbol l = record {
   sent : l.elements.items ≡ dots (dot_count l.fn.long) ++ flat_map word_of (take l.symbol-index l.slots);
-  long : length l.elements.items ≡ dot_count l.fn.long + 10 * l.symbol-index
+  long : length l.elements.items ≡ dot_count l.fn.long + 10 * l.symbol-index;
 }
