@@ -1,4 +1,4 @@
-use crate::{lead, origin, slot_symbol};
+use crate::{lead, origin, slot_symbol, transmission};
 use std::alloc::{AllocError, Global};
 use std::test::Fail;
 use ten_unit::{Element, word};
@@ -69,4 +69,23 @@ fn three_dx_alone_are_unphased(rt: HostRuntime) -> Result<(), Fail> {
     assert_eq!(rt; elements.len(), 180);
     assert_eq!(rt; origin(&elements), None);
     Ok(())
+}
+
+#[test]
+fn a_short_dot_pattern_and_words(rt: HostRuntime) {
+    let elements = transmission(&[125, 111, 0], false);
+    assert_eq!(rt; elements.len(), 50);
+    for pair in elements[..20].chunks_exact(2) {
+        assert_eq!(rt; pair, [Element::B, Element::Y].as_slice());
+    }
+    assert_eq!(rt; &elements[20..30], word(125).as_slice());
+    assert_eq!(rt; &elements[40..50], word(0).as_slice());
+}
+
+#[test]
+fn a_long_dot_pattern(rt: HostRuntime) {
+    let elements = transmission(&[125], true);
+    assert_eq!(rt; elements.len(), 210);
+    assert_eq!(rt; &elements[198..200], [Element::B, Element::Y].as_slice());
+    assert_eq!(rt; &elements[200..], word(125).as_slice());
 }
