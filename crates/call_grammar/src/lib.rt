@@ -5,9 +5,13 @@ mod fields;
 mod forms;
 mod judging;
 mod laws;
+mod reading;
+mod spelling;
 mod walking;
 
-pub use laws::{fronts_differ, lists_are_short, one_list, open_is_not_done};
+pub use laws::{fronts_differ, lists_are_short, one_list, open_is_not_done, read_back};
+pub use reading::{ReadRefusal, read};
+pub use spelling::spell;
 pub use walking::{Step, Walk};
 
 #[cfg(test)]
@@ -44,6 +48,29 @@ mod tests {
         assert_eq!(rt; casualty.nature.number(), 106);
         assert_eq!(rt; casualty.time.known(), Some((20, 19)));
         assert_eq!(rt; casualty.comm.number(), 100);
+    }
+
+    #[test]
+    fn spelled_and_read(rt: HostRuntime) {
+        let (_, step) = walk_through(&ALERT[1..]);
+        let Step::Done(call) = step else {
+            assert!(rt; false, "{step:?}");
+            return;
+        };
+        assert_eq!(rt; spell(&call).as_slice(), ALERT.as_slice());
+        assert_eq!(rt; read(&ALERT), Ok((call, 20)));
+        assert_eq!(rt; read(&ALERT[..19]), Err(ReadRefusal::Short(19)));
+        assert_eq!(rt; read(&ALERT[1..]), Err(ReadRefusal::Outside(1, 33)));
+        let mut list = ALERT;
+        list[19] = 117;
+        assert_eq!(rt; read(&list), Err(ReadRefusal::Outside(19, 117)));
+        list[17] = 79;
+        let wrong = ReadRefusal::Check {
+            n: 17,
+            want: 78,
+            got: 79,
+        };
+        assert_eq!(rt; read(&list), Err(wrong));
     }
 
     #[test]
