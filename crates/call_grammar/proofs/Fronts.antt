@@ -6,7 +6,7 @@ use Rattle.call_grammar.specs.Spelling.{format_of, end_of, covered, check_of, fr
 use Rattle.call_grammar.specs.Walk.{IsOpen, IsDone}
 use Rattle.call_grammar.proofs.CallParts.{opened_good}
 
-same_covered : (c d : Call) (r s : List ℕ) → IsCall c → IsCall d → covered d ++ r ≡ covered c ++ s → (c ≡ d) × (r ≡ s)
+pub same_covered : (c d : Call) (r s : List ℕ) → IsCall c → IsCall d → covered d ++ r ≡ covered c ++ s → (c ≡ d) × (r ≡ s)
 same_covered c d r s h k e =
     let one = opened_good.one d c (covered d) (covered c) r s (record { is_lawful = k; list = refl }) (record { is_lawful = h; list = refl }) e in
     (sym one.0, one.2)

@@ -32,7 +32,7 @@ length-casualty c =
     )
 
 -- the fields of a call take at most 26 characters
-length-fields : (c : Call) → length (fields_of c) ≤ 26
+pub length-fields : (c : Call) → length (fields_of c) ≤ 26
 length-fields (Alert c) = omega (arith, length-casualty c)
 
 pub length-covered : (c : Call) → length (covered c) ≤ 28

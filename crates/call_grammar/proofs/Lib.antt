@@ -8,3 +8,6 @@ pub mod Steps
 pub mod Checks
 pub mod Lengths
 pub mod Fronts
+pub mod Readings
+pub mod Endings
+pub mod ReadBack

@@ -14,7 +14,7 @@ use Rattle.call_grammar.specs.declared.walking.Step.{Step}
 use Rattle.call_grammar.specs.declared.walking.Step.TheVariants.{More, Done, Outside, Check}
 use Rattle.call_grammar.proofs.CallParts.{opened_good}
 
-spelled : (c : Call) → IsCall c → Opened c (covered c)
+pub spelled : (c : Call) → IsCall c → Opened c (covered c)
 spelled c h = record { is_lawful = h; list = refl }
 
 -- a list that ends before the check of a call begins what the check covers
@@ -47,14 +47,14 @@ at_place c l rest x k h b e = elim (split l (x ∷ []) (covered c) (k ∷ rest) 
 ]
 
 -- the first symbols of two lists
-heads : (x y : ℕ) (l m : List ℕ) → x ∷ l ≡ y ∷ m → x ≡ y
+pub heads : (x y : ℕ) (l m : List ℕ) → x ∷ l ≡ y ∷ m → x ≡ y
 heads x y l m e = cc
 
--- more is wanted
-goes_on : (f x : ℕ) (l tail : List ℕ) → l ++ (x ∷ []) ≡ f ∷ tail → Wants Opened (l ++ (x ∷ [])) ⊎ IsCovered (l ++ (x ∷ [])) → IsOpen (f ∷ (l ++ (x ∷ [])))
-goes_on f x l tail twice (inl w) =
+-- a list that begins what a check covers, and has the format specifier once more in front, is open
+pub open_of : (f : ℕ) (m tail : List ℕ) → m ≡ f ∷ tail → Wants Opened m ⊎ IsCovered m → IsOpen (f ∷ m)
+open_of f m tail twice (inl w) =
     let c = w.value in
-    let list : (l ++ (x ∷ [])) ++ (w.next ∷ w.rest) ≡ covered c = w.word.list in
+    let list : m ++ (w.next ∷ w.rest) ≡ covered c = w.word.list in
     let k : ℕ = check_of (covered c) in
     let format : f ≡ format_of c = heads _ _ _ _ (ap (λ a. a ++ (w.next ∷ w.rest)) (sym twice) ∙ list) in
     record {
@@ -63,12 +63,12 @@ goes_on f x l tail twice (inl w) =
       rest = w.rest ++ (k ∷ []);
       lawful = w.word.is_lawful;
       list = ap (λ a. format_of c ∷ (a ++ (k ∷ []))) (sym list)
-          ∙ ap (λ a. a ∷ (((l ++ (x ∷ [])) ++ (w.next ∷ w.rest)) ++ (k ∷ []))) (sym format)
-          ∙ ap (λ a. f ∷ a) (append_assoc (l ++ (x ∷ [])) (w.next ∷ w.rest) (k ∷ []));
+          ∙ ap (λ a. a ∷ ((m ++ (w.next ∷ w.rest)) ++ (k ∷ []))) (sym format)
+          ∙ ap (λ a. f ∷ a) (append_assoc m (w.next ∷ w.rest) (k ∷ []));
     }
-goes_on f x l tail twice (inr w) =
+open_of f m tail twice (inr w) =
     let c = w.call in
-    let list : l ++ (x ∷ []) ≡ covered c = w.list in
+    let list : m ≡ covered c = w.list in
     let k : ℕ = check_of (covered c) in
     let format : f ≡ format_of c = heads _ _ _ _ (sym twice ∙ list) in
     record {
@@ -76,7 +76,7 @@ goes_on f x l tail twice (inr w) =
       next = k;
       rest = [];
       lawful = w.lawful;
-      list = ap (λ a. format_of c ∷ (a ++ (k ∷ []))) (sym list) ∙ ap (λ a. a ∷ ((l ++ (x ∷ [])) ++ (k ∷ []))) (sym format);
+      list = ap (λ a. format_of c ∷ (a ++ (k ∷ []))) (sym list) ∙ ap (λ a. a ∷ (m ++ (k ∷ []))) (sym format);
     }
 
 -- the call is done
@@ -90,7 +90,7 @@ completes f x l tail c twice b right =
     ap (λ a. a ∷ (l ++ (x ∷ []))) format ∙ ap (λ a. format_of c ∷ (a ++ (x ∷ []))) e1 ∙ ap (λ a. format_of c ∷ (covered c ++ (a ∷ []))) e2
 
 -- what can't be begun so is viable at no format specifier
-not_viable : (f : ℕ) (l m : List ℕ) (n x : ℕ) → Wants Opened m → l ++ (x ∷ []) ≡ m ++ (n ∷ [])
+pub not_viable : (f : ℕ) (l m : List ℕ) (n x : ℕ) → Wants Opened m → l ++ (x ∷ []) ≡ m ++ (n ∷ [])
     → (Begins Opened (l ++ (x ∷ [])) → ⊥) → IsViable (f ∷ (l ++ (x ∷ []))) → ⊥
 not_viable f l m n x wants e never v =
     let c = v.call in
@@ -173,7 +173,7 @@ stands old x (inr w) = record {
 }
 
 -- no check stands at the beginning
-no_check_first : IsAtCheck [] → ⊥
+pub no_check_first : IsAtCheck [] → ⊥
 no_check_first a = let e : [] ≡ format_of a.call ∷ covered a.call = a.list in cc
 
 -- what was judged of the list without its first symbol, of the list that stands so
@@ -181,7 +181,7 @@ judged : (old : List ℕ) (x : ℕ) (step : Step) (s : Stands old x) → Judges 
 judged old x step s j = subst (λ a. Judges (drop 1 a) step) s.list j
 
 open_after : (old : List ℕ) (x : ℕ) (s : Stands old x) → Judges (drop 1 (after old x)) More → IsOpen (after old x)
-open_after old x s j = subst IsOpen (sym s.list) (goes_on s.f x s.l s.tail s.twice (judged old x More s j))
+open_after old x s j = subst IsOpen (sym s.list) (open_of s.f (s.l ++ (x ∷ [])) s.tail s.twice (judged old x More s j))
 
 done_after : (old : List ℕ) (x : ℕ) (call : Call) (s : Stands old x) → Judges (drop 1 (after old x)) (Done call) → after old x ≡ front call
 done_after old x call s j = s.list ∙ completes s.f x s.l s.tail call s.twice s.begins (judged old x (Done call) s j)
@@ -219,7 +219,7 @@ wrong_not_viable f x l c h e differ v =
     let call : covered d ≡ covered c = same.1 in
     differ (ap check_of (sym call) ∙ check)
 
-no_cover : (c : Call) → [] ≡ covered c → ⊥
+pub no_cover : (c : Call) → [] ≡ covered c → ⊥
 no_cover c e = let k : [] ≡ format_of c ∷ (fields_of c ++ (end_of c ∷ [])) = e in cc
 
 wrong_after : (old : List ℕ) (x want got : ℕ) (s : Stands old x) → Judges (drop 1 (after old x)) (Check want got)

@@ -3,7 +3,7 @@ use Rattle.std.specs.Prelude.{ℕ, ◌+◌, ◌*◌, ◌/◌, ◌%◌, ◌==◌,
 use Rattle.symbol_reader.specs.declared.letters.Letter.{Letter}
 use Rattle.symbol_reader.specs.declared.letters.Letter.TheVariants.{Exactly, UpTo, Digits}
 use Rattle.symbol_reader.specs.Letters.{Allows}
-use Rattle.symbol_reader.specs.Languages.{One, Only, Then, Choice, Spelled}
+use Rattle.symbol_reader.specs.Languages.{One, Only, Then, Spelled}
 use Rattle.call_values.specs.declared.places.Fix.{Fix}
 use Rattle.call_values.specs.declared.alerts.Casualty.{Casualty}
 use Rattle.call_values.specs.declared.alerts.Call.{Call}
@@ -73,8 +73,3 @@ abbrev pub UnknownRest : Option Fix → List ℕ → Type 0
 UnknownRest =
     Then (Symbol (Exactly 99)) (λ _. Then (Symbol (Exactly 99)) (λ _. Then (Symbol (Exactly 99)) (λ _.
     Then (Symbol (Exactly 99)) (λ _. Only None))))
-
--- the rest of a time, after its first character
-abbrev pub TimeRest : ℕ → Option (ℕ × ℕ) → List ℕ → Type 0
-TimeRest hour =
-    Choice (hour == 88) (Then (Symbol (Exactly 88)) (λ _. Only None)) (Then (Symbol (UpTo 59)) (λ minute. Only (Some (hour, minute))))

@@ -2,3 +2,4 @@ pub mod Spelling
 pub mod Walk
 pub mod Grammar
 pub mod Judging
+pub mod Reading

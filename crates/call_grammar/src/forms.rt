@@ -1,4 +1,6 @@
+ghost use Rattle.std.specs.Prelude.{◌↔◌, IsTrue};
 ghost use Rattle.symbol_reader.specs.Reading.{Reads};
+ghost use Rattle.call_grammar.specs.Walk.{IsFormat};
 ghost use Rattle.call_grammar.specs.Grammar.{Opened};
 
 use crate::fields::casualty;
@@ -13,4 +15,11 @@ pub fn opened(list: &mut Reader) -> Result<Call, Stop>
     let casualty = casualty(list)?;
     list.symbol(Letter::Exactly(127))?;
     Ok(Call::Alert(casualty))
+}
+
+/// Whether calls begin with this symbol.
+pub fn is_format(symbol: u8) -> bool
+    ensures { IsTrue result ↔ IsFormat symbol }
+{
+    symbol == 112
 }

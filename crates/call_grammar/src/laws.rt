@@ -1,8 +1,10 @@
-ghost use Rattle.std.specs.Prelude.{◌≡◌, ℕ, ◌≤◌, ◌⊎◌, ◌↔◌, List, [], ◌∷◌, ◌++◌, length};
+ghost use Rattle.std.specs.Prelude.{◌≡◌, ℕ, ◌≤◌, ◌⊎◌, ◌↔◌, List, [], ◌∷◌, ◌++◌, length, Result, Ok};
 ghost use Rattle.call_values.specs.declared.alerts.Call.{Call};
 ghost use Rattle.call_values.specs.Calls.{IsCall};
 ghost use Rattle.call_grammar.specs.Spelling.{spell, front};
 ghost use Rattle.call_grammar.specs.Walk.{IsFormat, IsViable, IsOpen, IsDone};
+ghost use Rattle.call_grammar.specs.Reading.{IsReading};
+ghost use Rattle.call_grammar.specs.declared.reading.ReadRefusal.{ReadRefusal};
 
 /// The law that no call's list up to its check begins another call's. It does nothing.
 pub fn fronts_differ()
@@ -27,4 +29,11 @@ pub fn open_is_not_done()
 /// The law that a symbol is a format specifier exactly where it begins some call's list, standing twice. It does nothing.
 pub fn formats_begin_calls()
     ensures { (f : ℕ) → IsFormat f ↔ IsViable (f ∷ f ∷ []) }
+{}
+
+/// The law that of a list which begins with a call's list, whatever follows, reading can answer nothing but this call
+/// and its length. It does nothing.
+pub fn read_back()
+    ensures { (c : Call) (rest : List ℕ) (answer : Result (Call × ℕ) ReadRefusal)
+        → IsCall c → IsReading (spell c ++ rest) answer → answer ≡ Ok (c, length (spell c)) }
 {}
