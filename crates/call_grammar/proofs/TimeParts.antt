@@ -16,7 +16,7 @@ known_good hour = then_good _ _ (letter_good (UpTo 59)) (λ minute _ _. only_goo
 -- the rest of a time, after its first character
 abbrev pub TimeRest : ℕ → Option (ℕ × ℕ) → List ℕ → Type 0
 TimeRest hour =
-  Choice (hour == 88) (Then (Symbol (Exactly 88)) (λ _. Only None)) (Then (Symbol (UpTo 59)) (λ minute. Only (Some (hour, minute))))
+    Choice (hour == 88) (Then (Symbol (Exactly 88)) (λ _. Only None)) (Then (Symbol (UpTo 59)) (λ minute. Only (Some (hour, minute))))
 
 pub rest_good : (hour : ℕ) → Good (TimeRest hour)
 rest_good hour = choice_good (hour == 88) _ _ (λ _. unknown_good) (λ _. known_good hour)

@@ -18,5 +18,7 @@ format_known : (c : Call) → IsFormat (format_of c)
 format_known (Alert casualty) = refl
 
 pub returns : goal.returns
-returns c = λ f. (λ is. subst (λ (x : ℕ). IsViable (x ∷ x ∷ [])) (sym is) begins,
-    λ viable. subst IsFormat (ap (λ (l : List ℕ). get_or l 0 0) viable.list) (format_known viable.call))
+returns c = λ f. (
+  λ is. subst (λ (x : ℕ). IsViable (x ∷ x ∷ [])) (sym is) begins,
+  λ viable. subst IsFormat (ap (λ (l : List ℕ). get_or l 0 0) viable.list) (format_known viable.call),
+)
