@@ -2,7 +2,7 @@
 use Rattle.std.proofs.Common.{◌≡◌, ℕ, ◌≤◌, ◌<◌, ◌⊎◌, inl, inr, ◌==◌, Bool, true, false, List, [], ◌∷◌, Option, Some, None, refl, sym, subst, arith}
 use Rattle.std.proofs.lemmas.Bool.Decides.{nat_tests}
 use Rattle.symbol_reader.specs.declared.letters.Letter.TheVariants.{Exactly, UpTo, UpToOr}
-use Rattle.symbol_reader.specs.Languages.{Only, Then}
+use Rattle.symbol_reader.specs.Languages.{Only, Then, Choice}
 use Rattle.symbol_reader.proofs.Laws.{Good, Alike, then_good, only_good, choice_good, alike_good}
 use Rattle.symbol_reader.proofs.Steps.{letter_good, one_then, joined}
 use Rattle.call_grammar.specs.Grammar.{Symbol, Times}
@@ -16,7 +16,7 @@ known_good hour = then_good _ _ (letter_good (UpTo 59)) (λ minute _ _. only_goo
 -- the rest of a time, after its first character
 abbrev pub TimeRest : ℕ → Option (ℕ × ℕ) → List ℕ → Type 0
 TimeRest hour =
-  Choice (hour == 88) (Then (Symbol (Exactly 88)) (λ _. Only None)) (Then (Symbol (UpTo 59)) (λ minute. Only (Some (hour, minute))))
+    Choice (hour == 88) (Then (Symbol (Exactly 88)) (λ _. Only None)) (Then (Symbol (UpTo 59)) (λ minute. Only (Some (hour, minute))))
 
 pub rest_good : (hour : ℕ) → Good (TimeRest hour)
 rest_good hour = choice_good (hour == 88) _ _ (λ _. unknown_good) (λ _. known_good hour)

@@ -1,8 +1,8 @@
-ghost use Rattle.std.specs.Prelude.{◌≡◌, ℕ, ◌≤◌, ◌⊎◌, List, [], ◌++◌, length, Result, Ok};
+ghost use Rattle.std.specs.Prelude.{◌≡◌, ℕ, ◌≤◌, ◌⊎◌, ◌↔◌, List, [], ◌∷◌, ◌++◌, length, Result, Ok};
 ghost use Rattle.call_values.specs.declared.alerts.Call.{Call};
 ghost use Rattle.call_values.specs.Calls.{IsCall};
 ghost use Rattle.call_grammar.specs.Spelling.{spell, front};
-ghost use Rattle.call_grammar.specs.Walk.{IsOpen, IsDone};
+ghost use Rattle.call_grammar.specs.Walk.{IsFormat, IsViable, IsOpen, IsDone};
 ghost use Rattle.call_grammar.specs.Reading.{IsReading};
 ghost use Rattle.call_grammar.specs.declared.reading.ReadRefusal.{ReadRefusal};
 
@@ -24,6 +24,11 @@ pub fn lists_are_short()
 /// The law that a list which still wants symbols up to a check isn't done. It does nothing.
 pub fn open_is_not_done()
     ensures { (l : List ℕ) → (l ≡ []) ⊎ IsOpen l → IsDone l → ⊥ }
+{}
+
+/// The law that a symbol is a format specifier exactly where it begins some call's list, standing twice. It does nothing.
+pub fn formats_begin_calls()
+    ensures { (f : ℕ) → IsFormat f ↔ IsViable (f ∷ f ∷ []) }
 {}
 
 /// The law that of a list which begins with a call's list, whatever follows, reading can answer nothing but this call

@@ -9,7 +9,9 @@ mod reading;
 mod spelling;
 mod walking;
 
-pub use laws::{fronts_differ, lists_are_short, one_list, open_is_not_done, read_back};
+pub use laws::{
+    formats_begin_calls, fronts_differ, lists_are_short, one_list, open_is_not_done, read_back,
+};
 pub use reading::{ReadRefusal, read};
 pub use spelling::spell;
 pub use walking::{Step, Walk};

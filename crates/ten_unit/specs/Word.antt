@@ -1,5 +1,5 @@
 -- The ten-element character: ITU-R M.493, section on the error-detecting code.
-use Rattle.std.specs.Prelude.{◌≡◌, ℕ, ◌+◌, ◌/◌, ◌%◌, Bool, true, false, ◌&&◌, if◌then◌else◌, ◌==◌, List, [], ◌∷◌, ◌++◌, count_by}
+use Rattle.std.specs.Prelude.{ℕ, ◌/◌, ◌%◌, Bool, true, false, ◌&&◌, if◌then◌else◌, ◌==◌, List, [], ◌∷◌, ◌++◌, count_by}
 use Rattle.ten_unit.specs.declared.character.Element.{Element}
 use Rattle.ten_unit.specs.declared.character.Element.TheVariants.{Y, B, Lost}
 
@@ -27,7 +27,7 @@ abbrev pub number : ℕ → List Element
 number n = element (n / 4 % 2) ∷ element (n / 2 % 2) ∷ element (n % 2) ∷ []
 
 -- the word of a symbol from 0 to 127: its bits, and then how many of them are B
-abbrev pub word_of : ℕ → List Element
+unfoldable pub word_of : ℕ → List Element
 word_of v = information v ++ number (count_of_b (information v))
 
 abbrev pub element_eq : Element → Element → Bool

@@ -1,5 +1,8 @@
-ghost use Rattle.std.specs.Prelude.{◌≡◌, ◌≢◌, ℕ, ◌<◌, ◌≤◌, ◌/◌, ◌%◌, IfSome, IfNone};
+ghost use Rattle.std.specs.Prelude.{◌≡◌, ◌↔◌, List, ℕ, ◌<◌, ◌≤◌, ◌/◌, ◌%◌, IfSome, Some, true};
 ghost use Rattle.ten_unit.specs.Word.{word_of, element, count_of_b};
+ghost use Rattle.ten_unit.specs.Word as characters;
+ghost use Rattle.ten_unit.specs.declared.character.Element.{Element};
+ghost use Rattle.ten_unit.specs.Carried.{ones, value_of};
 
 /// An element on air: Y and B are the two tones, and a received one may be lost.
 #[derive(Clone, Copy, Debug, PartialEq, Eq)]
@@ -9,12 +12,11 @@ pub enum Element {
     Lost,
 }
 
-/// The element of one binary digit, the one with this value.
-fn digit(number: u8, value: u8) -> Element
-    requires { 0 < value }
-    ensures { result ≡ element (number / value % 2) }
+/// The element of a number's last binary digit.
+fn last_digit(number: u8) -> Element
+    ensures { result ≡ element (number % 2) }
 {
-    if number / value % 2 == 1 {
+    if number % 2 == 1 {
         Element::Y
     } else {
         Element::B
@@ -36,28 +38,67 @@ fn count_b(information: &[Element; 7]) -> u8
 }
 
 /// The ten elements of a symbol from 0 to 127: seven information elements, least significant first,
-/// and the number of B among them in three, most significant first.
+/// and the number of B among them in three, most significant first (ITU-R M.493, the ten-unit code).
 pub fn word(symbol: u8) -> [Element; 10]
     requires { symbol < 128 }
     ensures { result ≡ word_of symbol }
 {
-    let [a, b, c, d, e, f, g] = [1, 2, 4, 8, 16, 32, 64].map(|value| digit(symbol, value));
+    let a = last_digit(symbol);
+    let b = last_digit(symbol / 2);
+    let c = last_digit(symbol / 4);
+    let d = last_digit(symbol / 8);
+    let e = last_digit(symbol / 16);
+    let f = last_digit(symbol / 32);
+    let g = last_digit(symbol / 64);
     let count = count_b(&[a, b, c, d, e, f, g]);
-    let [h, i, j] = [digit(count, 4), digit(count, 2), digit(count, 1)];
+    let h = last_digit(count / 4);
+    let i = last_digit(count / 2);
+    let j = last_digit(count);
     [a, b, c, d, e, f, g, h, i, j]
 }
 
-/// The symbol of ten received elements. `None` comes exactly where they are no symbol's word: where an
-/// element is lost, or the last three disagree with the number of B.
-pub fn symbol(w: &[Element; 10]) -> Option<u8>
-    ensures some { IfSome result (λ v. (v < 128) × (w.now ≡ word_of v)) }
-    ensures none { IfNone result ((v : ℕ) → v < 128 → w.now ≢ word_of v) }
+/// Whether these elements are the word of a symbol from 0 to 127. A list of another length is no word.
+pub fn is_word(w: &[Element], symbol: u8) -> bool
+    requires { symbol < 128 }
+    ensures { result ≡ characters.is_word w.now symbol }
 {
-    let mut value = 0;
-    for (k, element) in w[..7].iter().enumerate() {
-        if matches!(element, Element::Y) {
-            value += 1 << k;
-        }
-    }
-    (word(value) == *w).then_some(value)
+    w == word(symbol).as_slice()
 }
+
+fn one(element: Element) -> u8
+    ensures value { result ≡ ones element }
+    ensures most { result ≤ 1 }
+{
+    match element {
+        Element::Y => 1,
+        Element::B | Element::Lost => 0,
+    }
+}
+
+/// The number that the seven information elements carry, a lost one read as B.
+fn value(w: &[Element; 10]) -> u8
+    ensures value { result ≡ value_of w.now }
+    ensures most { result < 128 }
+{
+    let [a, b, c, d, e, f, g, _, _, _] = *w;
+    one(a) + 2 * one(b) + 4 * one(c) + 8 * one(d) + 16 * one(e) + 32 * one(f) + 64 * one(g)
+}
+
+/// The symbol of ten received elements. `None` comes exactly where they are no symbol's word: where an
+/// element is lost, or the last three disagree with the number of B among the first seven.
+pub fn symbol(w: &[Element; 10]) -> Option<u8>
+    ensures some { IfSome result (λ v. (v < 128) × (characters.is_word w.now v ≡ true)) }
+    ensures only { (v : ℕ) → v < 128 → characters.is_word w.now v ≡ true → result ≡ Some v }
+{
+    let value = value(w);
+    is_word(w, value).then_some(value)
+}
+
+/// A law: being a symbol's word is being equal to it, and no two symbols have one word.
+pub fn words_tell_symbols_apart()
+    ensures equal { (w : List Element) (v : ℕ) → (characters.is_word w v ≡ true) ↔ (w ≡ word_of v) }
+    ensures apart { (u v : ℕ) → u < 128 → v < 128 → word_of u ≡ word_of v → u ≡ v }
+{}
+
+#[cfg(test)]
+mod tests;

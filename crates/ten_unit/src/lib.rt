@@ -3,4 +3,4 @@
 
 mod character;
 
-pub use character::{Element, symbol, word};
+pub use character::{Element, is_word, symbol, word, words_tell_symbols_apart};

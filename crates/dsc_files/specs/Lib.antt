@@ -1,0 +1,3 @@
+pub mod Streams
+pub mod Sure
+pub mod Failing

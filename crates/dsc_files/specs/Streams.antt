@@ -1,0 +1,34 @@
+-- What a source loses and a sink gains: this project's profile.
+use Rattle.std.specs.Prelude.{◌≡◌, ℕ, ◌+◌, ◌-◌, ◌^◌, ◌<◌, min, List, [], ◌++◌, length, Option, Some, None, ◌⊎◌}
+
+-- what is left now was left behind these bytes, where it is told; and it was told before
+abbrev pub Loses : Option (List ℕ) → Option (List ℕ) → List ℕ → Type 0
+Loses (Some all) (Some rest) bytes = all ≡ bytes ++ rest
+Loses None (Some _) _ = ⊥
+Loses _ None _ = Unit {0}
+
+-- these bytes were appended to what was written, where it is told; and it was told before
+abbrev pub Gains : Option (List ℕ) → Option (List ℕ) → List ℕ → Type 0
+Gains (Some old) (Some new) bytes = new ≡ old ++ bytes
+Gains None (Some _) _ = ⊥
+Gains _ None _ = Unit {0}
+
+-- no byte is left, where it is told
+abbrev pub IsEnded : Option (List ℕ) → Type 0
+IsEnded left = (rest : List ℕ) → left ≡ Some rest → rest ≡ []
+
+-- every byte that was written is flushed, where they are told
+abbrev pub IsFlushed : Option (List ℕ) → ℕ → Type 0
+IsFlushed written flushed = (bytes : List ℕ) → written ≡ Some bytes → flushed ≡ length bytes
+
+-- what tells its bytes now told them before
+abbrev pub Told : Option (List ℕ) → Option (List ℕ) → Type 0
+Told old new = (bytes : List ℕ) → new ≡ Some bytes → (before : List ℕ) × (old ≡ Some before)
+
+-- a count of faults has risen; one that is at its last value stays there
+abbrev pub Rises : ℕ → ℕ → Type 0
+Rises old new = (old < new) ⊎ ((old ≡ 2 ^ 64 - 1) × (new ≡ 2 ^ 64 - 1))
+
+-- the next value of a count of 64 bits, which stays at its last
+abbrev pub next : ℕ → ℕ
+next count = min (count + 1) (2 ^ 64 - 1)

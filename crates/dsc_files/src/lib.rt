@@ -1,0 +1,109 @@
+//! Where a program reads from and writes to: sources and sinks of bytes with faults of their own, in
+//! memory and over the standard streams, and the exit status.
+#![tactic(auto)]
+
+mod exits;
+mod failing;
+mod standard;
+mod streams;
+mod sure;
+mod whole;
+
+pub use exits::Status;
+pub use failing::{ByteSink, ByteSource};
+pub use standard::{StdSink, StdSource};
+pub use std::alloc::AllocError as NoMemory;
+pub use streams::{Failed, Sink, Source};
+pub use sure::{SureSink, SureSource};
+pub use whole::{ReadError, read_at_most, write_all};
+
+#[cfg(test)]
+mod tests {
+    use super::*;
+    use std::alloc::Global;
+    use std::io::{self, Write};
+    use std::test::Fail;
+
+    /// A writer that takes nothing.
+    #[derive(Drop)]
+    struct Full;
+
+    impl Write for Full {
+        fn write(&mut self, _: &[u8]) -> io::Result<usize> {
+            Ok(0)
+        }
+
+        fn flush(&mut self) -> io::Result<()> {
+            Ok(())
+        }
+    }
+
+    fn source(alloc: Global, fail: &[u64]) -> Result<ByteSource, Fail> {
+        Ok(ByteSource::new(b"r YB-".to_vec(alloc)?, 2, fail.to_vec(alloc)?))
+    }
+
+    #[test]
+    fn sure_source_is_read_past_the_limit_and_to_its_end(rt: HostRuntime) -> Result<(), Fail> {
+        let mut source = SureSource::new(b"r YB-".to_vec(rt.alloc())?, 1);
+        let front = read_at_most(rt.alloc(), &mut source, 3)?;
+        assert_eq!(rt; front.as_slice(), b"r YB".as_slice());
+        let rest = read_at_most(rt.alloc(), &mut source, 3)?;
+        assert_eq!(rt; rest.as_slice(), b"-".as_slice());
+        Ok(())
+    }
+
+    #[test]
+    fn sure_sink_keeps_what_fits(rt: HostRuntime) -> Result<(), Fail> {
+        let mut sink = SureSink::new(rt.alloc(), 4, 1)?;
+        write_all(&mut sink, b"abc")?;
+        sink.flush()?;
+        assert_eq!(rt; sink.bytes(), b"abc".as_slice());
+        write_all(&mut sink, b"def")?;
+        assert_eq!(rt; sink.bytes(), b"abcd".as_slice());
+        Ok(())
+    }
+
+    #[test]
+    fn numbered_reads_fail(rt: HostRuntime) -> Result<(), Fail> {
+        let mut failing = source(rt.alloc(), &[2])?;
+        assert!(rt;
+            matches!(
+                read_at_most(rt.alloc(), &mut failing, 9),
+                Err(ReadError::Failed)
+            )
+        );
+        let rest = read_at_most(rt.alloc(), &mut failing, 9)?;
+        assert_eq!(rt; rest.as_slice(), b"YB-".as_slice());
+        Ok(())
+    }
+
+    #[test]
+    fn numbered_calls_and_writes_without_room_fail(rt: HostRuntime) -> Result<(), Fail> {
+        let mut sink = ByteSink::new(rt.alloc(), 3, 2, [2, 4].to_vec(rt.alloc())?)?;
+        assert_eq!(rt; sink.write(b"abcd"), Ok(2));
+        assert_eq!(rt; sink.write(b"cd"), Err(Failed));
+        assert_eq!(rt; sink.write(b"cd"), Ok(1));
+        assert_eq!(rt; sink.flush(), Err(Failed));
+        assert_eq!(rt; sink.write(b"d"), Err(Failed));
+        assert_eq!(rt; sink.flush(), Ok(()));
+        assert_eq!(rt; sink.bytes(), b"abc".as_slice());
+        Ok(())
+    }
+
+    #[test]
+    fn standard_streams(rt: HostRuntime) -> Result<(), Fail> {
+        let mut source = StdSource::new(b"abc".as_slice());
+        let all = read_at_most(rt.alloc(), &mut source, 9)?;
+        assert_eq!(rt; all.as_slice(), b"abc".as_slice());
+        let mut sink = StdSink::new(Vec::<u8>::new(rt.alloc()));
+        write_all(&mut sink, b"abc")?;
+        sink.flush()?;
+        assert_eq!(rt; write_all(&mut StdSink::new(Full), b"abc"), Err(Failed));
+        Ok(())
+    }
+
+    #[test]
+    fn status_numbers(rt: HostRuntime) {
+        assert_eq!(rt; Status::new(7).number(), 7);
+    }
+}

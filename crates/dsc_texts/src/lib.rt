@@ -1,0 +1,9 @@
+//! Texts of calls and of answers.
+#![tactic(auto)]
+
+mod answers;
+mod calls;
+mod pieces;
+
+pub use answers::{put_answer, put_answer_line};
+pub use calls::put_call;

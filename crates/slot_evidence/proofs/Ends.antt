@@ -1,0 +1,186 @@
+-- sheets: the facts of one, and that facts have one
+use Rattle.std.proofs.Common.{◌≡◌, ℕ, ◌<◌, ◌≤◌, Bool, true, false, ◌||◌, ◌==◌, List, length, slice_index_or, refl, arith, ap, sym, ◌∙◌, subst, inl, inr, set, replicate, nat_lt, ◌&&◌, ◌+◌, ◌*◌, ◌≢◌, Option, Some}
+use Rattle.std.proofs.lemmas.Bool.{eq-eqb, eqb-true, or_left, or_right, or_cases, cases_eq, cases_lt, ne_eqb, lt-ltb, and_from, and_parts, and_left}
+use Rattle.std.proofs.lemmas.List.{ext_get_or, get_or-set_same, get_or-set_other, get_or-replicate, get_or_past, length-set, get_or_default}
+use Rattle.slot_evidence.specs.declared.places.Seen.{Seen}
+use Rattle.slot_evidence.specs.declared.places.Seen.TheVariants as seen
+use Rattle.slot_evidence.specs.Facts.{Symbols, Facts, no_facts, one_fact, union, facts_at, facts_of}
+use Rattle.slot_evidence.specs.Seen.{IsSeen, IsLawful}
+use Rattle.slot_evidence.specs.Sheet.{IsSheet, IsEnds, seen_at}
+use Rattle.slot_evidence.proofs.Sets.{IsSeen-same, IsMet, IsMet-none, one_seen, or_none}
+use Rattle.ten_unit.specs.declared.character.Element.{Element}
+use Rattle.phasing.specs.Slot.{shows}
+use Rattle.phasing.specs.Origin.{lead_of}
+
+-- the same facts have the same sheets
+pub IsEnds-same : (F G : Facts) (s : List Seen) → ((p v : ℕ) → F p v ≡ G p v) → IsEnds F s → IsEnds G s
+IsEnds-same F G s same ends = record {
+  places = ends.places;
+  each = λ p. IsSeen-same (F p) (G p) (seen_at s p) (same p) (ends.each p);
+}
+
+-- facts have one sheet
+pub one_sheet : (F : Facts) (s t : List Seen) → IsEnds F s → IsEnds F t → s ≡ t
+one_sheet F s t a b =
+    ext_get_or seen.None s t (a.places ∙ sym b.places) (λ p below. one_seen (F p) _ _ (a.each p) (b.each p))
+
+pub same_sheet : (F G : Facts) (s t : List Seen) → ((p v : ℕ) → F p v ≡ G p v) → IsEnds F s → IsEnds G t → s ≡ t
+same_sheet F G s t same a b = one_sheet G s t (IsEnds-same F G s same a) b
+
+pub or_order : (a b : Bool) → (a || b) ≡ (b || a)
+or_order true true = refl
+or_order true false = refl
+or_order false true = refl
+or_order false false = refl
+
+pub or_groups : (a b c : Bool) → (a || b || c) ≡ (a || (b || c))
+or_groups true b c = refl
+or_groups false b c = refl
+
+pub or_repeats : (a : Bool) → (a || a) ≡ a
+or_repeats true = refl
+or_repeats false = refl
+
+-- the symbols that what is kept names
+shown_by : Seen → Symbols
+shown_by seen.None v = false
+shown_by (seen.One w) v = v == w
+shown_by (seen.Differ a b) v = v == a || v == b
+
+seen_by : (x : Seen) → IsLawful x → IsSeen (shown_by x) x
+unfolding shown_by
+seen_by seen.None h = λ v. refl
+seen_by (seen.One w) h = (eq-eqb w w refl, λ v e. eqb-true v w e)
+seen_by (seen.Differ a b) h = record {
+  has_least = or_left _ _ (eq-eqb a a refl);
+  has_greatest = or_right _ _ (eq-eqb b b refl);
+  apart = h.0;
+  between =
+      λ w e.
+      elim (or_cases (w == a) (w == b) e) [
+        | inl least ↦ let at = eqb-true w a least in (omega (arith, at, h.0), omega (arith, at, h.0))
+        | inr greatest ↦ let at = eqb-true w b greatest in (omega (arith, at, h.0), omega (arith, at, h.0))
+      ];
+}
+
+pub facts_by : (s : List Seen) → IsSheet s → (F : Facts) × IsEnds F s
+facts_by s h = (λ p. shown_by (seen_at s p), record { places = h.places; each = λ p. seen_by (seen_at s p) (h.lawful p) })
+
+-- no facts have the blank sheet
+blank_at : (p : ℕ) → seen_at (replicate 64 seen.None) p ≡ seen.None
+blank_at p =
+    elim (cases_lt p 64) [
+      | inl inside ↦ get_or-replicate 64 p seen.None seen.None inside
+      | inr past ↦ get_or_past (replicate 64 seen.None) p seen.None past
+    ]
+
+pub IsSheet-blank : IsSheet (replicate 64 seen.None)
+IsSheet-blank = record { places = refl; lawful = λ p. subst IsLawful (sym (blank_at p)) tt }
+
+pub IsEnds-blank : IsEnds no_facts (replicate 64 seen.None)
+IsEnds-blank = record { places = refl; each = λ p. subst (IsSeen (no_facts p)) (sym (blank_at p)) (λ v. refl) }
+
+-- a write at one place
+pub IsEnds-set : (F G : Facts) (s : List Seen) (p : ℕ) (x : Seen) → p < 64 → IsEnds F s → IsSeen (G p) x → ((q v : ℕ) → q ≢ p → F q v ≡ G q v) → IsEnds G (set s p x)
+IsEnds-set F G s p x inside ends here others = record {
+  places = length-set s p x ∙ ends.places;
+  each =
+      λ q.
+      elim (cases_eq q p) [
+        | inl same ↦
+            let at : seen_at (set s p x) q ≡ x = ap (seen_at (set s p x)) same ∙ get_or-set_same s p x seen.None (omega (arith, ends.places)) in
+            subst (IsSeen (G q)) (sym at) (subst (λ (k : ℕ). IsSeen (G k) x) (sym same) here)
+        | inr other ↦
+            subst (IsSeen (G q)) (sym (get_or-set_other s p q x seen.None other))
+            (IsSeen-same (F q) (G q) (seen_at s q) (λ v. others q v other) (ends.each q))
+      ];
+}
+
+pub IsSheet-set : (s : List Seen) (p : ℕ) (x : Seen) → p < 64 → IsSheet s → IsLawful x → IsSheet (set s p x)
+IsSheet-set s p x inside sheet lawful = record {
+  places = length-set s p x ∙ sheet.places;
+  lawful =
+      λ q.
+      elim (cases_eq q p) [
+        | inl same ↦
+            let at : seen_at (set s p x) q ≡ x = ap (seen_at (set s p x)) same ∙ get_or-set_same s p x seen.None (omega (arith, sheet.places)) in
+            subst IsLawful (sym at) lawful
+        | inr other ↦ subst IsLawful (sym (get_or-set_other s p q x seen.None other)) (sheet.lawful q)
+      ];
+}
+
+-- a write at the next place keeps what holds of the places before
+pub fill_more : (P : ℕ → Seen → Type 0) (s : List Seen) (p : ℕ) (x : Seen) → p < length s → ((k : ℕ) → k < p → P k (seen_at s k)) → P p x → (k : ℕ) → k < p + 1 → P k (seen_at (set s p x) k)
+fill_more P s p x inside before here k below =
+    elim (cases_eq k p) [
+      | inl same ↦
+          let at : seen_at (set s p x) k ≡ x = ap (seen_at (set s p x)) same ∙ get_or-set_same s p x seen.None inside in
+          subst (P k) (sym at) (subst (λ (q : ℕ). P q x) (sym same) here)
+      | inr other ↦ subst (P k) (sym (get_or-set_other s p k x seen.None other)) (before k (omega arith))
+    ]
+
+-- what holds of each place, and past the end of a place that showed nothing, holds everywhere
+pub everywhere : (P : ℕ → Seen → Type 0) (s : List Seen) (n : ℕ) → length s ≤ n → ((k : ℕ) → k < n → P k (seen_at s k)) → ((k : ℕ) → n ≤ k → P k seen.None) → (k : ℕ) → P k (seen_at s k)
+everywhere P s n long inside outside k =
+    elim (cases_lt k n) [
+      | inl below ↦ inside k below
+      | inr past ↦ subst (P k) (sym (get_or_past s k seen.None (omega arith))) (outside k past)
+    ]
+
+-- an element that is read, at any default
+pub seen_read : (S : Symbols) (xs : List Seen) (p : ℕ) (d : Seen) → p < length xs → IsSeen S (seen_at xs p) → IsSeen S (slice_index_or xs p d)
+seen_read S xs p d inside = subst (λ (x : Seen). IsSeen S x) (get_or_default xs p seen.None d inside)
+
+pub met_read : (xs ys : List Seen) (p : ℕ) (d e z : Seen) → p < length xs → p < length ys → IsMet (slice_index_or xs p d) (slice_index_or ys p e) z → IsMet (seen_at xs p) (seen_at ys p) z
+met_read xs ys p d e z left right met =
+    subst (λ (x : Seen). IsMet x (seen_at ys p) z) (get_or_default xs p d seen.None left)
+    (subst (λ (y : Seen). IsMet (slice_index_or xs p d) y z) (get_or_default ys p e seen.None right) met)
+
+-- one more fact
+pub one_symbol : (p symbol : ℕ) → IsSeen (one_fact p symbol p) (seen.One symbol)
+one_symbol p symbol = (
+  and_from _ _ (eq-eqb p p refl) (eq-eqb symbol symbol refl),
+  λ w e. eqb-true w symbol (and_parts (p == p) (w == symbol) e).1,
+)
+
+pub IsEnds-add : (F : Facts) (s : List Seen) (p symbol : ℕ) (x : Seen) → p < 64 → IsEnds F s → IsSeen (λ v. F p v || one_fact p symbol p v) x → IsEnds (union F (one_fact p symbol)) (set s p x)
+IsEnds-add F s p symbol x inside ends here =
+    IsEnds-set F (union F (one_fact p symbol)) s p x inside ends here
+    (λ q v other. or_none (F q v) _ (and_left (q == p) (v == symbol) (ne_eqb q p other)))
+
+-- the facts of a place of a reception, by its two slots
+place_facts : (inside small a b : Bool) → inside ≡ true → ((small && a) || (small && b)) ≡ (inside && (small && (a || b)))
+place_facts true true a b h = refl
+place_facts true false a b h = refl
+place_facts false small a b h = cc
+
+pub place_seen : (e : List Element) (lead p dx rx : ℕ) (x : Seen) → p < 64 → dx ≡ 12 + 2 * p → rx ≡ 17 + 2 * p → IsSeen (λ v. (nat_lt v 128 && shows e lead dx v) || (nat_lt v 128 && shows e lead rx v)) x → IsSeen (facts_at e (Some lead) p) x
+place_seen e lead p dx rx x inside is_dx is_rx =
+    IsSeen-same (λ v. (nat_lt v 128 && shows e lead dx v) || (nat_lt v 128 && shows e lead rx v)) (facts_at e (Some lead) p) x
+    (λ v.
+    ap (λ (s : ℕ). (nat_lt v 128 && shows e lead s v) || (nat_lt v 128 && shows e lead rx v)) is_dx
+    ∙ ap (λ (s : ℕ). (nat_lt v 128 && shows e lead (12 + 2 * p) v) || (nat_lt v 128 && shows e lead s v)) is_rx
+    ∙ place_facts (nat_lt p 64) (nat_lt v 128) _ _ (lt-ltb p 64 inside))
+
+pub no_place : (inside shown : Bool) → inside ≡ false → (inside && shown) ≡ false
+no_place true shown h = cc
+no_place false shown h = refl
+
+-- the sheet of what the places show at the origin's lead
+pub IsEnds-read : (e : List Element) (lead : ℕ) (s : List Seen) → Some lead ≡ lead_of e → IsSheet s → ((p : ℕ) → IsSeen (facts_at e (Some lead) p) (seen_at s p)) → IsEnds (facts_of e) s
+unfolding facts_of
+IsEnds-read e lead s origin sheet each = record {
+  places = sheet.places;
+  each = λ p. subst (λ (o : Option ℕ). IsSeen (facts_at e o p) (seen_at s p)) origin (each p);
+}
+
+-- past the end nothing was shown, before and after
+met_past : (xs ys : List Seen) (k : ℕ) → length xs ≤ k → length ys ≤ k → IsMet (seen_at xs k) (seen_at ys k) seen.None
+met_past xs ys k left right =
+    subst (λ (x : Seen). IsMet x (seen_at ys k) seen.None) (sym (get_or_past xs k seen.None left))
+    (subst (λ (y : Seen). IsMet seen.None y seen.None) (sym (get_or_past ys k seen.None right)) IsMet-none)
+
+pub met_everywhere : (xs ys zs : List Seen) → length xs ≡ 64 → length ys ≡ 64 → length zs ≡ 64 → ((k : ℕ) → k < 64 → IsMet (seen_at xs k) (seen_at ys k) (seen_at zs k)) → (k : ℕ) → IsMet (seen_at xs k) (seen_at ys k) (seen_at zs k)
+met_everywhere xs ys zs a b c met =
+    everywhere (λ (k : ℕ) (x : Seen). IsMet (seen_at xs k) (seen_at ys k) x) zs 64 (omega (arith, c)) met
+    (λ k past. met_past xs ys k (omega (arith, a)) (omega (arith, b)))

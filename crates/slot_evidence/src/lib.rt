@@ -1,0 +1,15 @@
+//! Evidence of slots: what receptions showed of each of 64 places, and the sheet that keeps it.
+#![tactic(auto)]
+
+mod laws;
+mod places;
+mod reading;
+mod sheets;
+
+pub use laws::{meet_forgets_order, one_seen, one_sheet};
+pub use places::Seen;
+pub use reading::read_sheet;
+pub use sheets::{Sheet, sheet_has_facts};
+
+#[cfg(test)]
+mod tests;

@@ -1,0 +1,61 @@
+ghost use Rattle.std.specs.Prelude.{◌≡◌, ℕ, ◌<◌, ◌≤◌, ◌&&◌, nat_lt, ◌↔◌, length, Some, IfSome, IsNone};
+ghost use Rattle.phasing.specs.Slot.{shows};
+ghost use Rattle.phasing.specs.Origin.{lead_of};
+ghost use Rattle.slot_evidence.specs.Facts.{facts_at, facts_of};
+ghost use Rattle.slot_evidence.specs.Seen.{IsSeen, IsLawful};
+ghost use Rattle.slot_evidence.specs.Sheet.{IsSheet, IsEnds, seen_at};
+
+use crate::places::Seen;
+use crate::sheets::Sheet;
+use phasing::{lead, slot_symbol};
+use ten_unit::Element;
+
+/// What a slot shows.
+fn seen_in(e: &[Element], lead: u32, slot: u16) -> Seen
+    requires length { length e.now ≤ 1000000 }
+    requires lead { lead ≤ 1000150 }
+    ensures seen { IsSeen (λ v. nat_lt v 128 && shows e.now lead slot v) result }
+    ensures lawful { IsLawful result }
+{
+    match slot_symbol(e, lead, slot) {
+        None => Seen::None,
+        Some(symbol) => Seen::One(symbol),
+    }
+}
+
+/// What the two slots of a place show.
+fn seen_of(e: &[Element], lead: u32, p: u8) -> Seen
+    requires length { length e.now ≤ 1000000 }
+    requires lead { lead ≤ 1000150 }
+    requires place { p < 64 }
+    ensures seen { IsSeen (facts_at e.now (Some lead) p) result }
+    ensures lawful { IsLawful result }
+{
+    let dx = 12 + 2 * p as u16;
+    seen_in(e, lead, dx).meet(seen_in(e, lead, dx + 5))
+}
+
+/// What the slots of each place show.
+fn places_of(e: &[Element], lead: u32) -> [Seen; 64]
+    requires length { length e.now ≤ 1000000 }
+    requires lead { lead ≤ 1000150 }
+    ensures seen { (p : ℕ) → IsSeen (facts_at e.now (Some lead) p) (seen_at result p) }
+    ensures lawful { IsSheet result }
+{
+    let mut places = [Seen::None; 64];
+    for p in 0..64 {
+        places[p as usize] = seen_of(e, lead, p);
+    }
+    places
+}
+
+/// The sheet of a reception's facts: of each place below 64 what its DX slot `12 + 2p` and its RX slot `17 + 2p` show
+/// at the origin (ITU-R M.493, time diversity). `None` comes exactly where the reception has no origin.
+pub fn read_sheet(e: &[Element]) -> Option<Sheet>
+    requires { length e.now ≤ 1000000 }
+    ensures some { IfSome result (λ s. IsEnds (facts_of e.now) s) }
+    ensures none { IsNone result ↔ (lead_of e.now ≡ None) }
+{
+    let lead = lead(e)?;
+    Some(Sheet::of_places(places_of(e, lead)))
+}

@@ -1,0 +1,3 @@
+pub mod ShownLists
+pub mod Stops
+pub mod OneAnswer
