@@ -1,9 +1,7 @@
-use Rattle.std.proofs.Common.{◌≡◌, ℕ, List, [], ◌∷◌, None, drop, get_or, refl, sym, ap, subst, ◌∙◌, inl, inr, arith}
+use Rattle.std.proofs.Common.{ℕ, List, [], ◌∷◌, None, drop, get_or, refl, sym, ap, subst, inl, arith}
 use Rattle.call_values.specs.declared.alerts.Call.{Call}
 use Rattle.call_values.specs.declared.alerts.Call.TheVariants.{Alert}
-use Rattle.call_values.specs.declared.alerts.Casualty.{Casualty}
-use Rattle.call_values.specs.Calls.{IsCall}
-use Rattle.call_grammar.specs.Spelling.{format_of, fields_of, end_of, check_of, covered, spell}
+use Rattle.call_grammar.specs.Spelling.{format_of, spell}
 use Rattle.call_grammar.specs.Walk.{IsFormat, IsViable}
 use Rattle.call_grammar.proofs.laws.formats_begin_calls.Goals as goal
 
