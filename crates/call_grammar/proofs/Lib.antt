@@ -11,3 +11,4 @@ pub mod Fronts
 pub mod Readings
 pub mod Endings
 pub mod ReadBack
+pub mod Characters

@@ -7,6 +7,7 @@ mod judging;
 mod laws;
 mod reading;
 mod spelling;
+mod symbols;
 mod walking;
 
 pub use laws::{
@@ -14,6 +15,7 @@ pub use laws::{
 };
 pub use reading::{ReadRefusal, read};
 pub use spelling::spell;
+pub use symbols::lists_are_characters;
 pub use walking::{Step, Walk};
 
 #[cfg(test)]
