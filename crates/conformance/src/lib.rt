@@ -4,3 +4,5 @@
 
 #[cfg(test)]
 mod joins;
+#[cfg(test)]
+mod signals;
