@@ -1,0 +1,7 @@
+pub mod Stops
+pub mod Words
+pub mod Splits
+pub mod Tokens
+pub mod Fields
+pub mod Grammars
+pub mod Steps

@@ -1,0 +1,58 @@
+-- the steps of the readers in code
+use Rattle.std.proofs.Common.{◌≡◌, ℕ, suc, ◌+◌, ◌<◌, ◌≤◌, Bool, true, false, ◌==◌, cond, if◌then◌else◌, List, [], ◌∷◌, length, take, drop, slice_index_or, Result, Ok, Err, refl, sym, ◌∙◌, ap, subst}
+use Rattle.std.specs.List.{prefix_len}
+use Rattle.std.proofs.lemmas.Bool.{eq-eqb, ne_eqb, cond-true, cond-false}
+use Rattle.std.proofs.lemmas.List.{drop_more, drop_all, nil_from_length}
+use Rattle.line_grammar.specs.Grammar.{Parts, none}
+use Rattle.line_grammar.specs.Tokens.{run, is_one_of}
+use Rattle.line_grammar.specs.Reading.{ended, after, read_token}
+
+pub after_end : (text rest : List ℕ) (i : ℕ) → i < length text → length rest ≡ 0 → after (drop i text) rest ≡ Err 0
+unfolding after
+after_end text rest i inside e =
+    ap (λ (t : List ℕ). after t rest) (drop_more text i 0 inside) ∙ ap (λ (r : List ℕ). after (slice_index_or text i 0 ∷ drop (i + 1) text) r) (nil_from_length rest e)
+
+pub after_other : (text rest back : List ℕ) (i b : ℕ) → i < length text → rest ≡ b ∷ back → (b ≡ slice_index_or text i 0 → ⊥) → after (drop i text) rest ≡ Err (length rest)
+unfolding after
+after_other text rest back i b inside e differs =
+    let c = slice_index_or text i 0 in
+    ap (λ (t : List ℕ). after t rest) (drop_more text i 0 inside)
+    ∙ ap (λ (r : List ℕ). after (c ∷ drop (i + 1) text) r) e
+    ∙ cond-false (b == c) (after (drop (i + 1) text) back) (Err (suc (length back))) (ne_eqb b c differs)
+    ∙ ap (λ (r : List ℕ). Err (length r)) (sym e)
+
+pub after_more : (text rest back : List ℕ) (i b : ℕ) → i < length text → rest ≡ b ∷ back → b ≡ slice_index_or text i 0 → after (drop i text) rest ≡ after (drop (i + 1) text) back
+unfolding after
+after_more text rest back i b inside e same =
+    let c = slice_index_or text i 0 in
+    ap (λ (t : List ℕ). after t rest) (drop_more text i 0 inside)
+    ∙ ap (λ (r : List ℕ). after (c ∷ drop (i + 1) text) r) e
+    ∙ cond-true (b == c) (after (drop (i + 1) text) back) (Err (suc (length back))) (eq-eqb b c same)
+
+pub after_done : (text rest : List ℕ) (i : ℕ) → length text ≤ i → after (drop i text) rest ≡ Ok rest
+unfolding after
+after_done text rest i past = ap (λ (t : List ℕ). after t rest) (drop_all i text past)
+
+pub ended_here : (bytes : List ℕ) → length bytes ≡ 0 → ended bytes ≡ Ok none
+unfolding ended
+ended_here bytes e = ap ended (nil_from_length bytes e)
+
+pub not_ended : (bytes : List ℕ) → (length bytes ≡ 0 → ⊥) → ended bytes ≡ Err (length bytes)
+unfolding ended
+not_ended [] h = absurd (h refl)
+not_ended (b ∷ bytes) h = refl
+
+pub run_missed : (signs bytes : List ℕ) (n : ℕ) → n ≡ prefix_len (is_one_of signs) bytes → n ≡ 0 → read_token (run signs) bytes ≡ Err (length bytes)
+unfolding read_token
+run_missed signs bytes n e zero =
+    let k = prefix_len (is_one_of signs) bytes in
+    cond-true (k == 0) (Err (length bytes)) (Ok (take k bytes, drop k bytes)) (eq-eqb k 0 (sym e ∙ zero))
+
+pub run_taken : (signs bytes front back : List ℕ) (n : ℕ) → n ≡ prefix_len (is_one_of signs) bytes → (n ≡ 0 → ⊥) → front ≡ take n bytes → back ≡ drop n bytes → read_token (run signs) bytes ≡ Ok (front, back)
+unfolding read_token
+run_taken signs bytes front back n e some f g =
+    let k = prefix_len (is_one_of signs) bytes in
+    cond-false (k == 0) (Err (length bytes)) (Ok (take k bytes, drop k bytes)) (ne_eqb k 0 (λ z. some (e ∙ z)))
+    ∙ ap (λ (m : ℕ). Ok (take m bytes, drop m bytes)) (sym e)
+    ∙ ap (λ (l : List ℕ). Ok (l, drop n bytes)) (sym f)
+    ∙ ap (λ (l : List ℕ). Ok (front, l)) (sym g)
