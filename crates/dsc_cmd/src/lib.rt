@@ -1,7 +1,7 @@
 //! The commands of `dsc`.
 #![tactic(auto)]
 
-mod input;
+mod faults;
 mod running;
 mod words;
 
