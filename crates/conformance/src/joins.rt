@@ -1,4 +1,4 @@
-use dsc_cmd::{SureSink, SureSource, run};
+use dsc_cmd::{ByteSink, ByteSource, SureSink, SureSource, run};
 use slot_join::Open;
 use std::alloc::{AllocError, Global};
 use std::test::Fail;
@@ -217,27 +217,57 @@ fn receptions_of_one_alert(rt: HostRuntime) -> Result<(), Fail> {
 }
 
 #[test]
-fn refused_inputs_and_words(rt: HostRuntime) -> Result<(), Fail> {
+fn two_receptions_of_one_alert(rt: HostRuntime) -> Result<(), Fail> {
     let alloc = rt.alloc();
-    for input in [
-        "",
-        "r\n",
-        "r \n",
-        "#\n",
-        "r YX\n",
-        "r YB\r\n",
-        "r YB\nr YB\n",
-        "R YB\n",
+    let mut late = Row {
+        name: "RX copies but that of place 7",
+        dots: 20,
+        first: 0,
+        last: 52,
+        lost: &[
+            12, 14, 16, 18, 20, 22, 24, 26, 28, 30, 31, 32, 34, 36, 38, 40, 42, 44, 46, 48, 50,
+        ],
+        other: &[],
+        want: REPORTED,
+        status: 0,
+    };
+    let mut input = line(alloc, &late)?;
+    late.lost = &[
+        16, 17, 18, 19, 20, 21, 22, 23, 24, 25, 27, 28, 29, 30, 31, 32, 33, 34, 35, 36, 37, 38, 39,
+        40, 41, 42, 43, 44, 45, 46, 47, 48, 49, 50, 51,
+    ];
+    input.extend_from_slice(&line(alloc, &late)?)?;
+    let (written, status) = joined(&rt, alloc, "dsc join", input)?;
+    assert_eq!(rt; written.as_slice(), REPORTED.as_bytes());
+    assert_eq!(rt; status, 0);
+    Ok(())
+}
+
+#[test]
+fn faults_of_lines(rt: HostRuntime) -> Result<(), Fail> {
+    let alloc = rt.alloc();
+    for (input, want, status) in [
+        ("", "", 0),
+        ("\n#\n# r\n", "", 0),
+        ("r", "g0 missing 0\n", 1),
+        ("r\n#", "g0 missing 0\n", 1),
+        ("r \n", "dsc: line 1 column 3\n", 3),
+        ("r YBX\n", "dsc: line 1 column 5\n", 3),
+        ("r YB\r\n", "dsc: line 1 column 5\n", 3),
+        ("#\n\nr g0\n", "dsc: line 3 column 3\n", 3),
+        ("r Y\ne 0:1\nx\n", "dsc: line 2 column 1\n", 3),
     ] {
         let bytes = Vec::from_slice(alloc, input.as_bytes())?;
-        let (written, status) = joined(&rt, alloc, "dsc join", bytes)?;
-        assert_eq!(rt;
-            written.as_slice(),
-            b"dsc: input refused\n".as_slice(),
-            "{input:?}"
-        );
-        assert_eq!(rt; status, 3, "{input:?}");
+        let (written, ended) = joined(&rt, alloc, "dsc join", bytes)?;
+        assert_eq!(rt; written.as_slice(), want.as_bytes(), "{input:?}");
+        assert_eq!(rt; ended, status, "{input:?}");
     }
+    Ok(())
+}
+
+#[test]
+fn refused_words(rt: HostRuntime) -> Result<(), Fail> {
+    let alloc = rt.alloc();
     for words in [
         "dsc listen",
         "dsc join --",
@@ -255,5 +285,44 @@ fn refused_inputs_and_words(rt: HostRuntime) -> Result<(), Fail> {
         );
         assert_eq!(rt; status, 2, "{words:?}");
     }
+    Ok(())
+}
+
+// The statuses of runs in which one call of a stream fails, by its number: the reads from the first on, or
+// the writes and the flush.
+fn failing<R: Threads + Sync>(
+    rt: &R,
+    alloc: Global,
+    read: u64,
+    write: u64,
+) -> Result<(Vec<u8>, u8), AllocError> {
+    let words = words_of(alloc, "dsc join")?;
+    let input = Vec::from_slice(alloc, b"r\n#\n")?;
+    let mut source = ByteSource::new(input, 1, vec![in alloc; read]?);
+    let mut sink = ByteSink::new(alloc, 64, 1, vec![in alloc; write]?)?;
+    let status = run(rt, alloc, &words, &mut source, &mut sink, &Open);
+    Ok((sink.bytes().to_vec(alloc)?, status.number()))
+}
+
+#[test]
+fn each_call_of_a_stream_failing(rt: HostRuntime) -> Result<(), Fail> {
+    let alloc = rt.alloc();
+    let want = b"g0 missing 0\n".as_slice();
+    // Four bytes in four reads, and a fifth that finds the end.
+    for read in 1..=5 {
+        let (written, status) = failing(&rt, alloc, read, 0)?;
+        assert_eq!(rt; status, 4, "read {read}");
+        assert!(rt; written.is_empty(), "read {read}");
+    }
+    // Thirteen bytes in thirteen writes, and a flush.
+    for write in 1..=14 {
+        let (written, status) = failing(&rt, alloc, 0, write)?;
+        assert_eq!(rt; status, 5, "write {write}");
+        assert!(rt; want.starts_with(&written), "write {write}");
+        assert_eq!(rt; written.len() as u64, write - 1, "write {write}");
+    }
+    let (written, status) = failing(&rt, alloc, 6, 15)?;
+    assert_eq!(rt; written.as_slice(), want);
+    assert_eq!(rt; status, 1);
     Ok(())
 }
