@@ -1,12 +1,12 @@
 -- what receptions show together
-use Rattle.std.proofs.Common.{◌≡◌, ◌≢◌, ℕ, suc, ◌<◌, inl, inr, ◌↔◌, Contains, Bool, true, false, ◌||◌, List, [], ◌∷◌, ◌++◌, length, slice_index_or, Option, Some, None, refl, sym, ◌∙◌, ap, subst, arith, length-append}
+use Rattle.std.proofs.Common.{◌≡◌, ◌≢◌, ℕ, suc, inl, inr, ◌↔◌, Contains, Bool, true, false, ◌||◌, List, [], ◌∷◌, ◌++◌, length, Option, Some, None, refl, sym, ◌∙◌, ap, subst, arith, length-append}
 use Rattle.std.specs.List.{list_any}
 use Rattle.std.proofs.lemmas.List.Folds.{list_any-append, list_any_at}
 use Rattle.std.proofs.lemmas.Bool.{or_cases}
 use Rattle.ten_unit.specs.declared.character.Element.{Element}
 use Rattle.phasing.specs.Origin.{lead_of}
 use Rattle.slot_evidence.specs.declared.places.Seen.{Seen}
-use Rattle.slot_evidence.specs.Facts.{Facts, no_facts, union, facts_at, facts_of}
+use Rattle.slot_evidence.specs.Facts.{no_facts, union, facts_at, facts_of}
 use Rattle.slot_evidence.specs.Sheet.{IsEnds}
 use Rattle.slot_evidence.proofs.Ends.{IsEnds-same}
 use Rattle.join_lines.specs.Receptions.{facts_of_all, IsJoined}

@@ -1,7 +1,7 @@
 -- lines without a fault, and lines with one
-use Rattle.std.proofs.Common.{◌≡◌, ℕ, suc, Bool, true, false, ◌==◌, if◌then◌else◌, map, ◌+◌, ◌<◌, ◌≤◌, List, [], ◌∷◌, ◌++◌, length, slice_index_or, append_assoc, append-nil, Option, Some, None, inl, inr, refl, arith, subst, ap, sym, ◌∙◌}
+use Rattle.std.proofs.Common.{◌≡◌, ℕ, suc, Bool, true, false, ◌==◌, if◌then◌else◌, map, ◌+◌, ◌≤◌, List, [], ◌∷◌, ◌++◌, length, slice_index_or, append_assoc, append-nil, Option, None, inl, inr, refl, arith, subst, ap, sym, ◌∙◌}
 use Rattle.std.proofs.lemmas.List.{length-map, length_push, get_or_push, get_or_append_left}
-use Rattle.std.proofs.lemmas.Bool.{cases_lt, cases_eq}
+use Rattle.std.proofs.lemmas.Bool.{cases_lt}
 use Rattle.join_lines.specs.declared.faults.Fault.{Fault}
 use Rattle.join_lines.specs.declared.faults.Fault.TheVariants as fault
 use Rattle.join_lines.specs.JoinLine.{JoinLine, nothing, IsLine}

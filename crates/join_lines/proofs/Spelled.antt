@@ -1,14 +1,12 @@
 -- the grammar by which lines are read has the lines of join's input
-use Rattle.std.proofs.Common.{◌≡◌, ℕ, Bool, true, false, ◌==◌, ◌||◌, List, [], ◌∷◌, ◌++◌, map, codes, ◌⊎◌, inl, inr, Result, Ok, Err, refl, sym, ◌∙◌, ap, subst, append-nil, arith, length, min, ◌≤◌, cond}
+use Rattle.std.proofs.Common.{◌≡◌, ℕ, true, false, ◌==◌, ◌||◌, List, [], ◌∷◌, ◌++◌, map, codes, inl, inr, refl, sym, ◌∙◌, ap, subst, append-nil}
 use Rattle.std.specs.List.{list_all}
-use Rattle.std.proofs.lemmas.Bool.{or_cases, eqb-true, and_parts, and_from, ne_eqb, cond-false}
+use Rattle.std.proofs.lemmas.Bool.{or_cases, eqb-true, and_parts, and_from}
 use Rattle.ten_unit.specs.declared.character.Element.{Element}
 use Rattle.ten_unit.specs.declared.character.Element.TheVariants.{Y, B, Lost}
 use Rattle.line_grammar.specs.Tokens.{run, is_one_of, IsToken}
-use Rattle.line_grammar.specs.Grammar.{Grammar, finish, anything, word, field, either, Parts, none, part, first, second, Spells}
-use Rattle.line_grammar.specs.Reading.{read, ended, after}
-use Rattle.line_grammar.proofs.Stops.{Stops, Reads, IsAlike, Stops-alike, left_le}
-use Rattle.line_grammar.proofs.Grammars.{reads}
+use Rattle.line_grammar.specs.Grammar.{finish, either, Parts, none, part, first, second, Spells}
+use Rattle.line_grammar.proofs.Stops.{IsAlike}
 use Rattle.join_lines.specs.JoinLine.{JoinLine, nothing, reception, sign_of, IsLine}
 use Rattle.join_lines.specs.Receptions.{element_of, receptions_in}
 use Rattle.join_lines.specs.Reading.{body_grammar, reception_grammar, join_grammar, parts_of}

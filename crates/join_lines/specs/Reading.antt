@@ -1,8 +1,7 @@
 -- The grammar by which lines are read: this project's profile.
-use Rattle.std.specs.Prelude.{◌≡◌, ℕ, List, [], ◌∷◌, map, codes, Option, Some, None}
+use Rattle.std.specs.Prelude.{ℕ, List, [], ◌∷◌, codes}
 use Rattle.line_grammar.specs.Tokens.{run}
 use Rattle.line_grammar.specs.Grammar.{Grammar, finish, anything, word, field, either, Parts, none, part, first, second}
-use Rattle.join_lines.specs.Receptions.{receptions_in, element_of}
 
 -- a blank and signs
 abbrev pub body_grammar : Grammar

@@ -1,16 +1,16 @@
 -- a token and what follows it
-use Rattle.std.proofs.Common.{◌≡◌, ◌≢◌, ℕ, ◌<◌, Bool, true, false, not, ◌&&◌, List, [], ◌∷◌, ◌++◌, length, Result, Ok, Err, ◌⊎◌, inl, inr, refl, sym, ◌∙◌, ap, subst, arith, append_assoc, append-nil, length-append}
+use Rattle.std.proofs.Common.{◌≡◌, ℕ, ◌<◌, true, false, List, [], ◌∷◌, ◌++◌, length, inl, inr, sym, ◌∙◌, ap, subst, arith, append_assoc, length-append}
 use Rattle.std.proofs.lemmas.Bool.{and_parts, not-true}
-use Rattle.line_grammar.specs.Columns.{Begins}
 use Rattle.line_grammar.specs.Tokens.{Token, IsToken}
 use Rattle.line_grammar.specs.Grammar.{Grammar, finish, anything, word, field, either, Parts, none, part, first, second, Spells}
 use Rattle.line_grammar.specs.Soundness.{may_have, may_follow}
 use Rattle.line_grammar.proofs.Splits.{split}
 use Rattle.line_grammar.proofs.Stops.{Stops}
-use Rattle.line_grammar.proofs.Tokens.{Munches, Misses, has}
+use Rattle.line_grammar.proofs.Tokens.{Munches, Misses}
+use Rattle.line_grammar.proofs.Munching.{has}
 
 -- no line of what follows a token begins with a byte of it
-follows : (token : Token) (G : Grammar) (parts : Parts) (y : ℕ) (s : List ℕ) → may_follow token G ≡ true → Spells G parts (y ∷ s) → may_have token y ≡ false
+pub follows : (token : Token) (G : Grammar) (parts : Parts) (y : ℕ) (s : List ℕ) → may_follow token G ≡ true → Spells G parts (y ∷ s) → may_have token y ≡ false
 follows token finish none y s h k = absurd (cc)
 follows token anything parts y s h k = absurd (cc)
 follows token (word [] rest) parts y s h k =

@@ -2,6 +2,9 @@ pub mod Stops
 pub mod Words
 pub mod Splits
 pub mod Tokens
+pub mod Numbers
+pub mod Munching
 pub mod Fields
 pub mod Grammars
 pub mod Steps
+pub mod Apart

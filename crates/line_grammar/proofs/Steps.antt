@@ -1,9 +1,9 @@
 -- the steps of the readers in code
-use Rattle.std.proofs.Common.{◌≡◌, ℕ, suc, ◌+◌, ◌<◌, ◌≤◌, Bool, true, false, ◌==◌, cond, if◌then◌else◌, List, [], ◌∷◌, length, take, drop, slice_index_or, Result, Ok, Err, refl, sym, ◌∙◌, ap, subst}
+use Rattle.std.proofs.Common.{◌≡◌, ℕ, suc, ◌+◌, ◌<◌, ◌≤◌, ◌==◌, List, [], ◌∷◌, length, take, drop, slice_index_or, Ok, Err, refl, sym, ◌∙◌, ap}
 use Rattle.std.specs.List.{prefix_len}
 use Rattle.std.proofs.lemmas.Bool.{eq-eqb, ne_eqb, cond-true, cond-false}
 use Rattle.std.proofs.lemmas.List.{drop_more, drop_all, nil_from_length}
-use Rattle.line_grammar.specs.Grammar.{Parts, none}
+use Rattle.line_grammar.specs.Grammar.{none}
 use Rattle.line_grammar.specs.Tokens.{run, is_one_of}
 use Rattle.line_grammar.specs.Reading.{ended, after, read_token}
 

@@ -1,12 +1,11 @@
 -- tokens are read as far as they go
-use Rattle.std.proofs.Common.{◌≡◌, ◌≢◌, ℕ, suc, ◌+◌, ◌<◌, Bool, true, false, ◌==◌, ◌&&◌, cond, if◌then◌else◌, List, [], ◌∷◌, ◌++◌, length, take, drop, Result, Ok, Err, refl, sym, ◌∙◌, ap, subst, arith, length-append}
-use Rattle.std.specs.List.{prefix_len, list_all, list_any}
-use Rattle.std.proofs.lemmas.Bool.{eqb-true, eqb-false, eq-eqb, and_parts, and_from, or_left, cond-false}
+use Rattle.std.proofs.Common.{◌≡◌, ◌≢◌, ℕ, suc, ◌+◌, ◌<◌, Bool, true, false, ◌==◌, cond, if◌then◌else◌, List, [], ◌∷◌, ◌++◌, length, take, drop, Result, Ok, Err, refl, sym, ◌∙◌, ap, subst, arith}
+use Rattle.std.specs.List.{prefix_len, list_all}
+use Rattle.std.proofs.lemmas.Bool.{eqb-true, eqb-false, eq-eqb, and_parts, and_from, or_left}
 use Rattle.std.proofs.lemmas.List.{take-append-drop}
 use Rattle.std.proofs.lemmas.List.Folds.{length-prefix_len}
 use Rattle.line_grammar.specs.Tokens.{Token, run, is_one_of, IsToken}
-use Rattle.line_grammar.specs.Soundness.{may_have, is_some_token}
-use Rattle.line_grammar.specs.Reading.{read_token}
+use Rattle.line_grammar.specs.Soundness.{is_some_token}
 
 -- a token was read, and can't be longer
 pub record Munches (token : Token) (bytes front back : List ℕ) : Type 0 where
@@ -29,12 +28,9 @@ TokenReads token bytes (Ok (front, back)) = Munches token bytes front back
 TokenReads token bytes (Err left) = Misses token bytes left
 
 -- each byte of a token is one that it may have
-all_have : (p : ℕ → Bool) (a b : List ℕ) (y : ℕ) → list_all p (a ++ (y ∷ b)) ≡ true → p y ≡ true
+pub all_have : (p : ℕ → Bool) (a b : List ℕ) (y : ℕ) → list_all p (a ++ (y ∷ b)) ≡ true → p y ≡ true
 all_have p [] b y h = (and_parts (p y) (list_all p b) h).0
 all_have p (x ∷ a) b y h = all_have p a b y (and_parts (p x) (list_all p (a ++ (y ∷ b))) h).1
-
-pub has : (token : Token) (front a b : List ℕ) (y : ℕ) → IsToken token front → front ≡ a ++ (y ∷ b) → may_have token y ≡ true
-has (run signs) front a b y h e = all_have (is_one_of signs) a b y (subst (λ (l : List ℕ). list_all (is_one_of signs) l ≡ true) e h.1)
 
 -- a run is as long as its signs go
 one_more : (n : ℕ) → 1 + n ≡ suc n
@@ -73,16 +69,16 @@ misses_none signs bytes zero (x ∷ a) s e h =
     let yes = (and_parts (is_one_of signs x) (list_all (is_one_of signs) a) h.1).0 in
     absurd (cc)
 
-pub some_token : (token : Token) → is_some_token token ≡ true → (bytes : List ℕ) × IsToken token bytes
-some_token (run []) h = absurd (cc)
-some_token (run (c ∷ signs)) h =
+pub some_run : (signs : List ℕ) → is_some_token (run signs) ≡ true → (bytes : List ℕ) × IsToken (run signs) bytes
+some_run [] h = absurd (cc)
+some_run (c ∷ signs) h =
     (c ∷ [], (λ (e : c ∷ [] ≡ []). absurd (cc), and_from (is_one_of (c ∷ signs) c) true (or_left (c == c) (is_one_of signs c) (eq-eqb c c refl)) refl))
 
 some_taken : (p : ℕ → Bool) (bytes : List ℕ) → (prefix_len p bytes ≡ 0 → ⊥) → take (prefix_len p bytes) bytes ≢ []
 some_taken p bytes h e = h (sym (length-prefix_len p bytes) ∙ ap length e)
 
 -- the answer for a run, by whether it has a sign
-run_reads : (signs bytes : List ℕ) (b : Bool) → is_some_token (run signs) ≡ true → (prefix_len (is_one_of signs) bytes == 0) ≡ b
+pub run_reads : (signs bytes : List ℕ) (b : Bool) → is_some_token (run signs) ≡ true → (prefix_len (is_one_of signs) bytes == 0) ≡ b
     → TokenReads (run signs) bytes (if b then Err (length bytes) else Ok (take (prefix_len (is_one_of signs) bytes) bytes, drop (prefix_len (is_one_of signs) bytes) bytes))
 run_reads signs bytes true some e =
     let zero = eqb-true (prefix_len (is_one_of signs) bytes) 0 e in
@@ -91,7 +87,7 @@ run_reads signs bytes true some e =
       back = bytes;
       list = refl;
       left_is = refl;
-      begins = some_token (run signs) some;
+      begins = some_run signs some;
       past = misses_past signs bytes zero;
       none = misses_none signs bytes zero;
     }
@@ -106,8 +102,3 @@ run_reads signs bytes false some e =
           let yes = all_have p (take n bytes) more x h.1 in
           absurd (cc);
     }
-
--- a token is read as far as it goes
-pub token_reads : (token : Token) (bytes : List ℕ) → is_some_token token ≡ true → TokenReads token bytes (read_token token bytes)
-unfolding read_token
-token_reads (run signs) bytes some = run_reads signs bytes (prefix_len (is_one_of signs) bytes == 0) some refl

@@ -1,8 +1,7 @@
 -- words: a byte at a time
-use Rattle.std.proofs.Common.{◌≡◌, ℕ, suc, ◌+◌, ◌<◌, ◌≤◌, Bool, true, false, ◌==◌, if◌then◌else◌, List, [], ◌∷◌, ◌++◌, length, Result, Ok, Err, refl, sym, ◌∙◌, ap, subst, arith, length-append}
-use Rattle.std.proofs.lemmas.Bool.{eqb-true, eqb-false}
+use Rattle.std.proofs.Common.{◌≡◌, ℕ, suc, ◌<◌, List, [], ◌∷◌, ◌++◌, length, refl, ap, subst, arith}
 use Rattle.line_grammar.specs.Columns.{Begins}
-use Rattle.line_grammar.proofs.Stops.{Stops, Reads, left_le}
+use Rattle.line_grammar.proofs.Stops.{Stops, left_le}
 
 -- a language whose lines are a byte and then a line of another
 pub record IsByte {V W : Type 0} (c : ℕ) (L : V → List ℕ → Type 0) (M : W → List ℕ → Type 0) : Type 0 where

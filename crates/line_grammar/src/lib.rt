@@ -1,6 +1,10 @@
 //! Grammars of lines, and readers of them that know the column at which a line is ill-formed.
 #![tactic(auto)]
 
+mod decimal;
+mod laws;
 mod reading;
 
+pub use decimal::number;
+pub use laws::grammars_are_read;
 pub use reading::{column, end, run, word};

@@ -1,6 +1,6 @@
 use Rattle.std.proofs.Common.{arith, sym, refl}
 use Rattle.std.proofs.lemmas.Bool.{eqb-true}
-use Rattle.join_lines.proofs.Sound.{taken_none, taken_more, all_faultless, all_joined, no_bytes, line_error}
+use Rattle.join_lines.proofs.Sound.{taken_none, taken_more, all_faultless, all_joined, no_bytes}
 use Rattle.join_lines.proofs.joining.join_lines.Goals as goal
 
 pub loop-rest-init : goal.loop-rest-init

@@ -1,4 +1,4 @@
-use Rattle.std.proofs.Common.{◌∙◌, sym}
+use Rattle.std.proofs.Common.{◌∙◌}
 use Rattle.line_grammar.proofs.Steps.{after_end, after_other, after_more, after_done}
 use Rattle.line_grammar.proofs.reading.word.Goals as goal
 

@@ -1,0 +1,30 @@
+use super::*;
+
+// Ranges, bytes, and what is read of them: the number and how many bytes follow it, or how many are left at the fault.
+const READ: [(u64, u64, &str, Result<(u64, usize), usize>); 12] = [
+    (210000, 270000, "20", Err(1)),
+    (210000, 270000, "28", Err(1)),
+    (210000, 270000, "271", Err(1)),
+    (210000, 270000, "240000 ", Ok((240000, 1))),
+    (60000, 165000, "5", Err(1)),
+    (60000, 165000, "17", Err(1)),
+    (60000, 165000, "6", Err(0)),
+    (1, 16, "0", Err(1)),
+    (1, 16, "161", Ok((16, 1))),
+    (0, 63, "64:1", Ok((6, 3))),
+    (0, 4294967295, "4294967296", Ok((429496729, 1))),
+    (0, 4294967295, "07", Ok((0, 1))),
+];
+
+#[test]
+fn numbers_go_as_far_as_their_range(rt: HostRuntime) {
+    for (least, most, text, want) in READ {
+        if most < 1 << 60 && least <= most {
+            let read = number(least, most, text.as_bytes()).map(|(number, rest)| (
+                number,
+                rest.len(),
+            ));
+            assert_eq!(rt; read, want, "{text}");
+        }
+    }
+}
