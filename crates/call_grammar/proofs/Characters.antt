@@ -36,9 +36,11 @@ of_time (Some t) lawful = (omega (arith, lawful.0), (omega (arith, lawful.1), tt
 
 of_casualty : (c : Casualty) → IsCasualty c → AreCharacters (casualty_symbols c)
 of_casualty c lawful =
-    both (identity_symbols c.mmsi) _ (ten (10 * c.mmsi) (omega (arith, lawful.mmsi)))
-    (grind (arith, lawful.nature), both (position_symbols c.position) _ (of_position c.position lawful.position)
-    (both (time_symbols c.time) _ (of_time c.time lawful.time) (grind (arith, lawful.comm), tt)))
+    both (identity_symbols c.mmsi) _ (ten (10 * c.mmsi) (omega (arith, lawful.mmsi))) (
+      grind (arith, lawful.nature),
+      both (position_symbols c.position) _ (of_position c.position lawful.position)
+          (both (time_symbols c.time) _ (of_time c.time lawful.time) (grind (arith, lawful.comm), tt)),
+    )
 
 of_fields : (c : Call) → IsCall c → AreCharacters (fields_of c)
 of_fields (Alert casualty) lawful = of_casualty casualty lawful
