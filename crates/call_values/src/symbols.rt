@@ -3,8 +3,9 @@ ghost use Rattle.call_values.specs.Symbols.{IsNature, IsComm};
 
 use std::marker::Model;
 
-/// The symbol of a nature of distress, 100 (fire or explosion) to 110 (man overboard) or 112 (EPIRB
-/// emission): ITU-R M.493, messages of a distress alert.
+/// The symbol of a nature of distress (ITU-R M.493, messages of a distress alert): 100 fire or explosion, 101 flooding,
+/// 102 collision, 103 grounding, 104 listing, 105 sinking, 106 disabled and adrift, 107 undesignated, 108 abandoning
+/// ship, 109 piracy, 110 man overboard or 112 EPIRB emission.
 #[derive(Clone, Copy, Debug, PartialEq, Eq)]
 pub struct Nature {
     number: u8,
@@ -44,8 +45,8 @@ impl Nature {
     }
 }
 
-/// The symbol of the kind of communication that is to follow a distress call: 100, 101, 106, 109, 113,
-/// 115 or 126 (ITU-R M.493, telecommands).
+/// The symbol of the kind of communication that is to follow a distress call (ITU-R M.493, telecommands): 100 F3E/G3E
+/// all modes, 101 F3E/G3E duplex, 106 data, 109 J3E, 113 TTY-FEC, 115 TTY-ARQ or 126 no information.
 #[derive(Clone, Copy, Debug, PartialEq, Eq)]
 pub struct Comm {
     number: u8,

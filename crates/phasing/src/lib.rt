@@ -1,10 +1,15 @@
-//! Phasing of ITU-R M.493: where a transmission's slots stand in a reception, and what they show.
+//! Phasing of ITU-R M.493: where a transmission's slots stand in a reception, and what they show; and the elements that are sent.
 #![tactic(auto)]
 
 mod laws;
 mod phase;
 mod reception;
+mod sending;
 
 pub use laws::{none_past_the_end, origin_is_least};
 pub use phase::{lead, origin};
 pub use reception::slot_symbol;
+pub use sending::transmission;
+
+#[cfg(test)]
+mod tests;

@@ -21,7 +21,7 @@ fn elements(e: &[Element], lead: u32, slot: u16) -> &[Element]
 }
 
 /// Whether a slot shows a symbol from 0 to 127.
-pub fn shows(e: &[Element], lead: u32, slot: u16, symbol: u8) -> bool
+pub(crate) fn shows(e: &[Element], lead: u32, slot: u16, symbol: u8) -> bool
     requires length { length e.now ≤ 1000000 }
     requires lead { lead ≤ 1000150 }
     requires symbol { symbol < 128 }

@@ -1,5 +1,5 @@
 -- sheets: the facts of one, and that facts have one
-use Rattle.std.proofs.Common.{◌≡◌, ℕ, ◌<◌, ◌≤◌, Bool, true, false, ◌||◌, ◌==◌, List, length, slice_index_or, refl, arith, ap, sym, ◌∙◌, subst, inl, inr, set, replicate, nat_lt, ◌&&◌, ◌+◌, ◌*◌, ◌≢◌, Option, Some}
+use Rattle.std.proofs.Common.{◌≡◌, ℕ, ◌<◌, ◌≤◌, Bool, true, false, ◌||◌, ◌==◌, List, length, slice_index_or, refl, arith, ap, sym, ◌∙◌, subst, inl, inr, set, replicate, nat_lt, ◌&&◌, ◌+◌, ◌≢◌, Option, Some}
 use Rattle.std.proofs.lemmas.Bool.{eq-eqb, eqb-true, or_left, or_right, or_cases, cases_eq, cases_lt, ne_eqb, lt-ltb, and_from, and_parts, and_left}
 use Rattle.std.proofs.lemmas.List.{ext_get_or, get_or-set_same, get_or-set_other, get_or-replicate, get_or_past, length-set, get_or_default}
 use Rattle.slot_evidence.specs.declared.places.Seen.{Seen}
@@ -9,6 +9,7 @@ use Rattle.slot_evidence.specs.Seen.{IsSeen, IsLawful}
 use Rattle.slot_evidence.specs.Sheet.{IsSheet, IsEnds, seen_at}
 use Rattle.slot_evidence.proofs.Sets.{IsSeen-same, IsMet, IsMet-none, one_seen, or_none}
 use Rattle.ten_unit.specs.declared.character.Element.{Element}
+use Rattle.time_diversity.specs.Slots.{dx_slot, rx_slot}
 use Rattle.phasing.specs.Slot.{shows}
 use Rattle.phasing.specs.Origin.{lead_of}
 
@@ -154,12 +155,12 @@ place_facts true true a b h = refl
 place_facts true false a b h = refl
 place_facts false small a b h = cc
 
-pub place_seen : (e : List Element) (lead p dx rx : ℕ) (x : Seen) → p < 64 → dx ≡ 12 + 2 * p → rx ≡ 17 + 2 * p → IsSeen (λ v. (nat_lt v 128 && shows e lead dx v) || (nat_lt v 128 && shows e lead rx v)) x → IsSeen (facts_at e (Some lead) p) x
+pub place_seen : (e : List Element) (lead p dx rx : ℕ) (x : Seen) → p < 64 → dx ≡ dx_slot p → rx ≡ rx_slot p → IsSeen (λ v. (nat_lt v 128 && shows e lead dx v) || (nat_lt v 128 && shows e lead rx v)) x → IsSeen (facts_at e (Some lead) p) x
 place_seen e lead p dx rx x inside is_dx is_rx =
     IsSeen-same (λ v. (nat_lt v 128 && shows e lead dx v) || (nat_lt v 128 && shows e lead rx v)) (facts_at e (Some lead) p) x
     (λ v.
     ap (λ (s : ℕ). (nat_lt v 128 && shows e lead s v) || (nat_lt v 128 && shows e lead rx v)) is_dx
-    ∙ ap (λ (s : ℕ). (nat_lt v 128 && shows e lead (12 + 2 * p) v) || (nat_lt v 128 && shows e lead s v)) is_rx
+    ∙ ap (λ (s : ℕ). (nat_lt v 128 && shows e lead (dx_slot p) v) || (nat_lt v 128 && shows e lead s v)) is_rx
     ∙ place_facts (nat_lt p 64) (nat_lt v 128) _ _ (lt-ltb p 64 inside))
 
 pub no_place : (inside shown : Bool) → inside ≡ false → (inside && shown) ≡ false

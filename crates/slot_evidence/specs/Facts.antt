@@ -1,6 +1,7 @@
 -- The facts of receptions: ITU-R M.493, section on time diversity. That a group's facts are united is this project's profile.
-use Rattle.std.specs.Prelude.{ℕ, ◌+◌, ◌*◌, Bool, false, ◌&&◌, ◌||◌, ◌==◌, nat_lt, List, Option, Some, None}
+use Rattle.std.specs.Prelude.{ℕ, Bool, false, ◌&&◌, ◌||◌, ◌==◌, nat_lt, List, Option, Some, None}
 use Rattle.ten_unit.specs.declared.character.Element.{Element}
+use Rattle.time_diversity.specs.Slots.{dx_slot, rx_slot}
 use Rattle.phasing.specs.Slot.{shows}
 use Rattle.phasing.specs.Origin.{lead_of}
 
@@ -28,7 +29,7 @@ union F G p v = F p v || G p v
 abbrev pub facts_at : List Element → Option ℕ → Facts
 facts_at e None p v = false
 facts_at e (Some lead) p v =
-    nat_lt p 64 && (nat_lt v 128 && (shows e lead (12 + 2 * p) v || shows e lead (17 + 2 * p) v))
+    nat_lt p 64 && (nat_lt v 128 && (shows e lead (dx_slot p) v || shows e lead (rx_slot p) v))
 
 -- the facts of a reception; none where it has no origin
 unfoldable pub facts_of : List Element → Facts

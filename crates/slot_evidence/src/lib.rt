@@ -10,3 +10,6 @@ pub use laws::{meet_forgets_order, one_seen, one_sheet};
 pub use places::Seen;
 pub use reading::read_sheet;
 pub use sheets::{Sheet, sheet_has_facts};
+
+#[cfg(test)]
+mod tests;

@@ -9,6 +9,7 @@ use crate::places::Seen;
 use crate::sheets::Sheet;
 use phasing::{lead, slot_symbol};
 use ten_unit::Element;
+use time_diversity::{dx_slot, rx_slot};
 
 /// What a slot shows.
 fn seen_in(e: &[Element], lead: u32, slot: u16) -> Seen
@@ -31,8 +32,7 @@ fn seen_of(e: &[Element], lead: u32, p: u8) -> Seen
     ensures seen { IsSeen (facts_at e.now (Some lead) p) result }
     ensures lawful { IsLawful result }
 {
-    let dx = 12 + 2 * p as u16;
-    seen_in(e, lead, dx).meet(seen_in(e, lead, dx + 5))
+    seen_in(e, lead, dx_slot(p)).meet(seen_in(e, lead, rx_slot(p)))
 }
 
 /// What the slots of each place show.
@@ -49,7 +49,7 @@ fn places_of(e: &[Element], lead: u32) -> [Seen; 64]
     places
 }
 
-/// The sheet of a reception's facts: of each place below 64 what its DX slot `12 + 2p` and its RX slot `17 + 2p` show
+/// The sheet of a reception's facts: of each place below 64 what its DX slot and its RX slot show
 /// at the origin (ITU-R M.493, time diversity). `None` comes exactly where the reception has no origin.
 pub fn read_sheet(e: &[Element]) -> Option<Sheet>
     requires { length e.now ≤ 1000000 }

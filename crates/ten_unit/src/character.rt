@@ -4,11 +4,12 @@ ghost use Rattle.ten_unit.specs.Word as characters;
 ghost use Rattle.ten_unit.specs.declared.character.Element.{Element};
 ghost use Rattle.ten_unit.specs.Carried.{ones, value_of};
 
-/// An element on air: Y and B are the two tones, and a received one may be lost.
-#[derive(Clone, Copy, Debug, PartialEq, Eq)]
+/// An element on air: Y and B are the two tones, and a received one may be lost, as one is of which nothing is known.
+#[derive(Clone, Copy, Debug, Default, PartialEq, Eq)]
 pub enum Element {
     Y,
     B,
+    #[default]
     Lost,
 }
 

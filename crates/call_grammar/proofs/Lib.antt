@@ -1,0 +1,14 @@
+pub mod Digits
+pub mod IdentityParts
+pub mod SymbolParts
+pub mod TimeParts
+pub mod PositionParts
+pub mod CallParts
+pub mod Steps
+pub mod Checks
+pub mod Lengths
+pub mod Fronts
+pub mod Readings
+pub mod Endings
+pub mod ReadBack
+pub mod Characters

@@ -1,0 +1,300 @@
+-- Positions by their letters.
+use Rattle.std.proofs.Common.{◌≡◌, ℕ, zero, suc, ◌+◌, ◌*◌, ◌/◌, ◌%◌, ◌≤◌, ◌<◌, ◌⊎◌, inl, inr, ◌==◌, ◌&&◌, if◌then◌else◌, Bool, true, false, List, [], ◌∷◌, Option, Some, None, refl, sym, ◌∙◌, ap, subst, arith}
+use Rattle.std.proofs.lemmas.Bool.Decides.{nat_tests}
+use Rattle.symbol_reader.specs.declared.letters.Letter.TheVariants.{Exactly, UpTo, UpToOr, Digits}
+use Rattle.symbol_reader.specs.Letters.{Allows}
+use Rattle.symbol_reader.specs.Languages.{Only, Then, Choice}
+use Rattle.symbol_reader.proofs.Laws.{Good, Alike, then_good, only_good, choice_good, alike_good}
+use Rattle.symbol_reader.proofs.Steps.{letter_good, one_then, joined}
+use Rattle.call_values.specs.declared.places.Fix.{Fix}
+use Rattle.call_values.specs.Places.{IsArc, IsFix}
+use Rattle.call_grammar.specs.Spelling.{ten_digits, position_digits}
+use Rattle.call_grammar.specs.Grammar.{Symbol, Positions, KnownRest, UnknownRest, fix_of, latitude_ones, minutes_and_hundreds, longitude_ones, longitude_minutes}
+use Rattle.call_grammar.proofs.Digits.{ten_digits-of}
+
+abbrev pub Minutes : ℕ → ℕ → ℕ → ℕ → Option Fix → List ℕ → Type 0
+Minutes a b c d = Then (Symbol (longitude_minutes c d)) (λ e. Only (Some (fix_of a b c d e)))
+
+abbrev pub Longitude : ℕ → ℕ → ℕ → Option Fix → List ℕ → Type 0
+Longitude a b c = Then (Symbol (longitude_ones c)) (Minutes a b c)
+
+abbrev pub Hundreds : ℕ → ℕ → Option Fix → List ℕ → Type 0
+Hundreds a b = Then (Symbol (minutes_and_hundreds a)) (Longitude a b)
+
+pub minutes_good : (a b c d : ℕ) → Good (Minutes a b c d)
+minutes_good a b c d = then_good _ _ (letter_good (longitude_minutes c d)) (λ e _ _. only_good (Some (fix_of a b c d e)))
+
+pub longitude_good : (a b c : ℕ) → Good (Longitude a b c)
+longitude_good a b c = then_good _ _ (letter_good (longitude_ones c)) (λ d _ _. minutes_good a b c d)
+
+pub hundreds_good : (a b : ℕ) → Good (Hundreds a b)
+hundreds_good a b = then_good _ _ (letter_good (minutes_and_hundreds a)) (λ c _ _. longitude_good a b c)
+
+pub known_good : (a : ℕ) → Good (KnownRest a)
+known_good a = then_good _ _ (letter_good (latitude_ones a)) (λ b _ _. hundreds_good a b)
+
+-- n characters 99, and then a position that is not known
+abbrev pub Nines : ℕ → Option Fix → List ℕ → Type 0
+Nines zero = Only None
+Nines (suc n) = Then (Symbol (Exactly 99)) (λ _. Nines n)
+
+pub nines_good : (n : ℕ) → Good (Nines n)
+nines_good zero = only_good None
+nines_good (suc n) = then_good _ _ (letter_good (Exactly 99)) (λ _ _ _. nines_good n)
+
+pub rest_good : (lead : ℕ) → Good (Choice (lead == 99) UnknownRest (KnownRest lead))
+rest_good lead = choice_good (lead == 99) _ _ (λ _. nines_good 4) (λ _. known_good lead)
+
+abbrev pub PositionParts : Option Fix → List ℕ → Type 0
+PositionParts = Then (Symbol (UpToOr 39 99)) (λ lead. Choice (lead == 99) UnknownRest (KnownRest lead))
+
+parts_good : Good PositionParts
+parts_good = then_good _ _ (letter_good (UpToOr 39 99)) (λ lead _ _. rest_good lead)
+
+-- what the letters allow, in numbers
+record Lawful (a b c d e : ℕ) : Type 0 where
+  lead : a ≤ 39
+  ones : b / 10 ≤ 9
+  tens : b % 10 ≤ 5
+  pole : a % 10 ≡ 9 → b ≡ 0
+  minutes : c / 10 ≤ 9
+  hundreds : c % 10 ≤ 1
+  pole_minutes : a % 10 ≡ 9 → c ≤ 1
+  degrees : d ≤ 99
+  half : c % 10 ≡ 1 → d ≤ 80
+  last : e ≤ 59
+  half_last : c % 10 ≡ 1 → d ≡ 80 → e ≡ 0
+
+is_test : (m n : ℕ) → (m == n) ≡ true → m ≡ n
+is_test m n e = grind (arith, nat_tests)
+
+is_not_test : (m n : ℕ) → (m == n) ≡ false → m ≡ n → ⊥
+is_not_test m n e h = grind (arith, nat_tests)
+
+ones_at : (a b : ℕ) (t : Bool) → (a % 10 == 9) ≡ t → Allows (if t then Exactly 0 else Digits 9 5) b
+    → (b / 10 ≤ 9) × (b % 10 ≤ 5) × (a % 10 ≡ 9 → b ≡ 0)
+ones_at a b true e h = let k : b ≡ 0 = h in (omega arith, omega arith, λ _. k)
+ones_at a b false e h = (h.0, h.1, λ p. absurd (is_not_test (a % 10) 9 e p))
+
+hundreds_at : (a c : ℕ) (t : Bool) → (a % 10 == 9) ≡ t → Allows (if t then UpTo 1 else Digits 9 1) c
+    → (c / 10 ≤ 9) × (c % 10 ≤ 1) × (a % 10 ≡ 9 → c ≤ 1)
+hundreds_at a c true e h = let k : c ≤ 1 = h in (omega arith, omega arith, λ _. k)
+hundreds_at a c false e h = (h.0, h.1, λ p. absurd (is_not_test (a % 10) 9 e p))
+
+degrees_at : (c d : ℕ) (t : Bool) → (c % 10 == 1) ≡ t → Allows (if t then UpTo 80 else UpTo 99) d
+    → (d ≤ 99) × (c % 10 ≡ 1 → d ≤ 80)
+degrees_at c d true e h = let k : d ≤ 80 = h in (omega arith, λ _. k)
+degrees_at c d false e h = (h, λ p. absurd (is_not_test (c % 10) 1 e p))
+
+both_test : (m n k l : ℕ) → ((m == n) && (k == l)) ≡ false → m ≡ n → k ≡ l → ⊥
+both_test m n k l e p q = grind (arith, nat_tests)
+
+last_at : (c d e : ℕ) (t : Bool) → ((c % 10 == 1) && (d == 80)) ≡ t → Allows (if t then Exactly 0 else UpTo 59) e
+    → (e ≤ 59) × (c % 10 ≡ 1 → d ≡ 80 → e ≡ 0)
+last_at c d e true test h = let k : e ≡ 0 = h in (omega arith, λ _ _. k)
+last_at c d e false test h = (h, λ p q. absurd (both_test (c % 10) 1 d 80 test p q))
+
+lawful_from : (a b c d e : ℕ) → a ≤ 39 → Allows (latitude_ones a) b → Allows (minutes_and_hundreds a) c → Allows (longitude_ones c) d
+    → Allows (longitude_minutes c d) e → Lawful a b c d e
+lawful_from a b c d e ha hb hc hd he =
+    let kb = ones_at a b (a % 10 == 9) refl hb in
+    let kc = hundreds_at a c (a % 10 == 9) refl hc in
+    let kd = degrees_at c d (c % 10 == 1) refl hd in
+    let ke = last_at c d e ((c % 10 == 1) && (d == 80)) refl he in
+    record {
+      lead = ha;
+      ones = kb.0;
+      tens = kb.1;
+      pole = kb.2;
+      minutes = kc.0;
+      hundreds = kc.1;
+      pole_minutes = kc.2;
+      degrees = kd.0;
+      half = kd.1;
+      last = ke.0;
+      half_last = ke.1;
+    }
+
+arc : (degrees minutes most : ℕ) → minutes < 60 → degrees ≤ most → (degrees ≡ most → minutes ≡ 0) → IsArc degrees minutes most
+arc degrees minutes most h k m = grind arith
+
+latitude_most : (a b : ℕ) → b / 10 ≤ 9 → (a % 10 ≡ 9 → b ≡ 0) → a % 10 * 10 + b / 10 ≤ 90
+latitude_most a b h k = grind arith
+
+longitude_most : (c d : ℕ) → c % 10 ≤ 1 → d ≤ 99 → (c % 10 ≡ 1 → d ≤ 80) → c % 10 * 100 + d ≤ 180
+longitude_most c d h k l = grind arith
+
+latitude_pole : (a b c : ℕ) → b / 10 ≤ 9 → (a % 10 ≡ 9 → b ≡ 0) → (a % 10 ≡ 9 → c ≤ 1)
+    → a % 10 * 10 + b / 10 ≡ 90 → b % 10 * 10 + c / 10 ≡ 0
+latitude_pole a b c h k l e =
+    let nine : a % 10 ≡ 9 = omega arith in
+    let none : b ≡ 0 = k nine in
+    let few : c ≤ 1 = l nine in
+    omega arith
+
+longitude_half : (c d e : ℕ) → c % 10 ≤ 1 → d ≤ 99 → (c % 10 ≡ 1 → d ≡ 80 → e ≡ 0) → c % 10 * 100 + d ≡ 180 → e ≡ 0
+longitude_half c d e h k l p = l (omega arith) (omega arith)
+
+fix_lawful : (a b c d e : ℕ) → Lawful a b c d e → IsFix (fix_of a b c d e)
+fix_lawful a b c d e h = record {
+  quadrant = (let k : a ≤ 39 = h.lead in omega arith);
+  latitude = arc _ _ _ (let k : b % 10 ≤ 5 = h.tens in let l : c / 10 ≤ 9 = h.minutes in omega arith)
+      (latitude_most a b h.ones h.pole) (latitude_pole a b c h.ones h.pole h.pole_minutes);
+  longitude = arc _ _ _ (let k : e ≤ 59 = h.last in omega arith)
+      (longitude_most c d h.hundreds h.degrees h.half) (longitude_half c d e h.hundreds h.degrees h.half_last);
+}
+
+fix_list : (a b c d e : ℕ) → Lawful a b c d e → ten_digits (position_digits (fix_of a b c d e)) ≡ a ∷ b ∷ c ∷ d ∷ e ∷ []
+unfolding position_digits
+fix_list a b c d e h =
+    let k1 : b / 10 ≤ 9 = h.ones in
+    let k2 : c / 10 ≤ 9 = h.minutes in
+    let k3 : d ≤ 99 = h.degrees in
+    let k4 : e ≤ 59 = h.last in
+    ten_digits-of (position_digits (fix_of a b c d e)) a b c d e (omega arith) (omega arith) (omega arith) (omega arith) (omega arith)
+
+to_known : (a : ℕ) (v : Option Fix) (back word : List ℕ) → a ≤ 39 → KnownRest a v back → word ≡ a ∷ back → Positions v word
+to_known a v back word h p e =
+    let q = p.after in let r = q.after in let s = r.after in let t = s.after in
+    let lawful = lawful_from a p.chosen q.chosen r.chosen s.chosen h p.before.allowed q.before.allowed r.before.allowed s.before.allowed in
+    let value : v ≡ Some (fix_of a p.chosen q.chosen r.chosen s.chosen) = t.value in
+    let list = e ∙ ap (λ l. a ∷ l) (joined p (joined q (joined r (joined s t.list)))) in
+    subst (λ x. Positions x word) (sym value) (record {
+      is_lawful = fix_lawful a p.chosen q.chosen r.chosen s.chosen lawful;
+      list = list ∙ sym (fix_list a p.chosen q.chosen r.chosen s.chosen lawful);
+    })
+
+to_unknown : (v : Option Fix) (back word : List ℕ) → UnknownRest v back → word ≡ 99 ∷ back → Positions v word
+to_unknown v back word p e =
+    let q = p.after in let r = q.after in let s = r.after in let t = s.after in
+    let value : v ≡ None = t.value in
+    let tail : back ≡ p.chosen ∷ q.chosen ∷ r.chosen ∷ s.chosen ∷ [] = joined p (joined q (joined r (joined s t.list))) in
+    let k1 : p.chosen ≡ 99 = p.before.allowed in let k2 : q.chosen ≡ 99 = q.before.allowed in
+    let k3 : r.chosen ≡ 99 = r.before.allowed in let k4 : s.chosen ≡ 99 = s.before.allowed in
+    let list : word ≡ 99 ∷ 99 ∷ 99 ∷ 99 ∷ 99 ∷ [] = cc in
+    subst (λ x. Positions x word) (sym value) (record { is_lawful = tt; list = list })
+
+below_lead : (lead : ℕ) → (lead ≤ 39) ⊎ (lead ≡ 99) → (lead == 99) ≡ false → lead ≤ 39
+below_lead lead h e = grind (arith, nat_tests)
+
+to_rest : (lead : ℕ) (test : Bool) (v : Option Fix) (back word : List ℕ) → (lead ≤ 39) ⊎ (lead ≡ 99) → (lead == 99) ≡ test
+    → Choice (lead == 99) UnknownRest (KnownRest lead) v back → word ≡ lead ∷ back → Positions v word
+to_rest lead true v back word h test p e = to_unknown v back word (p.yes test) (e ∙ ap (λ x. x ∷ back) (is_test lead 99 test))
+to_rest lead false v back word h test p e = to_known lead v back word (below_lead lead h test) (p.no test) e
+
+to_position : (v : Option Fix) (word : List ℕ) → PositionParts v word → Positions v word
+to_position v word p = to_rest p.chosen (p.chosen == 99) v p.back word p.before.allowed refl p.after (joined p refl)
+
+-- the characters of a place
+abbrev first_of_fix : Fix → ℕ
+first_of_fix f = 10 * f.quadrant + f.lat_deg / 10
+
+abbrev second_of : Fix → ℕ
+second_of f = 10 * (f.lat_deg % 10) + f.lat_min / 10
+
+abbrev third_of : Fix → ℕ
+third_of f = 10 * (f.lat_min % 10) + f.lon_deg / 100
+
+arc_minutes : (degrees minutes most : ℕ) → IsArc degrees minutes most → minutes < 60
+arc_minutes degrees minutes most h = h.0
+
+arc_most : (degrees minutes most : ℕ) → IsArc degrees minutes most → degrees ≤ most
+arc_most degrees minutes most h = grind arith
+
+arc_end : (degrees minutes most : ℕ) → IsArc degrees minutes most → degrees ≡ most → minutes ≡ 0
+arc_end degrees minutes most h e = grind arith
+
+same_fix : (f g : Fix) → f.quadrant ≡ g.quadrant → f.lat_deg ≡ g.lat_deg → f.lat_min ≡ g.lat_min → f.lon_deg ≡ g.lon_deg → f.lon_min ≡ g.lon_min → f ≡ g
+same_fix f g p q r s t = λ i. record { quadrant = p i; lat_deg = q i; lat_min = r i; lon_deg = s i; lon_min = t i }
+
+fix_back : (f : Fix) → IsFix f → fix_of (first_of_fix f) (second_of f) (third_of f) (f.lon_deg % 100) f.lon_min ≡ f
+fix_back f h =
+    let k1 : f.lat_deg ≤ 90 = arc_most _ _ _ h.latitude in
+    let k2 : f.lat_min < 60 = arc_minutes _ _ _ h.latitude in
+    let k3 : f.lon_deg ≤ 180 = arc_most _ _ _ h.longitude in
+    same_fix _ f (omega arith) (omega arith) (omega arith) (omega arith) refl
+
+fix_digits : (f : Fix) → IsFix f
+    → ten_digits (position_digits f) ≡ first_of_fix f ∷ second_of f ∷ third_of f ∷ (f.lon_deg % 100) ∷ f.lon_min ∷ []
+unfolding position_digits
+fix_digits f h =
+    let k1 : f.lat_deg ≤ 90 = arc_most _ _ _ h.latitude in
+    let k2 : f.lat_min < 60 = arc_minutes _ _ _ h.latitude in
+    let k3 : f.lon_deg ≤ 180 = arc_most _ _ _ h.longitude in
+    let k4 : f.lon_min < 60 = arc_minutes _ _ _ h.longitude in
+    ten_digits-of (position_digits f) (first_of_fix f) (second_of f) (third_of f) (f.lon_deg % 100) f.lon_min
+    (omega arith) (omega arith) (omega arith) (omega arith) (omega arith)
+
+ones_allowed : (a b : ℕ) (t : Bool) → (a % 10 == 9) ≡ t → b / 10 ≤ 9 → b % 10 ≤ 5 → (a % 10 ≡ 9 → b ≡ 0)
+    → Allows (if t then Exactly 0 else Digits 9 5) b
+ones_allowed a b true e h k l = l (is_test (a % 10) 9 e)
+ones_allowed a b false e h k l = (h, k)
+
+hundreds_allowed : (a c : ℕ) (t : Bool) → (a % 10 == 9) ≡ t → c / 10 ≤ 9 → c % 10 ≤ 1 → (a % 10 ≡ 9 → c ≤ 1)
+    → Allows (if t then UpTo 1 else Digits 9 1) c
+hundreds_allowed a c true e h k l = l (is_test (a % 10) 9 e)
+hundreds_allowed a c false e h k l = (h, k)
+
+degrees_allowed : (c d : ℕ) (t : Bool) → (c % 10 == 1) ≡ t → d ≤ 99 → (c % 10 ≡ 1 → d ≤ 80) → Allows (if t then UpTo 80 else UpTo 99) d
+degrees_allowed c d true e h k = k (is_test (c % 10) 1 e)
+degrees_allowed c d false e h k = h
+
+both_tests : (m n k l : ℕ) → ((m == n) && (k == l)) ≡ true → (m ≡ n) × (k ≡ l)
+both_tests m n k l e = grind (arith, nat_tests)
+
+last_allowed : (c d e : ℕ) (t : Bool) → ((c % 10 == 1) && (d == 80)) ≡ t → e ≤ 59 → (c % 10 ≡ 1 → d ≡ 80 → e ≡ 0)
+    → Allows (if t then Exactly 0 else UpTo 59) e
+last_allowed c d e true test h k = let both = both_tests (c % 10) 1 d 80 test in k both.0 both.1
+last_allowed c d e false test h k = h
+
+not_99 : (n : ℕ) → n ≤ 39 → (n == 99) ≡ true → ⊥
+not_99 n h e = grind (arith, nat_tests)
+
+pole_of : (f : Fix) → IsFix f → first_of_fix f % 10 ≡ 9 → (f.lat_deg ≡ 90) × (f.lat_min ≡ 0)
+pole_of f h e =
+    let k1 : f.lat_deg ≤ 90 = arc_most _ _ _ h.latitude in
+    let k2 : f.lat_deg ≡ 90 = omega arith in
+    (k2, arc_end _ _ _ h.latitude k2)
+
+from_known : (f : Fix) → IsFix f
+    → PositionParts (Some f) (first_of_fix f ∷ second_of f ∷ third_of f ∷ (f.lon_deg % 100) ∷ f.lon_min ∷ [])
+from_known f h =
+    let q : f.quadrant ≤ 3 = h.quadrant in
+    let k1 : f.lat_deg ≤ 90 = arc_most _ _ _ h.latitude in
+    let k2 : f.lat_min < 60 = arc_minutes _ _ _ h.latitude in
+    let k3 : f.lon_deg ≤ 180 = arc_most _ _ _ h.longitude in
+    let k4 : f.lon_min < 60 = arc_minutes _ _ _ h.longitude in
+    let a : ℕ = first_of_fix f in let b : ℕ = second_of f in let c : ℕ = third_of f in let d : ℕ = f.lon_deg % 100 in
+    let lead : a ≤ 39 = omega arith in
+    one_then a (inl lead) (record {
+      yes = λ e. absurd (not_99 a lead e);
+      no = λ _.
+          one_then b (ones_allowed a b (a % 10 == 9) refl (omega arith) (omega arith) (λ e. let p = pole_of f h e in omega arith))
+          (one_then c (hundreds_allowed a c (a % 10 == 9) refl (omega arith) (omega arith) (λ e. let p = pole_of f h e in omega arith))
+          (one_then d (degrees_allowed c d (c % 10 == 1) refl (omega arith) (λ e. omega arith))
+          (one_then f.lon_min (last_allowed c d f.lon_min ((c % 10 == 1) && (d == 80)) refl (omega arith)
+          (λ m n. arc_end _ _ _ h.longitude (omega arith)))
+          (record { value = ap (λ x. Some x) (sym (fix_back f h)); list = refl }))));
+    })
+
+from_position : (v : Option Fix) (word : List ℕ) → Positions v word → PositionParts v word
+from_position None word p =
+    subst (λ w. PositionParts None w) (sym p.list)
+    (one_then 99 (inr refl) (record {
+      yes = λ _. one_then 99 refl (one_then 99 refl (one_then 99 refl (one_then 99 refl (record { value = refl; list = refl }))));
+      no = λ (e : true ≡ false). absurd (cc);
+    }))
+from_position (Some f) word p =
+    subst (λ w. PositionParts (Some f) w) (sym (p.list ∙ fix_digits f p.is_lawful)) (from_known f p.is_lawful)
+
+pub position_alike : Alike PositionParts Positions
+position_alike = record { to = to_position; back = from_position }
+
+pub position_good : Good Positions
+position_good = alike_good _ _ position_alike parts_good
+
+pub is_99 : (lead : ℕ) → lead ≡ 99 → (lead == 99) ≡ true
+is_99 lead h = grind (arith, nat_tests)
+
+pub is_not_99 : (lead : ℕ) → (lead ≡ 99 → ⊥) → (lead == 99) ≡ false
+is_not_99 lead h = grind (arith, nat_tests)

@@ -1,0 +1,34 @@
+use Rattle.symbol_reader.specs.declared.letters.Letter.TheVariants.{Exactly}
+use Rattle.symbol_reader.proofs.Steps.{letter_good, next, stop, fail, only_read}
+use Rattle.call_grammar.proofs.PositionParts.{nines_good}
+use Rattle.call_grammar.proofs.fields.unknown_rest.Goals as goal
+
+pub returns-in_err-symbol : goal.returns-in_err-symbol
+returns-in_err-symbol c = fail c.from_residual.ensures.1
+    (stop (letter_good (Exactly 99)) (λ _ _ _. nines_good 3) c.in_err-symbol.ensures.reads)
+
+pub returns-in_err-symbol-2 : goal.returns-in_err-symbol-2
+returns-in_err-symbol-2 c = fail c.from_residual-in_err-symbol-2.ensures.1
+    (next (letter_good (Exactly 99)) c.in_ok-symbol.ensures.reads
+    (stop (letter_good (Exactly 99)) (λ _ _ _. nines_good 2) c.in_err-symbol-2.ensures.reads))
+
+pub returns-in_err-symbol-3 : goal.returns-in_err-symbol-3
+returns-in_err-symbol-3 c = fail c.from_residual-in_err-symbol-3.ensures.1
+    (next (letter_good (Exactly 99)) c.in_ok-symbol.ensures.reads
+    (next (letter_good (Exactly 99)) c.in_ok-symbol-2.ensures.reads
+    (stop (letter_good (Exactly 99)) (λ _ _ _. nines_good 1) c.in_err-symbol-3.ensures.reads)))
+
+pub returns-in_err-symbol-4 : goal.returns-in_err-symbol-4
+returns-in_err-symbol-4 c = fail c.from_residual-in_err-symbol-4.ensures.1
+    (next (letter_good (Exactly 99)) c.in_ok-symbol.ensures.reads
+    (next (letter_good (Exactly 99)) c.in_ok-symbol-2.ensures.reads
+    (next (letter_good (Exactly 99)) c.in_ok-symbol-3.ensures.reads
+    (stop (letter_good (Exactly 99)) (λ _ _ _. nines_good 0) c.in_err-symbol-4.ensures.reads))))
+
+pub returns : goal.returns
+returns c =
+    (next (letter_good (Exactly 99)) c.in_ok-symbol.ensures.reads
+    (next (letter_good (Exactly 99)) c.in_ok-symbol-2.ensures.reads
+    (next (letter_good (Exactly 99)) c.in_ok-symbol-3.ensures.reads
+    (next (letter_good (Exactly 99)) c.in_ok-symbol-4.ensures.reads
+    (rw c.unknown.ensures (only_read _ _))))))

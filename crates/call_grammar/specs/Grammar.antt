@@ -1,0 +1,75 @@
+-- The grammar of the fields, by the letters that may stand at each place: ITU-R M.493, fields of call sequences.
+use Rattle.std.specs.Prelude.{ℕ, ◌+◌, ◌*◌, ◌/◌, ◌%◌, ◌==◌, ◌&&◌, if◌then◌else◌, List, Option, Some, None}
+use Rattle.symbol_reader.specs.declared.letters.Letter.{Letter}
+use Rattle.symbol_reader.specs.declared.letters.Letter.TheVariants.{Exactly, UpTo, Digits}
+use Rattle.symbol_reader.specs.Letters.{Allows}
+use Rattle.symbol_reader.specs.Languages.{One, Only, Then, Spelled}
+use Rattle.call_values.specs.declared.places.Fix.{Fix}
+use Rattle.call_values.specs.declared.alerts.Casualty.{Casualty}
+use Rattle.call_values.specs.declared.alerts.Call.{Call}
+use Rattle.call_values.specs.Identity.{IsMmsi}
+use Rattle.call_values.specs.Places.{IsPosition}
+use Rattle.call_values.specs.Clock.{IsHourMinute}
+use Rattle.call_values.specs.Calls.{IsCasualty, IsCall}
+use Rattle.call_grammar.specs.Spelling.{identity_symbols, position_symbols, time_symbols, casualty_symbols, covered}
+
+-- a symbol of this letter
+abbrev pub Symbol : Letter → ℕ → List ℕ → Type 0
+Symbol letter = One (Allows letter)
+
+-- an identity's five characters
+abbrev pub Identities : ℕ → List ℕ → Type 0
+Identities = Spelled IsMmsi identity_symbols
+
+-- the position's five characters
+abbrev pub Positions : Option Fix → List ℕ → Type 0
+Positions = Spelled IsPosition position_symbols
+
+-- the time's two characters
+abbrev pub Times : Option (ℕ × ℕ) → List ℕ → Type 0
+Times = Spelled IsHourMinute time_symbols
+
+-- the characters that tell of a casualty
+abbrev pub Casualties : Casualty → List ℕ → Type 0
+Casualties = Spelled IsCasualty casualty_symbols
+
+-- what the check covers of a call
+abbrev pub Opened : Call → List ℕ → Type 0
+Opened = Spelled IsCall covered
+
+-- the number whose nine digits and a 0 stand in these five characters
+abbrev pub identity_of : ℕ → ℕ → ℕ → ℕ → ℕ → ℕ
+identity_of a b c d e = ((a * 100 + b) * 100 + c) * 1000 + d * 10 + e / 10
+
+-- after the tens of a latitude, its ones and the tens of its minutes: zeros alone at 90 degrees
+abbrev pub latitude_ones : ℕ → Letter
+latitude_ones lead = if lead % 10 == 9 then Exactly 0 else Digits 9 5
+
+-- the ones of a latitude's minutes and the hundreds of a longitude
+abbrev pub minutes_and_hundreds : ℕ → Letter
+minutes_and_hundreds lead = if lead % 10 == 9 then UpTo 1 else Digits 9 1
+
+-- after the hundreds of a longitude, its tens and ones: at most 180 degrees
+abbrev pub longitude_ones : ℕ → Letter
+longitude_ones hundreds = if hundreds % 10 == 1 then UpTo 80 else UpTo 99
+
+-- the minutes of a longitude: none at 180 degrees
+abbrev pub longitude_minutes : ℕ → ℕ → Letter
+longitude_minutes hundreds ones = if (hundreds % 10 == 1) && (ones == 80) then Exactly 0 else UpTo 59
+
+-- the place whose ten digits stand in these five characters
+abbrev pub fix_of : ℕ → ℕ → ℕ → ℕ → ℕ → Fix
+fix_of a b c d e =
+    record { quadrant = a / 10; lat_deg = a % 10 * 10 + b / 10; lat_min = b % 10 * 10 + c / 10; lon_deg = c % 10 * 100 + d; lon_min = e }
+
+-- the rest of a position that is known, after its first character
+abbrev pub KnownRest : ℕ → Option Fix → List ℕ → Type 0
+KnownRest a =
+    Then (Symbol (latitude_ones a)) (λ b. Then (Symbol (minutes_and_hundreds a)) (λ c. Then (Symbol (longitude_ones c)) (λ d.
+    Then (Symbol (longitude_minutes c d)) (λ e. Only (Some (fix_of a b c d e))))))
+
+-- the rest of a position that is not known
+abbrev pub UnknownRest : Option Fix → List ℕ → Type 0
+UnknownRest =
+    Then (Symbol (Exactly 99)) (λ _. Then (Symbol (Exactly 99)) (λ _. Then (Symbol (Exactly 99)) (λ _.
+    Then (Symbol (Exactly 99)) (λ _. Only None))))

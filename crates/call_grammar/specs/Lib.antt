@@ -1,0 +1,5 @@
+pub mod Spelling
+pub mod Walk
+pub mod Grammar
+pub mod Judging
+pub mod Reading

@@ -1,0 +1,163 @@
+ghost use Rattle.std.specs.Prelude.{◌≡◌, ◌≤◌, ◌∷◌, []};
+ghost use Rattle.symbol_reader.specs.Reading.{Reads};
+ghost use Rattle.call_values.specs.Symbols.{IsNature, IsComm};
+ghost use Rattle.call_grammar.specs.Grammar as grammar;
+ghost use Rattle.symbol_reader.specs.Languages.{Spelled};
+
+use call_values::{Casualty, Comm, Fix, HourMinute, Mmsi, Nature, Position};
+use symbol_reader::{Letter, Reader, Stop};
+
+/// Reads nine digits and a 0, two to a character (ITU-R M.493, self-identification).
+fn identity(list: &mut Reader) -> Result<Mmsi, Stop>
+    ensures { Reads grammar.Identities list.old result list.new }
+{
+    let a = list.symbol(Letter::UpTo(99))?;
+    let b = list.symbol(Letter::UpTo(99))?;
+    let c = list.symbol(Letter::UpTo(99))?;
+    let d = list.symbol(Letter::UpTo(99))?;
+    let e = list.symbol(Letter::Digits(9, 0))?;
+    Ok(identity_of(a, b, c, d, e))
+}
+
+/// The identity whose nine digits and a 0 stand in these characters.
+fn identity_of(a: u8, b: u8, c: u8, d: u8, e: u8) -> Mmsi
+    requires a { a ≤ 99 }
+    requires b { b ≤ 99 }
+    requires c { c ≤ 99 }
+    requires d { d ≤ 99 }
+    requires e { e ≤ 99 }
+    ensures { result ≡ grammar.identity_of a b c d e }
+{
+    let millions = u32::from(a) * 100 + u32::from(b);
+    let thousands = millions * 100 + u32::from(c);
+    let number = thousands * 1000 + u32::from(d) * 10 + u32::from(e) / 10;
+    Mmsi::new(number).unwrap()
+}
+
+/// Reads a nature of distress.
+fn nature(list: &mut Reader) -> Result<Nature, Stop>
+    ensures { Reads (Spelled IsNature (λ n. n ∷ [])) list.old result list.new }
+{
+    let symbol = list.symbol(Letter::Nature)?;
+    Ok(Nature::new(symbol).unwrap())
+}
+
+/// Reads the subsequent communications of a distress call.
+fn comm(list: &mut Reader) -> Result<Comm, Stop>
+    ensures { Reads (Spelled IsComm (λ n. n ∷ [])) list.old result list.new }
+{
+    let symbol = list.symbol(Letter::Comm)?;
+    Ok(Comm::new(symbol).unwrap())
+}
+
+/// Reads a position, known or not (ITU-R M.493, distress coordinates).
+fn position(list: &mut Reader) -> Result<Position, Stop>
+    ensures { Reads grammar.Positions list.old result list.new }
+{
+    let lead = list.symbol(Letter::UpToOr(39, 99))?;
+    if lead == 99 {
+        unknown_rest(list)
+    } else {
+        known_rest(list, lead)
+    }
+}
+
+fn unknown_rest(list: &mut Reader) -> Result<Position, Stop>
+    ensures { Reads grammar.UnknownRest list.old result list.new }
+{
+    let nines = Letter::Exactly(99);
+    list.symbol(nines)?;
+    list.symbol(nines)?;
+    list.symbol(nines)?;
+    list.symbol(nines)?;
+    Ok(Position::unknown())
+}
+
+fn known_rest(list: &mut Reader, lead: u8) -> Result<Position, Stop>
+    requires { lead ≤ 39 }
+    ensures { Reads (grammar.KnownRest lead) list.old result list.new }
+{
+    let b = list.symbol(latitude_ones(lead))?;
+    let c = list.symbol(minutes_and_hundreds(lead))?;
+    let d = list.symbol(longitude_ones(c))?;
+    let e = list.symbol(longitude_minutes(c, d))?;
+    let fix = Fix {
+        quadrant: lead / 10,
+        lat_deg: lead % 10 * 10 + b / 10,
+        lat_min: b % 10 * 10 + c / 10,
+        lon_deg: c % 10 * 100 + d,
+        lon_min: e,
+    };
+    Ok(Position::new(fix).unwrap())
+}
+
+fn latitude_ones(lead: u8) -> Letter
+    ensures { result ≡ grammar.latitude_ones lead }
+{
+    if lead % 10 == 9 {
+        Letter::Exactly(0)
+    } else {
+        Letter::Digits(9, 5)
+    }
+}
+
+fn minutes_and_hundreds(lead: u8) -> Letter
+    ensures { result ≡ grammar.minutes_and_hundreds lead }
+{
+    if lead % 10 == 9 {
+        Letter::UpTo(1)
+    } else {
+        Letter::Digits(9, 1)
+    }
+}
+
+fn longitude_ones(hundreds: u8) -> Letter
+    ensures { result ≡ grammar.longitude_ones hundreds }
+{
+    if hundreds % 10 == 1 {
+        Letter::UpTo(80)
+    } else {
+        Letter::UpTo(99)
+    }
+}
+
+fn longitude_minutes(hundreds: u8, ones: u8) -> Letter
+    ensures { result ≡ grammar.longitude_minutes hundreds ones }
+{
+    if hundreds % 10 == 1 && ones == 80 {
+        Letter::Exactly(0)
+    } else {
+        Letter::UpTo(59)
+    }
+}
+
+/// Reads a time, known or not (ITU-R M.493, time of a distress alert).
+fn time(list: &mut Reader) -> Result<HourMinute, Stop>
+    ensures { Reads grammar.Times list.old result list.new }
+{
+    let hour = list.symbol(Letter::UpToOr(23, 88))?;
+    if hour == 88 {
+        list.symbol(Letter::Exactly(88))?;
+        return Ok(HourMinute::unknown());
+    }
+    let minute = list.symbol(Letter::UpTo(59))?;
+    Ok(HourMinute::new(hour, minute).unwrap())
+}
+
+/// Reads what a distress call tells of a casualty.
+pub fn casualty(list: &mut Reader) -> Result<Casualty, Stop>
+    ensures { Reads grammar.Casualties list.old result list.new }
+{
+    let mmsi = identity(list)?;
+    let nature = nature(list)?;
+    let position = position(list)?;
+    let time = time(list)?;
+    let comm = comm(list)?;
+    Ok(Casualty {
+        mmsi,
+        nature,
+        position,
+        time,
+        comm,
+    })
+}

@@ -1,0 +1,52 @@
+ghost use Rattle.std.specs.Prelude.{◌≡◌, ℕ, ◌<◌, List, ◌∷◌, ◌++◌, length, drop};
+ghost use Rattle.call_values.specs.Calls.{IsCall};
+ghost use Rattle.call_grammar.specs.Spelling.{covered, check_of};
+ghost use Rattle.call_grammar.specs.Judging.{Judges};
+
+use crate::forms::opened;
+use crate::walking::Step;
+use call_values::Call;
+use symbol_reader::{Reader, Stop};
+
+/// The error check character of these symbols, their bitwise exclusive or (ITU-R M.493, error check character).
+pub fn check(list: &[u8]) -> u8
+    ensures { result ≡ check_of list.now }
+{
+    let mut check = 0;
+    for symbol in list {
+        check ^= *symbol;
+    }
+    check
+}
+
+/// How a call's list goes on at the last symbol, the format specifier standing twice.
+pub fn judge(list: &[u8]) -> Step
+    requires { 0 < length list.now }
+    ensures { Judges (drop 1 list.now) result }
+{
+    let once = &list[1..];
+    let mut reader = Reader::new(once);
+    let call = match opened(&mut reader) {
+        Ok(call) => call,
+        Err(Stop::Short) => return Step::More,
+        Err(Stop::Outside) => return Step::Outside,
+    };
+    let rest = reader.rest();
+    match rest.first() {
+        None => Step::More,
+        Some(got) => compare(call, check(&once[..once.len() - rest.len()]), *got),
+    }
+}
+
+/// The answer to a symbol at the place of the check.
+fn compare(call: Call, want: u8, got: u8) -> Step
+    requires lawful { IsCall call }
+    requires check { want ≡ check_of (covered call) }
+    ensures { (l rest : List ℕ) → l ≡ covered call ++ (got ∷ rest) → Judges l result }
+{
+    if want == got {
+        Step::Done(call)
+    } else {
+        Step::Check { want, got }
+    }
+}

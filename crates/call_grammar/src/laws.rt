@@ -1,0 +1,39 @@
+ghost use Rattle.std.specs.Prelude.{◌≡◌, ℕ, ◌≤◌, ◌⊎◌, ◌↔◌, List, [], ◌∷◌, ◌++◌, length, Result, Ok};
+ghost use Rattle.call_values.specs.declared.alerts.Call.{Call};
+ghost use Rattle.call_values.specs.Calls.{IsCall};
+ghost use Rattle.call_grammar.specs.Spelling.{spell, front};
+ghost use Rattle.call_grammar.specs.Walk.{IsFormat, IsViable, IsOpen, IsDone};
+ghost use Rattle.call_grammar.specs.Reading.{IsReading};
+ghost use Rattle.call_grammar.specs.declared.reading.ReadRefusal.{ReadRefusal};
+
+/// The law that no call's list up to its check begins another call's. It does nothing.
+pub fn fronts_differ()
+    ensures { (c d : Call) (rest : List ℕ) → IsCall c → IsCall d → front d ≡ front c ++ rest → (c ≡ d) × (rest ≡ []) }
+{}
+
+/// The law that no list belongs to two calls. It does nothing.
+pub fn one_list()
+    ensures { (c d : Call) → IsCall c → IsCall d → spell c ≡ spell d → c ≡ d }
+{}
+
+/// The law that a call's list has from 4 to 32 symbols. It does nothing.
+pub fn lists_are_short()
+    ensures { (c : Call) → IsCall c → (4 ≤ length (spell c)) × (length (spell c) ≤ 32) }
+{}
+
+/// The law that a list which still wants symbols up to a check isn't done. It does nothing.
+pub fn open_is_not_done()
+    ensures { (l : List ℕ) → (l ≡ []) ⊎ IsOpen l → IsDone l → ⊥ }
+{}
+
+/// The law that a symbol is a format specifier exactly where it begins some call's list, standing twice. It does nothing.
+pub fn formats_begin_calls()
+    ensures { (f : ℕ) → IsFormat f ↔ IsViable (f ∷ f ∷ []) }
+{}
+
+/// The law that of a list which begins with a call's list, whatever follows, reading can answer nothing but this call
+/// and its length. It does nothing.
+pub fn read_back()
+    ensures { (c : Call) (rest : List ℕ) (answer : Result (Call × ℕ) ReadRefusal)
+        → IsCall c → IsReading (spell c ++ rest) answer → answer ≡ Ok (c, length (spell c)) }
+{}

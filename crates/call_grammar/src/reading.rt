@@ -1,0 +1,83 @@
+ghost use Rattle.std.specs.Prelude.{◌≡◌, ℕ, ◌≤◌, List, ◌∷◌, ◌++◌, length, MatchResult, IsTrue, ◌↔◌, Err};
+ghost use Rattle.call_values.specs.Calls.{IsCall};
+ghost use Rattle.call_grammar.specs.Spelling.{up_to_end};
+ghost use Rattle.call_grammar.specs.Walk.{IsFormat};
+ghost use Rattle.call_grammar.specs.Reading.{IsReading, IsTwice, Shows, Misses};
+
+use crate::forms::{is_format, opened};
+use crate::judging::check;
+use crate::spelling::end_of;
+use call_values::Call;
+use symbol_reader::{Reader, Stop};
+
+/// Why a list isn't read as a call's.
+#[derive(Clone, Copy, Debug, PartialEq, Eq)]
+pub enum ReadRefusal {
+    /// The whole list, of this length, begins a call's list and is shorter.
+    Short(u8),
+    /// This place is the first at which no call's list goes on, with the symbol that stands there, and isn't that of
+    /// the error check character.
+    Outside(u8, u8),
+    /// This place is the first at which no call's list goes on, and is that of the error check character.
+    Check { n: u8, want: u8, got: u8 },
+}
+
+/// Reads the call whose list is a prefix of the given one, and answers it with that list's length.
+pub fn read(list: &[u8]) -> Result<(Call, usize), ReadRefusal>
+    ensures { IsReading list.now result }
+{
+    heading(list)?;
+    let mut reader = Reader::new(&list[1..]);
+    match opened(&mut reader) {
+        Ok(call) => ending(list, list.len() - reader.rest().len(), call),
+        Err(Stop::Short) => Err(ReadRefusal::Short(list.len() as u8)),
+        Err(Stop::Outside) => {
+            let n = list.len() - reader.rest().len();
+            Err(ReadRefusal::Outside(n as u8, list[n]))
+        }
+    }
+}
+
+/// Whether the list begins with a format specifier twice.
+fn heading(list: &[u8]) -> Result<(), ReadRefusal>
+    ensures { MatchResult result (λ _. IsTwice list.now) (λ refusal. IsReading list.now (Err refusal)) }
+{
+    match list {
+        [] => Err(ReadRefusal::Short(0)),
+        [first, ..] if !is_format(*first) => Err(ReadRefusal::Outside(0, *first)),
+        [_] => Err(ReadRefusal::Short(1)),
+        [first, second, ..] if first != second => Err(ReadRefusal::Outside(1, *second)),
+        _ => Ok(()),
+    }
+}
+
+/// Reads the error check character, at this place, and the last two ends of sequence.
+fn ending(list: &[u8], place: usize, call: Call) -> Result<(Call, usize), ReadRefusal>
+    requires lawful { IsCall call }
+    requires place { place ≡ length (up_to_end call) }
+    requires front { (rest : List ℕ) × (list.now ≡ up_to_end call ++ rest) }
+    ensures { IsReading list.now result }
+{
+    let n = place as u8;
+    let want = check(&list[1..place]);
+    match list.get(place) {
+        None => return Err(ReadRefusal::Short(n)),
+        Some(got) if *got != want => return Err(ReadRefusal::Check { n, want, got: *got }),
+        Some(_) => {}
+    }
+    let end = end_of(&call);
+    expect(list, n + 1, end)?;
+    expect(list, n + 2, end)?;
+    Ok((call, place + 3))
+}
+
+/// Reads one symbol, at this place, that can be no other than this one.
+fn expect(list: &[u8], place: u8, symbol: u8) -> Result<(), ReadRefusal>
+    ensures { MatchResult result (λ _. Shows list.now place symbol) (λ refusal. Misses list.now place symbol refusal) }
+{
+    match list.get(place as usize) {
+        None => Err(ReadRefusal::Short(place)),
+        Some(got) if *got != symbol => Err(ReadRefusal::Outside(place, *got)),
+        Some(_) => Ok(()),
+    }
+}

@@ -1,0 +1,113 @@
+ghost use Rattle.std.specs.Prelude.{◌≡◌, ◌↔◌, IfSome, IsSome};
+ghost use Rattle.call_values.specs.Fields.{IsHundreds, IsHfChannel, IsVhfChannel, IsTens, IsField};
+
+use std::marker::Model;
+
+/// What a frequency field of a call tells, in a range of each kind's own.
+#[derive(Clone, Copy, Debug, PartialEq, Eq)]
+pub enum FieldKind {
+    /// Nothing.
+    Absent,
+    /// A frequency in hundreds of hertz, at most 299,999.
+    Hundreds(u32),
+    /// An MF or HF channel, at most 99,999.
+    Hf(u32),
+    /// A VHF channel, at most 9,999.
+    Vhf(u16),
+    /// A frequency in tens of hertz, at most 9,999,999.
+    Tens(u32),
+}
+
+/// A frequency or channel field of a call, which may tell nothing (ITU-R M.493, frequency or channel information).
+#[derive(Clone, Copy, Debug, PartialEq, Eq)]
+pub struct Field {
+    kind: FieldKind,
+}
+
+impl Model for Field {
+    ghost use Rattle.call_values.specs.declared.fields.FieldKind.{FieldKind};
+    ghost use Rattle.call_values.specs.Fields.{IsField};
+
+    ghost Value = { FieldKind };
+
+    ghost view = { λ a. a.kind };
+
+    ghost invariant = { λ a. IsField a.kind };
+
+    ghost inverse = { λ k. record { kind = k } };
+}
+
+impl Field {
+    /// A field that tells nothing.
+    pub fn absent() -> Field
+        ensures { result ≡ FieldKind.Absent }
+    {
+        Field {
+            kind: FieldKind::Absent,
+        }
+    }
+
+    /// A frequency of so many hundreds of hertz, and `None` exactly where they pass 299,999.
+    pub fn hundreds(n: u32) -> Option<Field>
+        ensures value { IfSome result (λ v. v ≡ FieldKind.Hundreds n) }
+        ensures some { IsSome result ↔ IsHundreds n }
+    {
+        if n <= 299_999 {
+            Some(Field {
+                kind: FieldKind::Hundreds(n),
+            })
+        } else {
+            None
+        }
+    }
+
+    /// An MF or HF channel, and `None` exactly where its number passes 99,999.
+    pub fn hf(n: u32) -> Option<Field>
+        ensures value { IfSome result (λ v. v ≡ FieldKind.Hf n) }
+        ensures some { IsSome result ↔ IsHfChannel n }
+    {
+        if n <= 99_999 {
+            Some(Field {
+                kind: FieldKind::Hf(n),
+            })
+        } else {
+            None
+        }
+    }
+
+    /// A VHF channel, and `None` exactly where its number passes 9,999.
+    pub fn vhf(n: u16) -> Option<Field>
+        ensures value { IfSome result (λ v. v ≡ FieldKind.Vhf n) }
+        ensures some { IsSome result ↔ IsVhfChannel n }
+    {
+        if n <= 9_999 {
+            Some(Field {
+                kind: FieldKind::Vhf(n),
+            })
+        } else {
+            None
+        }
+    }
+
+    /// A frequency of so many tens of hertz, and `None` exactly where they pass 9,999,999 (this project's profile).
+    pub fn tens(n: u32) -> Option<Field>
+        ensures value { IfSome result (λ v. v ≡ FieldKind.Tens n) }
+        ensures some { IsSome result ↔ IsTens n }
+    {
+        if n <= 9_999_999 {
+            Some(Field {
+                kind: FieldKind::Tens(n),
+            })
+        } else {
+            None
+        }
+    }
+
+    /// What the field tells.
+    pub fn kind(&self) -> FieldKind
+        ensures value { result ≡ self.now }
+        ensures range { IsField result }
+    {
+        self.kind
+    }
+}

@@ -1,0 +1,35 @@
+//! The program `dsc`: the commands of the library `dsc_cmd` over the standard streams.
+#![tactic(auto)]
+
+use dsc_cmd::{StdSink, StdSource, run};
+use slot_join::Open;
+use std::alloc::{AllocError, Global};
+use std::process::ExitCode;
+use std::rt::Env;
+use std::{env, io};
+
+/// The command line's words, the program's name first. Words that are no text name no command, as no
+/// words do.
+fn words<R: Env + AllocGlobal>(rt: &R, alloc: Global) -> Result<Vec<String>, AllocError> {
+    let mut words = Vec::new(alloc);
+    match env::args(rt) {
+        Ok(args) => {
+            for word in args {
+                words.push(word)?;
+            }
+        }
+        Err(error) if error.kind() == io::ErrorKind::OutOfMemory => return Err(AllocError),
+        Err(_) => {}
+    }
+    Ok(words)
+}
+
+fn main(rt: HostRuntime) -> ExitCode {
+    let Ok(words) = words(&rt, rt.alloc()) else {
+        return ExitCode::from(6);
+    };
+    let mut source = StdSource::new(rt.reader());
+    let mut sink = StdSink::new(io::writer(&rt));
+    let status = run(&rt, rt.alloc(), &words, &mut source, &mut sink, &Open);
+    ExitCode::from(status.number())
+}

@@ -1,0 +1,48 @@
+ghost use Rattle.std.specs.Prelude.{◌≡◌, ◌+◌, ◌≤◌, ◌++◌};
+ghost use Rattle.arrayvec.specs.ArrayVec.{array_vec_len};
+ghost use Rattle.dsc_cmd.specs.Output.{fault_line, fault_name, fault_status};
+
+use arrayvec::ArrayVec;
+use dsc_files::Status;
+use dsc_texts::{append, append_size};
+use join_lines::{Fault, FirstFault};
+
+/// The line that tells of a fault in the input: `dsc: line 3 column 7`, `dsc: line 2 too long` or
+/// `dsc: line 4097 too many lines`.
+#[tactic(auto, unfolding(crate::specs::Output::fault_line))]
+pub fn put_fault(first: &FirstFault) -> ArrayVec<u8, 80>
+    ensures { result.items ≡ fault_line first.now.line first.now.fault }
+{
+    let mut out = ArrayVec::new();
+    append(&mut out, b"dsc: line ");
+    append_size(&mut out, first.line);
+    append_name(&mut out, &first.fault);
+    out.push(b'\n');
+    out
+}
+
+/// Appends what is wrong with a line, which takes at most 28 bytes.
+fn append_name<const N: usize>(out: &mut ArrayVec<u8, N>, fault: &Fault)
+    requires { array_vec_len out.old + 28 ≤ N }
+    ensures items { out.new.items ≡ out.old.items ++ fault_name fault.now }
+    ensures len { array_vec_len out.new ≤ array_vec_len out.old + 28 }
+{
+    match fault {
+        Fault::TooManyLines => append(out, b" too many lines"),
+        Fault::TooLong => append(out, b" too long"),
+        Fault::Column(n) => {
+            append(out, b" column ");
+            append_size(out, *n);
+        }
+    }
+}
+
+/// The status of a fault: 3 for an ill-formed line and 7 for a limit.
+pub fn status_of(fault: &Fault) -> Status
+    ensures { result ≡ fault_status fault.now }
+{
+    match fault {
+        Fault::TooManyLines | Fault::TooLong => Status::new(7),
+        Fault::Column(_) => Status::new(3),
+    }
+}

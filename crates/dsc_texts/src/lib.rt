@@ -1,0 +1,12 @@
+//! Texts of calls and of answers.
+#![tactic(auto)]
+
+mod answers;
+mod calls;
+mod pieces;
+mod sizes;
+
+pub use answers::{put_answer, put_answer_line};
+pub use calls::put_call;
+pub use pieces::append;
+pub use sizes::append_size;

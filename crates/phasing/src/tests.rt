@@ -1,0 +1,91 @@
+use crate::{lead, origin, slot_symbol, transmission};
+use std::alloc::{AllocError, Global};
+use std::test::Fail;
+use ten_unit::{Element, word};
+
+/// The symbols of the 52 slots of a distress alert.
+const ALERT: [u8; 52] = [
+    125, 111, 125, 110, 125, 109, 125, 108, 125, 107, 125, 106, 112, 105, 112, 104, 33, 112, 80,
+    112, 40, 33, 7, 80, 90, 40, 106, 7, 14, 90, 23, 106, 10, 14, 83, 23, 12, 10, 20, 83, 19, 12,
+    100, 20, 127, 19, 78, 100, 127, 127, 127, 78,
+];
+
+/// So many elements of the dot pattern's end, and then these slots, of which some are lost.
+fn received(
+    alloc: Global,
+    dots: u8,
+    slots: &[u8],
+    lost: &[usize],
+) -> Result<Vec<Element>, AllocError> {
+    let mut elements = Vec::new(alloc);
+    for k in 0..dots {
+        elements.push(if (dots - k) % 2 == 1 {
+            Element::Y
+        } else {
+            Element::B
+        })?;
+    }
+    for (slot, symbol) in slots.iter().enumerate() {
+        if lost.contains(&slot) {
+            elements.extend_from_slice(&[Element::Lost; 10])?;
+        } else {
+            elements.extend_from_slice(&word(*symbol % 128))?;
+        }
+    }
+    Ok(elements)
+}
+
+#[test]
+fn an_alert_behind_dots(rt: HostRuntime) -> Result<(), Fail> {
+    let elements = received(rt.alloc(), 7, &ALERT, &[])?;
+    assert_eq!(rt; elements.len(), 527);
+    assert_eq!(rt; origin(&elements), Some(7));
+    assert_eq!(rt; lead(&elements), Some(157));
+    for (slot, symbol) in ALERT.iter().enumerate() {
+        assert_eq!(rt;
+            slot_symbol(&elements, 157, slot as u16),
+            Some(*symbol),
+            "slot {slot}"
+        );
+    }
+    assert_eq!(rt; slot_symbol(&elements, 157, 52), None);
+    Ok(())
+}
+
+#[test]
+fn an_alert_from_slot_9_on(rt: HostRuntime) -> Result<(), Fail> {
+    let elements = received(rt.alloc(), 0, &ALERT[9..], &[])?;
+    assert_eq!(rt; elements.len(), 430);
+    assert_eq!(rt; origin(&elements), Some(-90));
+    assert_eq!(rt; slot_symbol(&elements, 60, 8), None);
+    assert_eq!(rt; slot_symbol(&elements, 60, 9), Some(107));
+    Ok(())
+}
+
+#[test]
+fn three_dx_alone_are_unphased(rt: HostRuntime) -> Result<(), Fail> {
+    let lost = [1, 3, 5, 6, 7, 8, 9, 10, 11, 12, 13, 14, 15];
+    let elements = received(rt.alloc(), 20, &ALERT[..16], &lost)?;
+    assert_eq!(rt; elements.len(), 180);
+    assert_eq!(rt; origin(&elements), None);
+    Ok(())
+}
+
+#[test]
+fn a_short_dot_pattern_and_words(rt: HostRuntime) {
+    let elements = transmission(&[125, 111, 0], false);
+    assert_eq!(rt; elements.len(), 50);
+    for pair in elements[..20].chunks_exact(2) {
+        assert_eq!(rt; pair, [Element::B, Element::Y].as_slice());
+    }
+    assert_eq!(rt; &elements[20..30], word(125).as_slice());
+    assert_eq!(rt; &elements[40..50], word(0).as_slice());
+}
+
+#[test]
+fn a_long_dot_pattern(rt: HostRuntime) {
+    let elements = transmission(&[125], true);
+    assert_eq!(rt; elements.len(), 210);
+    assert_eq!(rt; &elements[198..200], [Element::B, Element::Y].as_slice());
+    assert_eq!(rt; &elements[200..], word(125).as_slice());
+}

@@ -1,0 +1,4 @@
+pub mod ShownLists
+pub mod Stops
+pub mod OneAnswer
+pub mod IntactCalls

@@ -1,0 +1,90 @@
+-- A set of facts has one answer.
+use Rattle.std.proofs.Common.{◌≡◌, ℕ, ◌+◌, ◌≤◌, Bool, true, false, ◌⊎◌, List, [], ◌∷◌, ◌++◌, length, drop, refl, sym, ap, subst, ◌∙◌, inl, inr, arith}
+use Rattle.std.proofs.lemmas.Bool.{cases_lt, false≢true}
+use Rattle.std.proofs.lemmas.List.{append-nil, drop_all}
+use Rattle.call_values.specs.declared.alerts.Call.{Call}
+use Rattle.call_values.specs.Calls.{IsCall}
+use Rattle.call_grammar.specs.Spelling.{front, check_of}
+use Rattle.call_grammar.specs.Walk.{IsAtCheck}
+use Rattle.slot_evidence.specs.declared.places.Seen.{Seen}
+use Rattle.slot_evidence.specs.declared.places.Seen.TheVariants as seen
+use Rattle.slot_evidence.specs.Facts.{Facts, Symbols}
+use Rattle.slot_evidence.specs.Seen.{IsSeen}
+use Rattle.slot_join.specs.declared.joined.Joined.{Joined}
+use Rattle.slot_join.specs.declared.joined.Joined.TheVariants.{Reported, Missing, Differ, Outside, Check}
+use Rattle.slot_join.specs.declared.joined.Extra.TheVariants.{Absent}
+use Rattle.slot_join.specs.Shown.{head_of, IsShown}
+use Rattle.slot_join.specs.Answer.{IsAnswer, IsReported, IsStopped, StopsWith, BehindFormat, BehindHead}
+use Rattle.slot_join.proofs.ShownLists.{agree}
+use Rattle.slot_join.proofs.Stops.{FrontsDiffer}
+
+-- a set of symbols is kept in one way
+abbrev pub OneSeen : Type 0
+OneSeen = (S : Symbols) (a b : Seen) → IsSeen S a → IsSeen S b → a ≡ b
+
+-- two calls that are shown are one
+same_call : FrontsDiffer → (F : Facts) (c d : Call) → IsCall c → IsCall d → IsShown F (front c) → IsShown F (front d) → c ≡ d
+same_call differ F c d lc ld sc sd = elim (cases_lt (length (front d)) (length (front c))) [
+  | inl lt ↦ sym (differ d c (drop (length (front d)) (front c)) ld lc (agree F (front d) (front c) sd sc (omega arith))).0
+  | inr le ↦ (differ c d (drop (length (front c)) (front d)) lc ld (agree F (front c) (front d) sc sd le)).0
+]
+
+both_reported : FrontsDiffer → (F : Facts) (a b : Joined) → IsReported F a → IsReported F b → a ≡ b
+both_reported differ F a b x y =
+    x.answer_is ∙ ap (λ (c : Call). Reported c Absent) (same_call differ F x.call y.call x.lawful y.lawful x.shown y.shown) ∙ sym y.answer_is
+
+same_list : (F : Facts) (l m : List ℕ) → IsShown F l → IsShown F m → length l ≤ length m → length m ≤ length l → l ≡ m
+same_list F l m a b le ge =
+    sym (agree F l m a b le ∙ ap (λ (x : List ℕ). l ++ x) (drop_all (length l) m ge) ∙ append-nil l)
+
+same_stop : (l : List ℕ) (here : Seen) (a b : Joined) → StopsWith l here a → StopsWith l here b → a ≡ b
+same_stop l seen.None a b x y = x ∙ sym y
+same_stop l (seen.Differ u v) a b x y = x ∙ sym y
+same_stop l (seen.One v) a b (inl x) (inl y) = x.1 ∙ sym y.1
+same_stop l (seen.One v) a b (inl x) (inr y) = absurd (y.0 x.0)
+same_stop l (seen.One v) a b (inr x) (inl y) = absurd (x.0 y.0)
+same_stop l (seen.One v) a b (inr x) (inr y) = x.1 ∙ sym y.1
+
+both_stopped : OneSeen → (F : Facts) (a b : Joined) → IsStopped F a → IsStopped F b → a ≡ b
+both_stopped one F a b x y =
+    let ge : length y.list ≤ length x.list = x.longest.longest y.list y.longest.shown y.longest.viable in
+    let le : length x.list ≤ length y.list = y.longest.longest x.list x.longest.shown x.longest.viable in
+    let same : y.list ≡ x.list = same_list F y.list x.list y.longest.shown x.longest.shown ge le in
+    let seen_y : IsSeen (F (length x.list)) y.here = subst (λ (l : List ℕ). IsSeen (F (length l)) y.here) same y.seen in
+    let here : y.here ≡ x.here = one (F (length x.list)) y.here x.here seen_y x.seen in
+    let stops_y : StopsWith x.list y.here b = subst (λ (l : List ℕ). StopsWith l y.here b) same y.stops in
+    same_stop x.list x.here a b x.stops (subst (λ (s : Seen). StopsWith x.list s b) here stops_y)
+
+same_end : OneSeen → FrontsDiffer → (F : Facts) (a b : Joined) → IsReported F a ⊎ IsStopped F a → IsReported F b ⊎ IsStopped F b → a ≡ b
+same_end one differ F a b (inl x) (inl y) = both_reported differ F a b x y
+same_end one differ F a b (inl x) (inr y) = absurd (y.unreported x.call x.lawful x.shown)
+same_end one differ F a b (inr x) (inl y) = absurd (x.unreported y.call y.lawful y.shown)
+same_end one differ F a b (inr x) (inr y) = both_stopped one F a b x y
+
+same_behind_format : OneSeen → FrontsDiffer → (F : Facts) (f : ℕ) (a b : Joined) → BehindFormat F f a → BehindFormat F f b → a ≡ b
+same_behind_format one differ F f a b (inl x) (inl y) = x.1 ∙ sym y.1
+same_behind_format one differ F f a b (inl x) (inr (inl y)) = absurd (x.0 y.0)
+same_behind_format one differ F f a b (inl x) (inr (inr (inl y))) = absurd (x.0 y.0)
+same_behind_format one differ F f a b (inl x) (inr (inr (inr y))) = absurd (x.0 y.0.is_one)
+same_behind_format one differ F f a b (inr (inl x)) (inl y) = absurd (y.0 x.0)
+same_behind_format one differ F f a b (inr (inl x)) (inr (inl y)) = x.3 ∙ sym y.3
+same_behind_format one differ F f a b (inr (inl x)) (inr (inr (inl y))) = absurd (y.2 x.2)
+same_behind_format one differ F f a b (inr (inl x)) (inr (inr (inr y))) = absurd (y.0.first x.1 x.2)
+same_behind_format one differ F f a b (inr (inr (inl x))) (inl y) = absurd (y.0 x.0)
+same_behind_format one differ F f a b (inr (inr (inl x))) (inr (inl y)) = absurd (x.2 y.2)
+same_behind_format one differ F f a b (inr (inr (inl x))) (inr (inr (inl y))) = x.4 ∙ sym y.4
+same_behind_format one differ F f a b (inr (inr (inl x))) (inr (inr (inr y))) = absurd (y.0.second x.1 x.3)
+same_behind_format one differ F f a b (inr (inr (inr x))) (inl y) = absurd (y.0 x.0.is_one)
+same_behind_format one differ F f a b (inr (inr (inr x))) (inr (inl y)) = absurd (x.0.first y.1 y.2)
+same_behind_format one differ F f a b (inr (inr (inr x))) (inr (inr (inl y))) = absurd (x.0.second y.1 y.3)
+same_behind_format one differ F f a b (inr (inr (inr x))) (inr (inr (inr y))) = same_end one differ F a b x.1 y.1
+
+same_behind_head : OneSeen → FrontsDiffer → (F : Facts) (h : Seen) (a b : Joined) → BehindHead F h a → BehindHead F h b → a ≡ b
+same_behind_head one differ F seen.None a b x y = x ∙ sym y
+same_behind_head one differ F (seen.Differ u v) a b x y = x ∙ sym y
+same_behind_head one differ F (seen.One f) a b x y = same_behind_format one differ F f a b x y
+
+pub same_answer : OneSeen → FrontsDiffer → (F : Facts) (a b : Joined) → IsAnswer F a → IsAnswer F b → a ≡ b
+same_answer one differ F a b x y =
+    let heads : y.head ≡ x.head = one (head_of F) y.head x.head y.seen x.seen in
+    same_behind_head one differ F x.head a b x.answers (subst (λ (h : Seen). BehindHead F h b) heads y.answers)

@@ -1,0 +1,79 @@
+-- Lists that one set of facts shows agree as far as both go.
+use Rattle.std.proofs.Common.{◌≡◌, ℕ, zero, suc, ◌+◌, ◌<◌, ◌≤◌, List, [], ◌∷◌, ◌++◌, length, get_or, take, drop, refl, sym, ap, subst, ◌∙◌, inl, inr, append_assoc, arith, length-append}
+use Rattle.std.proofs.lemmas.Bool.{cases_lt}
+use Rattle.std.proofs.lemmas.List.{length-take-le, get_or-take, take-append-drop, ext_get_or, get_or_append_left, get_or_push, drop_more, length_push}
+use Rattle.call_values.specs.declared.alerts.Call.{Call}
+use Rattle.call_values.specs.Calls.{IsCall}
+use Rattle.call_grammar.specs.Spelling.{front, spell, end_of}
+use Rattle.call_grammar.specs.Walk.{IsViable, IsOpen, after}
+use Rattle.slot_evidence.specs.Facts.{Facts, Symbols}
+use Rattle.slot_evidence.specs.Seen.{ShowsOne}
+use Rattle.slot_join.specs.Shown.{head_of, IsShown, IsLongest}
+
+pub only_one : (S : Symbols) (u v : ℕ) → ShowsOne S u → ShowsOne S v → u ≡ v
+only_one S u v a b = b.1 u a.0
+
+same_at : (F : Facts) (l m : List ℕ) → IsShown F l → IsShown F m → (k : ℕ) → k < length l → k < length m → get_or l k 0 ≡ get_or m k 0
+same_at F l m a b zero p q =
+    ap (λ (x : List ℕ). get_or x 0 0) a.begins ∙ only_one (head_of F) a.format b.format a.head b.head ∙ sym (ap (λ (x : List ℕ). get_or x 0 0) b.begins)
+same_at F l m a b (suc zero) p q =
+    ap (λ (x : List ℕ). get_or x 1 0) a.begins ∙ only_one (head_of F) a.format b.format a.head b.head ∙ sym (ap (λ (x : List ℕ). get_or x 1 0) b.begins)
+same_at F l m a b (suc (suc k)) p q =
+    only_one (F (suc (suc k))) (get_or l (suc (suc k)) 0) (get_or m (suc (suc k)) 0) (a.places (suc (suc k)) (omega arith) p) (b.places (suc (suc k)) (omega arith) q)
+
+-- the longer one of two shown lists begins with the shorter
+pub agree : (F : Facts) (l m : List ℕ) → IsShown F l → IsShown F m → length l ≤ length m → m ≡ l ++ drop (length l) m
+agree F l m a b le =
+    let len : length (take (length l) m) ≡ length l = length-take-le (length l) m le in
+    let front_same : take (length l) m ≡ l =
+    ext_get_or 0 (take (length l) m) l len
+    (λ i h. let below : i < length l = omega (arith, len) in
+    get_or-take (length l) m i 0 below ∙ sym (same_at F l m a b i below (omega arith))) in
+    sym (take-append-drop (length l) m) ∙ ap (λ (x : List ℕ). x ++ drop (length l) m) front_same
+
+pub two : (F : Facts) (l : List ℕ) → IsShown F l → 2 ≤ length l
+two F l a = let e : length l ≡ length (a.format ∷ a.format ∷ a.rest) = ap length a.begins in omega arith
+
+-- a shown list goes on with the one symbol of the place behind it
+pub push_shown : (F : Facts) (l : List ℕ) (v : ℕ) → IsShown F l → ShowsOne (F (length l)) v → IsShown F (l ++ v ∷ [])
+push_shown F l v a one = record {
+  format = a.format;
+  rest = a.rest ++ v ∷ [];
+  begins = ap (λ (x : List ℕ). x ++ v ∷ []) a.begins;
+  head = a.head;
+  places = λ p least below. elim (cases_lt p (length l)) [
+    | inl lt ↦ subst (λ (x : ℕ). ShowsOne (F p) x) (sym (get_or_append_left l (v ∷ []) 0 p lt)) (a.places p least lt)
+    | inr le ↦
+        let same : length l ≡ p = omega (arith, length_push l v) in
+        subst (λ (q : ℕ). ShowsOne (F q) (get_or (l ++ v ∷ []) q 0)) same (subst (λ (x : ℕ). ShowsOne (F (length l)) x) (sym (get_or_push l v 0 (length l) refl)) one)
+  ];
+}
+
+pub after_shown : (F : Facts) (l : List ℕ) (v : ℕ) → IsShown F l → after l v ≡ l ++ v ∷ []
+after_shown F l v a = ap (λ (x : List ℕ). after x v) a.begins ∙ sym (ap (λ (x : List ℕ). x ++ v ∷ []) a.begins)
+
+pub viable_front : (l t : List ℕ) → IsViable (l ++ t) → IsViable l
+viable_front l t a = record { call = a.call; rest = t ++ a.rest; lawful = a.lawful; list = a.list ∙ append_assoc l t a.rest }
+
+pub front_viable : (c : Call) → IsCall c → IsViable (front c)
+front_viable c lawful = record { call = c; rest = end_of c ∷ end_of c ∷ []; lawful = lawful; list = refl }
+
+pub open_viable : (l : List ℕ) → IsOpen l → IsViable l
+open_viable l a =
+    let whole : IsViable (l ++ a.next ∷ a.rest) = subst IsViable a.list (front_viable a.call a.lawful) in
+    viable_front l (a.next ∷ a.rest) whole
+
+-- a shown list that no symbol behind it lets go on is the longest
+pub longest_from : (F : Facts) (l : List ℕ) → IsShown F l → IsViable l → ((v : ℕ) → ShowsOne (F (length l)) v → IsViable (l ++ v ∷ []) → ⊥) → IsLongest F l
+longest_from F l shown viable stops = record {
+  shown = shown;
+  viable = viable;
+  longest = λ m ms mv. elim (cases_lt (length l) (length m)) [
+    | inr le ↦ le
+    | inl lt ↦
+        let v : ℕ = get_or m (length l) 0 in
+        let more : drop (length l) m ≡ v ∷ drop (length l + 1) m = drop_more m (length l) 0 lt in
+        let whole : m ≡ (l ++ v ∷ []) ++ drop (length l + 1) m = agree F l m shown ms (omega arith) ∙ ap (λ (x : List ℕ). l ++ x) more ∙ sym (append_assoc l (v ∷ []) (drop (length l + 1) m)) in
+        absurd (stops v (ms.places (length l) (two F l shown) lt) (viable_front (l ++ v ∷ []) (drop (length l + 1) m) (subst IsViable whole mv)))
+  ];
+}

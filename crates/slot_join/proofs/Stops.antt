@@ -1,0 +1,98 @@
+-- What a walk that is still open says of the answer.
+use Rattle.std.proofs.Common.{◌≡◌, ℕ, ◌+◌, ◌≤◌, ◌<◌, List, [], ◌∷◌, ◌++◌, length, drop, refl, sym, ap, subst, ◌∙◌, inl, inr, append_assoc, arith, length-append}
+use Rattle.call_values.specs.declared.alerts.Call.{Call}
+use Rattle.call_values.specs.Calls.{IsCall}
+use Rattle.call_grammar.specs.Spelling.{front, spell, end_of, check_of}
+use Rattle.call_grammar.specs.Walk.{IsViable, IsOpen, IsAtCheck, after}
+use Rattle.slot_evidence.specs.declared.places.Seen.{Seen}
+use Rattle.slot_evidence.specs.declared.places.Seen.TheVariants as seen
+use Rattle.slot_evidence.specs.Facts.{Facts}
+use Rattle.slot_evidence.specs.Seen.{IsSeen, ShowsNone, ShowsOne, ShowsSeveral}
+use Rattle.slot_evidence.specs.Sheet.{IsEnds, seen_at}
+use Rattle.slot_join.specs.declared.joined.Joined.{Joined}
+use Rattle.slot_join.specs.declared.joined.Joined.TheVariants.{Reported, Missing, Differ, Outside, Check}
+use Rattle.slot_join.specs.declared.joined.Extra.TheVariants.{Absent}
+use Rattle.slot_join.specs.Shown.{IsShown, IsLongest}
+use Rattle.slot_join.specs.Answer.{IsReported, IsStopped, StopsWith}
+use Rattle.slot_join.proofs.ShownLists.{agree, push_shown, after_shown, open_viable, front_viable, longest_from, only_one}
+
+-- no call's list up to its check begins another's
+abbrev pub FrontsDiffer : Type 0
+FrontsDiffer = (c d : Call) (rest : List ℕ) → IsCall c → IsCall d → front d ≡ front c ++ rest → (c ≡ d) × (rest ≡ [])
+
+-- what is open shows no call, if nothing longer is shown
+pub unreported : FrontsDiffer → (F : Facts) (l : List ℕ) → IsOpen l → IsLongest F l → (c : Call) → IsCall c → IsShown F (front c) → ⊥
+unreported differ F l o longest c lawful shown =
+    let le : length (front c) ≤ length l = longest.longest (front c) shown (front_viable c lawful) in
+    let t : List ℕ = drop (length (front c)) l in
+    let split : l ≡ front c ++ t = agree F (front c) l shown longest.shown le in
+    let whole : front o.call ≡ front c ++ (t ++ o.next ∷ o.rest) = o.list ∙ ap (λ (x : List ℕ). x ++ o.next ∷ o.rest) split ∙ append_assoc (front c) t (o.next ∷ o.rest) in
+    let none : (t ++ o.next ∷ o.rest) ≡ [] = (differ c o.call (t ++ o.next ∷ o.rest) lawful o.lawful whole).1 in
+    let len : length (t ++ o.next ∷ o.rest) ≡ 0 = ap length none in
+    absurd (omega (arith, length-append t (o.next ∷ o.rest)))
+
+-- an open list behind which nothing goes on gives the answer
+pub stopped : FrontsDiffer → (F : Facts) (l : List ℕ) (here : Seen) (answer : Joined) → IsOpen l → IsShown F l → IsSeen (F (length l)) here
+    → ((v : ℕ) → ShowsOne (F (length l)) v → IsViable (l ++ v ∷ []) → ⊥) → StopsWith l here answer → IsStopped F answer
+stopped differ F l here answer o shown seen stops with =
+    let longest : IsLongest F l = longest_from F l shown (open_viable l o) stops in
+    record { list = l; unreported = unreported differ F l o longest; longest = longest; here = here; seen = seen; stops = with }
+
+pub stops_missing : FrontsDiffer → (F : Facts) (l : List ℕ) (n : ℕ) → length l ≡ n → IsOpen l → IsShown F l → ShowsNone (F n) → IsStopped F (Missing n)
+stops_missing differ F l n len o shown none =
+    let here : ShowsNone (F (length l)) = subst (λ (k : ℕ). ShowsNone (F k)) (sym len) none in
+    stopped differ F l seen.None (Missing n) o shown here (λ v one viable. absurd (cc (here v, one.0))) (ap Missing (sym len))
+
+pub stops_differ : FrontsDiffer → (F : Facts) (l : List ℕ) (n a b : ℕ) → length l ≡ n → IsOpen l → IsShown F l → ShowsSeveral (F n) a b → IsStopped F (Differ n a b)
+stops_differ differ F l n a b len o shown several =
+    let here : ShowsSeveral (F (length l)) a b = subst (λ (k : ℕ). ShowsSeveral (F k) a b) (sym len) several in
+    stopped differ F l (seen.Differ a b) (Differ n a b) o shown here
+    (λ v one viable. absurd (omega (arith, one.1 a here.has_least, one.1 b here.has_greatest, here.apart))) (ap (λ (k : ℕ). Differ k a b) (sym len))
+
+one_stops : (F : Facts) (l : List ℕ) (v : ℕ) → IsShown F l → ShowsOne (F (length l)) v → (IsViable (after l v) → ⊥) → (u : ℕ) → ShowsOne (F (length l)) u → IsViable (l ++ u ∷ []) → ⊥
+one_stops F l v shown here not u one viable =
+    let same : u ≡ v = only_one (F (length l)) u v one here in
+    not (subst IsViable (ap (λ (x : ℕ). l ++ x ∷ []) same ∙ sym (after_shown F l v shown)) viable)
+
+pub stops_outside : FrontsDiffer → (F : Facts) (l : List ℕ) (n v : ℕ) → length l ≡ n → IsOpen l → IsShown F l → ShowsOne (F n) v
+    → (IsViable (after l v) → ⊥) → (IsAtCheck l → ⊥) → IsStopped F (Outside n v)
+stops_outside differ F l n v len o shown one not no_check =
+    let here : ShowsOne (F (length l)) v = subst (λ (k : ℕ). ShowsOne (F k) v) (sym len) one in
+    stopped differ F l (seen.One v) (Outside n v) o shown here (one_stops F l v shown here not) (inr (no_check, ap (λ (k : ℕ). Outside k v) (sym len)))
+
+pub stops_check : FrontsDiffer → (F : Facts) (l : List ℕ) (n v want got : ℕ) → length l ≡ n → IsOpen l → IsShown F l → ShowsOne (F n) v
+    → (IsViable (after l v) → ⊥) → IsAtCheck l → want ≡ check_of (drop 1 l) → got ≡ v → IsStopped F (Check n want got)
+stops_check differ F l n v want got len o shown one not at want_is got_is =
+    let here : ShowsOne (F (length l)) v = subst (λ (k : ℕ). ShowsOne (F k) v) (sym len) one in
+    let answer : Check n want got ≡ Check (length l) (check_of (drop 1 l)) v = cc (sym len, want_is, got_is) in
+    stopped differ F l (seen.One v) (Check n want got) o shown here (one_stops F l v shown here not) (inl (at, answer))
+
+-- a shown list and the one symbol behind it that end a call report it
+pub reports : (F : Facts) (l : List ℕ) (n v : ℕ) (c : Call) → length l ≡ n → IsShown F l → ShowsOne (F n) v → IsCall c → after l v ≡ front c → IsReported F (Reported c Absent)
+reports F l n v c len shown one lawful ends =
+    let here : ShowsOne (F (length l)) v = subst (λ (k : ℕ). ShowsOne (F k) v) (sym len) one in
+    let all : IsShown F (front c) = subst (λ (x : List ℕ). IsShown F x) (sym (after_shown F l v shown) ∙ ends) (push_shown F l v shown here) in
+    record { call = c; lawful = lawful; shown = all; answer_is = refl }
+
+-- a shown list and one more symbol
+pub goes_on : (F : Facts) (l : List ℕ) (n v : ℕ) → length l ≡ n → IsShown F l → ShowsOne (F n) v → IsShown F (after l v)
+goes_on F l n v len shown one =
+    let here : ShowsOne (F (length l)) v = subst (λ (k : ℕ). ShowsOne (F k) v) (sym len) one in
+    subst (λ (x : List ℕ). IsShown F x) (sym (after_shown F l v shown)) (push_shown F l v shown here)
+
+-- what stands at a place of the sheet was seen there
+pub seen_there : (F : Facts) (sheet : List Seen) (n : ℕ) (seen : Seen) → IsEnds F sheet → seen ≡ seen_at sheet n → IsSeen (F n) seen
+seen_there F sheet n seen ends is = subst (λ (s : Seen). IsSeen (F n) s) (sym is) (ends.each n)
+
+-- a list that has begun grows by one
+pub after_long : (l : List ℕ) (v : ℕ) → 1 ≤ length l → length (after l v) ≡ length l + 1
+after_long [] v some = absurd (omega arith)
+after_long (f ∷ l) v some = omega (arith, length-append l (v ∷ []))
+
+-- calls are short, and so is what begins one
+pub open_short : ((c : Call) → IsCall c → (4 ≤ length (spell c)) × (length (spell c) ≤ 32)) → (l : List ℕ) → IsOpen l → length l < 32
+open_short short l o =
+    let whole : length (spell o.call) ≡ length (front o.call) + 2 = length-append (front o.call) (end_of o.call ∷ end_of o.call ∷ []) in
+    let part : length (front o.call) ≡ length l + length (o.next ∷ o.rest) = ap length o.list ∙ length-append l (o.next ∷ o.rest) in
+    let most : length (spell o.call) ≤ 32 = (short o.call o.lawful).1 in
+    omega arith

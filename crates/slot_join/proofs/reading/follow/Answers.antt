@@ -1,0 +1,57 @@
+use Rattle.std.proofs.Common.{◌≡◌, ◌+◌, ℕ, length, sym, ap, ◌∙◌, inl, inr, subst, arith}
+use Rattle.call_grammar.specs.Spelling.{front}
+use Rattle.call_grammar.specs.Walk.{after}
+use Rattle.slot_evidence.specs.declared.places.Seen.TheVariants as seen
+use Rattle.slot_join.specs.Shown.{IsShown}
+use Rattle.slot_join.proofs.Stops.{seen_there, after_long, open_short, stops_missing, stops_differ, stops_outside, stops_check, reports, goes_on}
+use Rattle.slot_join.proofs.reading.follow.Goals as goal
+
+pub returns-in-None : goal.returns-in-None
+returns-in-None c = λ F ends shown.
+    let i = c.loop-n.invariant in
+    inr (stops_missing c.fronts_differ.ensures F c.loop-n.walk c.loop-n.n i.taken i.open_ (i.shown F ends shown) (seen_there F c.args.sheet.now c.loop-n.n seen.None ends c.in-None.ensures.seen))
+
+pub returns-in-Differ : goal.returns-in-Differ
+returns-in-Differ c = λ F ends shown.
+    let i = c.loop-n.invariant in
+    inr (stops_differ c.fronts_differ.ensures F c.loop-n.walk c.loop-n.n c.in-Differ.least c.in-Differ.greatest i.taken i.open_ (i.shown F ends shown)
+    (seen_there F c.args.sheet.now c.loop-n.n (seen.Differ c.in-Differ.least c.in-Differ.greatest) ends c.in-Differ.ensures.seen))
+
+pub take-requires-clause-open : goal.take-requires-clause-open
+take-requires-clause-open c = λ done. c.open_is_not_done.ensures c.loop-n.walk (inr c.loop-n.invariant.open_) done
+
+pub returns-in-Done : goal.returns-in-Done
+returns-in-Done c = λ F ends shown.
+    let i = c.loop-n.invariant in
+    let step = c.in-Done.ensures.step in
+    let v = c.in-One.symbol in
+    inl (reports F c.loop-n.walk c.loop-n.n v c.in-Done.call i.taken (i.shown F ends shown) (seen_there F c.args.sheet.now c.loop-n.n (seen.One v) ends c.in-One.ensures.seen) step.lawful (sym step.taken ∙ step.list))
+
+pub returns-in-Outside : goal.returns-in-Outside
+returns-in-Outside c = λ F ends shown.
+    let i = c.loop-n.invariant in
+    let step = c.in-Outside.ensures.step in
+    let v = c.in-One.symbol in
+    inr (stops_outside c.fronts_differ.ensures F c.loop-n.walk c.loop-n.n v i.taken i.open_ (i.shown F ends shown) (seen_there F c.args.sheet.now c.loop-n.n (seen.One v) ends c.in-One.ensures.seen) step.never step.elsewhere)
+
+pub returns-in-Check : goal.returns-in-Check
+returns-in-Check c = λ F ends shown.
+    let i = c.loop-n.invariant in
+    let step = c.in-Check.ensures.step in
+    let v = c.in-One.symbol in
+    inr (stops_check c.fronts_differ.ensures F c.loop-n.walk c.loop-n.n v c.in-Check.want c.in-Check.got i.taken i.open_ (i.shown F ends shown)
+    (seen_there F c.args.sheet.now c.loop-n.n (seen.One v) ends c.in-One.ensures.seen) step.never step.place step.check step.symbol)
+
+pub loop-n-preserved : goal.loop-n-preserved
+loop-n-preserved c =
+    let i = c.loop-n.invariant in
+    let step = c.in-More.ensures.step in
+    let v = c.in-One.symbol in
+    record {
+      taken = ap length step.taken ∙ after_long c.loop-n.walk v (omega arith) ∙ ap (λ (k : ℕ). k + 1) i.taken;
+      open_ = step.begins;
+      shown = λ F ends shown. subst (λ l. IsShown F l) (sym step.taken) (goes_on F c.loop-n.walk c.loop-n.n v i.taken (i.shown F ends shown) (seen_there F c.args.sheet.now c.loop-n.n (seen.One v) ends c.in-One.ensures.seen));
+    }
+
+pub unreachable-requires : goal.unreachable-requires
+unreachable-requires c = absurd (omega (arith, open_short c.lists_are_short.ensures c.loop-n.walk c.loop-n.invariant.open_))

@@ -1,0 +1,24 @@
+-- What a set of facts shows of a list of characters: this project's profile, over the places of ITU-R M.493.
+use Rattle.std.specs.Prelude.{◌≡◌, ℕ, ◌<◌, ◌≤◌, ◌||◌, List, ◌∷◌, length, slice_index}
+use Rattle.call_grammar.specs.Walk.{IsViable}
+use Rattle.slot_evidence.specs.Facts.{Facts, Symbols}
+use Rattle.slot_evidence.specs.Seen.{ShowsOne}
+
+-- the symbols that the two places of the format specifier showed
+abbrev pub head_of : Facts → Symbols
+head_of F v = F 0 v || F 1 v
+
+-- a list of two characters or more is shown: its first two are one format specifier, the only one that these two
+-- places showed, and each further place showed the list's character and no other
+pub record IsShown (F : Facts) (list : List ℕ) : Type 0 where
+  pub format : ℕ
+  pub rest : List ℕ
+  pub begins : list ≡ format ∷ format ∷ rest
+  pub head : ShowsOne (head_of F) format
+  pub places : (p : ℕ) → 2 ≤ p → p < length list → ShowsOne (F p) (slice_index list p)
+
+-- the longest shown list that begins a call
+pub record IsLongest (F : Facts) (list : List ℕ) : Type 0 where
+  pub shown : IsShown F list
+  pub viable : IsViable list
+  pub longest : (other : List ℕ) → IsShown F other → IsViable other → length other ≤ length list

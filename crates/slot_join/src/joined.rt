@@ -1,0 +1,24 @@
+use call_values::Call;
+
+/// What follows a reported call on air.
+#[derive(Clone, Copy, Debug, PartialEq, Eq)]
+pub enum Extra {
+    /// Nothing that is read: places past the error check character are not consulted yet.
+    Absent,
+}
+
+/// The answer to a group's facts. A place is that of a character in the call's list, counted from 0 with
+/// the format specifier standing twice.
+#[derive(Clone, Copy, Debug, PartialEq, Eq)]
+pub enum Joined {
+    /// The one call that the facts show, up to its error check character.
+    Reported { call: Call, expansion: Extra },
+    /// No symbol is known of this place.
+    Missing(u8),
+    /// Several symbols were shown at this place: the least and the greatest.
+    Differ(u8, u8, u8),
+    /// No call goes on with this symbol at this place.
+    Outside(u8, u8),
+    /// The error check character is not the one that the call wants.
+    Check { n: u8, want: u8, got: u8 },
+}

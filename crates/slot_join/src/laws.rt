@@ -1,0 +1,38 @@
+ghost use Rattle.std.specs.Prelude.{◌≡◌, List};
+ghost use Rattle.ten_unit.specs.declared.character.Element.{Element};
+ghost use Rattle.call_values.specs.declared.alerts.Call.{Call};
+ghost use Rattle.call_values.specs.Calls.{IsCall};
+ghost use Rattle.call_grammar.specs.Spelling.{spell};
+ghost use Rattle.slot_evidence.specs.Facts.{Facts, facts_of};
+ghost use Rattle.slot_join.specs.declared.joined.Joined.{Joined};
+ghost use Rattle.slot_join.specs.declared.joined.Joined.TheVariants.{Reported};
+ghost use Rattle.slot_join.specs.declared.joined.Extra.TheVariants.{Absent};
+ghost use Rattle.slot_join.specs.Answer.{IsAnswer};
+ghost use Rattle.slot_join.specs.Intact.{ArrivesIntact};
+
+use call_grammar::{formats_begin_calls, fronts_differ, lists_are_characters, lists_are_short};
+use slot_evidence::one_seen;
+use ten_unit::words_tell_symbols_apart;
+use time_diversity::both_slots_show_the_character;
+
+/// The law that a set of facts has one answer. It does nothing.
+pub fn one_answer()
+    ensures { (F : Facts) (a b : Joined) → IsAnswer F a → IsAnswer F b → a ≡ b }
+{
+    one_seen();
+    fronts_differ();
+}
+
+/// The law that a call whose slots all arrive intact at the origin is reported, and no other answer comes. It does
+/// nothing.
+pub fn intact_call_is_reported()
+    ensures { (call : Call) (reception : List Element) (answer : Joined) → IsCall call → ArrivesIntact reception (spell call)
+        → IsAnswer (facts_of reception) answer → answer ≡ Reported call Absent }
+{
+    one_answer();
+    formats_begin_calls();
+    lists_are_short();
+    lists_are_characters();
+    both_slots_show_the_character();
+    words_tell_symbols_apart();
+}

@@ -1,0 +1,13 @@
+//! The answer to what receivers showed of one call.
+#![tactic(auto)]
+
+mod gate;
+mod joined;
+mod laws;
+mod reading;
+
+pub use gate::{Gate, Open};
+pub use joined::{Extra, Joined};
+pub use laws::{intact_call_is_reported, one_answer};
+pub use reading::report;
+pub use slot_evidence::{Seen, Sheet, read_sheet};

@@ -1,0 +1,92 @@
+ghost use Rattle.std.specs.Prelude.{◌≡◌, ◌⊎◌, ◌<◌, ◌↔◌, IsTrue, length};
+ghost use Rattle.call_grammar.specs.Walk.{IsOpen};
+ghost use Rattle.slot_evidence.specs.Facts.{Facts};
+ghost use Rattle.slot_evidence.specs.Seen.{IsSeen, IsLawful, ShowsOne};
+ghost use Rattle.slot_evidence.specs.Sheet.{IsEnds};
+ghost use Rattle.slot_join.specs.Shown.{head_of, IsShown};
+ghost use Rattle.slot_join.specs.Answer as answers;
+ghost use Rattle.slot_join.specs.Answer.{IsAnswer, IsReported, IsStopped, BehindFormat};
+
+use crate::joined::{Extra, Joined};
+use call_grammar::{
+    Step, Walk, formats_begin_calls, fronts_differ, lists_are_short, open_is_not_done,
+};
+use slot_evidence::{Seen, Sheet};
+
+/// The answer to every set of facts that has this sheet: it reads the places one after the other, until one
+/// shows no symbol, several, or one with which no call goes on, or until a call has its right error check
+/// character.
+pub fn report(sheet: &Sheet) -> Joined
+    ensures { (F : Facts) → IsEnds F sheet.now → IsAnswer F result }
+{
+    match head(sheet) {
+        Seen::None => Joined::Missing(0),
+        Seen::Differ(least, greatest) => Joined::Differ(0, least, greatest),
+        Seen::One(format) => behind_format(sheet, format),
+    }
+}
+
+/// What the two places of the format specifier showed together.
+fn head(sheet: &Sheet) -> Seen
+    ensures together { (F : Facts) → IsEnds F sheet.now → IsSeen (head_of F) result }
+    ensures lawful { IsLawful result }
+{
+    sheet.at(0).meet(sheet.at(1))
+}
+
+/// Calls in which each of the two places of the format specifier must have shown it.
+fn needs_both(format: u8) -> bool
+    ensures { result ≡ answers.needs_both format }
+{
+    format == 112 || format == 116
+}
+
+/// The answer where this is the one format specifier that its two places showed.
+fn behind_format(sheet: &Sheet, format: u8) -> Joined
+    requires { format < 128 }
+    ensures { (F : Facts) → IsEnds F sheet.now → ShowsOne (head_of F) format → BehindFormat F format result }
+{
+    formats_begin_calls();
+    let mut walk = Walk::start();
+    let Step::More = walk.take(format) else {
+        return Joined::Outside(0, format);
+    };
+    if needs_both(format) {
+        if sheet.at(0) == Seen::None {
+            return Joined::Missing(0);
+        }
+        if sheet.at(1) == Seen::None {
+            return Joined::Missing(1);
+        }
+    }
+    follow(sheet, walk)
+}
+
+/// The answer where the format specifier was taken: a call, or the first place where none goes on.
+fn follow(sheet: &Sheet, mut walk: Walk) -> Joined
+    requires taken { length walk ≡ 2 }
+    requires open { IsOpen walk }
+    ensures { (F : Facts) → IsEnds F sheet.now → IsShown F walk → IsReported F result ⊎ IsStopped F result }
+{
+    fronts_differ();
+    lists_are_short();
+    open_is_not_done();
+    for n in 2..64 {
+        match sheet.at(n) {
+            Seen::None => return Joined::Missing(n),
+            Seen::Differ(least, greatest) => return Joined::Differ(n, least, greatest),
+            Seen::One(symbol) => match walk.take(symbol) {
+                Step::More => {}
+                Step::Done(call) => {
+                    return Joined::Reported {
+                        call,
+                        expansion: Extra::Absent,
+                    };
+                }
+                Step::Outside => return Joined::Outside(n, symbol),
+                Step::Check { want, got } => return Joined::Check { n, want, got },
+            },
+        }
+    }
+    unreachable!()
+}

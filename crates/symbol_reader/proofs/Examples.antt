@@ -1,0 +1,23 @@
+-- Each letter stands for some symbol.
+use Rattle.std.proofs.Common.{ℕ, refl, inl, inr, lit≤, arith}
+use Rattle.symbol_reader.specs.declared.letters.Letter.{Letter}
+use Rattle.symbol_reader.specs.declared.letters.Letter.TheVariants.{Exactly, UpTo, UpToOr, Digits, Nature, Comm}
+use Rattle.symbol_reader.specs.Letters.{Allows}
+
+-- a symbol of the letter
+pub example_of : Letter → ℕ
+example_of (Exactly only) = only
+example_of (UpTo most) = 0
+example_of (UpToOr most other) = other
+example_of (Digits tens ones) = 0
+example_of Nature = 100
+example_of Comm = 100
+
+pub Allows-example : (letter : Letter) → Allows letter (example_of letter)
+unfolding example_of
+Allows-example (Exactly only) = refl
+Allows-example (UpTo most) = omega arith
+Allows-example (UpToOr most other) = inr refl
+Allows-example (Digits tens ones) = omega arith
+Allows-example Nature = inl (lit≤ tt, lit≤ tt)
+Allows-example Comm = inl refl

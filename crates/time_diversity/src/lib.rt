@@ -1,0 +1,13 @@
+//! Time diversity of ITU-R M.493: the two slots of each character of a call, and what all slots show.
+#![tactic(auto)]
+
+mod laws;
+mod sending;
+mod slots;
+
+pub use laws::{both_slots_show_the_character, slots_of_a_place};
+pub use sending::on_air;
+pub use slots::{dx_slot, place_of, rx_slot};
+
+#[cfg(test)]
+mod tests;
