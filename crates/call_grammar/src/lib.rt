@@ -5,7 +5,10 @@ mod fields;
 mod forms;
 mod judging;
 mod laws;
+mod messages;
 mod reading;
+mod services;
+mod signs;
 mod spelling;
 mod walking;
 
