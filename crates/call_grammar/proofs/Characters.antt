@@ -1,17 +1,33 @@
 -- Every symbol of a call's list is below 128.
-use Rattle.std.proofs.Common.{◌≡◌, ℕ, ◌+◌, ◌*◌, ◌/◌, ◌%◌, ◌<◌, ◌≤◌, ◌^◌, List, [], ◌∷◌, ◌++◌, Option, Some, None, inl, inr, arith, bit_xor}
+use Rattle.std.proofs.Common.{◌≡◌, ℕ, zero, suc, Bool, true, false, cond, ◌+◌, ◌*◌, ◌/◌, ◌%◌, ◌<◌, ◌≤◌, ◌^◌, List, [], ◌∷◌, ◌++◌, Option, Some, None, inl, inr, arith, bit_xor}
 use Rattle.std.specs.List.{AllByRecursion}
 use Rattle.std.proofs.lemmas.Nat.{xor_lt}
 use Rattle.call_values.specs.declared.places.Fix.{Fix}
 use Rattle.call_values.specs.declared.alerts.Casualty.{Casualty}
 use Rattle.call_values.specs.declared.alerts.Call.{Call}
-use Rattle.call_values.specs.declared.alerts.Call.TheVariants.{Alert}
+use Rattle.call_values.specs.declared.alerts.Call.TheVariants.{Alert, Ack, Relay, RelayAck, AllShips, AreaCall, GroupCall, Individual, Service}
+use Rattle.call_values.specs.declared.choices.Category.{Category}
+use Rattle.call_values.specs.declared.choices.Category.TheVariants.{Routine, Safety, Urgency}
+use Rattle.call_values.specs.declared.choices.End.{End}
+use Rattle.call_values.specs.declared.choices.End.TheVariants.{Ask, Reply, Plain}
+use Rattle.call_values.specs.declared.fields.FieldKind.{FieldKind}
+use Rattle.call_values.specs.declared.fields.FieldKind.TheVariants.{Absent, Hundreds, Hf, Vhf, Tens}
+use Rattle.call_values.specs.declared.parts.To.{To}
+use Rattle.call_values.specs.declared.parts.To.TheVariants as to
+use Rattle.call_values.specs.declared.parts.Message.{Message}
+use Rattle.call_values.specs.declared.parts.Message.TheVariants.{Fields, At}
+use Rattle.call_values.specs.declared.parts.Kind.{Kind}
+use Rattle.call_values.specs.declared.parts.Kind.TheVariants.{Test, AskPosition, Position}
+use Rattle.call_values.specs.Areas.{Rectangle, IsArea}
+use Rattle.call_values.specs.Fields.{IsField}
+use Rattle.call_values.specs.Telecommands.{IsFirst, IsSecond}
+use Rattle.call_values.specs.Parts.{IsTo, IsMessage, IsKind}
 use Rattle.call_values.specs.Identity.{IsMmsi}
 use Rattle.call_values.specs.Symbols.{IsNature, IsComm}
 use Rattle.call_values.specs.Places.{IsPosition}
 use Rattle.call_values.specs.Clock.{IsHourMinute}
-use Rattle.call_values.specs.Calls.{IsCasualty, IsCall}
-use Rattle.call_grammar.specs.Spelling.{ten_digits, position_digits, identity_symbols, position_symbols, time_symbols, casualty_symbols, format_of, end_of, fields_of, covered, check_of, spell}
+use Rattle.call_values.specs.Calls.{IsCasualty, IsRequest, IsCall}
+use Rattle.call_grammar.specs.Spelling.{ten_digits, position_digits, identity_symbols, position_symbols, time_symbols, casualty_symbols, area_digits, area_symbols, six_digits, eight_digits, blanks, field_symbols, message_symbols, category_symbol, end_symbol, format_to, address_symbols, distress_symbols, request_symbols, kind_symbols, kind_end, format_of, end_of, fields_of, covered, check_of, spell}
 
 abbrev pub AreCharacters : List ℕ → Type 0
 AreCharacters l = AllByRecursion (λ symbol. symbol < 128) l
@@ -42,14 +58,122 @@ of_casualty c lawful =
           (both (time_symbols c.time) _ (of_time c.time lawful.time) (grind (arith, lawful.comm), tt)),
     )
 
+of_area : (a : Rectangle) → IsArea a → AreCharacters (area_symbols a)
+unfolding area_digits
+of_area a lawful = ten (area_digits a) (omega (arith, lawful.quadrant, lawful.latitude, lawful.longitude, lawful.south, lawful.east))
+
+of_six : (n : ℕ) → n < 1000000 → AreCharacters (six_digits n)
+unfolding six_digits
+of_six n below = (omega arith, (omega arith, (omega arith, tt)))
+
+of_eight : (n : ℕ) → n < 100000000 → AreCharacters (eight_digits n)
+unfolding eight_digits
+of_eight n below = (omega arith, (omega arith, (omega arith, (omega arith, tt))))
+
+of_field : (f : FieldKind) → IsField f → AreCharacters (field_symbols f)
+of_field Absent lawful = (omega arith, (omega arith, (omega arith, tt)))
+of_field (Hundreds n) lawful = of_six n (omega (arith, lawful))
+of_field (Hf n) lawful = of_six (300000 + n) (omega (arith, lawful))
+of_field (Vhf n) lawful = of_six (900000 + n) (omega (arith, lawful))
+of_field (Tens n) lawful = of_eight (40000000 + n) (omega (arith, lawful))
+
+of_message : (m : Message) → IsMessage m → AreCharacters (message_symbols m)
+of_message (Fields f1 f2) lawful = both (field_symbols f1) (field_symbols f2) (of_field f1 lawful.0) (of_field f2 lawful.1)
+of_message (At p) lawful = (omega arith, of_position p lawful)
+
+of_category : (g : Category) → category_symbol g < 128
+of_category Routine = omega arith
+of_category Safety = omega arith
+of_category Urgency = omega arith
+
+of_identity : (n : ℕ) → IsMmsi n → AreCharacters (identity_symbols n)
+of_identity n lawful = ten (10 * n) (omega (arith, lawful))
+
+of_address : (t : To) → IsTo t → AreCharacters (address_symbols t)
+of_address to.All lawful = tt
+of_address (to.Area a) lawful = of_area a lawful
+of_address (to.Group m) lawful = of_identity m lawful
+of_address (to.One m) lawful = of_identity m lawful
+
+of_distress : (from sign : ℕ) (k : Casualty) → IsMmsi from → sign < 128 → IsCasualty k → AreCharacters (distress_symbols from sign k)
+of_distress from sign k mmsi small lawful =
+    (omega arith, both (identity_symbols from) (sign ∷ casualty_symbols k) (of_identity from mmsi) (small, of_casualty k lawful))
+
+of_first : (n : ℕ) → IsFirst n → n < 128
+of_first n lawful = grind (arith, lawful)
+
+of_second : (n : ℕ) → IsSecond n → n < 128
+of_second n lawful = grind (arith, lawful)
+
+of_request : (g : Category) (from first second : ℕ) (m : Message) → IsMmsi from → IsRequest first second m → AreCharacters (request_symbols g from first second m)
+of_request g from first second m mmsi lawful =
+    (of_category g, both (identity_symbols from) (first ∷ second ∷ message_symbols m) (of_identity from mmsi)
+      (of_first first lawful.one, (of_second second lawful.two, of_message m lawful.told)))
+
+of_blanks : (n : ℕ) → AreCharacters (blanks n)
+of_blanks zero = tt
+of_blanks (suc n) = (omega arith, of_blanks n)
+
+of_kind : (k : Kind) → IsKind k → AreCharacters (kind_symbols k)
+of_kind (Test reply) lawful = (omega arith, of_blanks 7)
+of_kind AskPosition lawful = (omega arith, (omega arith, (omega arith, of_blanks 5)))
+of_kind (Position p t) lawful =
+    (omega arith, (omega arith, (omega arith, both (position_symbols p) (time_symbols t) (of_position p lawful.0) (of_time t lawful.1))))
+
 of_fields : (c : Call) → IsCall c → AreCharacters (fields_of c)
 of_fields (Alert casualty) lawful = of_casualty casualty lawful
+of_fields (Ack from k) lawful = of_distress from 110 k lawful.0 (omega arith) lawful.1
+of_fields (Relay t from k ask) lawful = both (address_symbols t) (distress_symbols from 112 k) (of_address t lawful.0) (of_distress from 112 k lawful.1 (omega arith) lawful.2)
+of_fields (RelayAck t from k) lawful = both (address_symbols t) (distress_symbols from 112 k) (of_address t lawful.0) (of_distress from 112 k lawful.1 (omega arith) lawful.2)
+of_fields (AllShips g from x y f1 f2) lawful = of_request g from x y (Fields f1 f2) lawful.0 lawful.1
+of_fields (AreaCall a g from x y f1 f2) lawful = both (area_symbols a) (request_symbols g from x y (Fields f1 f2)) (of_area a lawful.0) (of_request g from x y (Fields f1 f2) lawful.1 lawful.2)
+of_fields (GroupCall m g from x y f1 f2) lawful = both (identity_symbols m) (request_symbols g from x y (Fields f1 f2)) (of_identity m lawful.0) (of_request g from x y (Fields f1 f2) lawful.1 lawful.2)
+of_fields (Individual m g from x y told e) lawful = both (identity_symbols m) (request_symbols g from x y told) (of_identity m lawful.0) (of_request g from x y told lawful.1 lawful.2)
+of_fields (Service m g from k) lawful =
+    both (identity_symbols m) (category_symbol g ∷ (identity_symbols from ++ kind_symbols k)) (of_identity m lawful.0)
+    (of_category g, both (identity_symbols from) (kind_symbols k) (of_identity from lawful.1) (of_kind k lawful.2))
+
+of_to : (t : To) → format_to t < 128
+of_to to.All = omega arith
+of_to (to.Area a) = omega arith
+of_to (to.Group m) = omega arith
+of_to (to.One m) = omega arith
 
 of_format : (c : Call) → format_of c < 128
 of_format (Alert casualty) = omega arith
+of_format (Ack from k) = omega arith
+of_format (Relay t from k ask) = of_to t
+of_format (RelayAck t from k) = of_to t
+of_format (AllShips g from x y f1 f2) = omega arith
+of_format (AreaCall a g from x y f1 f2) = omega arith
+of_format (GroupCall m g from x y f1 f2) = omega arith
+of_format (Individual m g from x y told e) = omega arith
+of_format (Service m g from k) = omega arith
+
+of_end_symbol : (e : End) → end_symbol e < 128
+of_end_symbol Ask = omega arith
+of_end_symbol Reply = omega arith
+of_end_symbol Plain = omega arith
+
+of_choice : (b : Bool) (x y : ℕ) → x < 128 → y < 128 → cond b x y < 128
+of_choice true x y a b = a
+of_choice false x y a b = b
+
+of_kind_end : (k : Kind) → kind_end k < 128
+of_kind_end (Test reply) = of_choice reply 122 117 (omega arith) (omega arith)
+of_kind_end AskPosition = omega arith
+of_kind_end (Position p t) = omega arith
 
 of_end : (c : Call) → end_of c < 128
 of_end (Alert casualty) = omega arith
+of_end (Ack from k) = omega arith
+of_end (Relay t from k ask) = of_choice ask 117 127 (omega arith) (omega arith)
+of_end (RelayAck t from k) = omega arith
+of_end (AllShips g from x y f1 f2) = omega arith
+of_end (AreaCall a g from x y f1 f2) = omega arith
+of_end (GroupCall m g from x y f1 f2) = omega arith
+of_end (Individual m g from x y told e) = of_end_symbol e
+of_end (Service m g from k) = of_kind_end k
 
 of_check : (l : List ℕ) → AreCharacters l → check_of l < 128
 unfolding check_of

@@ -1,10 +1,19 @@
 -- How long the lists of calls are.
-use Rattle.std.proofs.Common.{◌≡◌, ℕ, ◌*◌, ◌≤◌, ◌⊎◌, inl, inr, List, [], ◌∷◌, ◌++◌, length, Option, Some, None, refl, ap, length-append, arith}
+use Rattle.std.proofs.Common.{◌≡◌, ℕ, ◌+◌, ◌*◌, ◌≤◌, ◌⊎◌, inl, inr, List, [], ◌∷◌, ◌++◌, length, Option, Some, None, refl, ap, length-append, arith}
 use Rattle.call_values.specs.declared.places.Fix.{Fix}
 use Rattle.call_values.specs.declared.alerts.Casualty.{Casualty}
 use Rattle.call_values.specs.declared.alerts.Call.{Call}
-use Rattle.call_values.specs.declared.alerts.Call.TheVariants.{Alert}
-use Rattle.call_grammar.specs.Spelling.{ten_digits, position_digits, position_symbols, time_symbols, identity_symbols, casualty_symbols, fields_of, end_of, covered, check_of, front, spell}
+use Rattle.call_values.specs.declared.alerts.Call.TheVariants.{Alert, Ack, Relay, RelayAck, AllShips, AreaCall, GroupCall, Individual, Service}
+use Rattle.call_values.specs.declared.choices.Category.{Category}
+use Rattle.call_values.specs.declared.fields.FieldKind.{FieldKind}
+use Rattle.call_values.specs.declared.fields.FieldKind.TheVariants.{Absent, Hundreds, Hf, Vhf, Tens}
+use Rattle.call_values.specs.declared.parts.To.{To}
+use Rattle.call_values.specs.declared.parts.To.TheVariants as to
+use Rattle.call_values.specs.declared.parts.Message.{Message}
+use Rattle.call_values.specs.declared.parts.Message.TheVariants.{Fields, At}
+use Rattle.call_values.specs.declared.parts.Kind.{Kind}
+use Rattle.call_values.specs.declared.parts.Kind.TheVariants.{Test, AskPosition, Position}
+use Rattle.call_grammar.specs.Spelling.{ten_digits, position_digits, position_symbols, time_symbols, identity_symbols, casualty_symbols, six_digits, eight_digits, area_digits, field_symbols, message_symbols, address_symbols, distress_symbols, request_symbols, category_symbol, kind_symbols, fields_of, end_of, covered, check_of, front, spell}
 use Rattle.call_grammar.specs.Judging.{IsWalking}
 
 length-ten_digits : (n : ℕ) → length (ten_digits n) ≡ 5
@@ -31,9 +40,78 @@ length-casualty c =
       length-time c.time,
     )
 
+length-six : (n : ℕ) → length (six_digits n) ≡ 3
+unfolding six_digits
+length-six n = refl
+
+length-eight : (n : ℕ) → length (eight_digits n) ≡ 4
+unfolding eight_digits
+length-eight n = refl
+
+length-field : (f : FieldKind) → length (field_symbols f) ≤ 4
+length-field Absent = omega arith
+length-field (Hundreds n) = omega (arith, length-six n)
+length-field (Hf n) = omega (arith, length-six (300000 + n))
+length-field (Vhf n) = omega (arith, length-six (900000 + n))
+length-field (Tens n) = omega (arith, length-eight (40000000 + n))
+
+length-message : (m : Message) → length (message_symbols m) ≤ 8
+length-message (Fields f1 f2) = omega (arith, length-append (field_symbols f1) (field_symbols f2), length-field f1, length-field f2)
+length-message (At p) = omega (arith, length-position p)
+
+length-address : (t : To) → length (address_symbols t) ≤ 5
+length-address to.All = omega arith
+length-address (to.Area a) = omega (arith, length-ten_digits (area_digits a))
+length-address (to.Group m) = omega (arith, length-ten_digits (10 * m))
+length-address (to.One m) = omega (arith, length-ten_digits (10 * m))
+
+length-distress : (from sign : ℕ) (k : Casualty) → length (distress_symbols from sign k) ≡ 21
+length-distress from sign k =
+    omega (arith, length-casualty k, length-ten_digits (10 * from), length-append (identity_symbols from) (sign ∷ casualty_symbols k))
+
+length-request : (g : Category) (from first second : ℕ) (m : Message) → length (request_symbols g from first second m) ≤ 16
+length-request g from first second m =
+    omega (arith, length-message m, length-ten_digits (10 * from), length-append (identity_symbols from) (first ∷ second ∷ message_symbols m))
+
+length-kind : (k : Kind) → length (kind_symbols k) ≤ 10
+length-kind (Test reply) = omega arith
+length-kind AskPosition = omega arith
+length-kind (Position p t) = omega (arith, length-append (position_symbols p) (time_symbols t), length-position p, length-time t)
+
 -- the fields of a call take at most 26 characters
 pub length-fields : (c : Call) → length (fields_of c) ≤ 26
 length-fields (Alert c) = omega (arith, length-casualty c)
+length-fields (Ack from k) = omega (arith, length-distress from 110 k)
+length-fields (Relay t from k ask) =
+    omega (arith, length-address t, length-distress from 112 k, length-append (address_symbols t) (distress_symbols from 112 k))
+length-fields (RelayAck t from k) =
+    omega (arith, length-address t, length-distress from 112 k, length-append (address_symbols t) (distress_symbols from 112 k))
+length-fields (AllShips g from s k f1 f2) = omega (arith, length-request g from s k (Fields f1 f2))
+length-fields (AreaCall a g from s k f1 f2) =
+    omega (
+      arith,
+      length-ten_digits (area_digits a),
+      length-request g from s k (Fields f1 f2),
+      length-append (ten_digits (area_digits a)) (request_symbols g from s k (Fields f1 f2)),
+    )
+length-fields (GroupCall m g from s k f1 f2) =
+    omega (
+      arith,
+      length-ten_digits (10 * m),
+      length-request g from s k (Fields f1 f2),
+      length-append (identity_symbols m) (request_symbols g from s k (Fields f1 f2)),
+    )
+length-fields (Individual m g from s k x e) =
+    omega (arith, length-ten_digits (10 * m), length-request g from s k x, length-append (identity_symbols m) (request_symbols g from s k x))
+length-fields (Service m g from k) =
+    omega (
+      arith,
+      length-ten_digits (10 * m),
+      length-ten_digits (10 * from),
+      length-kind k,
+      length-append (identity_symbols m) (category_symbol g ∷ (identity_symbols from ++ kind_symbols k)),
+      length-append (identity_symbols from) (kind_symbols k),
+    )
 
 pub length-covered : (c : Call) → length (covered c) ≤ 28
 length-covered c = omega (arith, length-fields c, length-append (fields_of c) (end_of c ∷ []))

@@ -3,6 +3,15 @@ pub mod IdentityParts
 pub mod SymbolParts
 pub mod TimeParts
 pub mod PositionParts
+pub mod CasualtyParts
+pub mod SignParts
+pub mod AreaParts
+pub mod FieldParts
+pub mod MessageParts
+pub mod FormParts
+pub mod FormLists
+pub mod ToForms
+pub mod FromForms
 pub mod CallParts
 pub mod Steps
 pub mod Checks

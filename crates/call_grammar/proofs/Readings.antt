@@ -1,14 +1,20 @@
 -- From what is read of a list to the answers of `read`.
-use Rattle.std.proofs.Common.{◌≡◌, ℕ, ◌-◌, ◌<◌, ◌≤◌, inl, List, [], ◌∷◌, ◌++◌, length, drop, get_or, refl, sym, ◌∙◌, ap, subst, append_assoc, length-append, arith}
+use Rattle.std.proofs.Common.{◌≡◌, ℕ, ◌-◌, ◌<◌, ◌≤◌, inl, inr, List, [], ◌∷◌, ◌++◌, length, drop, get_or, refl, sym, ◌∙◌, ap, subst, append_assoc, length-append, arith}
 use Rattle.symbol_reader.specs.Reading.{Begins, Wants, Leaves}
 use Rattle.symbol_reader.proofs.Laws.{no_word_goes_on}
 use Rattle.call_values.specs.declared.alerts.Call.{Call}
-use Rattle.call_values.specs.declared.alerts.Call.TheVariants.{Alert}
+use Rattle.call_values.specs.declared.alerts.Call.TheVariants.{Alert, Ack, Relay, RelayAck, AllShips, AreaCall, GroupCall, Individual, Service}
+use Rattle.call_values.specs.declared.parts.To.{To}
+use Rattle.call_values.specs.declared.parts.To.TheVariants as to
 use Rattle.call_values.specs.Calls.{IsCall}
-use Rattle.call_grammar.specs.Spelling.{format_of, fields_of, end_of, covered, check_of, up_to_end, spell}
+use Rattle.call_grammar.specs.Spelling.{format_to, format_of, fields_of, end_of, covered, check_of, up_to_end, spell}
 use Rattle.call_grammar.specs.Grammar.{Opened}
 use Rattle.call_grammar.specs.Walk.{IsFormat, IsViable, IsOpen}
 use Rattle.call_grammar.specs.Reading.{IsPart, EndsShort, EndsOutside, IsTwice}
+use Rattle.call_grammar.specs.Forms.{format_symbol}
+use Rattle.call_grammar.proofs.SignParts.{format_told, format_there}
+use Rattle.call_grammar.proofs.FormParts.{after_format_good}
+use Rattle.call_grammar.proofs.ToForms.{to_format}
 use Rattle.call_grammar.proofs.CallParts.{opened_good}
 use Rattle.call_grammar.proofs.Lengths.{length-spell}
 use Rattle.call_grammar.proofs.Steps.{heads, spelled, open_of, not_viable, no_cover, no_check_first}
@@ -20,13 +26,31 @@ tail_of c = check_of (covered c) ∷ end_of c ∷ end_of c ∷ []
 pub spell-tail : (c : Call) → spell c ≡ up_to_end c ++ tail_of c
 spell-tail c = append_assoc (up_to_end c) (check_of (covered c) ∷ []) (end_of c ∷ end_of c ∷ [])
 
+format_to_lawful : (t : To) → IsFormat (format_to t)
+format_to_lawful to.All = inr (inl refl)
+format_to_lawful (to.Area a) = inr (inr (inl refl))
+format_to_lawful (to.Group m) = inr (inr (inr (inl refl)))
+format_to_lawful (to.One m) = inr (inr (inr (inr refl)))
+
 -- calls begin with format specifiers
-format_lawful : (c : Call) → IsFormat (format_of c)
-format_lawful (Alert c) = refl
+pub format_lawful : (c : Call) → IsFormat (format_of c)
+format_lawful (Alert k) = inl refl
+format_lawful (Ack from k) = inr (inl refl)
+format_lawful (Relay t from k ask) = format_to_lawful t
+format_lawful (RelayAck t from k) = format_to_lawful t
+format_lawful (AllShips g from s k f1 f2) = inr (inl refl)
+format_lawful (AreaCall a g from s k f1 f2) = inr (inr (inl refl))
+format_lawful (GroupCall m g from s k f1 f2) = inr (inr (inr (inl refl)))
+format_lawful (Individual m g from s k x e) = inr (inr (inr (inr refl)))
+format_lawful (Service m g from k) = inr (inr (inr (inr refl)))
 
 -- each format specifier begins a call
-format_call : (f : ℕ) → IsFormat f → (c : Call) × IsCall c × (format_of c ≡ f)
-format_call f h = (opened_good.value, opened_good.word.is_lawful, format_lawful opened_good.value ∙ sym h)
+pub format_call : (f : ℕ) → IsFormat f → (c : Call) × IsCall c × (format_of c ≡ f)
+format_call f h =
+    let g = after_format_good (format_told f) in
+    let o = to_format (format_told f) g.value g.text g.word in
+    let list : format_symbol (format_told f) ∷ g.text ≡ covered g.value = o.list in
+    (g.value, o.is_lawful, sym (heads _ _ _ _ list) ∙ format_there f h)
 
 pub empty_short : (l : List ℕ) → length l < 1 → EndsShort l 0
 empty_short [] h =

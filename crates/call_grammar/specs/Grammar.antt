@@ -1,17 +1,24 @@
 -- The grammar of the fields, by the letters that may stand at each place: ITU-R M.493, fields of call sequences.
-use Rattle.std.specs.Prelude.{ℕ, ◌+◌, ◌*◌, ◌/◌, ◌%◌, ◌==◌, ◌&&◌, if◌then◌else◌, List, Option, Some, None}
+use Rattle.std.specs.Prelude.{ℕ, ◌+◌, ◌*◌, ◌/◌, ◌%◌, ◌==◌, ◌&&◌, if◌then◌else◌, zero, suc, List, [], ◌∷◌, Option, Some, None}
 use Rattle.symbol_reader.specs.declared.letters.Letter.{Letter}
 use Rattle.symbol_reader.specs.declared.letters.Letter.TheVariants.{Exactly, UpTo, Digits}
 use Rattle.symbol_reader.specs.Letters.{Allows}
-use Rattle.symbol_reader.specs.Languages.{One, Only, Then, Spelled}
+use Rattle.symbol_reader.specs.Languages.{One, Only, Then, Choice, Spelled}
 use Rattle.call_values.specs.declared.places.Fix.{Fix}
 use Rattle.call_values.specs.declared.alerts.Casualty.{Casualty}
 use Rattle.call_values.specs.declared.alerts.Call.{Call}
+use Rattle.call_values.specs.declared.fields.FieldKind.{FieldKind}
+use Rattle.call_values.specs.declared.fields.FieldKind.TheVariants.{Absent, Hundreds, Hf, Vhf, Tens}
+use Rattle.call_values.specs.declared.parts.Message.{Message}
+use Rattle.call_values.specs.Areas.{Rectangle, IsArea}
+use Rattle.call_values.specs.Telecommands.{IsFirst, IsSecond}
+use Rattle.call_values.specs.Fields.{IsField}
+use Rattle.call_values.specs.Parts.{IsMessage}
 use Rattle.call_values.specs.Identity.{IsMmsi}
 use Rattle.call_values.specs.Places.{IsPosition}
 use Rattle.call_values.specs.Clock.{IsHourMinute}
 use Rattle.call_values.specs.Calls.{IsCasualty, IsCall}
-use Rattle.call_grammar.specs.Spelling.{identity_symbols, position_symbols, time_symbols, casualty_symbols, covered}
+use Rattle.call_grammar.specs.Spelling.{identity_symbols, position_symbols, time_symbols, casualty_symbols, area_symbols, field_symbols, message_symbols, covered}
 
 -- a symbol of this letter
 abbrev pub Symbol : Letter → ℕ → List ℕ → Type 0
@@ -36,6 +43,26 @@ Casualties = Spelled IsCasualty casualty_symbols
 -- what the check covers of a call
 abbrev pub Opened : Call → List ℕ → Type 0
 Opened = Spelled IsCall covered
+
+-- an area's five characters
+abbrev pub Areas : Rectangle → List ℕ → Type 0
+Areas = Spelled IsArea area_symbols
+
+-- a first telecommand
+abbrev pub Firsts : ℕ → List ℕ → Type 0
+Firsts = Spelled IsFirst (λ n. n ∷ [])
+
+-- a second telecommand
+abbrev pub Seconds : ℕ → List ℕ → Type 0
+Seconds = Spelled IsSecond (λ n. n ∷ [])
+
+-- a frequency or channel field
+abbrev pub FieldWords : FieldKind → List ℕ → Type 0
+FieldWords = Spelled IsField field_symbols
+
+-- two fields, or a position
+abbrev pub Messages : Message → List ℕ → Type 0
+Messages = Spelled IsMessage message_symbols
 
 -- the number whose nine digits and a 0 stand in these five characters
 abbrev pub identity_of : ℕ → ℕ → ℕ → ℕ → ℕ → ℕ
@@ -73,3 +100,36 @@ abbrev pub UnknownRest : Option Fix → List ℕ → Type 0
 UnknownRest =
     Then (Symbol (Exactly 99)) (λ _. Then (Symbol (Exactly 99)) (λ _. Then (Symbol (Exactly 99)) (λ _.
     Then (Symbol (Exactly 99)) (λ _. Only None))))
+
+-- after the tens of an area's latitude, its ones and the hundreds of a longitude: at most 90 degrees
+abbrev pub area_latitude : ℕ → Letter
+area_latitude lead = if lead % 10 == 9 then Digits 0 1 else Digits 9 1
+
+-- the area whose ten digits stand in these five characters
+abbrev pub area_of : ℕ → ℕ → ℕ → ℕ → ℕ → Rectangle
+area_of a b c d e = record { quadrant = a / 10; latitude = a % 10 * 10 + b / 10; longitude = b % 10 * 100 + c; south = d; east = e }
+
+-- the second and third character of a field that begins so
+abbrev pub field_letter : ℕ → Letter
+field_letter lead = if lead == 126 then Exactly 126 else UpTo 99
+
+-- the field of three characters
+abbrev pub short_field : ℕ → ℕ → ℕ → FieldKind
+short_field lead b c =
+    if lead == 126 then Absent else (if lead == 90 then Vhf (b * 100 + c) else
+    (if lead / 10 == 3 then Hf (lead % 10 * 10000 + (b * 100 + c)) else Hundreds (lead * 10000 + (b * 100 + c))))
+
+-- the field of four characters
+abbrev pub long_field : ℕ → ℕ → ℕ → ℕ → FieldKind
+long_field lead b c d = Tens (lead % 10 * 1000000 + (b * 10000 + (c * 100 + d)))
+
+-- the rest of a field, after its first character
+abbrev pub FieldRest : ℕ → FieldKind → List ℕ → Type 0
+FieldRest lead =
+    Then (Symbol (field_letter lead)) (λ b. Then (Symbol (field_letter lead)) (λ c.
+    Choice (lead / 10 == 4) (Then (Symbol (UpTo 99)) (λ d. Only (long_field lead b c d))) (Only (short_field lead b c))))
+
+-- so many characters of no information
+abbrev pub Blanks : ℕ → Unit {0} → List ℕ → Type 0
+Blanks zero = Only tt
+Blanks (suc n) = Then (Symbol (Exactly 126)) (λ _. Blanks n)

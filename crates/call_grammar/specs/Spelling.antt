@@ -1,9 +1,22 @@
 -- The lists of calls: ITU-R M.493, composition of call sequences and their fields.
-use Rattle.std.specs.Prelude.{ℕ, ◌+◌, ◌*◌, ◌/◌, ◌%◌, List, [], ◌∷◌, ◌++◌, Option, Some, None, bit_xor}
+use Rattle.std.specs.Prelude.{ℕ, zero, suc, ◌+◌, ◌*◌, ◌/◌, ◌%◌, if◌then◌else◌, List, [], ◌∷◌, ◌++◌, Option, Some, None, bit_xor}
 use Rattle.call_values.specs.declared.places.Fix.{Fix}
 use Rattle.call_values.specs.declared.alerts.Casualty.{Casualty}
 use Rattle.call_values.specs.declared.alerts.Call.{Call}
-use Rattle.call_values.specs.declared.alerts.Call.TheVariants.{Alert}
+use Rattle.call_values.specs.declared.alerts.Call.TheVariants.{Alert, Ack, Relay, RelayAck, AllShips, AreaCall, GroupCall, Individual, Service}
+use Rattle.call_values.specs.declared.choices.Category.{Category}
+use Rattle.call_values.specs.declared.choices.Category.TheVariants.{Routine, Safety, Urgency}
+use Rattle.call_values.specs.declared.choices.End.{End}
+use Rattle.call_values.specs.declared.choices.End.TheVariants.{Ask, Reply, Plain}
+use Rattle.call_values.specs.declared.fields.FieldKind.{FieldKind}
+use Rattle.call_values.specs.declared.fields.FieldKind.TheVariants.{Absent, Hundreds, Hf, Vhf, Tens}
+use Rattle.call_values.specs.declared.parts.To.{To}
+use Rattle.call_values.specs.declared.parts.To.TheVariants as to
+use Rattle.call_values.specs.declared.parts.Message.{Message}
+use Rattle.call_values.specs.declared.parts.Message.TheVariants.{Fields, At}
+use Rattle.call_values.specs.declared.parts.Kind.{Kind}
+use Rattle.call_values.specs.declared.parts.Kind.TheVariants.{Test, AskPosition, Position}
+use Rattle.call_values.specs.Areas.{Rectangle}
 
 -- ten digits in five characters of two digits each
 unfoldable pub ten_digits : ℕ → List ℕ
@@ -32,17 +45,122 @@ abbrev pub casualty_symbols : Casualty → List ℕ
 casualty_symbols c =
     identity_symbols c.mmsi ++ (c.nature ∷ (position_symbols c.position ++ (time_symbols c.time ++ (c.comm ∷ []))))
 
+-- a quadrant in one digit, a latitude in two, a longitude in three, and two sides in two each
+unfoldable pub area_digits : Rectangle → ℕ
+area_digits a = 1000000000 * a.quadrant + 10000000 * a.latitude + 10000 * a.longitude + 100 * a.south + a.east
+
+-- an area's five characters
+abbrev pub area_symbols : Rectangle → List ℕ
+area_symbols a = ten_digits (area_digits a)
+
+-- six digits in three characters
+unfoldable pub six_digits : ℕ → List ℕ
+six_digits n = (n / 10000) ∷ (n / 100 % 100) ∷ (n % 100) ∷ []
+
+-- eight digits in four characters
+unfoldable pub eight_digits : ℕ → List ℕ
+eight_digits n = (n / 1000000) ∷ (n / 10000 % 100) ∷ (n / 100 % 100) ∷ (n % 100) ∷ []
+
+-- the character of no information, so many times
+abbrev pub blanks : ℕ → List ℕ
+blanks zero = []
+blanks (suc n) = 126 ∷ blanks n
+
+-- six digits, 3 and five digits, 90 and four digits, 4 and seven digits; three characters of no information where the field is absent
+abbrev pub field_symbols : FieldKind → List ℕ
+field_symbols Absent = 126 ∷ 126 ∷ 126 ∷ []
+field_symbols (Hundreds n) = six_digits n
+field_symbols (Hf n) = six_digits (300000 + n)
+field_symbols (Vhf n) = six_digits (900000 + n)
+field_symbols (Tens n) = eight_digits (40000000 + n)
+
+-- two fields, or 55 and a position
+abbrev pub message_symbols : Message → List ℕ
+message_symbols (Fields f1 f2) = field_symbols f1 ++ field_symbols f2
+message_symbols (At position) = 55 ∷ position_symbols position
+
+-- the categories routine, safety and urgency
+abbrev pub category_symbol : Category → ℕ
+category_symbol Routine = 100
+category_symbol Safety = 108
+category_symbol Urgency = 110
+
+-- the ends of sequence: acknowledgement wanted, acknowledgement given, neither
+abbrev pub end_symbol : End → ℕ
+end_symbol Ask = 117
+end_symbol Reply = 122
+end_symbol Plain = 127
+
+-- the format specifiers of calls to all ships, to an area, to a group and to one station
+abbrev pub format_to : To → ℕ
+format_to to.All = 116
+format_to (to.Area area) = 102
+format_to (to.Group mmsi) = 114
+format_to (to.One mmsi) = 120
+
+-- the address: none to all ships, an area, or an identity
+abbrev pub address_symbols : To → List ℕ
+address_symbols to.All = []
+address_symbols (to.Area area) = area_symbols area
+address_symbols (to.Group mmsi) = identity_symbols mmsi
+address_symbols (to.One mmsi) = identity_symbols mmsi
+
+-- the sign of distress, the sender, 110 of an acknowledgement or 112 of a relay, and the casualty
+abbrev pub distress_symbols : ℕ → ℕ → Casualty → List ℕ
+distress_symbols from sign casualty = 112 ∷ (identity_symbols from ++ (sign ∷ casualty_symbols casualty))
+
+-- category, sender, two telecommands, and a message
+abbrev pub request_symbols : Category → ℕ → ℕ → ℕ → Message → List ℕ
+request_symbols category from first second message =
+    category_symbol category ∷ (identity_symbols from ++ (first ∷ second ∷ message_symbols message))
+
+-- a test and no information; a ship's position, asked for with no information, or told with a time
+abbrev pub kind_symbols : Kind → List ℕ
+kind_symbols (Test reply) = 118 ∷ blanks 7
+kind_symbols AskPosition = 121 ∷ 126 ∷ 126 ∷ blanks 5
+kind_symbols (Position position time) = 121 ∷ 126 ∷ 55 ∷ (position_symbols position ++ time_symbols time)
+
+-- the end of sequence of a test, of the reply to one, and of a position asked for or told
+abbrev pub kind_end : Kind → ℕ
+kind_end (Test reply) = if reply then 122 else 117
+kind_end AskPosition = 117
+kind_end (Position position time) = 122
+
 -- the format specifier
 abbrev pub format_of : Call → ℕ
 format_of (Alert casualty) = 112
-
--- the end of sequence
-abbrev pub end_of : Call → ℕ
-end_of (Alert casualty) = 127
+format_of (Ack from casualty) = 116
+format_of (Relay to from casualty ask) = format_to to
+format_of (RelayAck to from casualty) = format_to to
+format_of (AllShips category from first second f1 f2) = 116
+format_of (AreaCall area category from first second f1 f2) = 102
+format_of (GroupCall group category from first second f1 f2) = 114
+format_of (Individual to category from first second message end) = 120
+format_of (Service to category from kind) = 120
 
 -- what stands between the format specifier and the end of sequence
 abbrev pub fields_of : Call → List ℕ
 fields_of (Alert casualty) = casualty_symbols casualty
+fields_of (Ack from casualty) = distress_symbols from 110 casualty
+fields_of (Relay to from casualty ask) = address_symbols to ++ distress_symbols from 112 casualty
+fields_of (RelayAck to from casualty) = address_symbols to ++ distress_symbols from 112 casualty
+fields_of (AllShips category from first second f1 f2) = request_symbols category from first second (Fields f1 f2)
+fields_of (AreaCall area category from first second f1 f2) = area_symbols area ++ request_symbols category from first second (Fields f1 f2)
+fields_of (GroupCall group category from first second f1 f2) = identity_symbols group ++ request_symbols category from first second (Fields f1 f2)
+fields_of (Individual to category from first second message end) = identity_symbols to ++ request_symbols category from first second message
+fields_of (Service to category from kind) = identity_symbols to ++ (category_symbol category ∷ (identity_symbols from ++ kind_symbols kind))
+
+-- the end of sequence
+abbrev pub end_of : Call → ℕ
+end_of (Alert casualty) = 127
+end_of (Ack from casualty) = 127
+end_of (Relay to from casualty ask) = if ask then 117 else 127
+end_of (RelayAck to from casualty) = 122
+end_of (AllShips category from first second f1 f2) = 127
+end_of (AreaCall area category from first second f1 f2) = 127
+end_of (GroupCall group category from first second f1 f2) = 127
+end_of (Individual to category from first second message end) = end_symbol end
+end_of (Service to category from kind) = kind_end kind
 
 -- what the error check covers: the format specifier once, the fields and the end of sequence
 abbrev pub covered : Call → List ℕ

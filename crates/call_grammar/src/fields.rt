@@ -8,7 +8,7 @@ use call_values::{Casualty, Comm, Fix, HourMinute, Mmsi, Nature, Position};
 use symbol_reader::{Letter, Reader, Stop};
 
 /// Reads nine digits and a 0, two to a character (ITU-R M.493, self-identification).
-fn identity(list: &mut Reader) -> Result<Mmsi, Stop>
+pub fn identity(list: &mut Reader) -> Result<Mmsi, Stop>
     ensures { Reads grammar.Identities list.old result list.new }
 {
     let a = list.symbol(Letter::UpTo(99))?;
@@ -51,7 +51,7 @@ fn comm(list: &mut Reader) -> Result<Comm, Stop>
 }
 
 /// Reads a position, known or not (ITU-R M.493, distress coordinates).
-fn position(list: &mut Reader) -> Result<Position, Stop>
+pub fn position(list: &mut Reader) -> Result<Position, Stop>
     ensures { Reads grammar.Positions list.old result list.new }
 {
     let lead = list.symbol(Letter::UpToOr(39, 99))?;
@@ -111,7 +111,7 @@ fn minutes_and_hundreds(lead: u8) -> Letter
     }
 }
 
-fn longitude_ones(hundreds: u8) -> Letter
+pub fn longitude_ones(hundreds: u8) -> Letter
     ensures { result ≡ grammar.longitude_ones hundreds }
 {
     if hundreds % 10 == 1 {
@@ -132,7 +132,7 @@ fn longitude_minutes(hundreds: u8, ones: u8) -> Letter
 }
 
 /// Reads a time, known or not (ITU-R M.493, time of a distress alert).
-fn time(list: &mut Reader) -> Result<HourMinute, Stop>
+pub fn time(list: &mut Reader) -> Result<HourMinute, Stop>
     ensures { Reads grammar.Times list.old result list.new }
 {
     let hour = list.symbol(Letter::UpToOr(23, 88))?;

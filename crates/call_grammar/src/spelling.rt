@@ -1,10 +1,14 @@
-ghost use Rattle.std.specs.Prelude.{◌≡◌, ◌+◌, ◌<◌, ◌≤◌, ◌++◌, length};
+ghost use Rattle.std.specs.Prelude.{◌≡◌, ◌+◌, ◌<◌, ◌≤◌, ◌++◌, ◌∷◌, length};
 ghost use Rattle.call_values.specs.Places.{IsFix};
+ghost use Rattle.call_values.specs.Areas.{IsArea};
 ghost use Rattle.call_grammar.specs.Spelling as sequence;
 
 use crate::judging::check;
 use arrayvec::ArrayVec;
-use call_values::{Call, Casualty, Fix, HourMinute, Mmsi, Position};
+use call_values::{
+    Area, Call, Casualty, Category, End, Field, FieldKind, First, Fix, HourMinute, Kind, Message,
+    Mmsi, Position, Second, To,
+};
 
 /// A call's list: the format specifier twice, the fields, the end of sequence, the error check character, and the
 /// end of sequence twice more (ITU-R M.493, composition of call sequences).
@@ -37,6 +41,22 @@ pub fn format_of(call: &Call) -> u8
 {
     match call {
         Call::Alert(_) => 112,
+        Call::Ack { .. } | Call::AllShips { .. } => 116,
+        Call::Relay { to, .. } | Call::RelayAck { to, .. } => format_to(to),
+        Call::AreaCall { .. } => 102,
+        Call::GroupCall { .. } => 114,
+        Call::Individual { .. } | Call::Service { .. } => 120,
+    }
+}
+
+fn format_to(to: &To) -> u8
+    ensures { result ≡ sequence.format_to to.now }
+{
+    match to {
+        To::All => 116,
+        To::Area(_) => 102,
+        To::Group(_) => 114,
+        To::One(_) => 120,
     }
 }
 
@@ -45,7 +65,30 @@ pub fn end_of(call: &Call) -> u8
     ensures { result ≡ sequence.end_of call.now }
 {
     match call {
-        Call::Alert(_) => 127,
+        Call::Relay { ask: true, .. } => 117,
+        Call::RelayAck { .. } => 122,
+        Call::Individual { end, .. } => end_symbol(end),
+        Call::Service { kind, .. } => kind_end(kind),
+        _ => 127,
+    }
+}
+
+fn end_symbol(end: &End) -> u8
+    ensures { result ≡ sequence.end_symbol end.now }
+{
+    match end {
+        End::Ask => 117,
+        End::Reply => 122,
+        End::Plain => 127,
+    }
+}
+
+fn kind_end(kind: &Kind) -> u8
+    ensures { result ≡ sequence.kind_end kind.now }
+{
+    match kind {
+        Kind::Test { reply: false } | Kind::AskPosition => 117,
+        Kind::Test { reply: true } | Kind::Position(..) => 122,
     }
 }
 
@@ -62,6 +105,199 @@ fn append_fields(list: &mut ArrayVec<u8, 64>, call: &Call)
 {
     match call {
         Call::Alert(casualty) => append_casualty(list, casualty),
+        Call::Ack { from, casualty } => append_distress(list, from, 110, casualty),
+        Call::Relay {
+            to,
+            from,
+            casualty,
+            ..
+        }
+        | Call::RelayAck { to, from, casualty } => {
+            append_address(list, to);
+            append_distress(list, from, 112, casualty);
+        }
+        Call::AllShips {
+            category,
+            from,
+            first,
+            second,
+            f1,
+            f2,
+        } => append_request(
+            list,
+            category,
+            from,
+            first,
+            second,
+            &Message::Fields(*f1, *f2),
+        ),
+        Call::AreaCall {
+            area,
+            category,
+            from,
+            first,
+            second,
+            f1,
+            f2,
+        } => {
+            append(list, &area_symbols(area));
+            append_request(
+                list,
+                category,
+                from,
+                first,
+                second,
+                &Message::Fields(*f1, *f2),
+            );
+        }
+        Call::GroupCall {
+            group,
+            category,
+            from,
+            first,
+            second,
+            f1,
+            f2,
+        } => {
+            append(list, &identity_symbols(group));
+            append_request(
+                list,
+                category,
+                from,
+                first,
+                second,
+                &Message::Fields(*f1, *f2),
+            );
+        }
+        Call::Individual {
+            to,
+            category,
+            from,
+            first,
+            second,
+            message,
+            ..
+        } => {
+            append(list, &identity_symbols(to));
+            append_request(list, category, from, first, second, message);
+        }
+        Call::Service {
+            to,
+            category,
+            from,
+            kind,
+        } => append_service(list, to, category, from, kind),
+    }
+}
+
+fn append_service(
+    list: &mut ArrayVec<u8, 64>,
+    to: &Mmsi,
+    category: &Category,
+    from: &Mmsi,
+    kind: &Kind,
+)
+    requires { length list.old.items ≤ 2 }
+    ensures { list.new.items ≡ list.old.items ++ (sequence.identity_symbols to.now ++ (sequence.category_symbol category.now ∷ (sequence.identity_symbols from.now ++ sequence.kind_symbols kind.now))) }
+{
+    append(list, &identity_symbols(to));
+    append(list, &[category_symbol(category)]);
+    append(list, &identity_symbols(from));
+    append_kind(list, kind);
+}
+
+fn append_kind(list: &mut ArrayVec<u8, 64>, kind: &Kind)
+    requires { length list.old.items ≤ 20 }
+    ensures { list.new.items ≡ list.old.items ++ sequence.kind_symbols kind.now }
+{
+    match kind {
+        Kind::Test { .. } => append(list, &[118, 126, 126, 126, 126, 126, 126, 126]),
+        Kind::AskPosition => append(list, &[121, 126, 126, 126, 126, 126, 126, 126]),
+        Kind::Position(position, time) => {
+            append(list, &[121, 126, 55]);
+            append(list, &position_symbols(position));
+            append(list, &time_symbols(time));
+        }
+    }
+}
+
+fn append_address(list: &mut ArrayVec<u8, 64>, to: &To)
+    requires { length list.old.items ≤ 2 }
+    ensures list { list.new.items ≡ list.old.items ++ sequence.address_symbols to.now }
+    ensures short { length list.new.items ≤ 7 }
+{
+    match to {
+        To::All => {}
+        To::Area(area) => append(list, &area_symbols(area)),
+        To::Group(mmsi) | To::One(mmsi) => append(list, &identity_symbols(mmsi)),
+    }
+}
+
+fn append_distress(list: &mut ArrayVec<u8, 64>, from: &Mmsi, sign: u8, casualty: &Casualty)
+    requires { length list.old.items ≤ 7 }
+    ensures { list.new.items ≡ list.old.items ++ sequence.distress_symbols from.now sign casualty.now }
+{
+    append(list, &[112]);
+    append(list, &identity_symbols(from));
+    append(list, &[sign]);
+    append_casualty(list, casualty);
+}
+
+fn append_request(
+    list: &mut ArrayVec<u8, 64>,
+    category: &Category,
+    from: &Mmsi,
+    first: &First,
+    second: &Second,
+    message: &Message,
+)
+    requires { length list.old.items ≤ 7 }
+    ensures { list.new.items ≡ list.old.items ++ sequence.request_symbols category.now from.now first.now second.now message.now }
+{
+    append(list, &[category_symbol(category)]);
+    append(list, &identity_symbols(from));
+    append(list, &[first.number(), second.number()]);
+    append_message(list, message);
+}
+
+fn append_message(list: &mut ArrayVec<u8, 64>, message: &Message)
+    requires { length list.old.items ≤ 40 }
+    ensures { list.new.items ≡ list.old.items ++ sequence.message_symbols message.now }
+{
+    match message {
+        Message::Fields(f1, f2) => {
+            append_field(list, f1);
+            append_field(list, f2);
+        }
+        Message::At(position) => {
+            append(list, &[55]);
+            append(list, &position_symbols(position));
+        }
+    }
+}
+
+/// Appends a field's three or four characters.
+fn append_field(list: &mut ArrayVec<u8, 64>, field: &Field)
+    requires { length list.old.items ≤ 50 }
+    ensures list { list.new.items ≡ list.old.items ++ sequence.field_symbols field.now }
+    ensures short { length list.new.items ≤ length list.old.items + 4 }
+{
+    match field.kind() {
+        FieldKind::Absent => append(list, &[126; 3]),
+        FieldKind::Hundreds(number) => append(list, &six_digits(number)),
+        FieldKind::Hf(number) => append(list, &six_digits(300_000 + number)),
+        FieldKind::Vhf(number) => append(list, &six_digits(900_000 + u32::from(number))),
+        FieldKind::Tens(number) => append(list, &eight_digits(40_000_000 + number)),
+    }
+}
+
+fn category_symbol(category: &Category) -> u8
+    ensures { result ≡ sequence.category_symbol category.now }
+{
+    match category {
+        Category::Routine => 100,
+        Category::Safety => 108,
+        Category::Urgency => 110,
     }
 }
 
@@ -113,6 +349,52 @@ fn ten_digits(number: u64) -> [u8; 5]
         (number / 100 % 100) as u8,
         (number % 100) as u8,
     ]
+}
+
+/// Six digits in three characters of two.
+#[tactic(auto, unfolding(crate::specs::Spelling::six_digits))]
+fn six_digits(number: u32) -> [u8; 3]
+    requires { number < 1000000 }
+    ensures { result ≡ sequence.six_digits number }
+{
+    [
+        (number / 10_000) as u8,
+        (number / 100 % 100) as u8,
+        (number % 100) as u8,
+    ]
+}
+
+/// Eight digits in four characters of two.
+#[tactic(auto, unfolding(crate::specs::Spelling::eight_digits))]
+fn eight_digits(number: u32) -> [u8; 4]
+    requires { number < 100000000 }
+    ensures { result ≡ sequence.eight_digits number }
+{
+    [
+        (number / 1_000_000) as u8,
+        (number / 10_000 % 100) as u8,
+        (number / 100 % 100) as u8,
+        (number % 100) as u8,
+    ]
+}
+
+fn area_symbols(area: &Area) -> [u8; 5]
+    ensures { result ≡ sequence.area_symbols area.now }
+{
+    ten_digits(area_digits(area))
+}
+
+/// Quadrant, latitude, longitude and the two sides in ten digits.
+#[tactic(auto, unfolding(crate::specs::Spelling::area_digits))]
+fn area_digits(area: &Area) -> u64
+    ensures value { result ≡ sequence.area_digits area.now }
+    ensures digits { result < 10000000000 }
+{
+    1_000_000_000 * u64::from(area.quadrant())
+        + 10_000_000 * u64::from(area.latitude())
+        + 10_000 * u64::from(area.longitude())
+        + 100 * u64::from(area.south())
+        + u64::from(area.east())
 }
 
 /// Quadrant, latitude and longitude in ten digits.

@@ -1,7 +1,7 @@
 -- Each letter stands for some symbol.
 use Rattle.std.proofs.Common.{ℕ, refl, inl, inr, lit≤, arith}
 use Rattle.symbol_reader.specs.declared.letters.Letter.{Letter}
-use Rattle.symbol_reader.specs.declared.letters.Letter.TheVariants.{Exactly, UpTo, UpToOr, Digits, Nature, Comm}
+use Rattle.symbol_reader.specs.declared.letters.Letter.TheVariants.{Exactly, UpTo, UpToOr, Digits, Nature, Comm, Either, Format, Lead, First, Opener, Second, Field, Message, End}
 use Rattle.symbol_reader.specs.Letters.{Allows}
 
 -- a symbol of the letter
@@ -12,6 +12,15 @@ example_of (UpToOr most other) = other
 example_of (Digits tens ones) = 0
 example_of Nature = 100
 example_of Comm = 100
+example_of (Either one other) = one
+example_of Format = 112
+example_of Lead = 112
+example_of First = 100
+example_of Opener = 118
+example_of Second = 126
+example_of Field = 0
+example_of Message = 55
+example_of End = 117
 
 pub Allows-example : (letter : Letter) → Allows letter (example_of letter)
 unfolding example_of
@@ -21,3 +30,12 @@ Allows-example (UpToOr most other) = inr refl
 Allows-example (Digits tens ones) = omega arith
 Allows-example Nature = inl (lit≤ tt, lit≤ tt)
 Allows-example Comm = inl refl
+Allows-example (Either one other) = inl refl
+Allows-example Format = inl refl
+Allows-example Lead = inl refl
+Allows-example First = inl refl
+Allows-example Opener = inl refl
+Allows-example Second = inr refl
+Allows-example Field = inl (omega arith)
+Allows-example Message = inl refl
+Allows-example End = inl refl

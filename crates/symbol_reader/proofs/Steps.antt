@@ -5,10 +5,10 @@ use Rattle.symbol_reader.specs.declared.letters.Letter.{Letter}
 use Rattle.symbol_reader.specs.declared.reading.Stop.{Stop}
 use Rattle.symbol_reader.specs.declared.reading.Stop.TheVariants.{Short, Outside}
 use Rattle.symbol_reader.specs.Letters.{Allows}
-use Rattle.symbol_reader.specs.Languages.{One, Only, Then, Choice}
+use Rattle.symbol_reader.specs.Languages.{One, Only, Then, Choice, Spelled}
 use Rattle.symbol_reader.specs.Reading.{Begins, Wants, Took, Outcome, Reads}
 use Rattle.symbol_reader.proofs.Examples.{example_of, Allows-example}
-use Rattle.symbol_reader.proofs.Laws.{Good, Alike, no_word_goes_on, one_good}
+use Rattle.symbol_reader.proofs.Laws.{Good, Alike, no_word_goes_on, one_good, only_good, then_good, alike_good}
 
 -- each letter is a good language
 pub letter_good : (letter : Letter) → Good (One (Allows letter))
@@ -252,3 +252,58 @@ joined {word = word} {l = l} p e =
     let k : word ≡ p.front ++ p.back = p.list in
     let m : p.front ≡ p.chosen ∷ [] = p.before.list in
     k ∙ ap (λ a. a ++ p.back) m ∙ ap (λ a. p.chosen ∷ a) e
+
+-- values that are spelled by one symbol each, and how such a symbol is told
+pub record Coded {V : Type 0} (allows : ℕ → Type 0) (lawful : V → Type 0) (code : V → ℕ) : Type 0 where
+  pub told : ℕ → V
+  pub allowed : (v : V) → lawful v → allows (code v)
+  pub is_lawful : (x : ℕ) → allows x → lawful (told x)
+  pub there : (x : ℕ) → allows x → code (told x) ≡ x
+  pub back : (v : V) → lawful v → told (code v) ≡ v
+
+Coded-alike : {V : Type 0} (allows : ℕ → Type 0) (lawful : V → Type 0) (code : V → ℕ) (k : Coded allows lawful code)
+    → Alike (Then (One allows) (λ x. Only (k.told x))) (Spelled lawful (λ v. code v ∷ []))
+Coded-alike allows lawful code k = record {
+  to = λ v word p.
+      (let x : ℕ = p.chosen in
+      let value : v ≡ k.told x = p.after.value in
+      let list : word ≡ x ∷ [] = joined p p.after.list in
+      record {
+        is_lawful = subst lawful (sym value) (k.is_lawful x p.before.allowed);
+        list = list ∙ ap (λ a. a ∷ []) (sym (ap code value ∙ k.there x p.before.allowed));
+      });
+  back = λ v word p.
+      subst (λ w. Then (One allows) (λ x. Only (k.told x)) v w) (sym p.list)
+      (one_then (code v) (k.allowed v p.is_lawful) (record { value = sym (k.back v p.is_lawful); list = refl }));
+}
+
+pub coded_good : {V : Type 0} {allows : ℕ → Type 0} {lawful : V → Type 0} {code : V → ℕ} → Good (One allows) → Coded allows lawful code
+    → Good (Spelled lawful (λ v. code v ∷ []))
+coded_good {allows = allows} {lawful = lawful} {code = code} g k =
+    alike_good _ _ (Coded-alike allows lawful code k) (then_good _ _ g (λ x _ _. only_good (k.told x)))
+
+pub coded_stop : {V : Type 0} {allows : ℕ → Type 0} {lawful : V → Type 0} {code : V → ℕ} {old new : List ℕ} {why : Stop}
+    → Good (One allows) → Coded allows lawful code → Reads (One allows) old (Err why) new → Reads (Spelled lawful (λ v. code v ∷ [])) old (Err why) new
+coded_stop {allows = allows} {lawful = lawful} {code = code} g k p =
+    alike (Coded-alike allows lawful code k) (stop g (λ x _ _. only_good (k.told x)) p)
+
+pub coded_read : {V : Type 0} {allows : ℕ → Type 0} {lawful : V → Type 0} {code : V → ℕ} {old new : List ℕ} {x : ℕ} {v : V}
+    → lawful v → code v ≡ x → Reads (One allows) old (Ok x) new → Reads (Spelled lawful (λ v. code v ∷ [])) old (Ok v) new
+coded_read {old = old} {new = new} {x = x} {v = v} h e p =
+    let o = p.outcome in
+    let list : o.front ≡ x ∷ [] = o.word.list in
+    record { outcome = record { front = o.front; word = record { is_lawful = h; list = list ∙ ap (λ a. a ∷ []) (sym e) }; list = o.list } }
+
+-- a word of the spelled value, and then a word of what follows it
+pub spelled_then : {U V : Type 0} {lawful : U → Type 0} {spelling : U → List ℕ} {second : U → V → List ℕ → Type 0} {v : V}
+    (u : U) (l : List ℕ) → lawful u → second u v l → Then (Spelled lawful spelling) second v (spelling u ++ l)
+spelled_then {spelling = spelling} u l h p =
+    record { chosen = u; front = spelling u; back = l; before = record { is_lawful = h; list = refl }; after = p; list = refl }
+
+-- the list of a spelled value and of what follows it
+pub spelt : {U V : Type 0} {lawful : U → Type 0} {spelling : U → List ℕ} {second : U → V → List ℕ → Type 0} {v : V} {word l : List ℕ}
+    (p : Then (Spelled lawful spelling) second v word) → p.back ≡ l → word ≡ spelling p.chosen ++ l
+spelt {spelling = spelling} {word = word} p e =
+    let k : word ≡ p.front ++ p.back = p.list in
+    let m : p.front ≡ spelling p.chosen = p.before.list in
+    k ∙ ap (λ a. a ++ p.back) m ∙ ap (λ a. spelling p.chosen ++ a) e

@@ -4,7 +4,7 @@ use Rattle.call_grammar.proofs.IdentityParts.{identity_good}
 use Rattle.call_grammar.proofs.SymbolParts.{nature_good, comm_good}
 use Rattle.call_grammar.proofs.PositionParts.{position_good}
 use Rattle.call_grammar.proofs.TimeParts.{time_good}
-use Rattle.call_grammar.proofs.CallParts.{casualty_of, casualty_alike, after_identity_good, after_nature_good, after_position_good, after_time_good}
+use Rattle.call_grammar.proofs.CasualtyParts.{casualty_of, casualty_alike, after_identity_good, after_nature_good, after_position_good, after_time_good}
 use Rattle.call_grammar.proofs.fields.casualty.Goals as goal
 
 pub returns-in_err-mmsi : goal.returns-in_err-mmsi

@@ -1,0 +1,97 @@
+-- Casualties by their parts.
+use Rattle.std.proofs.Common.{◌≡◌, ℕ, List, [], ◌∷◌, ◌++◌, Option, refl, sym, subst}
+use Rattle.symbol_reader.specs.Languages.{Only, Then, Spelled}
+use Rattle.symbol_reader.proofs.Laws.{Good, Alike, then_good, only_good, alike_good}
+use Rattle.symbol_reader.proofs.Steps.{spelled_then}
+use Rattle.call_values.specs.declared.places.Fix.{Fix}
+use Rattle.call_values.specs.declared.alerts.Casualty.{Casualty}
+use Rattle.call_values.specs.Symbols.{IsNature, IsComm}
+use Rattle.call_grammar.specs.Spelling.{identity_symbols, position_symbols, time_symbols, casualty_symbols}
+use Rattle.call_grammar.specs.Grammar.{Identities, Positions, Times, Casualties}
+use Rattle.call_grammar.proofs.IdentityParts.{identity_good}
+use Rattle.call_grammar.proofs.SymbolParts.{nature_good, comm_good}
+use Rattle.call_grammar.proofs.PositionParts.{position_good}
+use Rattle.call_grammar.proofs.TimeParts.{time_good}
+
+abbrev pub Natures : ℕ → List ℕ → Type 0
+Natures = Spelled IsNature (λ n. n ∷ [])
+
+abbrev pub Comms : ℕ → List ℕ → Type 0
+Comms = Spelled IsComm (λ n. n ∷ [])
+
+abbrev pub casualty_of : ℕ → ℕ → Option Fix → Option (ℕ × ℕ) → ℕ → Casualty
+casualty_of m n p t k = record { mmsi = m; nature = n; position = p; time = t; comm = k }
+
+abbrev pub AfterTime : ℕ → ℕ → Option Fix → Option (ℕ × ℕ) → Casualty → List ℕ → Type 0
+AfterTime m n p t = Then Comms (λ k. Only (casualty_of m n p t k))
+
+abbrev pub AfterPosition : ℕ → ℕ → Option Fix → Casualty → List ℕ → Type 0
+AfterPosition m n p = Then Times (AfterTime m n p)
+
+abbrev pub AfterNature : ℕ → ℕ → Casualty → List ℕ → Type 0
+AfterNature m n = Then Positions (AfterPosition m n)
+
+abbrev pub AfterIdentity : ℕ → Casualty → List ℕ → Type 0
+AfterIdentity m = Then Natures (AfterNature m)
+
+abbrev pub CasualtyParts : Casualty → List ℕ → Type 0
+CasualtyParts = Then Identities AfterIdentity
+
+pub after_time_good : (m n : ℕ) (p : Option Fix) (t : Option (ℕ × ℕ)) → Good (AfterTime m n p t)
+after_time_good m n p t = then_good _ _ comm_good (λ k _ _. only_good (casualty_of m n p t k))
+
+pub after_position_good : (m n : ℕ) (p : Option Fix) → Good (AfterPosition m n p)
+after_position_good m n p = then_good _ _ time_good (λ t _ _. after_time_good m n p t)
+
+pub after_nature_good : (m n : ℕ) → Good (AfterNature m n)
+after_nature_good m n = then_good _ _ position_good (λ p _ _. after_position_good m n p)
+
+pub after_identity_good : (m : ℕ) → Good (AfterIdentity m)
+after_identity_good m = then_good _ _ nature_good (λ n _ _. after_nature_good m n)
+
+casualty_parts_good : Good CasualtyParts
+casualty_parts_good = then_good _ _ identity_good (λ m _ _. after_identity_good m)
+
+to_casualty : (c : Casualty) (word : List ℕ) → CasualtyParts c word → Casualties c word
+to_casualty c word p =
+    let q = p.after in let r = q.after in let s = r.after in let t = s.after in
+    let value : c ≡ casualty_of p.chosen q.chosen r.chosen s.chosen t.chosen = t.after.value in
+    let last : t.back ≡ [] = t.after.list in
+    let f1 : word ≡ p.front ++ p.back = p.list in
+    let f2 : p.back ≡ q.front ++ q.back = q.list in
+    let f3 : q.back ≡ r.front ++ r.back = r.list in
+    let f4 : r.back ≡ s.front ++ s.back = s.list in
+    let f5 : s.back ≡ t.front ++ t.back = t.list in
+    let g1 : p.front ≡ identity_symbols p.chosen = p.before.list in
+    let g2 : q.front ≡ q.chosen ∷ [] = q.before.list in
+    let g3 : r.front ≡ position_symbols r.chosen = r.before.list in
+    let g4 : s.front ≡ time_symbols s.chosen = s.before.list in
+    let g5 : t.front ≡ t.chosen ∷ [] = t.before.list in
+    let e5 : s.back ≡ t.chosen ∷ [] = cc in
+    let e4 : r.back ≡ time_symbols s.chosen ++ (t.chosen ∷ []) = cc in
+    let e3 : q.back ≡ position_symbols r.chosen ++ (time_symbols s.chosen ++ (t.chosen ∷ [])) = cc in
+    let e2 : p.back ≡ q.chosen ∷ (position_symbols r.chosen ++ (time_symbols s.chosen ++ (t.chosen ∷ []))) = cc in
+    let list : word ≡ casualty_symbols (casualty_of p.chosen q.chosen r.chosen s.chosen t.chosen) = cc in
+    subst (λ x. Casualties x word) (sym value) (record {
+      is_lawful = record {
+        mmsi = p.before.is_lawful;
+        nature = q.before.is_lawful;
+        position = r.before.is_lawful;
+        time = s.before.is_lawful;
+        comm = t.before.is_lawful;
+      };
+      list = list;
+    })
+
+from_casualty : (c : Casualty) (word : List ℕ) → Casualties c word → CasualtyParts c word
+from_casualty c word p =
+    let h = p.is_lawful in
+    subst (λ w. CasualtyParts c w) (sym p.list)
+    (spelled_then c.mmsi _ h.mmsi (spelled_then c.nature _ h.nature (spelled_then c.position _ h.position (spelled_then c.time _ h.time
+    (spelled_then c.comm _ h.comm (record { value = refl; list = refl }))))))
+
+pub casualty_alike : Alike CasualtyParts Casualties
+casualty_alike = record { to = to_casualty; back = from_casualty }
+
+pub casualty_good : Good Casualties
+casualty_good = alike_good _ _ casualty_alike casualty_parts_good

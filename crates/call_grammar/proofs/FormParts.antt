@@ -1,0 +1,104 @@
+-- The languages of the forms are told apart while they are read.
+use Rattle.std.proofs.Common.{ℕ, Bool, true, false, Option, Some, None, arith}
+use Rattle.symbol_reader.specs.declared.letters.Letter.TheVariants.{Exactly}
+use Rattle.symbol_reader.proofs.Laws.{Good, then_good, only_good}
+use Rattle.symbol_reader.proofs.Steps.{letter_good}
+use Rattle.call_values.specs.declared.choices.Category.{Category}
+use Rattle.call_values.specs.declared.parts.To.{To}
+use Rattle.call_values.specs.declared.parts.To.TheVariants as to
+use Rattle.call_grammar.specs.declared.signs.Specifier.{Specifier}
+use Rattle.call_grammar.specs.declared.signs.Specifier.TheVariants as format
+use Rattle.call_grammar.specs.declared.signs.Telecommand.{Telecommand}
+use Rattle.call_grammar.specs.declared.signs.Telecommand.TheVariants as opener
+use Rattle.call_grammar.specs.Forms.{Relays, Acks, AfterSign, AfterRelayer, Distress, Requests, Tests, Answers, Questions, AfterTold, Places, Others, AfterOpener, Individuals, AfterCategory, AfterLead, Addressed, Letters, AfterOneLead, AddressedOne, Alerts, AfterFormat}
+use Rattle.call_grammar.proofs.IdentityParts.{identity_good}
+use Rattle.call_grammar.proofs.PositionParts.{position_good}
+use Rattle.call_grammar.proofs.TimeParts.{time_good}
+use Rattle.call_grammar.proofs.CasualtyParts.{casualty_good}
+use Rattle.call_grammar.proofs.AreaParts.{area_good}
+use Rattle.call_grammar.proofs.FieldParts.{field_good}
+use Rattle.call_grammar.proofs.MessageParts.{message_good}
+use Rattle.call_grammar.proofs.SignParts.{leads_good, endings_good, eithers_good, signs_good, openers_good, first_good, second_good, blanks_good}
+
+pub relays_good : (t : To) (from : ℕ) → Good (Relays t from)
+relays_good t from = then_good _ _ casualty_good (λ _ _ _. then_good _ _ endings_good (λ _ _ _. only_good _))
+
+pub acks_good : (from : ℕ) → Good (Acks from)
+acks_good from = then_good _ _ casualty_good (λ _ _ _. then_good _ _ (letter_good (Exactly 127)) (λ _ _ _. only_good _))
+
+pub after_sign_good : (t : To) (from : ℕ) (is_ack : Bool) → Good (AfterSign t from is_ack)
+after_sign_good t from true = acks_good from
+after_sign_good t from false = relays_good t from
+
+pub after_relayer_good : (t : To) (from : ℕ) → Good (AfterRelayer t from)
+after_relayer_good t from = then_good _ _ (signs_good t) (λ b _ _. after_sign_good t from b)
+
+pub distress_good : (t : To) → Good (Distress t)
+distress_good t = then_good _ _ identity_good (λ from _ _. after_relayer_good t from)
+
+pub requests_good : (t : To) (g : Category) (from : ℕ) → Good (Requests t g from)
+requests_good t g from =
+    then_good _ _ first_good (λ _ _ _. then_good _ _ second_good (λ _ _ _. then_good _ _ field_good (λ _ _ _. then_good _ _ field_good (λ _ _ _.
+    then_good _ _ (letter_good (Exactly 127)) (λ _ _ _. only_good _)))))
+
+pub tests_good : (m : ℕ) (g : Category) (from : ℕ) → Good (Tests m g from)
+tests_good m g from =
+    then_good _ _ (letter_good (Exactly 126)) (λ _ _ _. then_good _ _ (letter_good (Exactly 126)) (λ _ _ _. then_good _ _ (blanks_good 5) (λ _ _ _.
+    then_good _ _ (eithers_good 122 117 (λ e. omega (arith, e))) (λ _ _ _. only_good _))))
+
+pub answers_good : (m : ℕ) (g : Category) (from : ℕ) → Good (Answers m g from)
+answers_good m g from =
+    then_good _ _ position_good (λ _ _ _. then_good _ _ time_good (λ _ _ _. then_good _ _ (letter_good (Exactly 122)) (λ _ _ _. only_good _)))
+
+pub questions_good : (m : ℕ) (g : Category) (from : ℕ) → Good (Questions m g from)
+questions_good m g from = then_good _ _ (blanks_good 5) (λ _ _ _. then_good _ _ (letter_good (Exactly 117)) (λ _ _ _. only_good _))
+
+pub after_told_good : (m : ℕ) (g : Category) (from : ℕ) (is_told : Bool) → Good (AfterTold m g from is_told)
+after_told_good m g from true = answers_good m g from
+after_told_good m g from false = questions_good m g from
+
+pub places_good : (m : ℕ) (g : Category) (from : ℕ) → Good (Places m g from)
+places_good m g from =
+    then_good _ _ (letter_good (Exactly 126)) (λ _ _ _. then_good _ _ (eithers_good 55 126 (λ e. omega (arith, e))) (λ b _ _. after_told_good m g from b))
+
+pub others_good : (m : ℕ) (g : Category) (from first : ℕ) → Good (Others m g from first)
+others_good m g from first =
+    then_good _ _ second_good (λ _ _ _. then_good _ _ message_good (λ _ _ _. then_good _ _ endings_good (λ _ _ _. only_good _)))
+
+pub after_opener_good : (m : ℕ) (g : Category) (from : ℕ) (o : Telecommand) → Good (AfterOpener m g from o)
+after_opener_good m g from opener.Test = tests_good m g from
+after_opener_good m g from opener.Position = places_good m g from
+after_opener_good m g from (opener.Request first) = others_good m g from first
+
+pub individuals_good : (m : ℕ) (g : Category) (from : ℕ) → Good (Individuals m g from)
+individuals_good m g from = then_good _ _ openers_good (λ o _ _. after_opener_good m g from o)
+
+pub after_category_good : (t : To) (g : Category) → Good (AfterCategory t g)
+after_category_good t g = then_good _ _ identity_good (λ from _ _. requests_good t g from)
+
+pub after_lead_good : (t : To) (lead : Option Category) → Good (AfterLead t lead)
+after_lead_good t None = distress_good t
+after_lead_good t (Some g) = after_category_good t g
+
+pub addressed_good : (t : To) → Good (Addressed t)
+addressed_good t = then_good _ _ leads_good (λ lead _ _. after_lead_good t lead)
+
+pub letters_good : (m : ℕ) (g : Category) → Good (Letters m g)
+letters_good m g = then_good _ _ identity_good (λ from _ _. individuals_good m g from)
+
+pub after_one_lead_good : (m : ℕ) (lead : Option Category) → Good (AfterOneLead m lead)
+after_one_lead_good m None = distress_good (to.One m)
+after_one_lead_good m (Some g) = letters_good m g
+
+pub addressed_one_good : (m : ℕ) → Good (AddressedOne m)
+addressed_one_good m = then_good _ _ leads_good (λ lead _ _. after_one_lead_good m lead)
+
+pub alerts_good : Good Alerts
+alerts_good = then_good _ _ casualty_good (λ _ _ _. then_good _ _ (letter_good (Exactly 127)) (λ _ _ _. only_good _))
+
+pub after_format_good : (f : Specifier) → Good (AfterFormat f)
+after_format_good format.Alert = alerts_good
+after_format_good format.All = addressed_good to.All
+after_format_good format.Area = then_good _ _ area_good (λ a _ _. addressed_good (to.Area a))
+after_format_good format.Group = then_good _ _ identity_good (λ m _ _. addressed_good (to.Group m))
+after_format_good format.One = then_good _ _ identity_good (λ m _ _. addressed_one_good m)

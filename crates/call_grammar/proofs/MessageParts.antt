@@ -1,0 +1,110 @@
+-- Messages by their letters.
+use Rattle.std.proofs.Common.{◌≡◌, ℕ, inl, inr, ◌==◌, Bool, true, false, List, [], ◌∷◌, ◌++◌, Option, refl, sym, ◌∙◌, ap, subst, arith, append-nil}
+use Rattle.std.proofs.lemmas.Bool.Decides.{nat_tests}
+use Rattle.symbol_reader.specs.declared.letters.Letter.TheVariants as letter
+use Rattle.symbol_reader.specs.Letters.{Allows}
+use Rattle.symbol_reader.specs.Languages.{Only, Then, Choice}
+use Rattle.symbol_reader.proofs.Laws.{Good, Alike, then_good, only_good, choice_good, alike_good}
+use Rattle.symbol_reader.proofs.Steps.{letter_good, one_then, joined, spelled_then, spelt}
+use Rattle.call_values.specs.declared.places.Fix.{Fix}
+use Rattle.call_values.specs.declared.fields.FieldKind.{FieldKind}
+use Rattle.call_values.specs.declared.parts.Message.{Message}
+use Rattle.call_values.specs.declared.parts.Message.TheVariants.{Fields, At}
+use Rattle.call_grammar.specs.Spelling.{field_symbols, position_symbols}
+use Rattle.call_grammar.specs.Grammar.{Symbol, Positions, FieldWords, FieldRest, Messages}
+use Rattle.call_grammar.proofs.PositionParts.{position_good}
+use Rattle.call_grammar.proofs.FieldParts.{field_rest_good, field_good, to_rest, split_field}
+
+abbrev pub AtRest : Message → List ℕ → Type 0
+AtRest = Then Positions (λ p. Only (At p))
+
+abbrev pub FieldsRest : ℕ → Message → List ℕ → Type 0
+FieldsRest lead = Then (FieldRest lead) (λ f. Then FieldWords (λ g. Only (Fields f g)))
+
+abbrev pub MessageRest : ℕ → Message → List ℕ → Type 0
+MessageRest lead = Choice (lead == 55) AtRest (FieldsRest lead)
+
+abbrev pub MessageParts : Message → List ℕ → Type 0
+MessageParts = Then (Symbol letter.Message) MessageRest
+
+pub at_good : (p : Option Fix) → Good (Only (At p))
+at_good p = only_good (At p)
+
+pub at_rest_good : Good AtRest
+at_rest_good = then_good _ _ position_good (λ p _ _. at_good p)
+
+pub second_field_good : (f : FieldKind) → Good (Then FieldWords (λ g. Only (Fields f g)))
+second_field_good f = then_good _ _ field_good (λ g _ _. only_good (Fields f g))
+
+pub fields_rest_good : (lead : ℕ) → Good (FieldsRest lead)
+fields_rest_good lead = then_good _ _ (field_rest_good lead) (λ f _ _. second_field_good f)
+
+pub message_rest_good : (lead : ℕ) → Good (MessageRest lead)
+message_rest_good lead = choice_good (lead == 55) _ _ (λ _. at_rest_good) (λ _. fields_rest_good lead)
+
+parts_good : Good MessageParts
+parts_good = then_good _ _ (letter_good letter.Message) (λ lead _ _. message_rest_good lead)
+
+test_is : (m n : ℕ) → (m == n) ≡ true → m ≡ n
+test_is m n e = grind (arith, nat_tests)
+
+test_not : (m n : ℕ) → (m == n) ≡ false → m ≡ n → ⊥
+test_not m n e h = grind (arith, nat_tests)
+
+-- what begins a message and is not 55 begins a field
+pub field_lead : (lead : ℕ) → Allows letter.Message lead → (lead ≡ 55 → ⊥) → Allows letter.Field lead
+field_lead lead (inl e) n = absurd (n e)
+field_lead lead (inr h) n = h
+
+to_message_at : (lead : ℕ) (v : Message) (l : List ℕ) → lead ≡ 55 → AtRest v l → Messages v (lead ∷ l)
+to_message_at lead v l e p =
+    let value : v ≡ At p.chosen = p.after.value in
+    let list : l ≡ position_symbols p.chosen = spelt p p.after.list ∙ append-nil (position_symbols p.chosen) in
+    let whole : lead ∷ l ≡ 55 ∷ position_symbols p.chosen = cc in
+    subst (λ x. Messages x (lead ∷ l)) (sym value) (record { is_lawful = p.before.is_lawful; list = whole })
+
+to_message_fields : (lead : ℕ) (v : Message) (l : List ℕ) → Allows letter.Field lead → FieldsRest lead v l → Messages v (lead ∷ l)
+to_message_fields lead v l h p =
+    let q = p.after in
+    let value : v ≡ Fields p.chosen q.chosen = q.after.value in
+    let first = to_rest lead p.chosen p.front h p.before in
+    let one : lead ∷ p.front ≡ field_symbols p.chosen = first.list in
+    let two : p.back ≡ field_symbols q.chosen = spelt q q.after.list ∙ append-nil (field_symbols q.chosen) in
+    let list : l ≡ p.front ++ p.back = p.list in
+    let whole : lead ∷ l ≡ field_symbols p.chosen ++ field_symbols q.chosen =
+    ap (λ a. lead ∷ a) list ∙ ap (λ a. a ++ p.back) one ∙ ap (λ a. field_symbols p.chosen ++ a) two in
+    subst (λ x. Messages x (lead ∷ l)) (sym value) (record { is_lawful = (first.is_lawful, q.before.is_lawful); list = whole })
+
+to_message_rest : (lead : ℕ) (t : Bool) (v : Message) (l : List ℕ) → (lead == 55) ≡ t → Allows letter.Message lead → MessageRest lead v l → Messages v (lead ∷ l)
+to_message_rest lead true v l e h p = to_message_at lead v l (test_is lead 55 e) (p.yes e)
+to_message_rest lead false v l e h p = to_message_fields lead v l (field_lead lead h (test_not lead 55 e)) (p.no e)
+
+to_message : (v : Message) (word : List ℕ) → MessageParts v word → Messages v word
+to_message v word p =
+    subst (Messages v) (sym (joined p refl)) (to_message_rest p.chosen (p.chosen == 55) v p.back refl p.before.allowed p.after)
+
+not_55 : (lead : ℕ) → Allows letter.Field lead → lead ≡ 55 → ⊥
+not_55 lead h e = grind arith
+
+from_message : (v : Message) (word : List ℕ) → Messages v word → MessageParts v word
+from_message (At p) word m =
+    subst (MessageParts (At p)) (sym m.list) (one_then 55 (inl refl) (record {
+      yes = λ _. subst (AtRest (At p)) (append-nil (position_symbols p)) (spelled_then p [] m.is_lawful (record { value = refl; list = refl }));
+      no = λ (e : true ≡ false). absurd (cc);
+    }))
+from_message (Fields f g) word m =
+    let s = split_field f m.is_lawful.0 in
+    let second : Then FieldWords (λ g. Only (Fields f g)) (Fields f g) (field_symbols g) =
+    subst (Then FieldWords (λ g. Only (Fields f g)) (Fields f g)) (append-nil (field_symbols g))
+    (spelled_then g [] m.is_lawful.1 (record { value = refl; list = refl })) in
+    subst (MessageParts (Fields f g)) (sym (m.list ∙ ap (λ a. a ++ field_symbols g) s.list))
+    (one_then s.lead (inr s.allowed) (record {
+      yes = λ e. absurd (not_55 s.lead s.allowed (test_is s.lead 55 e));
+      no = λ _. record { chosen = f; front = s.rest; back = field_symbols g; before = s.word; after = second; list = refl };
+    }))
+
+pub message_alike : Alike MessageParts Messages
+message_alike = record { to = to_message; back = from_message }
+
+pub message_good : Good Messages
+message_good = alike_good _ _ message_alike parts_good

@@ -1,0 +1,121 @@
+ghost use Rattle.symbol_reader.specs.Reading.{Reads};
+ghost use Rattle.call_grammar.specs.Forms as forms;
+
+use crate::fields::{position, time};
+use crate::messages::message;
+use crate::signs::{Telecommand, blanks, either, end, opener, second};
+use call_values::{Call, Category, First, Kind, Mmsi};
+use symbol_reader::{Letter, Reader, Stop};
+
+/// Reads what follows the sender in a call to one station.
+pub fn individual(list: &mut Reader, to: Mmsi, category: Category, from: Mmsi) -> Result<Call, Stop>
+    ensures { Reads (forms.Individuals to category from) list.old result list.new }
+{
+    let first = opener(list)?;
+    after_opener(list, to, category, from, first)
+}
+
+fn after_opener(
+    list: &mut Reader,
+    to: Mmsi,
+    category: Category,
+    from: Mmsi,
+    first: Telecommand,
+) -> Result<Call, Stop>
+    ensures { Reads (forms.AfterOpener to category from first) list.old result list.new }
+{
+    match first {
+        Telecommand::Test => test_call(list, to, category, from),
+        Telecommand::Position => position_call(list, to, category, from),
+        Telecommand::Request(first) => other(list, to, category, from, first),
+    }
+}
+
+fn other(
+    list: &mut Reader,
+    to: Mmsi,
+    category: Category,
+    from: Mmsi,
+    first: First,
+) -> Result<Call, Stop>
+    ensures { Reads (forms.Others to category from first) list.old result list.new }
+{
+    let second = second(list)?;
+    let message = message(list)?;
+    let end = end(list)?;
+    Ok(Call::Individual {
+        to,
+        category,
+        from,
+        first,
+        second,
+        message,
+        end,
+    })
+}
+
+fn test_call(list: &mut Reader, to: Mmsi, category: Category, from: Mmsi) -> Result<Call, Stop>
+    ensures { Reads (forms.Tests to category from) list.old result list.new }
+{
+    list.symbol(Letter::Exactly(126))?;
+    list.symbol(Letter::Exactly(126))?;
+    blanks(list)?;
+    let reply = either(list, 122, 117)?;
+    Ok(Call::Service {
+        to,
+        category,
+        from,
+        kind: Kind::Test { reply },
+    })
+}
+
+fn position_call(list: &mut Reader, to: Mmsi, category: Category, from: Mmsi) -> Result<Call, Stop>
+    ensures { Reads (forms.Places to category from) list.old result list.new }
+{
+    list.symbol(Letter::Exactly(126))?;
+    let is_told = either(list, 55, 126)?;
+    after_told(list, to, category, from, is_told)
+}
+
+fn after_told(
+    list: &mut Reader,
+    to: Mmsi,
+    category: Category,
+    from: Mmsi,
+    is_told: bool,
+) -> Result<Call, Stop>
+    ensures { Reads (forms.AfterTold to category from is_told) list.old result list.new }
+{
+    if is_told {
+        answer(list, to, category, from)
+    } else {
+        question(list, to, category, from)
+    }
+}
+
+fn answer(list: &mut Reader, to: Mmsi, category: Category, from: Mmsi) -> Result<Call, Stop>
+    ensures { Reads (forms.Answers to category from) list.old result list.new }
+{
+    let position = position(list)?;
+    let time = time(list)?;
+    list.symbol(Letter::Exactly(122))?;
+    Ok(Call::Service {
+        to,
+        category,
+        from,
+        kind: Kind::Position(position, time),
+    })
+}
+
+fn question(list: &mut Reader, to: Mmsi, category: Category, from: Mmsi) -> Result<Call, Stop>
+    ensures { Reads (forms.Questions to category from) list.old result list.new }
+{
+    blanks(list)?;
+    list.symbol(Letter::Exactly(117))?;
+    Ok(Call::Service {
+        to,
+        category,
+        from,
+        kind: Kind::AskPosition,
+    })
+}

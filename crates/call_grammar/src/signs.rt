@@ -1,0 +1,162 @@
+ghost use Rattle.std.specs.Prelude.{◌≡◌, ◌∷◌, []};
+ghost use Rattle.symbol_reader.specs.Letters.{Allows};
+ghost use Rattle.symbol_reader.specs.Reading.{Reads};
+ghost use Rattle.call_grammar.specs.Spelling.{end_symbol};
+ghost use Rattle.call_grammar.specs.Grammar.{Firsts, Seconds, Blanks};
+ghost use Rattle.call_grammar.specs.Forms as forms;
+
+use call_values::{Category, End, First, Second, To};
+use symbol_reader::{Letter, Reader, Stop};
+
+/// The format specifiers by what follows them (ITU-R M.493, format specifier).
+#[derive(Clone, Copy, Debug, PartialEq, Eq)]
+pub enum Specifier {
+    Alert,
+    All,
+    Area,
+    Group,
+    One,
+}
+
+/// What the first telecommand of a call to one station says of the rest of the call.
+#[derive(Clone, Copy, Debug, PartialEq, Eq)]
+pub enum Telecommand {
+    Test,
+    Position,
+    Request(First),
+}
+
+/// Reads a format specifier.
+pub fn format(list: &mut Reader) -> Result<Specifier, Stop>
+    ensures { Reads forms.Formats list.old result list.new }
+{
+    let symbol = list.symbol(Letter::Format)?;
+    Ok(format_told(symbol))
+}
+
+fn format_told(symbol: u8) -> Specifier
+    requires { Allows Letter.Format symbol }
+    ensures { forms.format_symbol result ≡ symbol }
+{
+    match symbol {
+        112 => Specifier::Alert,
+        116 => Specifier::All,
+        102 => Specifier::Area,
+        114 => Specifier::Group,
+        _ => Specifier::One,
+    }
+}
+
+/// Reads the category of a call, or `None` where the call is a distress call.
+pub fn lead(list: &mut Reader) -> Result<Option<Category>, Stop>
+    ensures { Reads forms.Leads list.old result list.new }
+{
+    let symbol = list.symbol(Letter::Lead)?;
+    Ok(lead_told(symbol))
+}
+
+fn lead_told(symbol: u8) -> Option<Category>
+    requires { Allows Letter.Lead symbol }
+    ensures { forms.lead_symbol result ≡ symbol }
+{
+    match symbol {
+        112 => None,
+        100 => Some(Category::Routine),
+        108 => Some(Category::Safety),
+        _ => Some(Category::Urgency),
+    }
+}
+
+/// Reads an end of sequence.
+pub fn end(list: &mut Reader) -> Result<End, Stop>
+    ensures { Reads forms.Endings list.old result list.new }
+{
+    let symbol = list.symbol(Letter::End)?;
+    Ok(end_told(symbol))
+}
+
+fn end_told(symbol: u8) -> End
+    requires { Allows Letter.End symbol }
+    ensures { end_symbol result ≡ symbol }
+{
+    match symbol {
+        117 => End::Ask,
+        122 => End::Reply,
+        _ => End::Plain,
+    }
+}
+
+/// Reads one of two symbols, and answers whether it is the first.
+pub fn either(list: &mut Reader, one: u8, other: u8) -> Result<bool, Stop>
+    requires { one ≡ other → ⊥ }
+    ensures { Reads (forms.Eithers one other) list.old result list.new }
+{
+    let symbol = list.symbol(Letter::Either(one, other))?;
+    Ok(symbol == one)
+}
+
+/// Reads what stands after the sender of a distress call, and answers whether the call is an acknowledgement.
+pub fn sign(list: &mut Reader, to: &To) -> Result<bool, Stop>
+    ensures { Reads (forms.Signs to.now) list.old result list.new }
+{
+    let symbol = list.symbol(sign_letter(to))?;
+    Ok(symbol == 110)
+}
+
+fn sign_letter(to: &To) -> Letter
+    ensures { result ≡ forms.sign_letter to.now }
+{
+    match to {
+        To::All => Letter::Either(110, 112),
+        _ => Letter::Exactly(112),
+    }
+}
+
+/// Reads the first telecommand of a call to one station.
+pub fn opener(list: &mut Reader) -> Result<Telecommand, Stop>
+    ensures { Reads forms.Openers list.old result list.new }
+{
+    let symbol = list.symbol(Letter::Opener)?;
+    Ok(opener_told(symbol))
+}
+
+fn opener_told(symbol: u8) -> Telecommand
+    requires { Allows Letter.Opener symbol }
+    ensures lawful { forms.IsTelecommand result }
+    ensures symbol { forms.opener_symbol result ≡ symbol }
+{
+    match symbol {
+        118 => Telecommand::Test,
+        121 => Telecommand::Position,
+        _ => Telecommand::Request(First::new(symbol).unwrap()),
+    }
+}
+
+/// Reads the first telecommand of a call that is for more than one station.
+pub fn first(list: &mut Reader) -> Result<First, Stop>
+    ensures { Reads Firsts list.old result list.new }
+{
+    let symbol = list.symbol(Letter::First)?;
+    Ok(First::new(symbol).unwrap())
+}
+
+/// Reads a second telecommand.
+pub fn second(list: &mut Reader) -> Result<Second, Stop>
+    ensures { Reads Seconds list.old result list.new }
+{
+    let symbol = list.symbol(Letter::Second)?;
+    Ok(Second::new(symbol).unwrap())
+}
+
+/// Reads five characters of no information.
+pub fn blanks(list: &mut Reader) -> Result<(), Stop>
+    ensures { Reads (Blanks 5) list.old result list.new }
+{
+    let blank = Letter::Exactly(126);
+    list.symbol(blank)?;
+    list.symbol(blank)?;
+    list.symbol(blank)?;
+    list.symbol(blank)?;
+    list.symbol(blank)?;
+    Ok(())
+}
