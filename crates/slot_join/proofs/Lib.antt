@@ -1,3 +1,4 @@
 pub mod ShownLists
 pub mod Stops
 pub mod OneAnswer
+pub mod Heads
