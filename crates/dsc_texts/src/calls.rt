@@ -37,7 +37,10 @@ pub fn append_call<const N: usize>(out: &mut ArrayVec<u8, N>, call: &Call)
             append_distress(out, from, casualty);
         }
         Call::Relay {
-            to, from, casualty, ..
+            to,
+            from,
+            casualty,
+            ..
         } => {
             append(out, b"relay to=");
             append_address(out, to);
@@ -58,7 +61,14 @@ pub fn append_call<const N: usize>(out: &mut ArrayVec<u8, N>, call: &Call)
             f2,
         } => {
             append(out, b"all");
-            append_request(out, category, from, first, second, &Message::Fields(*f1, *f2));
+            append_request(
+                out,
+                category,
+                from,
+                first,
+                second,
+                &Message::Fields(*f1, *f2),
+            );
         }
         Call::AreaCall {
             area,
@@ -71,7 +81,14 @@ pub fn append_call<const N: usize>(out: &mut ArrayVec<u8, N>, call: &Call)
         } => {
             append(out, b"area to=");
             append_digits(out, 10, area_digits(area));
-            append_request(out, category, from, first, second, &Message::Fields(*f1, *f2));
+            append_request(
+                out,
+                category,
+                from,
+                first,
+                second,
+                &Message::Fields(*f1, *f2),
+            );
         }
         Call::GroupCall {
             group,
@@ -84,7 +101,14 @@ pub fn append_call<const N: usize>(out: &mut ArrayVec<u8, N>, call: &Call)
         } => {
             append(out, b"group to=");
             append_digits(out, 9, u64::from(group.number()));
-            append_request(out, category, from, first, second, &Message::Fields(*f1, *f2));
+            append_request(
+                out,
+                category,
+                from,
+                first,
+                second,
+                &Message::Fields(*f1, *f2),
+            );
         }
         Call::Individual {
             to,

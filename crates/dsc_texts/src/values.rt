@@ -89,11 +89,7 @@ pub fn append_casualty<const N: usize>(out: &mut ArrayVec<u8, N>, casualty: &Cas
 
 /// Appends a sender and a casualty that is another ship.
 #[tactic(auto, unfolding(crate::specs::Texts::distress_text))]
-pub fn append_distress<const N: usize>(
-    out: &mut ArrayVec<u8, N>,
-    from: &Mmsi,
-    casualty: &Casualty,
-)
+pub fn append_distress<const N: usize>(out: &mut ArrayVec<u8, N>, from: &Mmsi, casualty: &Casualty)
     requires { array_vec_len out.old + 79 ≤ N }
     ensures items { out.new.items ≡ out.old.items ++ distress_text from.now casualty.now }
     ensures len { array_vec_len out.new ≡ array_vec_len out.old + 79 }
