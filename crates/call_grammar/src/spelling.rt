@@ -73,7 +73,8 @@ pub fn end_of(call: &Call) -> u8
     }
 }
 
-fn end_symbol(end: &End) -> u8
+/// The symbol of an end of sequence (ITU-R M.493, end of sequence).
+pub fn end_symbol(end: &End) -> u8
     ensures { result ≡ sequence.end_symbol end.now }
 {
     match end {
@@ -291,7 +292,8 @@ fn append_field(list: &mut ArrayVec<u8, 64>, field: &Field)
     }
 }
 
-fn category_symbol(category: &Category) -> u8
+/// The symbol of a category (ITU-R M.493, category).
+pub fn category_symbol(category: &Category) -> u8
     ensures { result ≡ sequence.category_symbol category.now }
 {
     match category {
@@ -386,7 +388,7 @@ fn area_symbols(area: &Area) -> [u8; 5]
 
 /// Quadrant, latitude, longitude and the two sides in ten digits.
 #[tactic(auto, unfolding(crate::specs::Spelling::area_digits))]
-fn area_digits(area: &Area) -> u64
+pub fn area_digits(area: &Area) -> u64
     ensures value { result ≡ sequence.area_digits area.now }
     ensures digits { result < 10000000000 }
 {
@@ -399,7 +401,7 @@ fn area_digits(area: &Area) -> u64
 
 /// Quadrant, latitude and longitude in ten digits.
 #[tactic(auto, unfolding(crate::specs::Spelling::position_digits))]
-fn position_digits(fix: &Fix) -> u64
+pub fn position_digits(fix: &Fix) -> u64
     requires { IsFix fix.now }
     ensures value { result ≡ sequence.position_digits fix.now }
     ensures digits { result < 10000000000 }

@@ -29,9 +29,9 @@ pub fn put_answer_line(group: u32, answer: &Joined) -> ArrayVec<u8, 289>
 
 #[tactic(auto, unfolding(crate::specs::Texts::answer_text))]
 fn append_answer<const N: usize>(out: &mut ArrayVec<u8, N>, group: u32, answer: &Joined)
-    requires { array_vec_len out.old + 86 ≤ N }
+    requires { array_vec_len out.old + 132 ≤ N }
     ensures items { out.new.items ≡ out.old.items ++ answer_text group answer.now }
-    ensures len { array_vec_len out.new ≤ array_vec_len out.old + 86 }
+    ensures len { array_vec_len out.new ≤ array_vec_len out.old + 132 }
 {
     append(out, b"g");
     append_number(out, group);
@@ -39,9 +39,9 @@ fn append_answer<const N: usize>(out: &mut ArrayVec<u8, N>, group: u32, answer: 
 }
 
 fn append_verdict<const N: usize>(out: &mut ArrayVec<u8, N>, answer: &Joined)
-    requires { array_vec_len out.old + 75 ≤ N }
+    requires { array_vec_len out.old + 121 ≤ N }
     ensures items { out.new.items ≡ out.old.items ++ verdict_text answer.now }
-    ensures len { array_vec_len out.new ≤ array_vec_len out.old + 75 }
+    ensures len { array_vec_len out.new ≤ array_vec_len out.old + 121 }
 {
     match answer {
         Joined::Reported { call, expansion } => {

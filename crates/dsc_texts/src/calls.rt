@@ -1,11 +1,15 @@
 ghost use Rattle.std.specs.Prelude.{◌≡◌, ◌+◌, ◌≤◌, ◌++◌};
 ghost use Rattle.arrayvec.specs.ArrayVec.{array_vec_len};
-ghost use Rattle.call_grammar.specs.Spelling.{position_digits};
-ghost use Rattle.dsc_texts.specs.Texts.{position_text, time_text, casualty_text, alert_text, call_text, reported_text};
+ghost use Rattle.dsc_texts.specs.Texts.{alert_text, service_text, call_text, reported_text};
 
 use crate::pieces::{append, append_digits};
+use crate::values::{
+    append_address, append_casualty, append_distress, append_end, append_position, append_request,
+    append_sender, append_time,
+};
 use arrayvec::ArrayVec;
-use call_values::{Call, Casualty, Fix, HourMinute, Position};
+use call_grammar::{area_digits, end_of};
+use call_values::{Call, Casualty, Category, Kind, Message, Mmsi};
 use slot_join::Extra;
 
 /// The text of a call and of what follows it on air.
@@ -19,57 +23,114 @@ pub fn put_call(call: &Call, extra: &Extra) -> ArrayVec<u8, 256>
     }
 }
 
-#[tactic(auto, unfolding(call_grammar::specs::Spelling::position_digits))]
-/// The ten digits of a place as on air: quadrant, latitude and longitude.
-fn fix_number(fix: &Fix) -> u64
-    ensures { result ≡ position_digits fix.now }
+/// Appends a call's text, which takes at most 111 bytes.
+#[tactic(auto, unfolding(crate::specs::Texts::call_text))]
+pub fn append_call<const N: usize>(out: &mut ArrayVec<u8, N>, call: &Call)
+    requires { array_vec_len out.old + 111 ≤ N }
+    ensures items { out.new.items ≡ out.old.items ++ call_text call.now }
+    ensures len { array_vec_len out.new ≤ array_vec_len out.old + 111 }
 {
-    1_000_000_000 * u64::from(fix.quadrant)
-        + 10_000_000 * u64::from(fix.lat_deg)
-        + 100_000 * u64::from(fix.lat_min)
-        + 100 * u64::from(fix.lon_deg)
-        + u64::from(fix.lon_min)
-}
-
-fn append_position<const N: usize>(out: &mut ArrayVec<u8, N>, position: &Position)
-    requires { array_vec_len out.old + 10 ≤ N }
-    ensures items { out.new.items ≡ out.old.items ++ position_text position.now }
-    ensures len { array_vec_len out.new ≡ array_vec_len out.old + 10 }
-{
-    match position.known() {
-        Some(fix) => append_digits(out, 10, fix_number(&fix)),
-        None => append(out, b"9999999999"),
-    }
-}
-
-fn append_time<const N: usize>(out: &mut ArrayVec<u8, N>, time: &HourMinute)
-    requires { array_vec_len out.old + 4 ≤ N }
-    ensures items { out.new.items ≡ out.old.items ++ time_text time.now }
-    ensures len { array_vec_len out.new ≡ array_vec_len out.old + 4 }
-{
-    match time.known() {
-        Some((hour, minute)) => {
-            append_digits(out, 2, u64::from(hour));
-            append_digits(out, 2, u64::from(minute));
+    match call {
+        Call::Alert(casualty) => append_alert(out, casualty),
+        Call::Ack { from, casualty } => {
+            append(out, b"ack");
+            append_distress(out, from, casualty);
         }
-        None => append(out, b"8888"),
+        Call::Relay {
+            to,
+            from,
+            casualty,
+            ..
+        } => {
+            append(out, b"relay to=");
+            append_address(out, to);
+            append_distress(out, from, casualty);
+            append_end(out, end_of(call));
+        }
+        Call::RelayAck { to, from, casualty } => {
+            append(out, b"relayack to=");
+            append_address(out, to);
+            append_distress(out, from, casualty);
+        }
+        Call::AllShips {
+            category,
+            from,
+            first,
+            second,
+            f1,
+            f2,
+        } => {
+            append(out, b"all");
+            append_request(
+                out,
+                category,
+                from,
+                first,
+                second,
+                &Message::Fields(*f1, *f2),
+            );
+        }
+        Call::AreaCall {
+            area,
+            category,
+            from,
+            first,
+            second,
+            f1,
+            f2,
+        } => {
+            append(out, b"area to=");
+            append_digits(out, 10, area_digits(area));
+            append_request(
+                out,
+                category,
+                from,
+                first,
+                second,
+                &Message::Fields(*f1, *f2),
+            );
+        }
+        Call::GroupCall {
+            group,
+            category,
+            from,
+            first,
+            second,
+            f1,
+            f2,
+        } => {
+            append(out, b"group to=");
+            append_digits(out, 9, u64::from(group.number()));
+            append_request(
+                out,
+                category,
+                from,
+                first,
+                second,
+                &Message::Fields(*f1, *f2),
+            );
+        }
+        Call::Individual {
+            to,
+            category,
+            from,
+            first,
+            second,
+            message,
+            ..
+        } => {
+            append(out, b"one to=");
+            append_digits(out, 9, u64::from(to.number()));
+            append_request(out, category, from, first, second, message);
+            append_end(out, end_of(call));
+        }
+        Call::Service {
+            to,
+            category,
+            from,
+            kind,
+        } => append_service(out, to, category, from, kind),
     }
-}
-
-#[tactic(auto, unfolding(crate::specs::Texts::casualty_text))]
-fn append_casualty<const N: usize>(out: &mut ArrayVec<u8, N>, casualty: &Casualty)
-    requires { array_vec_len out.old + 45 ≤ N }
-    ensures items { out.new.items ≡ out.old.items ++ casualty_text casualty.now }
-    ensures len { array_vec_len out.new ≡ array_vec_len out.old + 45 }
-{
-    append(out, b" nature=");
-    append_digits(out, 3, u64::from(casualty.nature.number()));
-    append(out, b" pos=");
-    append_position(out, &casualty.position);
-    append(out, b" time=");
-    append_time(out, &casualty.time);
-    append(out, b" then=");
-    append_digits(out, 3, u64::from(casualty.comm.number()));
 }
 
 #[tactic(auto, unfolding(crate::specs::Texts::alert_text))]
@@ -83,13 +144,38 @@ fn append_alert<const N: usize>(out: &mut ArrayVec<u8, N>, casualty: &Casualty)
     append_casualty(out, casualty);
 }
 
-/// Appends a call's text, which takes at most 65 bytes.
-pub fn append_call<const N: usize>(out: &mut ArrayVec<u8, N>, call: &Call)
-    requires { array_vec_len out.old + 65 ≤ N }
-    ensures items { out.new.items ≡ out.old.items ++ call_text call.now }
-    ensures len { array_vec_len out.new ≤ array_vec_len out.old + 65 }
+#[tactic(auto, unfolding(crate::specs::Texts::service_text))]
+fn append_service<const N: usize>(
+    out: &mut ArrayVec<u8, N>,
+    to: &Mmsi,
+    category: &Category,
+    from: &Mmsi,
+    kind: &Kind,
+)
+    requires { array_vec_len out.old + 70 ≤ N }
+    ensures items { out.new.items ≡ out.old.items ++ service_text to.now category.now from.now kind.now }
+    ensures len { array_vec_len out.new ≤ array_vec_len out.old + 70 }
 {
-    match call {
-        Call::Alert(casualty) => append_alert(out, casualty),
+    match kind {
+        Kind::Test { reply } => {
+            append(out, b"test to=");
+            append_digits(out, 9, u64::from(to.number()));
+            append_sender(out, category, from);
+            append_end(out, if *reply { 122 } else { 117 });
+        }
+        Kind::AskPosition => {
+            append(out, b"askpos to=");
+            append_digits(out, 9, u64::from(to.number()));
+            append_sender(out, category, from);
+        }
+        Kind::Position(position, time) => {
+            append(out, b"pos to=");
+            append_digits(out, 9, u64::from(to.number()));
+            append_sender(out, category, from);
+            append(out, b" pos=");
+            append_position(out, position);
+            append(out, b" time=");
+            append_time(out, time);
+        }
     }
 }

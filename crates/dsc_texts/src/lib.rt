@@ -5,6 +5,7 @@ mod answers;
 mod calls;
 mod pieces;
 mod sizes;
+mod values;
 
 pub use answers::{put_answer, put_answer_line};
 pub use calls::put_call;

@@ -2,3 +2,4 @@ pub mod ShownLists
 pub mod Stops
 pub mod OneAnswer
 pub mod IntactCalls
+pub mod Heads

@@ -1,17 +1,16 @@
 -- A set of facts has one answer.
-use Rattle.std.proofs.Common.{◌≡◌, ℕ, ◌+◌, ◌≤◌, Bool, true, false, ◌⊎◌, List, [], ◌∷◌, ◌++◌, length, drop, refl, sym, ap, subst, ◌∙◌, inl, inr, arith}
-use Rattle.std.proofs.lemmas.Bool.{cases_lt, false≢true}
+use Rattle.std.proofs.Common.{◌≡◌, ℕ, ◌≤◌, ◌⊎◌, List, ◌++◌, length, drop, sym, ap, subst, ◌∙◌, inl, inr, arith}
+use Rattle.std.proofs.lemmas.Bool.{cases_lt}
 use Rattle.std.proofs.lemmas.List.{append-nil, drop_all}
 use Rattle.call_values.specs.declared.alerts.Call.{Call}
 use Rattle.call_values.specs.Calls.{IsCall}
-use Rattle.call_grammar.specs.Spelling.{front, check_of}
-use Rattle.call_grammar.specs.Walk.{IsAtCheck}
+use Rattle.call_grammar.specs.Spelling.{front}
 use Rattle.slot_evidence.specs.declared.places.Seen.{Seen}
 use Rattle.slot_evidence.specs.declared.places.Seen.TheVariants as seen
 use Rattle.slot_evidence.specs.Facts.{Facts, Symbols}
 use Rattle.slot_evidence.specs.Seen.{IsSeen}
 use Rattle.slot_join.specs.declared.joined.Joined.{Joined}
-use Rattle.slot_join.specs.declared.joined.Joined.TheVariants.{Reported, Missing, Differ, Outside, Check}
+use Rattle.slot_join.specs.declared.joined.Joined.TheVariants.{Reported}
 use Rattle.slot_join.specs.declared.joined.Extra.TheVariants.{Absent}
 use Rattle.slot_join.specs.Shown.{head_of, IsShown}
 use Rattle.slot_join.specs.Answer.{IsAnswer, IsReported, IsStopped, StopsWith, BehindFormat, BehindHead}

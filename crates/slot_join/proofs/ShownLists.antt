@@ -1,10 +1,10 @@
 -- Lists that one set of facts shows agree as far as both go.
-use Rattle.std.proofs.Common.{◌≡◌, ℕ, zero, suc, ◌+◌, ◌<◌, ◌≤◌, List, [], ◌∷◌, ◌++◌, length, get_or, take, drop, refl, sym, ap, subst, ◌∙◌, inl, inr, append_assoc, arith, length-append}
+use Rattle.std.proofs.Common.{◌≡◌, ℕ, zero, suc, ◌+◌, ◌<◌, ◌≤◌, List, [], ◌∷◌, ◌++◌, length, get_or, take, drop, refl, sym, ap, subst, ◌∙◌, inl, inr, append_assoc, arith}
 use Rattle.std.proofs.lemmas.Bool.{cases_lt}
 use Rattle.std.proofs.lemmas.List.{length-take-le, get_or-take, take-append-drop, ext_get_or, get_or_append_left, get_or_push, drop_more, length_push}
 use Rattle.call_values.specs.declared.alerts.Call.{Call}
 use Rattle.call_values.specs.Calls.{IsCall}
-use Rattle.call_grammar.specs.Spelling.{front, spell, end_of}
+use Rattle.call_grammar.specs.Spelling.{front, end_of}
 use Rattle.call_grammar.specs.Walk.{IsViable, IsOpen, after}
 use Rattle.slot_evidence.specs.Facts.{Facts, Symbols}
 use Rattle.slot_evidence.specs.Seen.{ShowsOne}

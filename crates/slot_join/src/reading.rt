@@ -1,8 +1,8 @@
-ghost use Rattle.std.specs.Prelude.{◌≡◌, ◌⊎◌, ◌<◌, ◌↔◌, IsTrue, length};
-ghost use Rattle.call_grammar.specs.Walk.{IsOpen};
+ghost use Rattle.std.specs.Prelude.{◌≡◌, ◌⊎◌, ◌<◌, ◌↔◌, IsTrue, true, length, [], ◌∷◌};
+ghost use Rattle.call_grammar.specs.Walk.{IsFormat, IsOpen};
 ghost use Rattle.slot_evidence.specs.Facts.{Facts};
 ghost use Rattle.slot_evidence.specs.Seen.{IsSeen, IsLawful, ShowsOne};
-ghost use Rattle.slot_evidence.specs.Sheet.{IsEnds};
+ghost use Rattle.slot_evidence.specs.Sheet.{IsEnds, seen_at};
 ghost use Rattle.slot_join.specs.Shown.{head_of, IsShown};
 ghost use Rattle.slot_join.specs.Answer as answers;
 ghost use Rattle.slot_join.specs.Answer.{IsAnswer, IsReported, IsStopped, BehindFormat};
@@ -52,14 +52,35 @@ fn behind_format(sheet: &Sheet, format: u8) -> Joined
         return Joined::Outside(0, format);
     };
     if needs_both(format) {
-        if sheet.at(0) == Seen::None {
-            return Joined::Missing(0);
-        }
-        if sheet.at(1) == Seen::None {
-            return Joined::Missing(1);
-        }
+        behind_both(sheet, format, walk)
+    } else {
+        follow(sheet, walk)
+    }
+}
+
+/// The answer where each of the two places must have shown this format specifier.
+fn behind_both(sheet: &Sheet, format: u8, walk: Walk) -> Joined
+    requires is_format { IsFormat format }
+    requires both { answers.needs_both format ≡ true }
+    requires taken { walk ≡ format ∷ format ∷ [] }
+    requires open { IsOpen walk }
+    ensures { (F : Facts) → IsEnds F sheet.now → ShowsOne (head_of F) format → BehindFormat F format result }
+{
+    if is_blank(sheet, 0) {
+        return Joined::Missing(0);
+    }
+    if is_blank(sheet, 1) {
+        return Joined::Missing(1);
     }
     follow(sheet, walk)
+}
+
+/// Whether this place showed nothing.
+fn is_blank(sheet: &Sheet, p: u8) -> bool
+    requires { p < 64 }
+    ensures { IsTrue result ↔ (seen_at sheet.now p ≡ Seen.None) }
+{
+    matches!(sheet.at(p), Seen::None)
 }
 
 /// The answer where the format specifier was taken: a call, or the first place where none goes on.

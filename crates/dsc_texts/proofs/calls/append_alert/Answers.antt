@@ -1,4 +1,4 @@
-use Rattle.std.proofs.Common.{append_assoc, refl}
+use Rattle.std.proofs.Common.{append_assoc}
 use Rattle.dsc_texts.specs.Texts.{alert_text}
 use Rattle.dsc_texts.proofs.calls.append_alert.Goals as goal
 

@@ -1,6 +1,4 @@
-use Rattle.std.proofs.Common.{◌≡◌, ◌+◌, ℕ, length, sym, ap, ◌∙◌, inl, inr, subst, arith}
-use Rattle.call_grammar.specs.Spelling.{front}
-use Rattle.call_grammar.specs.Walk.{after}
+use Rattle.std.proofs.Common.{◌+◌, ℕ, length, sym, ap, ◌∙◌, inl, inr, subst, arith}
 use Rattle.slot_evidence.specs.declared.places.Seen.TheVariants as seen
 use Rattle.slot_join.specs.Shown.{IsShown}
 use Rattle.slot_join.proofs.Stops.{seen_there, after_long, open_short, stops_missing, stops_differ, stops_outside, stops_check, reports, goes_on}
