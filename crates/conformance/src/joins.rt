@@ -139,7 +139,7 @@ const ROWS: [Row; 11] = [
         last: 52,
         lost: &[],
         other: &[(12, 120), (14, 120), (17, 120), (19, 120)],
-        want: "g0 outside 0 120\n",
+        want: "g0 outside 7 106\n",
         status: 1,
     },
 ];
