@@ -20,3 +20,4 @@ pub mod Fronts
 pub mod Readings
 pub mod Endings
 pub mod ReadBack
+pub mod Ends
