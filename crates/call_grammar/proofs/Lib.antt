@@ -21,3 +21,4 @@ pub mod Readings
 pub mod Endings
 pub mod ReadBack
 pub mod Characters
+pub mod Ends

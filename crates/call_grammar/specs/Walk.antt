@@ -2,7 +2,7 @@
 use Rattle.std.specs.Prelude.{◌≡◌, ℕ, ◌⊎◌, List, [], ◌∷◌, ◌++◌, drop}
 use Rattle.call_values.specs.declared.alerts.Call.{Call}
 use Rattle.call_values.specs.Calls.{IsCall}
-use Rattle.call_grammar.specs.Spelling.{spell, front, up_to_end, check_of}
+use Rattle.call_grammar.specs.Spelling.{spell, front, up_to_end, end_of, check_of}
 use Rattle.call_grammar.specs.declared.walking.Step.{Step}
 use Rattle.call_grammar.specs.declared.walking.Step.TheVariants.{More, Done, Outside, Check}
 
@@ -30,6 +30,12 @@ pub record IsAtCheck (l : List ℕ) : Type 0 where
   pub call : Call
   pub lawful : IsCall call
   pub list : l ≡ up_to_end call
+
+-- the next place is that of some call's first end of sequence
+pub record IsAtEnd (l : List ℕ) : Type 0 where
+  pub call : Call
+  pub lawful : IsCall call
+  pub list : up_to_end call ≡ l ++ (end_of call ∷ [])
 
 -- the list is some call's list up to its check
 pub record IsDone (l : List ℕ) : Type 0 where

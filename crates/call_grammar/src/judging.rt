@@ -1,7 +1,7 @@
-ghost use Rattle.std.specs.Prelude.{◌≡◌, ℕ, ◌<◌, List, ◌∷◌, ◌++◌, length, drop};
+ghost use Rattle.std.specs.Prelude.{◌≡◌, ◌↔◌, IsTrue, ℕ, ◌<◌, List, ◌∷◌, ◌++◌, length, drop};
 ghost use Rattle.call_values.specs.Calls.{IsCall};
 ghost use Rattle.call_grammar.specs.Spelling.{covered, check_of};
-ghost use Rattle.call_grammar.specs.Judging.{Judges};
+ghost use Rattle.call_grammar.specs.Judging.{Judges, IsCovered};
 
 use crate::forms::opened;
 use crate::walking::Step;
@@ -35,6 +35,18 @@ pub fn judge(list: &[u8]) -> Step
     match rest.first() {
         None => Step::More,
         Some(got) => compare(call, check(&once[..once.len() - rest.len()]), *got),
+    }
+}
+
+/// Whether the list, the format specifier standing twice, is all that stands before some call's check.
+pub fn is_covered(list: &[u8]) -> bool
+    requires { 0 < length list.now }
+    ensures { IsTrue result ↔ IsCovered (drop 1 list.now) }
+{
+    let mut reader = Reader::new(&list[1..]);
+    match opened(&mut reader) {
+        Ok(_) => reader.rest().is_empty(),
+        Err(_) => false,
     }
 }
 

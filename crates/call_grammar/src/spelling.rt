@@ -93,7 +93,8 @@ fn kind_end(kind: &Kind) -> u8
     }
 }
 
-fn append(list: &mut ArrayVec<u8, 64>, symbols: &[u8])
+/// Appends symbols for which there is room.
+pub fn append(list: &mut ArrayVec<u8, 64>, symbols: &[u8])
     requires { length list.old.items + length symbols.now ≤ 64 }
     ensures { list.new.items ≡ list.old.items ++ symbols.now }
 {

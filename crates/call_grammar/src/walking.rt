@@ -1,8 +1,9 @@
-ghost use Rattle.std.specs.Prelude.{◌≡◌, ◌<◌, []};
-ghost use Rattle.call_grammar.specs.Walk.{IsStep, IsDone};
-ghost use Rattle.call_grammar.specs.Judging.{is_taken};
+ghost use Rattle.std.specs.Prelude.{◌≡◌, ◌<◌, ◌≤◌, ◌↔◌, ◌++◌, ◌∷◌, IsTrue, [], drop, length};
+ghost use Rattle.call_grammar.specs.Walk.{IsStep, IsDone, IsAtEnd};
+ghost use Rattle.call_grammar.specs.Judging.{is_taken, IsCovered};
 
-use crate::judging::judge;
+use crate::judging::{is_covered, judge};
+use crate::spelling::append;
 use arrayvec::ArrayVec;
 use call_values::Call;
 use std::marker::Model;
@@ -78,4 +79,37 @@ impl Walk {
         }
         step
     }
+
+    /// Whether the next symbol is the call's first end of sequence.
+    pub fn wants_end(&self) -> bool
+        ensures { IsTrue result ↔ IsAtEnd self.now }
+    {
+        if self.ends_with(117) {
+            return true;
+        }
+        if self.ends_with(122) {
+            return true;
+        }
+        self.ends_with(127)
+    }
+
+    /// Whether the check of some call would follow this symbol.
+    fn ends_with(&self, end: u8) -> bool
+        ensures at_end { IsTrue result → IsAtEnd self.now }
+        ensures covered { IsCovered (drop 1 (self.now ++ end ∷ [])) → IsTrue result }
+    {
+        let list = followed(self.taken.as_slice(), end);
+        is_covered(list.as_slice())
+    }
+}
+
+/// The list and one more symbol.
+fn followed(list: &[u8], symbol: u8) -> ArrayVec<u8, 64>
+    requires { length list.now ≤ 60 }
+    ensures { result.items ≡ list.now ++ symbol ∷ [] }
+{
+    let mut longer = ArrayVec::new();
+    append(&mut longer, list);
+    append(&mut longer, &[symbol]);
+    longer
 }

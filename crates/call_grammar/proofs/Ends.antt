@@ -1,0 +1,110 @@
+-- Where the first end of sequence is next.
+use Rattle.std.proofs.Common.{◌≡◌, ℕ, ◌≤◌, ◌⊎◌, inl, inr, true, false, List, [], ◌∷◌, ◌++◌, length, drop, Err, refl, sym, ◌∙◌, ap, subst, append-nil, append_assoc, length-append, arith}
+use Rattle.symbol_reader.specs.declared.reading.Stop.{Stop}
+use Rattle.symbol_reader.specs.declared.reading.Stop.TheVariants.{Short, Outside}
+use Rattle.symbol_reader.specs.Reading.{Took, Outcome}
+use Rattle.symbol_reader.proofs.Laws.{no_word_goes_on}
+use Rattle.call_values.specs.declared.alerts.Call.{Call}
+use Rattle.call_values.specs.declared.alerts.Call.TheVariants.{Alert, Ack, Relay, RelayAck, AllShips, AreaCall, GroupCall, Individual, Service}
+use Rattle.call_values.specs.declared.choices.End.TheVariants.{Ask, Reply, Plain}
+use Rattle.call_values.specs.declared.parts.Kind.TheVariants.{Test, AskPosition, Position}
+use Rattle.call_grammar.specs.Spelling.{format_of, fields_of, end_of, covered, check_of, front}
+use Rattle.call_grammar.specs.Grammar.{Opened}
+use Rattle.call_grammar.specs.Walk.{IsDone, IsAtEnd}
+use Rattle.call_grammar.specs.Judging.{IsWalking, IsCovered}
+use Rattle.call_grammar.proofs.CallParts.{opened_good}
+use Rattle.call_grammar.proofs.Lengths.{walking_short, length-front}
+use Rattle.call_grammar.proofs.Steps.{heads, spelled, no_cover}
+
+-- what a walk has taken is short
+pub taken_short : (l : List ℕ) → (l ≡ []) ⊎ IsWalking l ⊎ IsDone l → length l ≤ 30
+taken_short l (inl e) = omega (arith, walking_short l (inl e))
+taken_short l (inr (inl w)) = omega (arith, walking_short l (inr w))
+taken_short l (inr (inr d)) = let k : length l ≡ length (front d.call) = ap length d.list in omega (arith, length-front d.call)
+
+-- what is read to its end is what a check covers
+pub read_covered : (l new : List ℕ) (v : Call) → Took Opened v l new → length new ≡ 0 → IsCovered l
+read_covered l [] v t n =
+    let w : t.front ≡ covered v = t.word.list in
+    record { call = v; lawful = t.word.is_lawful; list = t.list ∙ append-nil t.front ∙ w }
+read_covered l (x ∷ new) v t n = absurd (omega arith)
+
+pub none_left : (l new : List ℕ) (v : Call) → IsCovered l → Took Opened v l new → length new ≡ 0
+none_left l new v w t =
+    let c : Call = w.call in
+    let parts : covered c ++ [] ≡ t.front ++ new = append-nil (covered c) ∙ sym w.list ∙ t.list in
+    let same = opened_good.one c v (covered c) t.front [] new (spelled c w.lawful) t.word parts in
+    sym (ap length same.2)
+
+pub not_refused : (l new : List ℕ) (why : Stop) → IsCovered l → Outcome Opened l (Err why) new → ⊥
+not_refused l new Short w o =
+    let c : Call = w.call in
+    let s = o.wants in
+    no_word_goes_on Opened opened_good c s.value (covered c) s.next s.rest (spelled c w.lawful)
+    (subst (λ a. Opened s.value (a ++ (s.next ∷ s.rest))) w.list s.word)
+not_refused l new Outside w o =
+    let c : Call = w.call in
+    let list : covered c ≡ o.front ++ (o.next ∷ o.rest) = sym w.list ∙ o.list in
+    o.never (record { value = c; rest = o.rest; word = subst (Opened c) (list ∙ sym (append_assoc o.front (o.next ∷ []) o.rest)) (spelled c w.lawful) })
+
+-- the last symbols of two lists
+last_same : (a b : List ℕ) (x y : ℕ) → a ++ (x ∷ []) ≡ b ++ (y ∷ []) → x ≡ y
+last_same [] [] x y e = heads _ _ _ _ e
+last_same [] (z ∷ b) x y e =
+    let k : length (x ∷ []) ≡ length (z ∷ (b ++ (y ∷ []))) = ap length e in absurd (omega (arith, length-append b (y ∷ [])))
+last_same (z ∷ a) [] x y e =
+    let k : length (z ∷ (a ++ (x ∷ []))) ≡ length (y ∷ []) = ap length e in absurd (omega (arith, length-append a (x ∷ [])))
+last_same (z ∷ a) (u ∷ b) x y e = let k : a ++ (x ∷ []) ≡ b ++ (y ∷ []) = cc in last_same a b x y k
+
+-- where an end of sequence and then a check would follow what a walk has taken, the first end of sequence is next
+pub end_at : (l : List ℕ) (e : ℕ) → (l ≡ []) ⊎ IsWalking l ⊎ IsDone l → IsCovered (drop 1 (l ++ (e ∷ []))) → IsAtEnd l
+end_at l e (inl k) w =
+    let none : [] ≡ covered w.call = ap (λ a. drop 1 (a ++ (e ∷ []))) (sym k) ∙ w.list in
+    absurd (no_cover w.call none)
+end_at l e (inr (inl k)) w =
+    let c : Call = w.call in
+    let list : k.first ∷ (k.rest ++ (e ∷ [])) ≡ covered c = ap (λ a. drop 1 (a ++ (e ∷ []))) (sym k.list) ∙ w.list in
+    let format : k.first ≡ format_of c = heads _ _ _ _ list in
+    let whole : l ++ (e ∷ []) ≡ format_of c ∷ covered c =
+    ap (λ a. a ++ (e ∷ [])) k.list ∙ ap (λ a. k.first ∷ a) list ∙ ap (λ a. a ∷ covered c) format in
+    let same : end_of c ≡ e = last_same (format_of c ∷ format_of c ∷ fields_of c) l (end_of c) e (sym whole) in
+    record { call = c; lawful = w.lawful; list = sym whole ∙ ap (λ a. l ++ (a ∷ [])) (sym same) }
+end_at l e (inr (inr d)) w =
+    let c : Call = d.call in
+    let k : ℕ = check_of (covered c) in
+    let whole : (covered c ++ (k ∷ [])) ++ (e ∷ []) ≡ covered w.call = ap (λ a. drop 1 (a ++ (e ∷ []))) (sym d.list) ∙ w.list in
+    let parts : covered c ++ (k ∷ e ∷ []) ≡ covered w.call ++ [] =
+    sym (append_assoc (covered c) (k ∷ []) (e ∷ [])) ∙ whole ∙ sym (append-nil (covered w.call)) in
+    let same = opened_good.one c w.call (covered c) (covered w.call) (k ∷ e ∷ []) [] (spelled c d.lawful) (spelled w.call w.lawful) parts in
+    let none : k ∷ e ∷ [] ≡ [] = same.2 in
+    absurd (cc)
+
+end_known : (c : Call) → (end_of c ≡ 117) ⊎ (end_of c ≡ 122) ⊎ (end_of c ≡ 127)
+end_known (Alert k) = inr (inr refl)
+end_known (Ack from k) = inr (inr refl)
+end_known (Relay t from k true) = inl refl
+end_known (Relay t from k false) = inr (inr refl)
+end_known (RelayAck t from k) = inr (inl refl)
+end_known (AllShips g from s k f1 f2) = inr (inr refl)
+end_known (AreaCall a g from s k f1 f2) = inr (inr refl)
+end_known (GroupCall m g from s k f1 f2) = inr (inr refl)
+end_known (Individual m g from s k x Ask) = inl refl
+end_known (Individual m g from s k x Reply) = inr (inl refl)
+end_known (Individual m g from s k x Plain) = inr (inr refl)
+end_known (Service m g from (Test true)) = inr (inl refl)
+end_known (Service m g from (Test false)) = inl refl
+end_known (Service m g from AskPosition) = inl refl
+end_known (Service m g from (Position p t)) = inr (inl refl)
+
+covered_as : (l : List ℕ) (e : ℕ) (a : IsAtEnd l) → end_of a.call ≡ e → IsCovered (drop 1 (l ++ (e ∷ [])))
+covered_as l e a k =
+    let list : format_of a.call ∷ covered a.call ≡ l ++ (e ∷ []) = a.list ∙ ap (λ x. l ++ (x ∷ [])) k in
+    record { call = a.call; lawful = a.lawful; list = ap (λ x. drop 1 x) (sym list) }
+
+-- before the first end of sequence, one of the three would be followed by a check
+pub at_end : (l : List ℕ) → IsAtEnd l
+    → IsCovered (drop 1 (l ++ (117 ∷ []))) ⊎ IsCovered (drop 1 (l ++ (122 ∷ []))) ⊎ IsCovered (drop 1 (l ++ (127 ∷ [])))
+at_end l a = elim (end_known a.call) [
+  | inl k ↦ inl (covered_as l 117 a k)
+  | inr h ↦ elim h [ inl k ↦ inr (inl (covered_as l 122 a k)) | inr k ↦ inr (inr (covered_as l 127 a k)) ]
+]
