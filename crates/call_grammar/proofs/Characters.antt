@@ -106,9 +106,11 @@ of_second : (n : ℕ) → IsSecond n → n < 128
 of_second n lawful = grind (arith, lawful)
 
 of_request : (g : Category) (from first second : ℕ) (m : Message) → IsMmsi from → IsRequest first second m → AreCharacters (request_symbols g from first second m)
-of_request g from first second m mmsi lawful =
-    (of_category g, both (identity_symbols from) (first ∷ second ∷ message_symbols m) (of_identity from mmsi)
-      (of_first first lawful.one, (of_second second lawful.two, of_message m lawful.told)))
+of_request g from first second m mmsi lawful = (
+  of_category g,
+  both (identity_symbols from) (first ∷ second ∷ message_symbols m) (of_identity from mmsi)
+      (of_first first lawful.one, (of_second second lawful.two, of_message m lawful.told)),
+)
 
 of_blanks : (n : ℕ) → AreCharacters (blanks n)
 of_blanks zero = tt
