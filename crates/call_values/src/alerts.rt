@@ -39,7 +39,10 @@ pub enum Call {
     /// A distress alert. Its sender is the casualty.
     Alert(Casualty),
     /// A coast station's acknowledgement of a distress alert, to all ships.
-    Ack { from: Mmsi, casualty: Casualty },
+    Ack {
+        from: Mmsi,
+        casualty: Casualty,
+    },
     /// A distress alert told on by another station, which may ask for an acknowledgement.
     Relay {
         to: To,
@@ -110,7 +113,10 @@ impl Call {
             Call::Alert(casualty) => casualty.lawful(),
             Call::Ack { from, casualty } => lawful_relay(&To::All, from, casualty),
             Call::Relay {
-                to, from, casualty, ..
+                to,
+                from,
+                casualty,
+                ..
             }
             | Call::RelayAck { to, from, casualty } => lawful_relay(to, from, casualty),
             Call::AllShips {

@@ -64,10 +64,7 @@ impl Letter {
 fn is_first(symbol: u8) -> bool
     ensures { IsTrue result ↔ Allows Letter.First symbol }
 {
-    matches!(
-        symbol,
-        100 | 101 | 103 | 104 | 106 | 109 | 113 | 115 | 126
-    )
+    matches!(symbol, 100 | 101 | 103 | 104 | 106 | 109 | 113 | 115 | 126)
 }
 
 fn is_field(symbol: u8) -> bool
