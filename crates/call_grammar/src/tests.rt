@@ -76,18 +76,21 @@ fn is_read_back(list: &[u8]) -> bool {
     }
 }
 
-/// Whether a walk through the list wants the first end of sequence once.
+/// Whether a walk through the list wants the first end of sequence once, and then meets one.
 fn is_end_wanted_once(list: &[u8]) -> bool {
     open_is_not_done();
     let mut walk = Walk::start();
-    let mut ends = 0;
+    let mut was_wanted = false;
     for symbol in list.iter().skip(1) {
         if walk.wants_end() {
-            ends += 1;
+            if was_wanted || !matches!(symbol, 117 | 122 | 127) {
+                return false;
+            }
+            was_wanted = true;
         }
         match walk.take(*symbol % 128) {
             Step::More => {}
-            step => return matches!(step, Step::Done(_)) && ends == 1 && !walk.wants_end(),
+            step => return matches!(step, Step::Done(_)) && was_wanted && !walk.wants_end(),
         }
     }
     false
