@@ -14,10 +14,10 @@ use Rattle.line_grammar.proofs.Munching.{has, some_byte, no_token}
 use Rattle.line_grammar.proofs.Fields.{follows}
 use Rattle.line_grammar.proofs.Grammars.{reads}
 
--- one of these grammars has this line
+-- one of these grammars is sound and has this line
 AnyLine : List Grammar → List ℕ → Type 0
 AnyLine [] bytes = ⊥
-AnyLine (G ∷ grammars) bytes = ((parts : Parts) × Spells G parts bytes) ⊎ AnyLine grammars bytes
+AnyLine (G ∷ grammars) bytes = ((parts : Parts) × Spells G parts bytes × (is_sound G ≡ true)) ⊎ AnyLine grammars bytes
 
 any_left : (a b : List Grammar) (bytes : List ℕ) → AnyLine a bytes → AnyLine (a ++ b) bytes
 unfolding AnyLine
@@ -31,45 +31,48 @@ any_right [] b bytes h = h
 any_right (G ∷ a) b bytes h = inr (any_right a b bytes h)
 
 -- what follows a byte is cut
-cut_word : (c d : ℕ) (text back s : List ℕ) (rest : Grammar) (parts : Parts) (t : Bool) → (c == d) ≡ t → c ∷ s ≡ d ∷ (text ++ back) → Spells rest parts back
+cut_word : (c d : ℕ) (text back s : List ℕ) (rest : Grammar) (parts : Parts) (t : Bool) → (c == d) ≡ t → c ∷ s ≡ d ∷ (text ++ back) → Spells rest parts back → is_sound rest ≡ true
     → AnyLine (if t then word text rest ∷ [] else []) s
 unfolding AnyLine
-cut_word c d text back s rest parts true e k h = inl (parts, (back, (cc), h))
-cut_word c d text back s rest parts false e k h =
+cut_word c d text back s rest parts true e k h sound = inl (parts, (back, (cc), h), sound)
+cut_word c d text back s rest parts false e k h sound =
     let same : c ≡ d = cc in
     let yes = eq-eqb c d same in
     absurd (cc)
 
 cut_token : (s : List ℕ) (t : Bool) → t ≡ true → AnyLine (if t then anything ∷ [] else []) s
 unfolding AnyLine
-cut_token s true e = inl (none, tt)
+cut_token s true e = inl (none, tt, refl)
 cut_token s false e = absurd (cc)
 
-cut_line : (c : ℕ) (G : Grammar) (parts : Parts) (s : List ℕ) → Spells G parts (c ∷ s) → AnyLine (cut c G) s
+token_sound : (token : Token) (rest : Grammar) → is_sound (field token rest) ≡ true → is_some_token token ≡ true
+token_sound token rest sound = (and_parts (is_some_token token) (may_follow token rest && is_sound rest) sound).0
+
+cut_line : (c : ℕ) (G : Grammar) (parts : Parts) (s : List ℕ) → is_sound G ≡ true → Spells G parts (c ∷ s) → AnyLine (cut c G) s
 unfolding AnyLine
-cut_line c finish none s h = absurd (cc)
-cut_line c finish (part a b) s h = absurd h
-cut_line c finish (first a) s h = absurd h
-cut_line c finish (second a) s h = absurd h
-cut_line c anything none s h = inl (none, tt)
-cut_line c anything (part a b) s h = absurd h
-cut_line c anything (first a) s h = absurd h
-cut_line c anything (second a) s h = absurd h
-cut_line c (word [] rest) parts s h = cut_line c rest parts s (subst (λ (l : List ℕ). Spells rest parts l) (sym h.1) h.2)
-cut_line c (word (d ∷ text) rest) parts s h = cut_word c d text h.0 s rest parts (c == d) refl h.1 h.2
-cut_line c (field token rest) (part front parts) s h = cut_token s (may_have token c) (some_byte token front h.1.0 c s h.0 h.1.1)
-cut_line c (field token rest) none s h = absurd h
-cut_line c (field token rest) (first a) s h = absurd h
-cut_line c (field token rest) (second a) s h = absurd h
-cut_line c (either left right) (first parts) s h = any_left (cut c left) (cut c right) s (cut_line c left parts s h)
-cut_line c (either left right) (second parts) s h = any_right (cut c left) (cut c right) s (cut_line c right parts s h)
-cut_line c (either left right) none s h = absurd h
-cut_line c (either left right) (part a b) s h = absurd h
+cut_line c finish none s sound h = absurd (cc)
+cut_line c finish (part a b) s sound h = absurd h
+cut_line c finish (first a) s sound h = absurd h
+cut_line c finish (second a) s sound h = absurd h
+cut_line c anything none s sound h = inl (none, tt, refl)
+cut_line c anything (part a b) s sound h = absurd h
+cut_line c anything (first a) s sound h = absurd h
+cut_line c anything (second a) s sound h = absurd h
+cut_line c (word [] rest) parts s sound h = cut_line c rest parts s sound (subst (λ (l : List ℕ). Spells rest parts l) (sym h.1) h.2)
+cut_line c (word (d ∷ text) rest) parts s sound h = cut_word c d text h.0 s rest parts (c == d) refl h.1 h.2 sound
+cut_line c (field token rest) (part front parts) s sound h = cut_token s (may_have token c) (some_byte token front h.1.0 c s (token_sound token rest sound) h.0 h.1.1)
+cut_line c (field token rest) none s sound h = absurd h
+cut_line c (field token rest) (first a) s sound h = absurd h
+cut_line c (field token rest) (second a) s sound h = absurd h
+cut_line c (either left right) (first parts) s sound h = any_left (cut c left) (cut c right) s (cut_line c left parts s (and_parts (is_sound left) (is_sound right) sound).0 h)
+cut_line c (either left right) (second parts) s sound h = any_right (cut c left) (cut c right) s (cut_line c right parts s (and_parts (is_sound left) (is_sound right) sound).1 h)
+cut_line c (either left right) none s sound h = absurd h
+cut_line c (either left right) (part a b) s sound h = absurd h
 
 cut_lines : (c : ℕ) (grammars : List Grammar) (s : List ℕ) → AnyLine grammars (c ∷ s) → AnyLine (flat_map (cut c) grammars) s
 unfolding AnyLine
 cut_lines c [] s h = absurd h
-cut_lines c (G ∷ grammars) s (inl h) = any_left (cut c G) (flat_map (cut c) grammars) s (cut_line c G h.0 s h.1)
+cut_lines c (G ∷ grammars) s (inl h) = any_left (cut c G) (flat_map (cut c) grammars) s (cut_line c G h.0 s h.2 h.1)
 cut_lines c (G ∷ grammars) s (inr h) = any_right (cut c G) (flat_map (cut c) grammars) s (cut_lines c grammars s h)
 
 cut_text : (text : List ℕ) (grammars : List Grammar) (s : List ℕ) → AnyLine grammars (text ++ s) → AnyLine (cut_all text grammars) s
@@ -77,24 +80,24 @@ cut_text [] grammars s h = h
 cut_text (c ∷ text) grammars s h = cut_text text (flat_map (cut c) grammars) s (cut_lines c grammars (text ++ s) h)
 
 -- a line that ends at once
-ends_at_once : (G : Grammar) (parts : Parts) → Spells G parts [] → may_end G ≡ true
-ends_at_once finish parts h = refl
-ends_at_once anything parts h = refl
-ends_at_once (word [] rest) parts h = ends_at_once rest parts (subst (λ (l : List ℕ). Spells rest parts l) (sym h.1) h.2)
-ends_at_once (word (c ∷ text) rest) parts h = let e : [] ≡ c ∷ (text ++ h.0) = h.1 in absurd (cc)
-ends_at_once (field token rest) (part front parts) h = absurd (no_token token front h.1.0 h.0 h.1.1)
-ends_at_once (field token rest) none h = absurd h
-ends_at_once (field token rest) (first a) h = absurd h
-ends_at_once (field token rest) (second a) h = absurd h
-ends_at_once (either left right) (first parts) h = or_left (may_end left) (may_end right) (ends_at_once left parts h)
-ends_at_once (either left right) (second parts) h = or_right (may_end left) (may_end right) (ends_at_once right parts h)
-ends_at_once (either left right) none h = absurd h
-ends_at_once (either left right) (part a b) h = absurd h
+ends_at_once : (G : Grammar) (parts : Parts) → is_sound G ≡ true → Spells G parts [] → may_end G ≡ true
+ends_at_once finish parts sound h = refl
+ends_at_once anything parts sound h = refl
+ends_at_once (word [] rest) parts sound h = ends_at_once rest parts sound (subst (λ (l : List ℕ). Spells rest parts l) (sym h.1) h.2)
+ends_at_once (word (c ∷ text) rest) parts sound h = let e : [] ≡ c ∷ (text ++ h.0) = h.1 in absurd (cc)
+ends_at_once (field token rest) (part front parts) sound h = absurd (no_token token front h.1.0 (token_sound token rest sound) h.0 h.1.1)
+ends_at_once (field token rest) none sound h = absurd h
+ends_at_once (field token rest) (first a) sound h = absurd h
+ends_at_once (field token rest) (second a) sound h = absurd h
+ends_at_once (either left right) (first parts) sound h = or_left (may_end left) (may_end right) (ends_at_once left parts (and_parts (is_sound left) (is_sound right) sound).0 h)
+ends_at_once (either left right) (second parts) sound h = or_right (may_end left) (may_end right) (ends_at_once right parts (and_parts (is_sound left) (is_sound right) sound).1 h)
+ends_at_once (either left right) none sound h = absurd h
+ends_at_once (either left right) (part a b) sound h = absurd h
 
 any_ends : (grammars : List Grammar) → AnyLine grammars [] → list_any may_end grammars ≡ true
 unfolding AnyLine
 any_ends [] h = absurd h
-any_ends (G ∷ grammars) (inl h) = or_left (may_end G) (list_any may_end grammars) (ends_at_once G h.0 h.1)
+any_ends (G ∷ grammars) (inl h) = or_left (may_end G) (list_any may_end grammars) (ends_at_once G h.0 h.2 h.1)
 any_ends (G ∷ grammars) (inr h) = or_right (may_end G) (list_any may_end grammars) (any_ends grammars h)
 
 any_follows : (token : Token) (grammars : List Grammar) (c : ℕ) (s : List ℕ) → list_all (may_follow token) grammars ≡ true → AnyLine grammars (c ∷ s) → may_have token c ≡ false
@@ -104,34 +107,34 @@ any_follows token (G ∷ grammars) c s h (inl k) = follows token G k.0 c s (and_
 any_follows token (G ∷ grammars) c s h (inr k) = any_follows token grammars c s (and_parts (may_follow token G) (list_all (may_follow token) grammars) h).1 k
 
 -- grammars that differ have no line in common
-token_differs : (token : Token) (grammars : List Grammar) (front back s : List ℕ) → list_all (may_follow token) grammars ≡ true → IsToken token front → s ≡ front ++ back → AnyLine grammars s → ⊥
-token_differs token grammars front back [] h is e k = no_token token front back is e
-token_differs token grammars front back (c ∷ s) h is e k =
+token_differs : (token : Token) (grammars : List Grammar) (front back s : List ℕ) → is_some_token token ≡ true → list_all (may_follow token) grammars ≡ true → IsToken token front → s ≡ front ++ back → AnyLine grammars s → ⊥
+token_differs token grammars front back [] some h is e k = no_token token front back some is e
+token_differs token grammars front back (c ∷ s) some h is e k =
     let no = any_follows token grammars c s h k in
-    let yes = some_byte token front back c s is e in
+    let yes = some_byte token front back c s some is e in
     absurd (cc)
 
-differ : (G : Grammar) (grammars : List Grammar) (parts : Parts) (s : List ℕ) → differs G grammars ≡ true → Spells G parts s → AnyLine grammars s → ⊥
+differ : (G : Grammar) (grammars : List Grammar) (parts : Parts) (s : List ℕ) → is_sound G ≡ true → differs G grammars ≡ true → Spells G parts s → AnyLine grammars s → ⊥
 unfolding AnyLine
-differ finish grammars none s h k m =
+differ finish grammars none s sound h k m =
     let no = not-true (list_any may_end grammars) h in
     let yes = any_ends grammars (subst (λ (l : List ℕ). AnyLine grammars l) k m) in
     absurd (cc)
-differ finish grammars (part a b) s h k m = absurd k
-differ finish grammars (first a) s h k m = absurd k
-differ finish grammars (second a) s h k m = absurd k
-differ anything [] parts s h k m = absurd m
-differ anything (other ∷ grammars) parts s h k m = absurd (cc)
-differ (word text rest) grammars parts s h k m =
-    differ rest (cut_all text grammars) parts k.0 h k.2 (cut_text text grammars k.0 (subst (λ (l : List ℕ). AnyLine grammars l) k.1 m))
-differ (field token rest) grammars (part front parts) s h k m = token_differs token grammars front k.1.0 s h k.0 k.1.1 m
-differ (field token rest) grammars none s h k m = absurd k
-differ (field token rest) grammars (first a) s h k m = absurd k
-differ (field token rest) grammars (second a) s h k m = absurd k
-differ (either left right) grammars (first parts) s h k m = differ left grammars parts s (and_parts (differs left grammars) (differs right grammars) h).0 k m
-differ (either left right) grammars (second parts) s h k m = differ right grammars parts s (and_parts (differs left grammars) (differs right grammars) h).1 k m
-differ (either left right) grammars none s h k m = absurd k
-differ (either left right) grammars (part a b) s h k m = absurd k
+differ finish grammars (part a b) s sound h k m = absurd k
+differ finish grammars (first a) s sound h k m = absurd k
+differ finish grammars (second a) s sound h k m = absurd k
+differ anything [] parts s sound h k m = absurd m
+differ anything (other ∷ grammars) parts s sound h k m = absurd (cc)
+differ (word text rest) grammars parts s sound h k m =
+    differ rest (cut_all text grammars) parts k.0 sound h k.2 (cut_text text grammars k.0 (subst (λ (l : List ℕ). AnyLine grammars l) k.1 m))
+differ (field token rest) grammars (part front parts) s sound h k m = token_differs token grammars front k.1.0 s (token_sound token rest sound) h k.0 k.1.1 m
+differ (field token rest) grammars none s sound h k m = absurd k
+differ (field token rest) grammars (first a) s sound h k m = absurd k
+differ (field token rest) grammars (second a) s sound h k m = absurd k
+differ (either left right) grammars (first parts) s sound h k m = differ left grammars parts s (and_parts (is_sound left) (is_sound right) sound).0 (and_parts (differs left grammars) (differs right grammars) h).0 k m
+differ (either left right) grammars (second parts) s sound h k m = differ right grammars parts s (and_parts (is_sound left) (is_sound right) sound).1 (and_parts (differs left grammars) (differs right grammars) h).1 k m
+differ (either left right) grammars none s sound h k m = absurd k
+differ (either left right) grammars (part a b) s sound h k m = absurd k
 
 -- two tokens at the front of a line are one
 same_token : (token : Token) (rest : Grammar) (a r b s t : List ℕ) (q : Parts) → may_follow token rest ≡ true → IsToken token a → Spells rest q s → a ≡ b ++ t → s ≡ t ++ r → (a ≡ b) × (r ≡ s)
@@ -148,9 +151,11 @@ one_token token rest a r b s p q h is_a is_b k m e =
       | inr x ↦ (let y = same_token token rest b s a r (x.0 ∷ x.1) p h is_b k x.2 x.3 in (sym y.0, sym y.1))
     ]
 
-either_apart : (left right : Grammar) (p q : Parts) (s : List ℕ) → differs left (right ∷ []) ≡ true → Spells left p s → Spells right q s → ⊥
+either_apart : (left right : Grammar) (p q : Parts) (s : List ℕ) → is_sound (either left right) ≡ true → differs left (right ∷ []) ≡ true → Spells left p s → Spells right q s → ⊥
 unfolding AnyLine
-either_apart left right p q s h k m = differ left (right ∷ []) p s h k (inl (q, m))
+either_apart left right p q s sound h k m =
+    let both = and_parts (is_sound left) (is_sound right) sound in
+    differ left (right ∷ []) p s both.0 h k (inl (q, m, both.1))
 
 -- one reading
 pub one_reading : (G : Grammar) (p q : Parts) (s : List ℕ) → is_sound G ≡ true → is_plain G ≡ true → Spells G p s → Spells G q s → p ≡ q
@@ -172,9 +177,9 @@ one_reading (either left right) (second p) (second q) s h k a b =
     let plain = and_parts (differs left (right ∷ [])) (is_plain left && is_plain right) k in
     ap second (one_reading right p q s (and_parts (is_sound left) (is_sound right) h).1 (and_parts (is_plain left) (is_plain right) plain.1).1 a b)
 one_reading (either left right) (first p) (second q) s h k a b =
-    absurd (either_apart left right p q s (and_parts (differs left (right ∷ [])) (is_plain left && is_plain right) k).0 a b)
+    absurd (either_apart left right p q s h (and_parts (differs left (right ∷ [])) (is_plain left && is_plain right) k).0 a b)
 one_reading (either left right) (second p) (first q) s h k a b =
-    absurd (either_apart left right q p s (and_parts (differs left (right ∷ [])) (is_plain left && is_plain right) k).0 b a)
+    absurd (either_apart left right q p s h (and_parts (differs left (right ∷ [])) (is_plain left && is_plain right) k).0 b a)
 one_reading finish none (part a b) s h k x y = absurd y
 one_reading finish none (first a) s h k x y = absurd y
 one_reading finish none (second a) s h k x y = absurd y

@@ -4,8 +4,15 @@ pub mod Splits
 pub mod Tokens
 pub mod Numbers
 pub mod DigitSteps
+pub mod ShapesNumerals
+pub mod Digits
+pub mod ShapesReading
+pub mod ShapesPairs
+pub mod Shapes
 pub mod Munching
 pub mod Fields
 pub mod Grammars
 pub mod Steps
 pub mod Apart
+pub mod Written
+pub mod NumeralSteps

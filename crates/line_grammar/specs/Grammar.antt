@@ -28,3 +28,20 @@ Spells (field token rest) (part front parts) bytes =
 Spells (either left right) (first parts) bytes = Spells left parts bytes
 Spells (either left right) (second parts) bytes = Spells right parts bytes
 Spells _ _ bytes = ⊥
+
+-- the parts are those of a line, each token as itself
+abbrev pub AreParts : Grammar → Parts → Type 0
+AreParts finish none = Unit {0}
+AreParts (word text rest) parts = AreParts rest parts
+AreParts (field token rest) (part front parts) = IsToken token front × AreParts rest parts
+AreParts (either left right) (first parts) = AreParts left parts
+AreParts (either left right) (second parts) = AreParts right parts
+AreParts _ _ = ⊥
+
+-- the line that is written of these parts
+abbrev pub written : Grammar → Parts → List ℕ
+written (word text rest) parts = text ++ written rest parts
+written (field token rest) (part front parts) = front ++ written rest parts
+written (either left right) (first parts) = written left parts
+written (either left right) (second parts) = written right parts
+written _ _ = []

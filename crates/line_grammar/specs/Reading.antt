@@ -1,8 +1,15 @@
 -- The plain reader of a grammar: it answers with the parts, or with how many bytes are left at the fault.
-use Rattle.std.specs.Prelude.{ℕ, ◌+◌, ◌-◌, ◌*◌, min, zero, suc, Bool, ◌&&◌, nat_le, ◌==◌, if◌then◌else◌, List, [], ◌∷◌, ◌++◌, length, take, drop, Result, Ok, Err}
-use Rattle.std.specs.List.{prefix_len}
-use Rattle.line_grammar.specs.Tokens.{Token, run, number, is_one_of, is_digit}
+use Rattle.std.specs.Prelude.{ℕ, ◌+◌, ◌-◌, ◌*◌, ◌/◌, ◌^◌, min, zero, suc, Bool, ◌&&◌, nat_le, ◌==◌, if◌then◌else◌, List, [], ◌∷◌, ◌++◌, length, take, drop, Result, Ok, Err}
+use Rattle.std.specs.List.{prefix_len, list_any}
+use Rattle.line_grammar.specs.Shapes.{Shape, letters, numeral, pair, choice}
+use Rattle.line_grammar.specs.Tokens.{Token, run, number, shaped, is_one_of, is_digit}
 use Rattle.line_grammar.specs.Grammar.{Grammar, finish, anything, word, field, either, Parts, none, part, first, second}
+
+-- of two answers the one that is no fault, or the further fault
+abbrev pub further : {A : Type 0} → Result A ℕ → Result A ℕ → Result A ℕ
+further (Ok value) other = Ok value
+further (Err left) (Ok value) = Ok value
+further (Err left) (Err right) = Err (min left right)
 
 -- the end of a line
 unfoldable pub ended : List ℕ → Result Parts ℕ
@@ -51,12 +58,47 @@ read_number least most (b ∷ bytes) =
     then judged_zero least bytes
     else (if is_digit b && goes_on least most (b - 48) then read_digits least most (b - 48) (b ∷ []) bytes else Err (suc (length bytes)))
 
+-- a shape's bytes with these in front of them
+abbrev pub behind : List ℕ → Result (List ℕ × List ℕ) ℕ → Result (List ℕ × List ℕ) ℕ
+behind bytes (Ok (front, back)) = Ok (bytes ++ front, back)
+behind bytes (Err left) = Err left
+
+-- what follows letters, with the letters
+abbrev pub and_letters : List ℕ → Result (List ℕ) ℕ → Result (List ℕ × List ℕ) ℕ
+and_letters text (Ok back) = Ok (text, back)
+and_letters text (Err left) = Err left
+
+-- some number of these ranges has so many digits more behind those of this one
+unfoldable pub fits : (more : ℕ) → (ranges : List (ℕ × ℕ)) → ℕ → Bool
+fits more ranges n = list_any (λ range. nat_le (range.0 / 10 ^ more) n && nat_le n (range.1 / 10 ^ more)) ranges
+
+-- the digits of a number behind those of this one
+unfoldable pub read_numeral : (width : ℕ) → (ranges : List (ℕ × ℕ)) → ℕ → List ℕ → Result (List ℕ × List ℕ) ℕ
+read_numeral zero ranges n bytes = Ok ([], bytes)
+read_numeral (suc more) ranges n [] = Err 0
+read_numeral (suc more) ranges n (b ∷ bytes) =
+    let next = 10 * n + (b - 48) in
+    if is_digit b && fits more ranges next then behind (b ∷ []) (read_numeral more ranges next bytes) else Err (suc (length bytes))
+
+-- the second of two shapes, behind the first
+abbrev pub and_shape : Result (List ℕ × List ℕ) ℕ → (List ℕ → Result (List ℕ × List ℕ) ℕ) → Result (List ℕ × List ℕ) ℕ
+and_shape (Ok (front, back)) right = behind front (right back)
+and_shape (Err left) right = Err left
+
+-- a shape's bytes at the front, and what follows them
+unfoldable pub read_shape : Shape → List ℕ → Result (List ℕ × List ℕ) ℕ
+read_shape (letters text) bytes = and_letters text (after text bytes)
+read_shape (numeral width ranges) bytes = read_numeral width ranges 0 bytes
+read_shape (pair left right) bytes = and_shape (read_shape left bytes) (read_shape right)
+read_shape (choice left right) bytes = further (read_shape left bytes) (read_shape right bytes)
+
 -- a token's bytes at the front, as far as it goes, and what follows them
 unfoldable pub read_token : Token → List ℕ → Result (List ℕ × List ℕ) ℕ
 read_token (run signs) bytes =
     let n = prefix_len (is_one_of signs) bytes in
     if n == 0 then Err (length bytes) else Ok (take n bytes, drop n bytes)
 read_token (number least most) bytes = read_number least most bytes
+read_token (shaped shape) bytes = read_shape shape bytes
 
 -- the rest of a line behind a word
 abbrev pub and_then : Result (List ℕ) ℕ → (List ℕ → Result Parts ℕ) → Result Parts ℕ
@@ -72,12 +114,6 @@ named name (Err left) = Err left
 abbrev pub and_part : Result (List ℕ × List ℕ) ℕ → (List ℕ → Result Parts ℕ) → Result Parts ℕ
 and_part (Ok (front, back)) rest = named (part front) (rest back)
 and_part (Err left) rest = Err left
-
--- of two answers the one that has parts, or the further fault
-abbrev pub further : Result Parts ℕ → Result Parts ℕ → Result Parts ℕ
-further (Ok parts) other = Ok parts
-further (Err left) (Ok parts) = Ok parts
-further (Err left) (Err right) = Err (min left right)
 
 -- the reader of a grammar
 unfoldable pub read : Grammar → List ℕ → Result Parts ℕ

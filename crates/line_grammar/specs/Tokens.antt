@@ -1,6 +1,7 @@
 -- Tokens: parts of a line that are read as far as they go. This project's profile.
 use Rattle.std.specs.Prelude.{◌≡◌, ◌≢◌, ℕ, ◌+◌, ◌-◌, ◌*◌, ◌≤◌, Bool, true, ◌&&◌, ◌==◌, nat_le, List, [], ◌∷◌}
 use Rattle.std.specs.List.{list_any, list_all}
+use Rattle.line_grammar.specs.Shapes.{Shape, IsShaped}
 
 -- a test of bytes: whether it is one of these
 abbrev pub is_one_of : List ℕ → ℕ → Bool
@@ -28,12 +29,14 @@ pub record IsNumber (least most : ℕ) (bytes : List ℕ) : Type 0 where
   pub low : least ≤ value_after 0 bytes
   pub high : value_after 0 bytes ≤ most
 
--- a token: one or more of these bytes, or a number from the first to the second
+-- a token: one or more of these bytes, a number from the first to the second, or what has this shape
 pub data Token : Type 0 where
   run : List ℕ → Token
   number : ℕ → ℕ → Token
+  shaped : Shape → Token
 
 -- which bytes are a token
 abbrev pub IsToken : Token → List ℕ → Type 0
 IsToken (run signs) bytes = (bytes ≢ []) × (list_all (is_one_of signs) bytes ≡ true)
 IsToken (number least most) bytes = IsNumber least most bytes
+IsToken (shaped shape) bytes = IsShaped shape bytes

@@ -3,8 +3,10 @@
 
 mod decimal;
 mod laws;
+mod numerals;
 mod reading;
 
 pub use decimal::number;
-pub use laws::grammars_are_read;
+pub use laws::{grammars_are_read, written_lines_are_read};
+pub use numerals::numeral;
 pub use reading::{column, end, run, word};

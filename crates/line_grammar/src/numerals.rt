@@ -1,0 +1,76 @@
+ghost use Rattle.std.specs.Prelude.{◌≡◌, ℕ, ◌+◌, ◌-◌, ◌*◌, ◌<◌, ◌≤◌, ◌^◌, ◌&&◌, true, false, IfOk, IfErr, MatchOption, Ok, Err};
+ghost use Rattle.line_grammar.specs.Shapes as shape;
+ghost use Rattle.line_grammar.specs.Shapes.{digits, is_within};
+ghost use Rattle.line_grammar.specs.Tokens.{is_digit};
+ghost use Rattle.line_grammar.specs.Reading.{fits, read_shape};
+ghost use Rattle.line_grammar.specs.Soundness.{are_ranges};
+
+/// Ten to this power.
+fn power_of_ten(exponent: usize) -> u64
+    requires { exponent ≤ 10 }
+    ensures power { result ≡ 10 ^ exponent }
+    ensures positive { 0 < result }
+{
+    10u64.pow(exponent as u32)
+}
+
+/// Whether some number of these ranges has so many digits more behind those of this one.
+#[tactic(auto, unfolding(crate::specs::Reading::fits))]
+fn goes_on(more: usize, ranges: &[(u64, u64)], number: u64) -> bool
+    requires { more ≤ 10 }
+    ensures { result ≡ fits more ranges.now number }
+{
+    let power = power_of_ten(more);
+    ranges.iter().any(|range| range.0 / power <= number && number <= range.1 / power)
+}
+
+/// The number with this digit more, where some number of these ranges has so many digits behind them.
+fn with_digit(more: usize, ranges: &[(u64, u64)], number: u64, byte: u8) -> Option<u64>
+    requires more { more ≤ 10 }
+    requires number { number < 2 ^ 60 }
+    ensures { MatchOption result
+        ((is_digit byte && fits more ranges.now (10 * number + (byte - 48))) ≡ false)
+        (λ next. (next ≡ 10 * number + (byte - 48)) × ((is_digit byte && fits more ranges.now next) ≡ true)) }
+{
+    if !byte.is_ascii_digit() {
+        return None;
+    }
+    let next = 10 * number + u64::from(byte - b'0');
+    if goes_on(more, ranges, next) {
+        Some(next)
+    } else {
+        None
+    }
+}
+
+/// A number of these ranges in so many digits at the front of these bytes, and what follows it. An error is how many
+/// bytes are left where no such number goes on.
+pub fn numeral<'a>(
+    width: usize,
+    ranges: &[(u64, u64)],
+    bytes: &'a [u8],
+) -> Result<(u64, &'a [u8]), usize>
+    requires width { width ≤ 10 }
+    requires ranges { are_ranges width ranges.now ≡ true }
+    ensures number { IfOk result (λ parts. (is_within ranges.now parts.0 ≡ true) × (read_shape (shape.numeral width ranges.now) bytes.now ≡ Ok (digits width parts.0, parts.1.now))) }
+    ensures left { IfErr result (λ left. read_shape (shape.numeral width ranges.now) bytes.now ≡ Err left) }
+{
+    let mut number = 0;
+    let mut rest = bytes;
+    let mut more = width;
+    while more > 0 {
+        more -= 1;
+        let Some((byte, back)) = rest.split_first() else {
+            return Err(0);
+        };
+        let Some(next) = with_digit(more, ranges, number, *byte) else {
+            return Err(rest.len());
+        };
+        number = next;
+        rest = back;
+    }
+    Ok((number, rest))
+}
+
+#[cfg(test)]
+mod tests;
