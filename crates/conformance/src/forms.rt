@@ -1,5 +1,5 @@
 use call_grammar::{ReadRefusal, read, spell};
-use dsc_texts::put_call;
+use dsc_texts::{put_call, read_call};
 use slot_join::Extra;
 
 // Calls of every form and to every address: the text, and the list that the table of forms gives by hand.
@@ -199,6 +199,33 @@ fn every_form_and_address(rt: HostRuntime) {
             text.as_bytes(),
             "{text}"
         );
+        assert_eq!(rt; read_call(text.as_bytes()), Ok(call), "{text}");
+    }
+}
+
+// Texts that are no call's, and the column: the least n for which their first n bytes begin no call's text.
+const FAULTS: [(&str, usize); 15] = [
+    ("", 1),
+    ("x", 1),
+    ("al", 3),
+    ("alx", 3),
+    ("alert from=338040079 nature=111 pos=1423108312 time=2019 then=100", 31),
+    ("alert from=338040079 nature=106 pos=1423108312 time=2460 then=100", 54),
+    ("alert from=338040079 nature=106 pos=1423108312 time=2019 then=100 ", 66),
+    ("alert from=338040079  nature=106", 22),
+    ("relay to=area:1431 from=338158137", 19),
+    ("relay to=agroup", 11),
+    ("relayack to=one:00224102", 25),
+    ("all cat=108 from=002241022 first=100 second=126 f1=900016 f2=910000", 63),
+    ("one to=002241022 cat=100 from=338158137 first=100 second=126 at=1423118001 end=117", 74),
+    ("one to=002241022 cat=100 from=338158137 first=100 second=126 f1=none f2=none end=118", 84),
+    ("test to=338040079 cat=106 from=002241022 end=117", 25),
+];
+
+#[test]
+fn the_column_of_a_text_that_is_no_call(rt: HostRuntime) {
+    for (text, column) in &FAULTS {
+        assert_eq!(rt; read_call(text.as_bytes()), Err(*column), "{text}");
     }
 }
 

@@ -1,2 +1,4 @@
-pub mod Numbers
+pub mod CallGrammar
+pub mod CallParts
+pub mod Reading
 pub mod Texts

@@ -1,14 +1,16 @@
 ghost use Rattle.std.specs.Prelude.{◌≡◌, ◌+◌, ◌≤◌, ◌++◌};
 ghost use Rattle.arrayvec.specs.ArrayVec.{array_vec_len};
-ghost use Rattle.dsc_texts.specs.Texts.{alert_text, service_text, call_text, reported_text};
+ghost use Rattle.dsc_texts.specs.CallParts.{call_text};
+ghost use Rattle.call_values.specs.declared.alerts.Call.TheVariants.{Alert, Service};
+ghost use Rattle.dsc_texts.specs.Texts.{reported_text};
 
 use crate::pieces::{append, append_digits};
 use crate::values::{
-    append_address, append_casualty, append_distress, append_end, append_position, append_request,
-    append_sender, append_time,
+    append_address, append_area, append_casualty, append_distress, append_end, append_from,
+    append_position, append_request, append_sender, append_time,
 };
 use arrayvec::ArrayVec;
-use call_grammar::{area_digits, end_of};
+use call_grammar::end_of;
 use call_values::{Call, Casualty, Category, Kind, Message, Mmsi};
 use slot_join::Extra;
 
@@ -24,7 +26,7 @@ pub fn put_call(call: &Call, extra: &Extra) -> ArrayVec<u8, 256>
 }
 
 /// Appends a call's text, which takes at most 111 bytes.
-#[tactic(auto, unfolding(crate::specs::Texts::call_text))]
+#[tactic(auto, unfolding(crate::specs::CallParts::call_text))]
 pub fn append_call<const N: usize>(out: &mut ArrayVec<u8, N>, call: &Call)
     requires { array_vec_len out.old + 111 ≤ N }
     ensures items { out.new.items ≡ out.old.items ++ call_text call.now }
@@ -80,7 +82,7 @@ pub fn append_call<const N: usize>(out: &mut ArrayVec<u8, N>, call: &Call)
             f2,
         } => {
             append(out, b"area to=");
-            append_digits(out, 10, area_digits(area));
+            append_area(out, area);
             append_request(
                 out,
                 category,
@@ -133,18 +135,18 @@ pub fn append_call<const N: usize>(out: &mut ArrayVec<u8, N>, call: &Call)
     }
 }
 
-#[tactic(auto, unfolding(crate::specs::Texts::alert_text))]
+#[tactic(auto, unfolding(crate::specs::CallParts::call_text))]
 fn append_alert<const N: usize>(out: &mut ArrayVec<u8, N>, casualty: &Casualty)
     requires { array_vec_len out.old + 65 ≤ N }
-    ensures items { out.new.items ≡ out.old.items ++ alert_text casualty.now }
+    ensures items { out.new.items ≡ out.old.items ++ call_text (Alert casualty.now) }
     ensures len { array_vec_len out.new ≤ array_vec_len out.old + 65 }
 {
-    append(out, b"alert from=");
-    append_digits(out, 9, u64::from(casualty.mmsi.number()));
+    append(out, b"alert");
+    append_from(out, &casualty.mmsi);
     append_casualty(out, casualty);
 }
 
-#[tactic(auto, unfolding(crate::specs::Texts::service_text))]
+#[tactic(auto, unfolding(crate::specs::CallParts::call_text))]
 fn append_service<const N: usize>(
     out: &mut ArrayVec<u8, N>,
     to: &Mmsi,
@@ -153,7 +155,7 @@ fn append_service<const N: usize>(
     kind: &Kind,
 )
     requires { array_vec_len out.old + 70 ≤ N }
-    ensures items { out.new.items ≡ out.old.items ++ service_text to.now category.now from.now kind.now }
+    ensures items { out.new.items ≡ out.old.items ++ call_text (Service to.now category.now from.now kind.now) }
     ensures len { array_vec_len out.new ≤ array_vec_len out.old + 70 }
 {
     match kind {

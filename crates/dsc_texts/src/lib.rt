@@ -3,11 +3,19 @@
 
 mod answers;
 mod calls;
+mod fields;
+mod forms;
+mod laws;
+mod line;
 mod pieces;
+mod reading;
+mod sections;
 mod sizes;
 mod values;
 
 pub use answers::{put_answer, put_answer_line};
 pub use calls::put_call;
+pub use laws::{call_texts_are_read, texts_tell_calls_apart};
 pub use pieces::append;
+pub use reading::read_call;
 pub use sizes::append_size;

@@ -1,6 +1,6 @@
 ghost use Rattle.std.specs.Prelude.{◌≡◌, ℕ, ◌+◌, ◌≤◌, ◌++◌, length, decimal};
 ghost use Rattle.arrayvec.specs.ArrayVec.{array_vec_len};
-ghost use Rattle.dsc_texts.specs.Numbers.{digits};
+ghost use Rattle.line_grammar.specs.Shapes.{digits};
 
 use arrayvec::ArrayVec;
 use itoa::Buffer;
@@ -14,7 +14,7 @@ pub fn append<const N: usize>(out: &mut ArrayVec<u8, N>, text: &[u8])
     let _fits = out.try_extend_from_slice(text);
 }
 
-#[tactic(auto, unfolding(crate::specs::Numbers::digits))]
+#[tactic(auto, unfolding(line_grammar::specs::Shapes::digits))]
 /// Appends the last `width` decimal digits of a number, zeros in front included.
 pub fn append_digits<const N: usize>(out: &mut ArrayVec<u8, N>, width: usize, number: u64)
     requires { array_vec_len out.old + width ≤ N }

@@ -1,12 +1,16 @@
-ghost use Rattle.std.specs.Prelude.{◌≡◌, ◌+◌, ◌≤◌, ◌++◌};
+ghost use Rattle.std.specs.Prelude.{◌≡◌, ◌+◌, ◌≤◌, ◌++◌, [], Some};
 ghost use Rattle.arrayvec.specs.ArrayVec.{array_vec_len};
-ghost use Rattle.dsc_texts.specs.Texts.{position_text, time_text, field_text, address_text, casualty_text, distress_text, sender_text, message_text, request_text, end_text};
+ghost use Rattle.line_grammar.specs.Shapes.{digits};
+ghost use Rattle.line_grammar.specs.Grammar.{finish, none, part, written};
+ghost use Rattle.dsc_texts.specs.CallGrammar as grammar;
+ghost use Rattle.dsc_texts.specs.CallParts.{position_text, time_text, area_text, frequency_text, address_text, casualty_parts, distress_parts, sender_parts, message_parts, request_parts, end_parts};
 
 use crate::pieces::{append, append_digits};
 use arrayvec::ArrayVec;
-use call_grammar::{area_digits, category_symbol, position_digits};
+use call_grammar::category_symbol;
 use call_values::{
-    Casualty, Category, Field, FieldKind, First, HourMinute, Message, Mmsi, Position, Second, To,
+    Area, Casualty, Category, Field, FieldKind, First, Fix, HourMinute, Message, Mmsi, Position,
+    Second, To,
 };
 
 pub fn append_position<const N: usize>(out: &mut ArrayVec<u8, N>, position: &Position)
@@ -15,9 +19,21 @@ pub fn append_position<const N: usize>(out: &mut ArrayVec<u8, N>, position: &Pos
     ensures len { array_vec_len out.new ≡ array_vec_len out.old + 10 }
 {
     match position.known() {
-        Some(fix) => append_digits(out, 10, position_digits(&fix)),
+        Some(fix) => append_fix(out, &fix),
         None => append(out, b"9999999999"),
     }
+}
+
+fn append_fix<const N: usize>(out: &mut ArrayVec<u8, N>, fix: &Fix)
+    requires { array_vec_len out.old + 10 ≤ N }
+    ensures items { out.new.items ≡ out.old.items ++ position_text (Some fix.now) }
+    ensures len { array_vec_len out.new ≡ array_vec_len out.old + 10 }
+{
+    append_digits(out, 1, u64::from(fix.quadrant));
+    append_digits(out, 2, u64::from(fix.lat_deg));
+    append_digits(out, 2, u64::from(fix.lat_min));
+    append_digits(out, 3, u64::from(fix.lon_deg));
+    append_digits(out, 2, u64::from(fix.lon_min));
 }
 
 pub fn append_time<const N: usize>(out: &mut ArrayVec<u8, N>, time: &HourMinute)
@@ -34,9 +50,22 @@ pub fn append_time<const N: usize>(out: &mut ArrayVec<u8, N>, time: &HourMinute)
     }
 }
 
+/// Appends an area's ten digits.
+pub fn append_area<const N: usize>(out: &mut ArrayVec<u8, N>, area: &Area)
+    requires { array_vec_len out.old + 10 ≤ N }
+    ensures items { out.new.items ≡ out.old.items ++ area_text area.now }
+    ensures len { array_vec_len out.new ≡ array_vec_len out.old + 10 }
+{
+    append_digits(out, 1, u64::from(area.quadrant()));
+    append_digits(out, 2, u64::from(area.latitude()));
+    append_digits(out, 3, u64::from(area.longitude()));
+    append_digits(out, 2, u64::from(area.south()));
+    append_digits(out, 2, u64::from(area.east()));
+}
+
 fn append_field<const N: usize>(out: &mut ArrayVec<u8, N>, field: &Field)
     requires { array_vec_len out.old + 8 ≤ N }
-    ensures items { out.new.items ≡ out.old.items ++ field_text field.now }
+    ensures items { out.new.items ≡ out.old.items ++ frequency_text field.now }
     ensures len { array_vec_len out.new ≤ array_vec_len out.old + 8 }
 {
     match field.kind() {
@@ -58,7 +87,7 @@ pub fn append_address<const N: usize>(out: &mut ArrayVec<u8, N>, to: &To)
         To::All => append(out, b"all"),
         To::Area(area) => {
             append(out, b"area:");
-            append_digits(out, 10, area_digits(area));
+            append_area(out, area);
         }
         To::Group(mmsi) => {
             append(out, b"group:");
@@ -71,10 +100,9 @@ pub fn append_address<const N: usize>(out: &mut ArrayVec<u8, N>, to: &To)
     }
 }
 
-#[tactic(auto, unfolding(crate::specs::Texts::casualty_text))]
 pub fn append_casualty<const N: usize>(out: &mut ArrayVec<u8, N>, casualty: &Casualty)
     requires { array_vec_len out.old + 45 ≤ N }
-    ensures items { out.new.items ≡ out.old.items ++ casualty_text casualty.now }
+    ensures items { out.new.items ≡ out.old.items ++ written (grammar.casualty finish) (casualty_parts casualty.now none) }
     ensures len { array_vec_len out.new ≡ array_vec_len out.old + 45 }
 {
     append(out, b" nature=");
@@ -87,38 +115,43 @@ pub fn append_casualty<const N: usize>(out: &mut ArrayVec<u8, N>, casualty: &Cas
     append_digits(out, 3, u64::from(casualty.comm.number()));
 }
 
-/// Appends a sender and a casualty that is another ship.
-#[tactic(auto, unfolding(crate::specs::Texts::distress_text))]
-pub fn append_distress<const N: usize>(out: &mut ArrayVec<u8, N>, from: &Mmsi, casualty: &Casualty)
-    requires { array_vec_len out.old + 79 ≤ N }
-    ensures items { out.new.items ≡ out.old.items ++ distress_text from.now casualty.now }
-    ensures len { array_vec_len out.new ≡ array_vec_len out.old + 79 }
+/// Appends a sender.
+pub fn append_from<const N: usize>(out: &mut ArrayVec<u8, N>, from: &Mmsi)
+    requires { array_vec_len out.old + 15 ≤ N }
+    ensures items { out.new.items ≡ out.old.items ++ written (grammar.from finish) (part (digits 9 from.now) none) }
+    ensures len { array_vec_len out.new ≡ array_vec_len out.old + 15 }
 {
     append(out, b" from=");
     append_digits(out, 9, u64::from(from.number()));
+}
+
+/// Appends a sender and a casualty that is another ship.
+pub fn append_distress<const N: usize>(out: &mut ArrayVec<u8, N>, from: &Mmsi, casualty: &Casualty)
+    requires { array_vec_len out.old + 79 ≤ N }
+    ensures items { out.new.items ≡ out.old.items ++ written (grammar.distress finish) (distress_parts from.now casualty.now none) }
+    ensures len { array_vec_len out.new ≡ array_vec_len out.old + 79 }
+{
+    append_from(out, from);
     append(out, b" casualty=");
     append_digits(out, 9, u64::from(casualty.mmsi.number()));
     append_casualty(out, casualty);
 }
 
 /// Appends a category and a sender.
-#[tactic(auto, unfolding(crate::specs::Texts::sender_text))]
 pub fn append_sender<const N: usize>(out: &mut ArrayVec<u8, N>, category: &Category, from: &Mmsi)
     requires { array_vec_len out.old + 23 ≤ N }
-    ensures items { out.new.items ≡ out.old.items ++ sender_text category.now from.now }
+    ensures items { out.new.items ≡ out.old.items ++ written (grammar.sender finish) (sender_parts category.now from.now none) }
     ensures len { array_vec_len out.new ≡ array_vec_len out.old + 23 }
 {
     append(out, b" cat=");
     append_digits(out, 3, u64::from(category_symbol(category)));
-    append(out, b" from=");
-    append_digits(out, 9, u64::from(from.number()));
+    append_from(out, from);
 }
 
 /// Appends two fields or a position.
-#[tactic(auto, unfolding(crate::specs::Texts::message_text))]
 fn append_message<const N: usize>(out: &mut ArrayVec<u8, N>, message: &Message)
     requires { array_vec_len out.old + 24 ≤ N }
-    ensures items { out.new.items ≡ out.old.items ++ message_text message.now }
+    ensures items { out.new.items ≡ out.old.items ++ written (grammar.message finish) (message_parts message.now none) }
     ensures len { array_vec_len out.new ≤ array_vec_len out.old + 24 }
 {
     match message {
@@ -136,7 +169,6 @@ fn append_message<const N: usize>(out: &mut ArrayVec<u8, N>, message: &Message)
 }
 
 /// Appends what stands between the address and the end of a call with a message.
-#[tactic(auto, unfolding(crate::specs::Texts::request_text))]
 pub fn append_request<const N: usize>(
     out: &mut ArrayVec<u8, N>,
     category: &Category,
@@ -146,7 +178,7 @@ pub fn append_request<const N: usize>(
     message: &Message,
 )
     requires { array_vec_len out.old + 68 ≤ N }
-    ensures items { out.new.items ≡ out.old.items ++ request_text category.now from.now first.now second.now message.now }
+    ensures items { out.new.items ≡ out.old.items ++ written (grammar.request (grammar.message finish)) (request_parts category.now from.now first.now second.now (message_parts message.now none)) }
     ensures len { array_vec_len out.new ≤ array_vec_len out.old + 68 }
 {
     append_sender(out, category, from);
@@ -158,10 +190,9 @@ pub fn append_request<const N: usize>(
 }
 
 /// Appends the symbol of an end of sequence.
-#[tactic(auto, unfolding(crate::specs::Texts::end_text))]
 pub fn append_end<const N: usize>(out: &mut ArrayVec<u8, N>, symbol: u8)
     requires { array_vec_len out.old + 8 ≤ N }
-    ensures items { out.new.items ≡ out.old.items ++ end_text symbol }
+    ensures items { out.new.items ≡ out.old.items ++ written (grammar.end []) (end_parts symbol) }
     ensures len { array_vec_len out.new ≡ array_vec_len out.old + 8 }
 {
     append(out, b" end=");

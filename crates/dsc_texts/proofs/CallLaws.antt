@@ -1,0 +1,74 @@
+-- call texts are read by their grammar
+use Rattle.std.proofs.Common.{◌≡◌, ℕ, ◌+◌, ◌≤◌, true, List, length, Result, Ok, Err, refl, sym, ◌∙◌, ap, subst}
+use Rattle.call_values.specs.declared.alerts.Call.{Call}
+use Rattle.call_values.specs.Calls.{IsCall}
+use Rattle.line_grammar.specs.Columns.{IsColumn}
+use Rattle.line_grammar.specs.Grammar.{Parts, Spells, written}
+use Rattle.line_grammar.specs.Reading.{read, fits}
+use Rattle.line_grammar.specs.Soundness.{is_sound, is_plain}
+use Rattle.line_grammar.proofs.Stops.{Reads, Stops, IsAlike, Stops-alike, left_le, IsColumn-stops}
+use Rattle.line_grammar.proofs.Grammars.{reads}
+use Rattle.line_grammar.proofs.Written.{tells_all, written_spells, spelled_parts, one_line, written_is_read}
+use Rattle.dsc_texts.specs.CallGrammar.{calls}
+use Rattle.dsc_texts.specs.CallParts.{call_parts, call_text, IsCallText}
+use Rattle.dsc_texts.proofs.CallTexts.{call_is, call_of, call_one}
+
+pub calls_sound : is_sound calls ≡ true
+unfolding fits
+calls_sound = refl
+
+pub calls_plain : is_plain calls ≡ true
+calls_plain = refl
+
+calls_told : tells_all calls ≡ true
+calls_told = refl
+
+-- a call's text is read as its parts
+pub call_read : (c : Call) → IsCall c → read calls (call_text c) ≡ Ok (call_parts c)
+unfolding call_text
+call_read c h = written_is_read calls (call_parts c) calls_sound calls_plain (call_is c h)
+
+ok_is : (p q : Parts) (r : Result Parts ℕ) → r ≡ Ok p → r ≡ Ok q → p ≡ q
+ok_is p q r e f = cc
+
+-- two calls have two texts
+pub one_call : (a b : Call) → IsCall a → IsCall b → call_text a ≡ call_text b → a ≡ b
+one_call a b h k e = call_one a b h k (ok_is (call_parts a) (call_parts b) (read calls (call_text a)) (call_read a h) (ap (read calls) e ∙ call_read b k))
+
+-- the lines of the grammar are the texts of calls
+spelled_call : (p : Parts) (bytes : List ℕ) → Spells calls p bytes → (c : Call) × IsCallText c bytes
+unfolding call_text
+spelled_call p bytes h =
+    let all = spelled_parts calls p bytes calls_told h in
+    let c = call_of p all.0 in
+    (c.0, (c.1, all.1 ∙ ap (written calls) c.2))
+
+call_spelled : (c : Call) (bytes : List ℕ) → IsCallText c bytes → (p : Parts) × Spells calls p bytes
+unfolding call_text
+call_spelled c bytes h = (call_parts c, subst (Spells calls (call_parts c)) (sym h.1) (written_spells calls (call_parts c) (call_is c h.0)))
+
+calls_alike : IsAlike (Spells calls) IsCallText
+calls_alike = record { to = spelled_call; back = call_spelled }
+
+-- what was read is a call's text, and no other call has it
+pub text_of : (c : Call) (bytes : List ℕ) → IsCall c → read calls bytes ≡ Ok (call_parts c) → IsCallText c bytes
+unfolding call_text
+text_of c bytes h e =
+    let spelled : Spells calls (call_parts c) bytes = subst (λ (r : Result Parts ℕ). Reads (Spells calls) bytes r) e (reads calls bytes calls_sound) in
+    (h, one_line calls (call_parts c) bytes (call_is c h) spelled)
+
+pub text_read : (c : Call) (bytes : List ℕ) → IsCall c → read calls bytes ≡ Ok (call_parts c) → IsCallText c bytes × ((u : Call) → IsCallText u bytes → u ≡ c)
+text_read c bytes h e =
+    let text = text_of c bytes h e in
+    (text, λ u k. one_call u c k.0 h (sym k.1 ∙ text.1))
+
+-- where the bytes are no call's text, they leave the texts where the reader says
+pub text_stops : (bytes : List ℕ) (left : ℕ) → read calls bytes ≡ Err left → Stops IsCallText bytes left
+text_stops bytes left e =
+    Stops-alike (Spells calls) IsCallText bytes left calls_alike (subst (λ (r : Result Parts ℕ). Reads (Spells calls) bytes r) e (reads calls bytes calls_sound))
+
+pub text_left : (bytes : List ℕ) (left : ℕ) → read calls bytes ≡ Err left → left ≤ length bytes
+text_left bytes left e = left_le IsCallText bytes left (text_stops bytes left e)
+
+pub text_column : (bytes : List ℕ) (left n : ℕ) → read calls bytes ≡ Err left → n + left ≡ length bytes + 1 → IsColumn IsCallText bytes n
+text_column bytes left n e k = IsColumn-stops IsCallText bytes left n (text_stops bytes left e) k

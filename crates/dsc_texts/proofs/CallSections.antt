@@ -1,0 +1,143 @@
+-- sections of call texts: fields one after the other, and what follows them
+use Rattle.std.proofs.Common.{◌≡◌, ℕ, List, ◌⊎◌, inl, inr, refl, sym, ◌∙◌, ap}
+use Rattle.line_grammar.specs.Tokens.{Token, IsToken}
+use Rattle.line_grammar.specs.Grammar.{Grammar, finish, word, field, either, Parts, none, part, first, second, AreParts}
+use Rattle.dsc_texts.proofs.SymbolTexts.{Told}
+
+-- the parts of a field, of one of two, and of the end
+field_is : (token : Token) (G : Grammar) (p : Parts) → AreParts (field token G) p → (front : List ℕ) × (q : Parts) × (p ≡ part front q) × IsToken token front × AreParts G q
+field_is token G (part front q) h = (front, q, refl, h.0, h.1)
+field_is token G none h = absurd h
+field_is token G (first q) h = absurd h
+field_is token G (second q) h = absurd h
+
+either_is : (left right : Grammar) (p : Parts) → AreParts (either left right) p → ((q : Parts) × (p ≡ first q) × AreParts left q) ⊎ ((q : Parts) × (p ≡ second q) × AreParts right q)
+either_is left right (first q) h = inl (q, refl, h)
+either_is left right (second q) h = inr (q, refl, h)
+either_is left right none h = absurd h
+either_is left right (part front q) h = absurd h
+
+finish_is : (p : Parts) → AreParts finish p → p ≡ none
+finish_is none h = refl
+finish_is (part front q) h = absurd h
+finish_is (first q) h = absurd h
+finish_is (second q) h = absurd h
+
+-- a section has the parts of the lawful values, each value its own, and then those of what follows
+pub record Section {V : Type 0} (G : Grammar → Grammar) (Lawful : V → Type 0) (parts : V → Parts → Parts) : Type 0 where
+  pub is : (v : V) → Lawful v → (rest : Grammar) (q : Parts) → AreParts rest q → AreParts (G rest) (parts v q)
+  pub of : (rest : Grammar) (p : Parts) → AreParts (G rest) p → (v : V) × (q : Parts) × Lawful v × (p ≡ parts v q) × AreParts rest q
+  pub one : (u v : V) (p q : Parts) → Lawful u → Lawful v → parts u p ≡ parts v q → (u ≡ v) × (p ≡ q)
+
+-- a form has the parts of the lawful values, each value its own
+pub record Form {V : Type 0} (G : Grammar) (Lawful : V → Type 0) (parts : V → Parts) : Type 0 where
+  pub is : (v : V) → Lawful v → AreParts G (parts v)
+  pub of : (p : Parts) → AreParts G p → (v : V) × Lawful v × (p ≡ parts v)
+  pub one : (u v : V) → Lawful u → Lawful v → parts u ≡ parts v → u ≡ v
+
+-- a field
+part_is : (a b : List ℕ) (p q : Parts) → part a p ≡ part b q → (a ≡ b) × (p ≡ q)
+part_is a b p q e = (cc, cc)
+
+pub fielded : {V : Type 0} {token : Token} {Lawful : V → Type 0} {text : V → List ℕ} → Told token Lawful text → Section (λ rest. field token rest) Lawful (λ v q. part (text v) q)
+fielded {V = V} {token = token} {Lawful = Lawful} {text = text} told = record {
+  is = λ v h rest q k. (told.is v h, k);
+  of = λ rest p h. (let f = field_is token rest p h in let v = told.of f.0 f.3 in (v.0, f.1, v.1, f.2 ∙ ap (λ (l : List ℕ). part l f.1) v.2, f.4));
+  one = λ u v p q h k e. (let both = part_is (text u) (text v) p q e in (told.one u v h k both.0, both.1));
+}
+
+-- the same behind a word
+pub labelled : {V : Type 0} {token : Token} {Lawful : V → Type 0} {text : V → List ℕ} (label : List ℕ) → Told token Lawful text → Section (λ rest. word label (field token rest)) Lawful (λ v q. part (text v) q)
+labelled label told = let s = fielded told in record { is = s.is; of = s.of; one = s.one }
+
+-- one section and then another
+pub followed : {U V : Type 0} {G H : Grammar → Grammar} {P : U → Type 0} {Q : V → Type 0} {f : U → Parts → Parts} {g : V → Parts → Parts} → Section G P f → Section H Q g
+    → Section (λ rest. G (H rest)) (λ (w : U × V). P w.0 × Q w.1) (λ (w : U × V) q. f w.0 (g w.1 q))
+followed {U = U} {V = V} {G = G} {H = H} {P = P} {Q = Q} {f = f} {g = g} s t = record {
+  is = λ w h rest q k. s.is w.0 h.0 (H rest) (g w.1 q) (t.is w.1 h.1 rest q k);
+  of = λ rest p h.
+      let a = s.of (H rest) p h in
+      let b = t.of rest a.1 a.4 in
+      ((a.0, b.0), b.1, (a.2, b.2), a.3 ∙ ap (λ (x : Parts). f a.0 x) b.3, b.4);
+  one = λ u v p q h k e.
+      let a = s.one u.0 v.0 (g u.1 p) (g v.1 q) h.0 k.0 e in
+      let b = t.one u.1 v.1 p q h.1 k.1 a.1 in
+      (ap (λ (x : U). (x, u.1)) a.0 ∙ ap (λ (y : V). (v.0, y)) b.0, b.1);
+}
+
+-- one of two sections
+abbrev pub LawfulSide : {U V : Type 0} → (U → Type 0) → (V → Type 0) → U ⊎ V → Type 0
+LawfulSide P Q (inl u) = P u
+LawfulSide P Q (inr v) = Q v
+
+abbrev pub side_parts : {U V : Type 0} → (U → Parts → Parts) → (V → Parts → Parts) → U ⊎ V → Parts → Parts
+side_parts f g (inl u) q = first (f u q)
+side_parts f g (inr v) q = second (g v q)
+
+abbrev pub side_whole : {U V : Type 0} → (U → Parts) → (V → Parts) → U ⊎ V → Parts
+side_whole f g (inl u) = first (f u)
+side_whole f g (inr v) = second (g v)
+
+first_is : (p q : Parts) → first p ≡ first q → p ≡ q
+first_is p q e = cc
+
+second_is : (p q : Parts) → second p ≡ second q → p ≡ q
+second_is p q e = cc
+
+sides_differ : (p q : Parts) → first p ≡ second q → ⊥
+sides_differ p q e = absurd (cc)
+
+side_is : {U V : Type 0} {G H : Grammar → Grammar} {P : U → Type 0} {Q : V → Type 0} {f : U → Parts → Parts} {g : V → Parts → Parts} → Section G P f → Section H Q g
+    → (w : U ⊎ V) → LawfulSide P Q w → (rest : Grammar) (q : Parts) → AreParts rest q → AreParts (either (G rest) (H rest)) (side_parts f g w q)
+side_is s t (inl u) h rest q k = s.is u h rest q k
+side_is s t (inr v) h rest q k = t.is v h rest q k
+
+side_one : {U V : Type 0} {G H : Grammar → Grammar} {P : U → Type 0} {Q : V → Type 0} {f : U → Parts → Parts} {g : V → Parts → Parts} → Section G P f → Section H Q g
+    → (a b : U ⊎ V) (p q : Parts) → LawfulSide P Q a → LawfulSide P Q b → side_parts f g a p ≡ side_parts f g b q → (a ≡ b) × (p ≡ q)
+side_one {f = f} s t (inl a) (inl b) p q h k e = let same = s.one a b p q h k (first_is (f a p) (f b q) e) in (ap inl same.0, same.1)
+side_one {g = g} s t (inr a) (inr b) p q h k e = let same = t.one a b p q h k (second_is (g a p) (g b q) e) in (ap inr same.0, same.1)
+side_one {f = f} {g = g} s t (inl a) (inr b) p q h k e = absurd (sides_differ (f a p) (g b q) e)
+side_one {f = f} {g = g} s t (inr a) (inl b) p q h k e = absurd (sides_differ (f b q) (g a p) (sym e))
+
+pub sided : {U V : Type 0} {G H : Grammar → Grammar} {P : U → Type 0} {Q : V → Type 0} {f : U → Parts → Parts} {g : V → Parts → Parts} → Section G P f → Section H Q g
+    → Section (λ rest. either (G rest) (H rest)) (LawfulSide P Q) (side_parts f g)
+sided {G = G} {H = H} s t = record {
+  is = side_is s t;
+  of = λ rest p h.
+      elim (either_is (G rest) (H rest) p h) [
+        | inl l ↦ (let a = s.of rest l.0 l.2 in (inl a.0, a.1, a.2, l.1 ∙ ap first a.3, a.4))
+        | inr r ↦ (let b = t.of rest r.0 r.2 in (inr b.0, b.1, b.2, r.1 ∙ ap second b.3, b.4))
+      ];
+  one = side_one s t;
+}
+
+-- a section and no more
+pub closed : {V : Type 0} {G : Grammar → Grammar} {Lawful : V → Type 0} {parts : V → Parts → Parts} → Section G Lawful parts → Form (G finish) Lawful (λ v. parts v none)
+closed {parts = parts} s = record {
+  is = λ v h. s.is v h finish none tt;
+  of = λ p h. (let a = s.of finish p h in (a.0, a.2, a.3 ∙ ap (λ (q : Parts). parts a.0 q) (finish_is a.1 a.4)));
+  one = λ u v h k e. (s.one u v none none h k e).0;
+}
+
+-- one of two forms
+form_is : {U V : Type 0} {G H : Grammar} {P : U → Type 0} {Q : V → Type 0} {f : U → Parts} {g : V → Parts} → Form G P f → Form H Q g → (w : U ⊎ V) → LawfulSide P Q w → AreParts (either G H) (side_whole f g w)
+form_is s t (inl u) h = s.is u h
+form_is s t (inr v) h = t.is v h
+
+form_one : {U V : Type 0} {G H : Grammar} {P : U → Type 0} {Q : V → Type 0} {f : U → Parts} {g : V → Parts} → Form G P f → Form H Q g
+    → (a b : U ⊎ V) → LawfulSide P Q a → LawfulSide P Q b → side_whole f g a ≡ side_whole f g b → a ≡ b
+form_one {f = f} s t (inl a) (inl b) h k e = ap inl (s.one a b h k (first_is (f a) (f b) e))
+form_one {g = g} s t (inr a) (inr b) h k e = ap inr (t.one a b h k (second_is (g a) (g b) e))
+form_one {f = f} {g = g} s t (inl a) (inr b) h k e = absurd (sides_differ (f a) (g b) e)
+form_one {f = f} {g = g} s t (inr a) (inl b) h k e = absurd (sides_differ (f b) (g a) (sym e))
+
+pub formed : {U V : Type 0} {G H : Grammar} {P : U → Type 0} {Q : V → Type 0} {f : U → Parts} {g : V → Parts} → Form G P f → Form H Q g → Form (either G H) (LawfulSide P Q) (side_whole f g)
+formed {G = G} {H = H} s t = record {
+  is = form_is s t;
+  of = λ p h.
+      elim (either_is G H p h) [
+        | inl l ↦ (let a = s.of l.0 l.2 in (inl a.0, a.1, l.1 ∙ ap first a.2))
+        | inr r ↦ (let b = t.of r.0 r.2 in (inr b.0, b.1, r.1 ∙ ap second b.2))
+      ];
+  one = form_one s t;
+}

@@ -1,0 +1,161 @@
+-- identities and symbols are numbers in nine and in three digits
+use Rattle.std.proofs.Common.{◌≡◌, ℕ, ◌<◌, ◌^◌, Bool, true, false, List, [], ◌∷◌, ◌⊎◌, inl, inr, refl, ◌∙◌, ap, arith}
+use Rattle.std.proofs.lemmas.Bool.Decides.{nat_tests}
+use Rattle.line_grammar.specs.Shapes.{numeral, is_within, digits}
+use Rattle.line_grammar.specs.Tokens.{Token, IsToken, shaped}
+use Rattle.line_grammar.proofs.Digits.{one_number}
+use Rattle.call_values.specs.Identity.{IsMmsi}
+use Rattle.call_values.specs.Symbols.{IsNature, IsComm}
+use Rattle.call_values.specs.Telecommands.{IsFirst, IsSecond}
+use Rattle.call_values.specs.declared.choices.Category.{Category}
+use Rattle.call_values.specs.declared.choices.Category.TheVariants.{Routine, Safety, Urgency}
+use Rattle.call_values.specs.declared.choices.End.{End}
+use Rattle.call_values.specs.declared.choices.End.TheVariants.{Ask, Reply, Plain}
+use Rattle.call_grammar.specs.Spelling.{category_symbol, end_symbol}
+use Rattle.dsc_texts.specs.CallParts.{relay_end, test_end}
+use Rattle.dsc_texts.specs.CallGrammar.{identity, symbol, nature, category, comm, first_command, second_command}
+
+-- a token whose byte lists are the texts of the lawful values, one text for each
+pub record Told {V : Type 0} (token : Token) (Lawful : V → Type 0) (text : V → List ℕ) : Type 0 where
+  pub is : (v : V) → Lawful v → IsToken token (text v)
+  pub of : (bytes : List ℕ) → IsToken token bytes → (v : V) × Lawful v × (bytes ≡ text v)
+  pub one : (u v : V) → Lawful u → Lawful v → text u ≡ text v → u ≡ v
+
+-- the numbers of some ranges
+pub numbers : (width : ℕ) (ranges : List (ℕ × ℕ)) (Lawful : ℕ → Type 0) → ((n : ℕ) → Lawful n → is_within ranges n ≡ true) → ((n : ℕ) → is_within ranges n ≡ true → Lawful n)
+    → ((n : ℕ) → Lawful n → n < 10 ^ width) → Told (shaped (numeral width ranges)) Lawful (digits width)
+numbers width ranges Lawful inside lawful below = record {
+  is = λ n h. (n, inside n h, refl);
+  of = λ bytes h. (h.0, lawful h.0 h.1, h.2);
+  one = λ m n h k e. one_number width m n (below m h) (below n k) e;
+}
+
+pub identity_told : Told identity IsMmsi (digits 9)
+identity_told = numbers 9 _ IsMmsi (λ n h. grind (arith, nat_tests)) (λ n h. grind (arith, nat_tests)) (λ n h. omega (arith, h))
+
+pub nature_told : Told nature IsNature (digits 3)
+nature_told = numbers 3 _ IsNature (λ n h. grind (arith, nat_tests)) (λ n h. grind (arith, nat_tests)) (λ n h. grind arith)
+
+pub comm_told : Told comm IsComm (digits 3)
+comm_told = numbers 3 _ IsComm (λ n h. grind (arith, nat_tests)) (λ n h. grind (arith, nat_tests)) (λ n h. grind arith)
+
+pub first_told : Told first_command IsFirst (digits 3)
+first_told = numbers 3 _ IsFirst (λ n h. grind (arith, nat_tests)) (λ n h. grind (arith, nat_tests)) (λ n h. grind arith)
+
+pub second_told : Told second_command IsSecond (digits 3)
+second_told = numbers 3 _ IsSecond (λ n h. grind (arith, nat_tests)) (λ n h. grind (arith, nat_tests)) (λ n h. grind arith)
+
+-- values that have numbers of some ranges, one number each
+pub coded : {V : Type 0} (width : ℕ) (ranges : List (ℕ × ℕ)) (Lawful : V → Type 0) (code : V → ℕ) → ((v : V) → Lawful v → (is_within ranges (code v) ≡ true) × (code v < 10 ^ width))
+    → ((n : ℕ) → is_within ranges n ≡ true → (v : V) × Lawful v × (n ≡ code v)) → ((u v : V) → Lawful u → Lawful v → code u ≡ code v → u ≡ v)
+    → Told (shaped (numeral width ranges)) Lawful (λ v. digits width (code v))
+coded width ranges Lawful code inside decode one = record {
+  is = λ v h. (code v, (inside v h).0, refl);
+  of = λ bytes h. (let v = decode h.0 h.1 in (v.0, v.1, h.2 ∙ ap (digits width) v.2));
+  one = λ u v h k e. one u v h k (one_number width (code u) (code v) (inside u h).1 (inside v k).1 e);
+}
+
+-- categories
+category_inside : (c : Category) → (is_within ((100, 100) ∷ (108, 108) ∷ (110, 110) ∷ []) (category_symbol c) ≡ true) × (category_symbol c < 1000)
+category_inside Routine = (refl, omega arith)
+category_inside Safety = (refl, omega arith)
+category_inside Urgency = (refl, omega arith)
+
+category_decode : (n : ℕ) → is_within ((100, 100) ∷ (108, 108) ∷ (110, 110) ∷ []) n ≡ true → (c : Category) × Unit {0} × (n ≡ category_symbol c)
+category_decode n h =
+    let three : (n ≡ 100) ⊎ ((n ≡ 108) ⊎ (n ≡ 110)) = grind (arith, nat_tests) in
+    elim three [
+      | inl e ↦ (Routine, tt, e)
+      | inr more ↦ (elim more [
+        | inl e ↦ (Safety, tt, e)
+        | inr e ↦ (Urgency, tt, e)
+      ])
+    ]
+
+category_one : (u v : Category) → category_symbol u ≡ category_symbol v → u ≡ v
+category_one Routine Routine e = refl
+category_one Safety Safety e = refl
+category_one Urgency Urgency e = refl
+category_one Routine Safety e = absurd (omega (arith, e))
+category_one Routine Urgency e = absurd (omega (arith, e))
+category_one Safety Routine e = absurd (omega (arith, e))
+category_one Safety Urgency e = absurd (omega (arith, e))
+category_one Urgency Routine e = absurd (omega (arith, e))
+category_one Urgency Safety e = absurd (omega (arith, e))
+
+pub category_told : Told category (λ (c : Category). Unit {0}) (λ (c : Category). digits 3 (category_symbol c))
+category_told = coded 3 _ (λ (c : Category). Unit {0}) category_symbol (λ c h. category_inside c) category_decode (λ u v h k e. category_one u v e)
+
+-- ends of sequence
+end_inside : (x : End) → (is_within ((117, 117) ∷ (122, 122) ∷ (127, 127) ∷ []) (end_symbol x) ≡ true) × (end_symbol x < 1000)
+end_inside Ask = (refl, omega arith)
+end_inside Reply = (refl, omega arith)
+end_inside Plain = (refl, omega arith)
+
+end_decode : (n : ℕ) → is_within ((117, 117) ∷ (122, 122) ∷ (127, 127) ∷ []) n ≡ true → (x : End) × Unit {0} × (n ≡ end_symbol x)
+end_decode n h =
+    let three : (n ≡ 117) ⊎ ((n ≡ 122) ⊎ (n ≡ 127)) = grind (arith, nat_tests) in
+    elim three [
+      | inl e ↦ (Ask, tt, e)
+      | inr more ↦ (elim more [
+        | inl e ↦ (Reply, tt, e)
+        | inr e ↦ (Plain, tt, e)
+      ])
+    ]
+
+end_one : (u v : End) → end_symbol u ≡ end_symbol v → u ≡ v
+end_one Ask Ask e = refl
+end_one Reply Reply e = refl
+end_one Plain Plain e = refl
+end_one Ask Reply e = absurd (omega (arith, e))
+end_one Ask Plain e = absurd (omega (arith, e))
+end_one Reply Ask e = absurd (omega (arith, e))
+end_one Reply Plain e = absurd (omega (arith, e))
+end_one Plain Ask e = absurd (omega (arith, e))
+end_one Plain Reply e = absurd (omega (arith, e))
+
+pub end_told : Told (symbol ((117, 117) ∷ (122, 122) ∷ (127, 127) ∷ [])) (λ (x : End). Unit {0}) (λ (x : End). digits 3 (end_symbol x))
+end_told = coded 3 _ (λ (x : End). Unit {0}) end_symbol (λ x h. end_inside x) end_decode (λ u v h k e. end_one u v e)
+
+-- one of two ends
+relay_end_inside : (ask : Bool) → (is_within ((117, 117) ∷ (127, 127) ∷ []) (relay_end ask) ≡ true) × ((relay_end ask) < 1000)
+relay_end_inside true = (refl, omega arith)
+relay_end_inside false = (refl, omega arith)
+
+relay_end_decode : (n : ℕ) → is_within ((117, 117) ∷ (127, 127) ∷ []) n ≡ true → (ask : Bool) × Unit {0} × (n ≡ (relay_end ask))
+relay_end_decode n h =
+    let two : (n ≡ 117) ⊎ (n ≡ 127) = grind (arith, nat_tests) in
+    elim two [
+      | inl e ↦ (true, tt, e)
+      | inr e ↦ (false, tt, e)
+    ]
+
+relay_end_one : (u v : Bool) → (relay_end u) ≡ (relay_end v) → u ≡ v
+relay_end_one true true e = refl
+relay_end_one false false e = refl
+relay_end_one true false e = absurd (omega (arith, e))
+relay_end_one false true e = absurd (omega (arith, e))
+
+pub relay_end_told : Told (symbol ((117, 117) ∷ (127, 127) ∷ [])) (λ (ask : Bool). Unit {0}) (λ (ask : Bool). digits 3 (relay_end ask))
+relay_end_told = coded 3 _ (λ (ask : Bool). Unit {0}) relay_end (λ ask h. relay_end_inside ask) relay_end_decode (λ u v h k e. relay_end_one u v e)
+
+test_end_inside : (reply : Bool) → (is_within ((117, 117) ∷ (122, 122) ∷ []) (test_end reply) ≡ true) × ((test_end reply) < 1000)
+test_end_inside true = (refl, omega arith)
+test_end_inside false = (refl, omega arith)
+
+test_end_decode : (n : ℕ) → is_within ((117, 117) ∷ (122, 122) ∷ []) n ≡ true → (reply : Bool) × Unit {0} × (n ≡ (test_end reply))
+test_end_decode n h =
+    let two : (n ≡ 117) ⊎ (n ≡ 122) = grind (arith, nat_tests) in
+    elim two [
+      | inl e ↦ (false, tt, e)
+      | inr e ↦ (true, tt, e)
+    ]
+
+test_end_one : (u v : Bool) → (test_end u) ≡ (test_end v) → u ≡ v
+test_end_one true true e = refl
+test_end_one false false e = refl
+test_end_one true false e = absurd (omega (arith, e))
+test_end_one false true e = absurd (omega (arith, e))
+
+pub test_end_told : Told (symbol ((117, 117) ∷ (122, 122) ∷ [])) (λ (reply : Bool). Unit {0}) (λ (reply : Bool). digits 3 (test_end reply))
+test_end_told = coded 3 _ (λ (reply : Bool). Unit {0}) test_end (λ reply h. test_end_inside reply) test_end_decode (λ u v h k e. test_end_one u v e)

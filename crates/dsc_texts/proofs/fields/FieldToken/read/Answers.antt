@@ -1,0 +1,16 @@
+use Rattle.std.proofs.Common.{sym, ap}
+use Rattle.line_grammar.specs.Reading.{read_token}
+use Rattle.dsc_texts.specs.CallParts.{frequency_text}
+use Rattle.dsc_texts.proofs.FieldSteps.{choice_shows, letters_show}
+use Rattle.dsc_texts.proofs.fields.FieldToken.read.Goals as goal
+
+pub returns : goal.returns
+unfolding read_token
+returns c =
+    let absent = c.spelled-absent.ensures in
+    let six = c.six_digits.ensures in
+    let eight = c.eight_digits.ensures in
+    let shown = choice_shows frequency_text (λ b. b.now) _ _ c.args.bytes.now _ _ _ c.further_of.ensures
+    (letters_show _ _ _ _ _ _ (sym (ap frequency_text c.absent.ensures)) absent.value absent.rest absent.left)
+    (choice_shows _ _ _ _ _ _ _ _ c.further_of-told.ensures (record { value = six.value; left = six.left }) (record { value = eight.value; left = eight.left })) in
+    record { value = shown.value; left = shown.left }

@@ -1,0 +1,15 @@
+use Rattle.std.proofs.Common.{sym, ap}
+use Rattle.line_grammar.specs.Reading.{read_token}
+use Rattle.dsc_texts.specs.CallParts.{time_text}
+use Rattle.dsc_texts.proofs.FieldSteps.{choice_shows, letters_show}
+use Rattle.dsc_texts.proofs.fields.HourMinuteToken.read.Goals as goal
+
+pub returns : goal.returns
+unfolding read_token
+returns c =
+    let known = c.known_time-known.ensures in
+    let unknown = c.spelled-unknown.ensures in
+    let shown = choice_shows time_text (λ b. b.now) _ _ c.args.bytes.now _ _ _ c.further_of.ensures
+    (record { value = known.value; left = known.left })
+    (letters_show _ _ _ _ _ _ (sym (ap time_text c.unknown.ensures)) unknown.value unknown.rest unknown.left) in
+    record { value = shown.value; left = shown.left }

@@ -1,0 +1,25 @@
+use Rattle.std.proofs.Common.{codes, sym, ◌∙◌, ap}
+use Rattle.line_grammar.specs.Grammar.{Parts, part}
+use Rattle.line_grammar.specs.Shapes.{digits}
+use Rattle.line_grammar.specs.Reading.{read}
+use Rattle.dsc_texts.specs.CallGrammar as grammar
+use Rattle.dsc_texts.specs.CallGrammar.{labelled}
+use Rattle.dsc_texts.specs.CallParts.{nth, request_parts, call_parts}
+use Rattle.dsc_texts.proofs.SectionSteps.{two_before, leaves_form}
+use Rattle.dsc_texts.proofs.forms.individual.Goals as goal
+
+pub returns-in_err-ending : goal.returns-in_err-ending
+returns-in_err-ending c =
+    leaves_form grammar.individual (nth 7) call_parts _ _ _ _ c.new-line.ensures c.from_residual-in_err-ending.ensures.1
+    (two_before (labelled (codes "one to=") grammar.identity) grammar.request (grammar.message (grammar.end grammar.all_ends)) _ _ _ _ _ _ c.in_ok-to.ensures c.in_ok-request.ensures
+    (ap (read (grammar.message (grammar.end grammar.all_ends))) (sym c.rest.ensures) ∙ c.in_err-ending.ensures))
+
+pub returns : goal.returns
+returns c = (
+  _,
+  ap (read grammar.individual) (sym c.new-line.ensures)
+      ∙ two_before (labelled (codes "one to=") grammar.identity) grammar.request (grammar.message (grammar.end grammar.all_ends)) _ _ _ _ _ _ c.in_ok-to.ensures c.in_ok-request.ensures
+      (ap (read (grammar.message (grammar.end grammar.all_ends))) (sym c.rest.ensures) ∙ c.in_ok-ending.ensures.1),
+  (let request = c.in_ok-request.request in
+      ap (λ (p : Parts). nth 7 (part (digits 9 c.in_ok-to.to) (request_parts request.category request.from request.first request.second p))) c.in_ok-ending.ensures.2),
+)

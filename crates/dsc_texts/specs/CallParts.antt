@@ -1,0 +1,124 @@
+-- The parts of call texts: this project's profile.
+use Rattle.std.specs.Prelude.{◌≡◌, ℕ, zero, suc, ◌+◌, Bool, if◌then◌else◌, List, ◌++◌, Option, Some, None, codes}
+use Rattle.call_values.specs.declared.places.Fix.{Fix}
+use Rattle.call_values.specs.Areas.{Rectangle}
+use Rattle.call_values.specs.declared.alerts.Casualty.{Casualty}
+use Rattle.call_values.specs.declared.alerts.Call.{Call}
+use Rattle.call_values.specs.declared.alerts.Call.TheVariants.{Alert, Ack, Relay, RelayAck, AllShips, AreaCall, GroupCall, Individual, Service}
+use Rattle.call_values.specs.declared.choices.Category.{Category}
+use Rattle.call_values.specs.declared.fields.FieldKind.{FieldKind}
+use Rattle.call_values.specs.declared.fields.FieldKind.TheVariants.{Absent, Hundreds, Hf, Vhf, Tens}
+use Rattle.call_values.specs.declared.parts.To.{To}
+use Rattle.call_values.specs.declared.parts.To.TheVariants as to
+use Rattle.call_values.specs.declared.parts.Message.{Message}
+use Rattle.call_values.specs.declared.parts.Message.TheVariants.{Fields, At}
+use Rattle.call_values.specs.declared.parts.Kind.{Kind}
+use Rattle.call_values.specs.declared.parts.Kind.TheVariants.{Test, AskPosition, Position}
+use Rattle.call_values.specs.Calls.{IsCall}
+use Rattle.call_grammar.specs.Spelling.{category_symbol, end_symbol}
+use Rattle.line_grammar.specs.Shapes.{digits}
+use Rattle.line_grammar.specs.Grammar.{Parts, none, part, first, second, written}
+use Rattle.dsc_texts.specs.CallGrammar.{calls}
+
+-- the digits of a position; nines where it is not known
+abbrev pub position_text : Option Fix → List ℕ
+position_text (Some f) = digits 1 f.quadrant ++ ((digits 2 f.lat_deg ++ digits 2 f.lat_min) ++ (digits 3 f.lon_deg ++ digits 2 f.lon_min))
+position_text None = codes "9999999999"
+
+-- the digits of hour and minute; eights where they are not known
+abbrev pub time_text : Option (ℕ × ℕ) → List ℕ
+time_text (Some time) = digits 2 time.0 ++ digits 2 time.1
+time_text None = codes "8888"
+
+-- the digits of an area
+abbrev pub area_text : Rectangle → List ℕ
+area_text a = digits 1 a.quadrant ++ (digits 2 a.latitude ++ (digits 3 a.longitude ++ (digits 2 a.south ++ digits 2 a.east)))
+
+-- the digits of a frequency or channel as on air
+abbrev pub frequency_text : FieldKind → List ℕ
+frequency_text Absent = codes "none"
+frequency_text (Hundreds n) = digits 6 n
+frequency_text (Hf n) = digits 6 (300000 + n)
+frequency_text (Vhf n) = digits 6 (900000 + n)
+frequency_text (Tens n) = digits 8 (40000000 + n)
+
+-- whom a relay is for
+abbrev pub address_text : To → List ℕ
+address_text to.All = codes "all"
+address_text (to.Area a) = codes "area:" ++ area_text a
+address_text (to.Group mmsi) = codes "group:" ++ digits 9 mmsi
+address_text (to.One mmsi) = codes "one:" ++ digits 9 mmsi
+
+-- behind so many others
+abbrev pub nth : ℕ → Parts → Parts
+nth zero parts = first parts
+nth (suc n) parts = second (nth n parts)
+
+abbrev pub last : ℕ → Parts → Parts
+last zero parts = parts
+last (suc n) parts = second (last n parts)
+
+-- nature of distress, position, time and subsequent communications
+abbrev pub casualty_parts : Casualty → Parts → Parts
+casualty_parts c rest = part (digits 3 c.nature) (part (position_text c.position) (part (time_text c.time) (part (digits 3 c.comm) rest)))
+
+-- the sender, and a casualty that is another ship
+abbrev pub distress_parts : ℕ → Casualty → Parts → Parts
+distress_parts from c rest = part (digits 9 from) (part (digits 9 c.mmsi) (casualty_parts c rest))
+
+-- the category and the sender
+abbrev pub sender_parts : Category → ℕ → Parts → Parts
+sender_parts category from rest = part (digits 3 (category_symbol category)) (part (digits 9 from) rest)
+
+-- the category, the sender and two telecommands
+abbrev pub request_parts : Category → ℕ → ℕ → ℕ → Parts → Parts
+request_parts category from one two rest = sender_parts category from (part (digits 3 one) (part (digits 3 two) rest))
+
+-- two frequencies or channels
+abbrev pub frequencies_parts : FieldKind → FieldKind → Parts → Parts
+frequencies_parts f1 f2 rest = part (frequency_text f1) (part (frequency_text f2) rest)
+
+-- two frequencies or channels, or a position
+abbrev pub message_parts : Message → Parts → Parts
+message_parts (Fields f1 f2) rest = first (frequencies_parts f1 f2 rest)
+message_parts (At position) rest = second (part (position_text position) rest)
+
+-- the end of sequence of a relay, which may ask for an acknowledgement
+abbrev pub relay_end : Bool → ℕ
+relay_end ask = if ask then 117 else 127
+
+-- the end of sequence of a test, and of the reply to one
+abbrev pub test_end : Bool → ℕ
+test_end reply = if reply then 122 else 117
+
+-- an end of sequence
+abbrev pub end_parts : ℕ → Parts
+end_parts symbol = part (digits 3 symbol) none
+
+-- a test, a position that is asked for, and one that is told
+abbrev pub service_parts : ℕ → Category → ℕ → Kind → Parts
+service_parts mmsi category from (Test reply) = nth 8 (part (digits 9 mmsi) (sender_parts category from (end_parts (test_end reply))))
+service_parts mmsi category from AskPosition = nth 9 (part (digits 9 mmsi) (sender_parts category from none))
+service_parts mmsi category from (Position position time) =
+    last 10 (part (digits 9 mmsi) (sender_parts category from (part (position_text position) (part (time_text time) none))))
+
+-- the parts of a call's text
+abbrev pub call_parts : Call → Parts
+call_parts (Alert casualty) = nth 0 (part (digits 9 casualty.mmsi) (casualty_parts casualty none))
+call_parts (Ack from casualty) = nth 1 (distress_parts from casualty none)
+call_parts (Relay to from casualty ask) = nth 2 (part (address_text to) (distress_parts from casualty (end_parts (relay_end ask))))
+call_parts (RelayAck to from casualty) = nth 3 (part (address_text to) (distress_parts from casualty none))
+call_parts (AllShips category from one two f1 f2) = nth 4 (request_parts category from one two (frequencies_parts f1 f2 none))
+call_parts (AreaCall area category from one two f1 f2) = nth 5 (part (area_text area) (request_parts category from one two (frequencies_parts f1 f2 none)))
+call_parts (GroupCall group category from one two f1 f2) = nth 6 (part (digits 9 group) (request_parts category from one two (frequencies_parts f1 f2 none)))
+call_parts (Individual to category from one two message end) =
+    nth 7 (part (digits 9 to) (request_parts category from one two (message_parts message (end_parts (end_symbol end)))))
+call_parts (Service to category from kind) = service_parts to category from kind
+
+-- a call's text
+unfoldable pub call_text : Call → List ℕ
+call_text call = written calls (call_parts call)
+
+-- the bytes are the text of a call whose parts are in their ranges
+abbrev pub IsCallText : Call → List ℕ → Type 0
+IsCallText call bytes = IsCall call × (bytes ≡ call_text call)
