@@ -49,11 +49,12 @@ address_text (to.Area a) = codes "area:" ++ area_text a
 address_text (to.Group mmsi) = codes "group:" ++ digits 9 mmsi
 address_text (to.One mmsi) = codes "one:" ++ digits 9 mmsi
 
--- behind so many others
+-- the parts of a form that stands behind so many others, and before the last
 abbrev pub nth : ℕ → Parts → Parts
 nth zero parts = first parts
 nth (suc n) parts = second (nth n parts)
 
+-- the parts of the last form, which stands behind so many others
 abbrev pub last : ℕ → Parts → Parts
 last zero parts = parts
 last (suc n) parts = second (last n parts)

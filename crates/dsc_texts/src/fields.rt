@@ -81,16 +81,9 @@ pub struct TestEnd {
     pub reply: bool,
 }
 
-/// Of two answers the one that is no fault, or the further fault.
-pub fn further<T: Copy>(first: Result<T, usize>, second: Result<T, usize>) -> Result<T, usize>
-    ensures { result ≡ readers.further first second }
-{
-    further_of(&first, &second)
-}
-
-/// The same by reference, for a value with an invariant beside the bytes that follow it: the borrow checker has no rule
-/// for a call that takes a `Result` of both by value.
-pub fn further_of<T: Copy>(first: &Result<T, usize>, second: &Result<T, usize>) -> Result<T, usize>
+/// Of two answers the one that is no fault, or the further fault. By reference, since the borrow checker has no rule for
+/// a call that takes by value a `Result` of a value with an invariant beside the bytes that follow it.
+pub fn further<T: Copy>(first: &Result<T, usize>, second: &Result<T, usize>) -> Result<T, usize>
     ensures { result ≡ readers.further first.now second.now }
 {
     match (first, second) {
@@ -268,7 +261,7 @@ fn latitude(bytes: &[u8]) -> Result<((u8, u8), &[u8]), usize>
 {
     let below = with_minutes(2, 89, bytes);
     let pole = spelled(b"9000", (90, 0), bytes);
-    further(below, pole)
+    further(&below, &pole)
 }
 
 /// Degrees and minutes of longitude at the front of these bytes, and what follows them. An error is how many bytes
@@ -280,7 +273,7 @@ fn longitude(bytes: &[u8]) -> Result<((u8, u8), &[u8]), usize>
 {
     let below = with_minutes(3, 179, bytes);
     let line = spelled(b"18000", (180, 0), bytes);
-    further(below, line)
+    further(&below, &line)
 }
 
 /// The ten digits of a place at the front of these bytes, and what follows them. An error is how many bytes are left
@@ -311,7 +304,7 @@ impl Token for Position {
     fn read(bytes: &[u8]) -> Result<(Position, &[u8]), usize> {
         let known = known_position(bytes);
         let unknown = spelled(b"9999999999", Position::unknown(), bytes);
-        further_of(&known, &unknown)
+        further(&known, &unknown)
     }
 }
 
@@ -334,7 +327,7 @@ impl Token for HourMinute {
     fn read(bytes: &[u8]) -> Result<(HourMinute, &[u8]), usize> {
         let known = known_time(bytes);
         let unknown = spelled(b"8888", HourMinute::unknown(), bytes);
-        further_of(&known, &unknown)
+        further(&known, &unknown)
     }
 }
 
@@ -395,8 +388,8 @@ impl Token for Field {
 
     fn read(bytes: &[u8]) -> Result<(Field, &[u8]), usize> {
         let absent = spelled(b"none", Field::absent(), bytes);
-        let told = further_of(&six_digits(bytes), &eight_digits(bytes));
-        further_of(&absent, &told)
+        let told = further(&six_digits(bytes), &eight_digits(bytes));
+        further(&absent, &told)
     }
 }
 
@@ -450,9 +443,9 @@ impl Token for To {
 
     fn read(bytes: &[u8]) -> Result<(To, &[u8]), usize> {
         let all = spelled(b"all", To::All, bytes);
-        let numbered = further_of(&to_group(bytes), &to_one(bytes));
-        let some = further_of(&to_area(bytes), &numbered);
-        further_of(&all, &some)
+        let numbered = further(&to_group(bytes), &to_one(bytes));
+        let some = further(&to_area(bytes), &numbered);
+        further(&all, &some)
     }
 }
 

@@ -5,7 +5,7 @@ ghost use Rattle.dsc_texts.specs.CallGrammar.{labelled};
 ghost use Rattle.dsc_texts.specs.CallParts.{nth, last, call_parts};
 ghost use Rattle.dsc_texts.specs.Reading.{ReadsForm, ending_parts};
 
-use crate::fields::{RelayEnd, TestEnd, further_of};
+use crate::fields::{RelayEnd, TestEnd, further};
 use crate::line::Line;
 use crate::sections::{Distress, Frequencies, Request, Sender, casualty, field};
 use call_values::{Area, Call, End, HourMinute, Kind, Message, Mmsi, Position, To};
@@ -168,7 +168,7 @@ fn position_and_end(bytes: &[u8]) -> Result<Ending, usize>
 fn message_and_end(bytes: &[u8]) -> Result<Ending, usize>
     ensures { ReadsForm (grammar.message (grammar.end grammar.all_ends)) (λ p. p) ending_parts bytes.now result }
 {
-    further_of(&frequencies_and_end(bytes), &position_and_end(bytes))
+    further(&frequencies_and_end(bytes), &position_and_end(bytes))
 }
 
 /// Reads a call to one station. An error is how many bytes are left at the fault.
@@ -245,26 +245,26 @@ pub fn position_answer(bytes: &[u8]) -> Result<Call, usize>
 fn service(bytes: &[u8]) -> Result<Call, usize>
     ensures { ReadsForm (grammar.one_of grammar.test (grammar.position_request ∷ grammar.position_answer ∷ [])) (last 8) call_parts bytes.now result }
 {
-    let positions = further_of(&position_request(bytes), &position_answer(bytes));
-    further_of(&test(bytes), &positions)
+    let positions = further(&position_request(bytes), &position_answer(bytes));
+    further(&test(bytes), &positions)
 }
 
 /// Reads a call that is no distress call.
 fn other_call(bytes: &[u8]) -> Result<Call, usize>
     ensures { ReadsForm (grammar.one_of grammar.all_ships (grammar.area_call ∷ grammar.group_call ∷ grammar.individual ∷ grammar.test ∷ grammar.position_request ∷ grammar.position_answer ∷ [])) (last 4) call_parts bytes.now result }
 {
-    let to_one = further_of(&individual(bytes), &service(bytes));
-    let to_some = further_of(&group_call(bytes), &to_one);
-    let to_others = further_of(&area_call(bytes), &to_some);
-    further_of(&all_ships(bytes), &to_others)
+    let to_one = further(&individual(bytes), &service(bytes));
+    let to_some = further(&group_call(bytes), &to_one);
+    let to_others = further(&area_call(bytes), &to_some);
+    further(&all_ships(bytes), &to_others)
 }
 
 /// Reads a call of any form. An error is how many bytes are left at the fault.
 pub fn any_call(bytes: &[u8]) -> Result<Call, usize>
     ensures { ReadsForm grammar.calls (λ p. p) call_parts bytes.now result }
 {
-    let others = further_of(&relay_ack(bytes), &other_call(bytes));
-    let relays = further_of(&relay(bytes), &others);
-    let answers = further_of(&ack(bytes), &relays);
-    further_of(&alert(bytes), &answers)
+    let others = further(&relay_ack(bytes), &other_call(bytes));
+    let relays = further(&relay(bytes), &others);
+    let answers = further(&ack(bytes), &relays);
+    further(&alert(bytes), &answers)
 }

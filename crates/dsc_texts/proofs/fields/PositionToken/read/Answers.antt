@@ -9,7 +9,7 @@ unfolding read_token
 returns c =
     let known = c.known_position-known.ensures in
     let unknown = c.spelled-unknown.ensures in
-    let shown = choice_shows position_text (λ b. b.now) _ _ c.args.bytes.now _ _ _ c.further_of.ensures
+    let shown = choice_shows position_text (λ b. b.now) _ _ c.args.bytes.now _ _ _ c.further.ensures
     (record { value = known.value; left = known.left })
     (letters_show _ _ _ _ _ _ (sym (ap position_text c.unknown.ensures)) unknown.value unknown.rest unknown.left) in
     record { value = shown.value; left = shown.left }
