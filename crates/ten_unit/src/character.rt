@@ -3,6 +3,7 @@ ghost use Rattle.ten_unit.specs.Word.{word_of, element, count_of_b};
 ghost use Rattle.ten_unit.specs.Word as characters;
 ghost use Rattle.ten_unit.specs.declared.character.Element.{Element};
 ghost use Rattle.ten_unit.specs.Carried.{ones, value_of};
+ghost use Rattle.ten_unit.specs.Errors.{IsOneWay};
 
 /// An element on air: Y and B are the two tones, and a received one may be lost, as one is of which nothing is known.
 #[derive(Clone, Copy, Debug, Default, PartialEq, Eq)]
@@ -99,6 +100,14 @@ pub fn symbol(w: &[Element; 10]) -> Option<u8>
 pub fn words_tell_symbols_apart()
     ensures equal { (w : List Element) (v : ℕ) → (characters.is_word w v ≡ true) ↔ (w ≡ word_of v) }
     ensures apart { (u v : ℕ) → u < 128 → v < 128 → word_of u ≡ word_of v → u ≡ v }
+{}
+
+/// A law: where wrong elements went in one sense alone, what was received is the word of the symbol that
+/// was sent, or no symbol's word.
+pub fn one_way_errors_are_seen()
+    ensures words { (u v : ℕ) → u < 128 → v < 128 → IsOneWay (word_of v) (word_of u) → u ≡ v }
+    ensures elements { (received : List Element) (u v : ℕ) → u < 128 → v < 128 → IsOneWay (word_of v) received
+        → characters.is_word received u ≡ true → u ≡ v }
 {}
 
 #[cfg(test)]

@@ -3,4 +3,6 @@
 
 mod character;
 
-pub use character::{Element, is_word, symbol, word, words_tell_symbols_apart};
+pub use character::{
+    Element, is_word, one_way_errors_are_seen, symbol, word, words_tell_symbols_apart,
+};

@@ -36,4 +36,11 @@ fn no_word_has_no_symbol(rt: HostRuntime) {
     let mut one_count_wrong = word(112);
     one_count_wrong[9] = Element::Y;
     assert_eq!(rt; symbol(&one_count_wrong), None);
+    let mut one_y_turned = word(112);
+    one_y_turned[4] = Element::B;
+    assert_eq!(rt; symbol(&one_y_turned), None);
+    let mut two_b_turned = word(112);
+    two_b_turned[0] = Element::Y;
+    two_b_turned[9] = Element::Y;
+    assert_eq!(rt; symbol(&two_b_turned), None);
 }
