@@ -1,3 +1,4 @@
 pub mod Slot
 pub mod Origin
 pub mod Sent
+pub mod Start

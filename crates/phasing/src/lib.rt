@@ -6,7 +6,7 @@ mod phase;
 mod reception;
 mod sending;
 
-pub use laws::{none_past_the_end, origin_is_least};
+pub use laws::{late_starts_are_found, none_past_the_end, origin_is_least};
 pub use phase::{lead, origin};
 pub use reception::slot_symbol;
 pub use sending::transmission;
