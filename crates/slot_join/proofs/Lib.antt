@@ -3,3 +3,4 @@ pub mod Stops
 pub mod OneAnswer
 pub mod IntactCalls
 pub mod Heads
+pub mod LateCalls

@@ -1,8 +1,11 @@
-ghost use Rattle.std.specs.Prelude.{◌≡◌, List};
+ghost use Rattle.std.specs.Prelude.{◌≡◌, ◌++◌, ℕ, Bool, List, Some};
 ghost use Rattle.ten_unit.specs.declared.character.Element.{Element};
 ghost use Rattle.call_values.specs.declared.alerts.Call.{Call};
 ghost use Rattle.call_values.specs.Calls.{IsCall};
 ghost use Rattle.call_grammar.specs.Spelling.{spell};
+ghost use Rattle.time_diversity.specs.OnAir.{on_air};
+ghost use Rattle.phasing.specs.Origin.{lead_of};
+ghost use Rattle.phasing.specs.Start.{IsIntactStart};
 ghost use Rattle.slot_evidence.specs.Facts.{Facts, facts_of};
 ghost use Rattle.slot_join.specs.declared.joined.Joined.{Joined};
 ghost use Rattle.slot_join.specs.declared.joined.Joined.TheVariants.{Reported};
@@ -11,6 +14,7 @@ ghost use Rattle.slot_join.specs.Answer.{IsAnswer};
 ghost use Rattle.slot_join.specs.Intact.{ArrivesIntact};
 
 use call_grammar::{formats_begin_calls, fronts_differ, lists_are_characters, lists_are_short};
+use phasing::late_starts_are_found;
 use slot_evidence::one_seen;
 use ten_unit::words_tell_symbols_apart;
 use time_diversity::both_slots_show_the_character;
@@ -35,4 +39,13 @@ pub fn intact_call_is_reported()
     lists_are_characters();
     both_slots_show_the_character();
     words_tell_symbols_apart();
+}
+
+/// The law that a call is found at its origin where its start is intact but for lost elements, however late the reception
+/// begins and whatever follows the call. It does nothing.
+pub fn late_calls_are_found()
+    ensures { (call : Call) (tail : List ℕ) (reception : List Element) (long : Bool) (lead : ℕ)
+        → IsIntactStart reception (on_air (spell call ++ tail)) long lead → lead_of reception ≡ Some lead }
+{
+    late_starts_are_found();
 }

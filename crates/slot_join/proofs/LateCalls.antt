@@ -1,0 +1,35 @@
+-- the start of a call's transmission
+use Rattle.std.proofs.Common.{◌≡◌, ℕ, ◌+◌, ◌*◌, ◌≤◌, ◌==◌, Bool, true, List, ◌∷◌, ◌++◌, length, map, take, refl, ◌∙◌, arith}
+use Rattle.std.specs.List.{list_any, range_with_len}
+use Rattle.std.proofs.lemmas.List.FromFn.{take-map-range_with_len}
+use Rattle.call_values.specs.declared.alerts.Call.{Call}
+use Rattle.call_values.specs.declared.alerts.Call.TheVariants.{Alert, Ack, Relay, RelayAck, AllShips, AreaCall, GroupCall, Individual, Service}
+use Rattle.call_values.specs.declared.parts.To.{To}
+use Rattle.call_values.specs.declared.parts.To.TheVariants as to
+use Rattle.call_grammar.specs.Spelling.{format_to, format_of, spell}
+use Rattle.time_diversity.specs.OnAir.{slot_symbol, on_air}
+use Rattle.phasing.specs.Start.{start_symbols, formats}
+
+to_listed : (t : To) → list_any (λ f. f == format_to t) formats ≡ true
+to_listed to.All = refl
+to_listed (to.Area area) = refl
+to_listed (to.Group mmsi) = refl
+to_listed (to.One mmsi) = refl
+
+pub format_listed : (c : Call) → list_any (λ f. f == format_of c) formats ≡ true
+format_listed (Alert casualty) = refl
+format_listed (Ack from casualty) = refl
+format_listed (Relay t from casualty ask) = to_listed t
+format_listed (RelayAck t from casualty) = to_listed t
+format_listed (AllShips category from first second f1 f2) = refl
+format_listed (AreaCall area category from first second f1 f2) = refl
+format_listed (GroupCall group category from first second f1 f2) = refl
+format_listed (Individual t category from first second message end) = refl
+format_listed (Service t category from kind) = refl
+
+list_start : (format : ℕ) (rest : List ℕ) → take 16 (on_air (format ∷ format ∷ rest)) ≡ start_symbols format
+unfolding on_air slot_symbol
+list_start format rest = take-map-range_with_len (slot_symbol (format ∷ format ∷ rest)) 0 (2 * length (format ∷ format ∷ rest) + 12) 16 (omega arith)
+
+pub call_start : (c : Call) (tail : List ℕ) → take 16 (on_air (spell c ++ tail)) ≡ start_symbols (format_of c)
+call_start c tail = list_start (format_of c) _
