@@ -1,9 +1,8 @@
 -- A call whose slots arrive intact is shown, character by character.
-use Rattle.std.proofs.Common.{◌≡◌, ℕ, zero, suc, ◌+◌, ◌*◌, ◌<◌, ◌≤◌, Bool, true, false, ◌&&◌, ◌||◌, ltb, List, [], ◌∷◌, ◌++◌, length, get_or, drop, Option, Some, refl, sym, ap, subst, ◌∙◌, inl, inr, arith, length-append, All, ◌⊎◌}
+use Rattle.std.proofs.Common.{◌≡◌, ℕ, ◌+◌, ◌*◌, ◌<◌, ◌≤◌, Bool, true, false, ◌&&◌, ◌||◌, ltb, List, [], ◌∷◌, length, get_or, drop, Some, refl, sym, ap, subst, ◌∙◌, inl, inr, arith, length-append, All, ◌⊎◌}
 use Rattle.std.specs.Prelude.{◌↔◌}
-use Rattle.std.specs.List.{range_with_len}
 use Rattle.std.proofs.lemmas.Bool.{lt-ltb, ltb-true}
-use Rattle.std.proofs.lemmas.List.{get_or_append_left, get_or_default}
+use Rattle.std.proofs.lemmas.List.{get_or_append_left}
 use Rattle.std.proofs.lemmas.List.Elements.{All-get_or}
 use Rattle.std.proofs.lemmas.List.FromFn.{length-map-range_with_len, get_or-map-range_with_len}
 use Rattle.ten_unit.specs.declared.character.Element.{Element}
@@ -11,19 +10,17 @@ use Rattle.ten_unit.specs.Word.{word_of, is_word}
 use Rattle.time_diversity.specs.Slots.{dx_slot, rx_slot, IsSlotOf}
 use Rattle.time_diversity.specs.OnAir.{slot_symbol, on_air}
 use Rattle.phasing.specs.Slot.{slot, shows}
-use Rattle.phasing.specs.Origin.{lead_of}
 use Rattle.call_values.specs.declared.alerts.Call.{Call}
 use Rattle.call_values.specs.Calls.{IsCall}
 use Rattle.call_grammar.specs.Spelling.{spell, front, format_of, fields_of, end_of, covered, check_of}
 use Rattle.call_grammar.specs.Walk.{IsFormat, IsViable}
 use Rattle.slot_evidence.specs.declared.places.Seen.TheVariants as seen
 use Rattle.slot_evidence.specs.Facts.{Facts, facts_of, facts_at}
-use Rattle.slot_evidence.specs.Seen.{ShowsNone, ShowsOne}
-use Rattle.slot_join.specs.declared.joined.Joined.{Joined}
+use Rattle.slot_evidence.specs.Seen.{ShowsOne}
 use Rattle.slot_join.specs.declared.joined.Joined.TheVariants.{Reported}
 use Rattle.slot_join.specs.declared.joined.Extra.TheVariants.{Absent}
 use Rattle.slot_join.specs.Shown.{head_of, IsShown}
-use Rattle.slot_join.specs.Answer.{IsAnswer, IsReported, HasFormat}
+use Rattle.slot_join.specs.Answer.{IsAnswer}
 use Rattle.slot_join.specs.Intact.{ArrivesIntact}
 use Rattle.slot_join.proofs.ShownLists.{viable_front, front_viable}
 

@@ -1,6 +1,6 @@
 -- the start of a call's transmission
-use Rattle.std.proofs.Common.{◌≡◌, ℕ, ◌+◌, ◌*◌, ◌≤◌, ◌==◌, Bool, true, List, ◌∷◌, ◌++◌, length, map, take, refl, ◌∙◌, arith}
-use Rattle.std.specs.List.{list_any, range_with_len}
+use Rattle.std.proofs.Common.{◌≡◌, ℕ, ◌+◌, ◌*◌, ◌==◌, true, List, ◌∷◌, ◌++◌, length, take, refl, arith}
+use Rattle.std.specs.List.{list_any}
 use Rattle.std.proofs.lemmas.List.FromFn.{take-map-range_with_len}
 use Rattle.call_values.specs.declared.alerts.Call.{Call}
 use Rattle.call_values.specs.declared.alerts.Call.TheVariants.{Alert, Ack, Relay, RelayAck, AllShips, AreaCall, GroupCall, Individual, Service}

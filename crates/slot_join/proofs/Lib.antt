@@ -4,3 +4,5 @@ pub mod OneAnswer
 pub mod IntactCalls
 pub mod Heads
 pub mod LateCalls
+pub mod OneWay
+pub mod CallOrMissing

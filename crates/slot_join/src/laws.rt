@@ -2,7 +2,7 @@ ghost use Rattle.std.specs.Prelude.{◌≡◌, ◌++◌, ℕ, Bool, List, Some};
 ghost use Rattle.ten_unit.specs.declared.character.Element.{Element};
 ghost use Rattle.call_values.specs.declared.alerts.Call.{Call};
 ghost use Rattle.call_values.specs.Calls.{IsCall};
-ghost use Rattle.call_grammar.specs.Spelling.{spell};
+ghost use Rattle.call_grammar.specs.Spelling.{spell, front};
 ghost use Rattle.time_diversity.specs.OnAir.{on_air};
 ghost use Rattle.phasing.specs.Origin.{lead_of};
 ghost use Rattle.phasing.specs.Start.{IsIntactStart};
@@ -11,12 +11,14 @@ ghost use Rattle.slot_join.specs.declared.joined.Joined.{Joined};
 ghost use Rattle.slot_join.specs.declared.joined.Joined.TheVariants.{Reported};
 ghost use Rattle.slot_join.specs.declared.joined.Extra.TheVariants.{Absent};
 ghost use Rattle.slot_join.specs.Answer.{IsAnswer};
+ghost use Rattle.slot_join.specs.Heard.{IsHeard};
 ghost use Rattle.slot_join.specs.Intact.{ArrivesIntact};
+ghost use Rattle.slot_join.specs.OneCall.{ShowsNoOther, IsCallOrMissing};
 
 use call_grammar::{formats_begin_calls, fronts_differ, lists_are_characters, lists_are_short};
 use phasing::late_starts_are_found;
 use slot_evidence::one_seen;
-use ten_unit::words_tell_symbols_apart;
+use ten_unit::{one_way_errors_are_seen, words_tell_symbols_apart};
 use time_diversity::both_slots_show_the_character;
 
 /// The law that a set of facts has one answer. It does nothing.
@@ -48,4 +50,26 @@ pub fn late_calls_are_found()
         → IsIntactStart reception (on_air (spell call ++ tail)) long lead → lead_of reception ≡ Some lead }
 {
     late_starts_are_found();
+}
+
+/// The law that the truly phased receptions of a call that went wrong in one sense alone, character by character, show of
+/// its places up to the error check character no other symbols than the call's. It does nothing.
+pub fn heard_calls_show_no_other()
+    ensures { (call : Call) (tail : List ℕ) (reception : List Element) → IsCall call → IsHeard reception (spell call ++ tail)
+        → ShowsNoOther (facts_of reception) (front call) }
+{
+    words_tell_symbols_apart();
+    one_way_errors_are_seen();
+    both_slots_show_the_character();
+    lists_are_characters();
+}
+
+/// The law that where the places of a call, up to its error check character, showed no other symbols than the call's, the answer is the
+/// call, or names as missing a place of it that showed nothing. It does nothing.
+pub fn call_or_missing_place()
+    ensures { (F : Facts) (call : Call) (answer : Joined) → IsCall call → ShowsNoOther F (front call) → IsAnswer F answer
+        → IsCallOrMissing F call answer }
+{
+    fronts_differ();
+    formats_begin_calls();
 }

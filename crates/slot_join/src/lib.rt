@@ -8,6 +8,9 @@ mod reading;
 
 pub use gate::{Gate, Open};
 pub use joined::{Extra, Joined};
-pub use laws::{intact_call_is_reported, late_calls_are_found, one_answer};
+pub use laws::{
+    call_or_missing_place, heard_calls_show_no_other, intact_call_is_reported,
+    late_calls_are_found, one_answer,
+};
 pub use reading::report;
 pub use slot_evidence::{Seen, Sheet, read_sheet};

@@ -1,0 +1,135 @@
+-- Where the places of a call showed no other symbols than its own, the answer is the call or a missing place.
+use Rattle.std.proofs.Common.{◌≡◌, ℕ, zero, suc, ◌+◌, ◌<◌, ◌≤◌, Bool, true, false, ◌||◌, List, [], ◌∷◌, ◌++◌, length, get_or, take, drop, refl, sym, ap, subst, ◌∙◌, inl, inr, append_assoc, arith}
+use Rattle.std.specs.Prelude.{◌↔◌}
+use Rattle.std.proofs.lemmas.Bool.{cases_lt, or_cases}
+use Rattle.std.proofs.lemmas.List.{length-take-le, get_or-take, take-append-drop, ext_get_or, drop_more, length_push}
+use Rattle.call_values.specs.declared.alerts.Call.{Call}
+use Rattle.call_values.specs.Calls.{IsCall}
+use Rattle.call_grammar.specs.Spelling.{front, format_of}
+use Rattle.call_grammar.specs.Walk.{IsFormat, IsViable}
+use Rattle.slot_evidence.specs.declared.places.Seen.{Seen}
+use Rattle.slot_evidence.specs.declared.places.Seen.TheVariants as seen
+use Rattle.slot_evidence.specs.Facts.{Facts}
+use Rattle.slot_evidence.specs.Seen.{IsSeen, ShowsNone, ShowsOne}
+use Rattle.slot_join.specs.declared.joined.Joined.{Joined}
+use Rattle.slot_join.specs.declared.joined.Joined.TheVariants.{Reported}
+use Rattle.slot_join.specs.declared.joined.Extra.TheVariants.{Absent}
+use Rattle.slot_join.specs.Shown.{head_of, IsShown}
+use Rattle.slot_join.specs.Answer.{IsAnswer, IsReported, IsStopped, StopsWith, BehindFormat, BehindHead}
+use Rattle.slot_join.specs.OneCall.{ShowsNoOther, IsCallOrMissing}
+use Rattle.slot_join.proofs.ShownLists.{push_shown, viable_front, front_viable}
+use Rattle.slot_join.proofs.Stops.{FrontsDiffer}
+
+-- format specifiers stand twice at the start of calls, and nothing else does
+abbrev pub FormatsBegin : Type 0
+FormatsBegin = (f : ℕ) → IsFormat f ↔ IsViable (f ∷ f ∷ [])
+
+-- the longer one of two lists that agree begins with the shorter
+begins_with : (l m : List ℕ) → ((i : ℕ) → i < length l → get_or m i 0 ≡ get_or l i 0) → length l ≤ length m → m ≡ l ++ drop (length l) m
+begins_with l m same le =
+    let len : length (take (length l) m) ≡ length l = length-take-le (length l) m le in
+    let equal : take (length l) m ≡ l =
+    ext_get_or 0 (take (length l) m) l len (λ i h. let below : i < length l = omega (arith, len) in get_or-take (length l) m i 0 below ∙ same i below) in
+    sym (take-append-drop (length l) m) ∙ ap (λ (x : List ℕ). x ++ drop (length l) m) equal
+
+-- the two places of the format specifier showed that of the call alone
+head_is : (F : Facts) (c : Call) → ShowsNoOther F (front c) → (v : ℕ) → head_of F v ≡ true → v ≡ format_of c
+head_is F c only v has = elim (or_cases (F 0 v) (F 1 v) has) [
+  | inl here ↦ only 0 v (omega arith) here
+  | inr here ↦ only 1 v (omega arith) here
+]
+
+-- a shown list agrees with the call's
+same_there : (F : Facts) (c : Call) (k : List ℕ) → ShowsNoOther F (front c) → IsShown F k → (i : ℕ) → i < length k → i < length (front c) → get_or k i 0 ≡ get_or (front c) i 0
+same_there F c k only a zero p q = ap (λ (x : List ℕ). get_or x 0 0) a.begins ∙ head_is F c only a.format a.head.0
+same_there F c k only a (suc zero) p q = ap (λ (x : List ℕ). get_or x 1 0) a.begins ∙ head_is F c only a.format a.head.0
+same_there F c k only a (suc (suc i)) p q = only (suc (suc i)) (get_or k (suc (suc i)) 0) q (a.places (suc (suc i)) (omega arith) p).0
+
+list_begins : (F : Facts) (c : Call) (k : List ℕ) → ShowsNoOther F (front c) → IsShown F k → length k ≤ length (front c) → front c ≡ k ++ drop (length k) (front c)
+list_begins F c k only a le = begins_with k (front c) (λ i below. sym (same_there F c k only a i below (omega arith))) le
+
+call_begins : (F : Facts) (c : Call) (k : List ℕ) → ShowsNoOther F (front c) → IsShown F k → length (front c) ≤ length k → k ≡ front c ++ drop (length (front c)) k
+call_begins F c k only a le = begins_with (front c) k (λ i below. same_there F c k only a i (omega arith) below) le
+
+-- the call that is shown is this one
+this_call : FrontsDiffer → (F : Facts) (c d : Call) → IsCall c → IsCall d → ShowsNoOther F (front c) → IsShown F (front d) → d ≡ c
+this_call differ F c d lc ld only shown = elim (cases_lt (length (front d)) (length (front c))) [
+  | inl lt ↦ (differ d c (drop (length (front d)) (front c)) ld lc (list_begins F c (front d) only shown (omega arith))).0
+  | inr le ↦ sym (differ c d (drop (length (front c)) (front d)) lc ld (call_begins F c (front d) only shown le)).0
+]
+
+call_reported : FrontsDiffer → (F : Facts) (c : Call) (answer : Joined) → IsCall c → ShowsNoOther F (front c) → IsReported F answer → IsCallOrMissing F c answer
+call_reported differ F c answer lawful only r =
+    inl (r.answer_is ∙ ap (λ (d : Call). Reported d Absent) (this_call differ F c r.call lawful r.lawful only r.shown))
+
+-- a call is shown with each list that is as long
+shown_within : (F : Facts) (c : Call) (k : List ℕ) → ShowsNoOther F (front c) → IsShown F k → length (front c) ≤ length k → IsShown F (front c)
+shown_within F c k only a le = record {
+  format = format_of c;
+  rest = drop 2 (front c);
+  begins = refl;
+  head = subst (λ (f : ℕ). ShowsOne (head_of F) f) (head_is F c only a.format a.head.0) a.head;
+  places = λ p least below.
+      subst (λ (x : ℕ). ShowsOne (F p) x) (same_there F c k only a p (omega arith) below) (a.places p least (omega arith));
+}
+
+-- the symbol of the call behind a shown list makes a longer one that begins the call
+call_goes_on : (F : Facts) (c : Call) (k : List ℕ) (v : ℕ) → IsCall c → ShowsNoOther F (front c) → IsShown F k → length k < length (front c)
+    → ShowsOne (F (length k)) v → IsShown F (k ++ v ∷ []) × IsViable (k ++ v ∷ [])
+call_goes_on F c k v lawful only a lt one =
+    let n : ℕ = length k in
+    let rest : List ℕ = drop (n + 1) (front c) in
+    let is : v ≡ get_or (front c) n 0 = only n v lt one.0 in
+    let more : drop n (front c) ≡ v ∷ rest = drop_more (front c) n 0 lt ∙ ap (λ (x : ℕ). x ∷ rest) (sym is) in
+    let whole : front c ≡ (k ++ v ∷ []) ++ rest =
+    list_begins F c k only a (omega arith) ∙ ap (λ (x : List ℕ). k ++ x) more ∙ sym (append_assoc k (v ∷ []) rest) in
+    (push_shown F k v a one, viable_front (k ++ v ∷ []) rest (subst IsViable whole (front_viable c lawful)))
+
+-- what stands behind the longest list, where it is shorter than the call's
+behind : (F : Facts) (c : Call) (answer : Joined) (s : IsStopped F answer) (here : Seen) → IsCall c → ShowsNoOther F (front c) → length s.list < length (front c)
+    → IsSeen (F (length s.list)) here → StopsWith s.list here answer → IsCallOrMissing F c answer
+behind F c answer s seen.None lawful only lt none is = inr (length s.list, is, lt, none)
+behind F c answer s (seen.Differ a b) lawful only lt several is =
+    let low : a ≡ get_or (front c) (length s.list) 0 = only (length s.list) a lt several.has_least in
+    let high : b ≡ get_or (front c) (length s.list) 0 = only (length s.list) b lt several.has_greatest in
+    absurd (omega (arith, low, high, several.apart))
+behind F c answer s (seen.One v) lawful only lt one is =
+    let longer = call_goes_on F c s.list v lawful only s.longest.shown lt one in
+    let most : length (s.list ++ v ∷ []) ≤ length s.list = s.longest.longest (s.list ++ v ∷ []) longer.0 longer.1 in
+    absurd (omega (arith, length_push s.list v))
+
+call_stopped : (F : Facts) (c : Call) (answer : Joined) → IsCall c → ShowsNoOther F (front c) → IsStopped F answer → IsCallOrMissing F c answer
+call_stopped F c answer lawful only s = elim (cases_lt (length s.list) (length (front c))) [
+  | inl lt ↦ behind F c answer s s.here lawful only lt s.seen s.stops
+  | inr le ↦ absurd (s.unreported c lawful (shown_within F c s.list only s.longest.shown le))
+]
+
+behind_format : FrontsDiffer → FormatsBegin → (F : Facts) (c : Call) (f : ℕ) (answer : Joined) → IsCall c → ShowsNoOther F (front c) → f ≡ format_of c
+    → BehindFormat F f answer → IsCallOrMissing F c answer
+behind_format differ formats F c f answer lawful only is (inl outside) =
+    let begins : IsViable (format_of c ∷ format_of c ∷ []) = viable_front (format_of c ∷ format_of c ∷ []) (drop 2 (front c)) (front_viable c lawful) in
+    absurd (outside.0 ((formats f).1 (subst (λ (x : ℕ). IsViable (x ∷ x ∷ [])) (sym is) begins)))
+behind_format differ formats F c f answer lawful only is (inr (inl missing)) = inr (0, missing.3, omega arith, missing.2)
+behind_format differ formats F c f answer lawful only is (inr (inr (inl missing))) = inr (1, missing.4, omega arith, missing.3)
+behind_format differ formats F c f answer lawful only is (inr (inr (inr (has, inl reported)))) = call_reported differ F c answer lawful only reported
+behind_format differ formats F c f answer lawful only is (inr (inr (inr (has, inr stopped)))) = call_stopped F c answer lawful only stopped
+
+or_false_left : (x y : Bool) → (x || y) ≡ false → x ≡ false
+or_false_left true y e = absurd cc
+or_false_left false y e = refl
+
+-- where neither place of the format specifier showed a symbol, the first didn't
+none_first : (F : Facts) → ShowsNone (head_of F) → ShowsNone (F 0)
+none_first F none v = or_false_left (F 0 v) (F 1 v) (none v)
+
+behind_head : FrontsDiffer → FormatsBegin → (F : Facts) (c : Call) (h : Seen) (answer : Joined) → IsCall c → ShowsNoOther F (front c) → IsSeen (head_of F) h
+    → BehindHead F h answer → IsCallOrMissing F c answer
+behind_head differ formats F c seen.None answer lawful only none is = inr (0, is, omega arith, none_first F none)
+behind_head differ formats F c (seen.Differ a b) answer lawful only several is =
+    let low : a ≡ format_of c = head_is F c only a several.has_least in
+    let high : b ≡ format_of c = head_is F c only b several.has_greatest in
+    absurd (omega (arith, low, high, several.apart))
+behind_head differ formats F c (seen.One f) answer lawful only one is = behind_format differ formats F c f answer lawful only (head_is F c only f one.0) is
+
+pub call_or_missing : FrontsDiffer → FormatsBegin → (F : Facts) (c : Call) (answer : Joined) → IsCall c → ShowsNoOther F (front c) → IsAnswer F answer → IsCallOrMissing F c answer
+call_or_missing differ formats F c answer lawful only a = behind_head differ formats F c a.head answer lawful only a.seen a.answers

@@ -1,0 +1,82 @@
+-- what a truly phased reception with one-way errors shows is what was sent
+use Rattle.std.proofs.Common.{◌≡◌, ℕ, ◌+◌, ◌*◌, ◌<◌, ◌≤◌, Bool, true, false, ◌&&◌, ◌||◌, ltb, List, ◌∷◌, [], ◌++◌, length, get_or, Option, Some, None, refl, sym, ap, subst, ◌∙◌, inl, inr, ◌⊎◌, arith, length-append, append_assoc, All}
+use Rattle.std.specs.Prelude.{◌↔◌}
+use Rattle.std.specs.List.{range_with_len}
+use Rattle.std.proofs.lemmas.Bool.{ltb-true, and_parts, or_cases}
+use Rattle.std.proofs.lemmas.List.{get_or_append_left}
+use Rattle.std.proofs.lemmas.List.Elements.{All-get_or}
+use Rattle.std.proofs.lemmas.List.FromFn.{length-map-range_with_len, get_or-map-range_with_len}
+use Rattle.ten_unit.specs.declared.character.Element.{Element}
+use Rattle.ten_unit.specs.Word.{word_of, is_word}
+use Rattle.ten_unit.specs.Errors.{IsOneWay}
+use Rattle.time_diversity.specs.Slots.{dx_slot, rx_slot, IsSlotOf}
+use Rattle.time_diversity.specs.OnAir.{slot_symbol, on_air}
+use Rattle.phasing.specs.Slot.{slot, shows}
+use Rattle.phasing.specs.Origin.{lead_of}
+use Rattle.call_values.specs.declared.alerts.Call.{Call}
+use Rattle.call_values.specs.Calls.{IsCall}
+use Rattle.call_grammar.specs.Spelling.{spell, front, end_of}
+use Rattle.slot_evidence.specs.Facts.{Facts, facts_of, facts_at}
+use Rattle.slot_join.specs.Heard.{IsOneWayAt, IsTrulyPhased, IsHeard}
+use Rattle.slot_join.specs.OneCall.{ShowsNoOther}
+
+-- the laws of the crates below that this one stands on
+pub record Laws : Type 0 where
+  pub equal : (w : List Element) (v : ℕ) → (is_word w v ≡ true) ↔ (w ≡ word_of v)
+  pub one_way : (received : List Element) (u v : ℕ) → u < 128 → v < 128 → IsOneWay (word_of v) received → is_word received u ≡ true → u ≡ v
+  pub slots : (list : List ℕ) (s p : ℕ) → IsSlotOf s p → slot_symbol list s ≡ get_or list p 0
+  pub characters : (c : Call) → IsCall c → All (λ v. v < 128) (spell c)
+
+length-on_air : (list : List ℕ) → length (on_air list) ≡ 2 * length list + 12
+unfolding on_air
+length-on_air list = length-map-range_with_len (slot_symbol list) 0 (2 * length list + 12)
+
+sent_at : (list : List ℕ) (s : ℕ) → s < 2 * length list + 12 → get_or (on_air list) s 0 ≡ slot_symbol list s
+unfolding on_air
+sent_at list s below = get_or-map-range_with_len (slot_symbol list) 0 (2 * length list + 12) s s 0 below (omega arith)
+
+ten : (v : ℕ) → length (word_of v) ≡ 10
+unfolding word_of
+ten v = refl
+
+-- a slot shows what was sent in it or nothing
+slot_told : Laws → (e : List Element) (list : List ℕ) (lead s p v : ℕ) → IsOneWayAt e list lead → s < 2 * length list + 12 → IsSlotOf s p → get_or list p 0 < 128 → v < 128 → shows e lead s v ≡ true → v ≡ get_or list p 0
+unfolding shows
+slot_told laws e list lead s p v heard below is small bv has =
+    let word = (laws.equal (slot e lead s) v).0 has in
+    let sent : get_or (on_air list) s 0 ≡ get_or list p 0 = sent_at list s below ∙ laws.slots list s p is in
+    let one_way = heard s (omega (arith, length-on_air list)) (ap length word ∙ ten v) in
+    laws.one_way (slot e lead s) v (get_or list p 0) bv small (subst (λ (x : ℕ). IsOneWay (word_of x) (slot e lead s)) sent one_way) has
+
+at_lead : Laws → (e : List Element) (list : List ℕ) (lead p v : ℕ) → IsOneWayAt e list lead → p + 2 < length list → get_or list p 0 < 128 → facts_at e (Some lead) p v ≡ true → v ≡ get_or list p 0
+at_lead laws e list lead p v heard below small has =
+    let a = and_parts (ltb p 64) (ltb v 128 && (shows e lead (dx_slot p) v || shows e lead (rx_slot p) v)) has in
+    let b = and_parts (ltb v 128) (shows e lead (dx_slot p) v || shows e lead (rx_slot p) v) a.1 in
+    let bv : v < 128 = ltb-true v 128 b.0 in
+    elim (or_cases (shows e lead (dx_slot p) v) (shows e lead (rx_slot p) v) b.1) [
+      | inl here ↦ slot_told laws e list lead (dx_slot p) p v heard (omega arith) (inl refl) small bv here
+      | inr here ↦ slot_told laws e list lead (rx_slot p) p v heard (omega arith) (inr refl) small bv here
+    ]
+
+told : Laws → (e : List Element) (list : List ℕ) (p v : ℕ) → IsHeard e list → p + 2 < length list → get_or list p 0 < 128 → facts_of e p v ≡ true → v ≡ get_or list p 0
+unfolding facts_of
+told laws e list p v heard below small has =
+    elim heard.phased [
+      | inl found ↦ at_lead laws e list heard.lead p v heard.one_way below small (subst (λ (lead : Option ℕ). facts_at e lead p v ≡ true) found has)
+      | inr none ↦ (let never : facts_at e None p v ≡ true = subst (λ (lead : Option ℕ). facts_at e lead p v ≡ true) none has in absurd (cc))
+    ]
+
+-- the places of a call up to its check are those of what was sent
+in_call : (c : Call) (tail : List ℕ) (p : ℕ) → p < length (front c) → get_or (spell c ++ tail) p 0 ≡ get_or (front c) p 0
+in_call c tail p below =
+    let ends = end_of c ∷ end_of c ∷ [] in
+    ap (λ (l : List ℕ). get_or l p 0) (append_assoc (front c) ends tail) ∙ get_or_append_left (front c) (ends ++ tail) 0 p below
+
+pub heard_call : Laws → (c : Call) (tail : List ℕ) (e : List Element) → IsCall c → IsHeard e (spell c ++ tail) → ShowsNoOther (facts_of e) (front c)
+heard_call laws c tail e lawful heard p v below has =
+    let ends = end_of c ∷ end_of c ∷ [] in
+    let long : length (front c) + 2 ≤ length (spell c ++ tail) = omega (arith, length-append (spell c) tail, length-append (front c) ends) in
+    let character : get_or (spell c) p 0 < 128 = All-get_or (λ v. v < 128) (spell c) p 0 (omega (arith, length-append (front c) ends)) (laws.characters c lawful) in
+    let same = in_call c tail p below in
+    let in_list : get_or (spell c) p 0 ≡ get_or (front c) p 0 = get_or_append_left (front c) ends 0 p below in
+    told laws e (spell c ++ tail) p v heard (omega (arith, long)) (omega (arith, same, in_list, character)) has ∙ same

@@ -1,0 +1,18 @@
+-- Facts of one call: this project's profile, over the places of ITU-R M.493.
+use Rattle.std.specs.Prelude.{◌≡◌, ℕ, ◌<◌, true, ◌⊎◌, List, length, slice_index}
+use Rattle.call_values.specs.declared.alerts.Call.{Call}
+use Rattle.call_grammar.specs.Spelling.{front}
+use Rattle.slot_evidence.specs.Facts.{Facts}
+use Rattle.slot_evidence.specs.Seen.{ShowsNone}
+use Rattle.slot_join.specs.declared.joined.Joined.{Joined}
+use Rattle.slot_join.specs.declared.joined.Joined.TheVariants.{Reported, Missing}
+use Rattle.slot_join.specs.declared.joined.Extra.TheVariants.{Absent}
+
+-- a place of the list that showed a symbol showed that of the list and no other
+abbrev pub ShowsNoOther : Facts → List ℕ → Type 0
+ShowsNoOther F list = (p v : ℕ) → p < length list → F p v ≡ true → v ≡ slice_index list p
+
+-- the call, or a place of it that showed nothing
+abbrev pub IsCallOrMissing : Facts → Call → Joined → Type 0
+IsCallOrMissing F call answer =
+    (answer ≡ Reported call Absent) ⊎ ((n : ℕ) × (answer ≡ Missing n) × (n < length (front call)) × ShowsNone (F n))
