@@ -1,3 +1,4 @@
 pub mod Words
 pub mod Output
 pub mod Endings
+pub mod Sent

@@ -10,8 +10,10 @@ ghost use Rattle.dsc_cmd.specs.Words.{IsJoin};
 ghost use Rattle.dsc_cmd.specs.Output as output;
 ghost use Rattle.dsc_cmd.specs.Output.{words_refused, answer_line, IsAnswered};
 ghost use Rattle.dsc_cmd.specs.Endings.{IsFinished, IsFaulty, Writes, WritesFront, WritesAnswers, WritesFault, WritesSome, Answers, TellsFault, CutsOff, CutsOffWords};
+ghost use Rattle.dsc_cmd.specs.Sent.{ReportsSent};
 
 use crate::faults::{self, put_fault};
+use crate::laws::sent_call_is_answered;
 use crate::words::is_join;
 use dsc_files::{Failed, ReadError, Sink, Source, Status, read_at_most, write_all};
 use dsc_texts::put_answer_line;
@@ -148,6 +150,9 @@ pub fn run<R: Threads + Sync, S: Source, K: Sink, G: Gate>(
     // Exactly the answer that the facts of the input's receptions determine, and the status of that answer.
     ensures answered { IsFinished result → Answers (S.left source.old) (S.left source.new) (K.written sink.old) (K.written sink.new) (K.flushed sink.new) result }
 
+    // Where all receptions are of one call, truly phased and wrong in one sense alone: this call, or a missing place.
+    ensures sent { IsFinished result → ReportsSent (S.left source.old) (S.left source.new) (K.written sink.old) (K.written sink.new) (K.flushed sink.new) result }
+
     // The cause of each status, and what it leaves.
     ensures planned { IsFinished result ⊎ IsFaulty result ⊎ (result ≡ 4) ⊎ (result ≡ 6) → IsJoin (map string_bytes words.now) }
     ensures unplanned { result ≡ 2 → IsJoin (map string_bytes words.now) → ⊥ }
@@ -173,6 +178,7 @@ pub fn run<R: Threads + Sync, S: Source, K: Sink, G: Gate>(
         return end(sink, b"dsc: words refused\n", Status::new(2));
     }
     early_fault();
+    sent_call_is_answered();
     match read_at_most(alloc, source, MOST_BYTES) {
         Ok(input) => answer(alloc, &input, sink),
         Err(ReadError::Failed) => Status::new(4),

@@ -1,6 +1,7 @@
 use Rattle.std.proofs.Common.{List, ℕ, inr, subst}
 use Rattle.dsc_cmd.specs.Endings.{WritesAnswers, WritesFault, WritesSome}
 use Rattle.dsc_cmd.proofs.Reading.{EarlyFault, within, still_writes_fault, still_writes_some}
+use Rattle.dsc_cmd.proofs.SentCalls.{reports_sent}
 use Rattle.dsc_cmd.proofs.running.run.Goals as goal
 
 pub returns-in-Ok-clause-answered : goal.returns-in-Ok-clause-answered
@@ -16,6 +17,9 @@ returns-in-Ok-clause-answered g c = λ is.
       ended = c.in-Ok.ensures.end (within early c.in-Ok.input.items writes.joined.faultless);
       writes = writes;
     }
+
+pub returns-in-Ok-clause-sent : goal.returns-in-Ok-clause-sent
+returns-in-Ok-clause-sent g c = λ is. reports_sent c.sent_call_is_answered.ensures _ _ _ _ _ _ (returns-in-Ok-clause-answered g c is)
 
 pub returns-in-Ok-clause-faulty : goal.returns-in-Ok-clause-faulty
 returns-in-Ok-clause-faulty g c = λ is.

@@ -1,7 +1,6 @@
-use Rattle.std.proofs.Common.{◌≡◌, ℕ, ◌≤◌, ◌<◌, Bool, true, List, [], ◌∷◌, length, get_or, map, refl, sym, ap, ◌∙◌, arith, codes, string_bytes, Global}
+use Rattle.std.proofs.Common.{◌≡◌, ℕ, ◌≤◌, ◌<◌, List, [], ◌∷◌, length, get_or, map, sym, ap, ◌∙◌, arith, codes, string_bytes, Global}
 use Rattle.std.specs.Prelude.{String}
 use lib.Pointwise.{bytes_decides}
-use Rattle.dsc_cmd.specs.Words.{IsJoin}
 use Rattle.dsc_cmd.proofs.words.is_join.Goals as goal
 
 two_words : (words : List (String Global)) (command : String Global) → 2 ≤ length words → length words < 3 → command ≡ get_or words 1 command
