@@ -209,16 +209,34 @@ const FAULTS: [(&str, usize); 15] = [
     ("x", 1),
     ("al", 3),
     ("alx", 3),
-    ("alert from=338040079 nature=111 pos=1423108312 time=2019 then=100", 31),
-    ("alert from=338040079 nature=106 pos=1423108312 time=2460 then=100", 54),
-    ("alert from=338040079 nature=106 pos=1423108312 time=2019 then=100 ", 66),
+    (
+        "alert from=338040079 nature=111 pos=1423108312 time=2019 then=100",
+        31,
+    ),
+    (
+        "alert from=338040079 nature=106 pos=1423108312 time=2460 then=100",
+        54,
+    ),
+    (
+        "alert from=338040079 nature=106 pos=1423108312 time=2019 then=100 ",
+        66,
+    ),
     ("alert from=338040079  nature=106", 22),
     ("relay to=area:1431 from=338158137", 19),
     ("relay to=agroup", 11),
     ("relayack to=one:00224102", 25),
-    ("all cat=108 from=002241022 first=100 second=126 f1=900016 f2=910000", 63),
-    ("one to=002241022 cat=100 from=338158137 first=100 second=126 at=1423118001 end=117", 74),
-    ("one to=002241022 cat=100 from=338158137 first=100 second=126 f1=none f2=none end=118", 84),
+    (
+        "all cat=108 from=002241022 first=100 second=126 f1=900016 f2=910000",
+        63,
+    ),
+    (
+        "one to=002241022 cat=100 from=338158137 first=100 second=126 at=1423118001 end=117",
+        74,
+    ),
+    (
+        "one to=002241022 cat=100 from=338158137 first=100 second=126 f1=none f2=none end=118",
+        84,
+    ),
     ("test to=338040079 cat=106 from=002241022 end=117", 25),
 ];
 

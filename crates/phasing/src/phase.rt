@@ -1,8 +1,9 @@
 ghost use Rattle.std.specs.Prelude.{◌≡◌, ◌+◌, ◌<◌, ◌≤◌, length, IfSome};
 ghost use Rattle.phasing.specs.Origin as sequence;
+ghost use Rattle.phasing.specs.Origin.{AreRxWords};
 
-use crate::reception::shows;
-use ten_unit::Element;
+use crate::reception::{has, shows};
+use ten_unit::{Element, word};
 
 /// How many DX slots show their phasing symbol.
 fn dx_right(e: &[Element], lead: u32) -> usize
@@ -16,25 +17,52 @@ fn dx_right(e: &[Element], lead: u32) -> usize
         .count()
 }
 
-/// How many RX slots show theirs.
-fn rx_right(e: &[Element], lead: u32) -> usize
-    requires length { length e.now ≤ 1000000 }
-    requires lead { lead ≤ 1000150 }
-    ensures { result ≡ sequence.rx_right e.now lead }
+/// The words of the phasing symbols 111 down to 104, which stand in the RX slots 1, 3, .. 15.
+fn rx_words() -> [[Element; 10]; 8]
+    ensures { AreRxWords result }
 {
-    [1, 3, 5, 7, 9, 11, 13, 15]
-        .iter()
-        .filter(|slot| shows(e, lead, **slot, 111 - (**slot as u8 - 1) / 2))
-        .count()
+    [
+        word(111),
+        word(110),
+        word(109),
+        word(108),
+        word(107),
+        word(106),
+        word(105),
+        word(104),
+    ]
 }
 
-/// Whether enough phasing symbols are right at a lead.
-fn is_phased(e: &[Element], lead: u32) -> bool
+/// How many RX slots show theirs, of which these are the words.
+fn rx_right(e: &[Element], lead: u32, words: &[[Element; 10]; 8]) -> usize
     requires length { length e.now ≤ 1000000 }
     requires lead { lead ≤ 1000150 }
+    requires words { AreRxWords words.now }
+    ensures { result ≡ sequence.rx_right e.now lead }
+{
+    let [a, b, c, d, f, g, h, i] = words;
+    usize::from(has(e, lead, 1, a))
+        + usize::from(has(e, lead, 3, b))
+        + usize::from(has(e, lead, 5, c))
+        + usize::from(has(e, lead, 7, d))
+        + usize::from(has(e, lead, 9, f))
+        + usize::from(has(e, lead, 11, g))
+        + usize::from(has(e, lead, 13, h))
+        + usize::from(has(e, lead, 15, i))
+}
+
+/// Whether enough phasing symbols are right at a lead. Without an RX one the DX slots need no look.
+fn is_phased(e: &[Element], lead: u32, words: &[[Element; 10]; 8]) -> bool
+    requires length { length e.now ≤ 1000000 }
+    requires lead { lead ≤ 1000150 }
+    requires words { AreRxWords words.now }
     ensures { result ≡ sequence.is_phased e.now lead }
 {
-    is_enough(dx_right(e, lead), rx_right(e, lead))
+    let rx = rx_right(e, lead, words);
+    if rx == 0 {
+        return false;
+    }
+    is_enough(dx_right(e, lead), rx)
 }
 
 /// Whether so many right phasing symbols are enough.
@@ -51,7 +79,8 @@ pub fn lead(e: &[Element]) -> Option<u32>
     ensures least { result ≡ sequence.lead_of e.now }
     ensures within { IfSome result (λ lead. lead < length e.now + 150) }
 {
-    (0..e.len() as u32 + 150).find(|lead| is_phased(e, *lead))
+    let words = rx_words();
+    (0..e.len() as u32 + 150).find(|lead| is_phased(e, *lead, &words))
 }
 
 /// The origin of a reception (ITU-R M.493, phasing sequence): the index at which the transmission's slot 0 begins,

@@ -1,7 +1,8 @@
 ghost use Rattle.std.specs.Prelude.{◌≡◌, ℕ, ◌<◌, ◌≤◌, length, Some, IfSome, IsTrue};
+ghost use Rattle.ten_unit.specs.Word.{word_of};
 ghost use Rattle.phasing.specs.Slot as diversity;
 
-use ten_unit::{Element, is_word, symbol};
+use ten_unit::{Element, is_same, is_word, symbol};
 
 /// Leads count from this many elements before a reception's first one.
 const BEFORE: usize = 150;
@@ -18,6 +19,15 @@ fn elements(e: &[Element], lead: u32, slot: u16) -> &[Element]
     } else {
         &[]
     }
+}
+
+/// Whether a slot shows the symbol of which this is the word.
+pub(crate) fn has(e: &[Element], lead: u32, slot: u16, word: &[Element; 10]) -> bool
+    requires length { length e.now ≤ 1000000 }
+    requires lead { lead ≤ 1000150 }
+    ensures { (v : ℕ) → word.now ≡ word_of v → result ≡ diversity.shows e.now lead slot v }
+{
+    is_same(elements(e, lead, slot), word)
 }
 
 /// Whether a slot shows a symbol from 0 to 127.

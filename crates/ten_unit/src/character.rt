@@ -59,12 +59,19 @@ pub fn word(symbol: u8) -> [Element; 10]
     [a, b, c, d, e, f, g, h, i, j]
 }
 
+/// Whether these elements are those of a word. A list of another length is not.
+pub fn is_same(w: &[Element], word: &[Element; 10]) -> bool
+    ensures { result ≡ characters.elements_eq w.now word.now }
+{
+    w == word.as_slice()
+}
+
 /// Whether these elements are the word of a symbol from 0 to 127. A list of another length is no word.
 pub fn is_word(w: &[Element], symbol: u8) -> bool
     requires { symbol < 128 }
     ensures { result ≡ characters.is_word w.now symbol }
 {
-    w == word(symbol).as_slice()
+    is_same(w, &word(symbol))
 }
 
 fn one(element: Element) -> u8

@@ -4,5 +4,5 @@
 mod character;
 
 pub use character::{
-    Element, is_word, one_way_errors_are_seen, symbol, word, words_tell_symbols_apart,
+    Element, is_same, is_word, one_way_errors_are_seen, symbol, word, words_tell_symbols_apart,
 };
