@@ -6,12 +6,12 @@ ghost use Rattle.dsc_texts.specs.Texts.{reported_text};
 
 use crate::pieces::{append, append_digits};
 use crate::values::{
-    append_address, append_area, append_casualty, append_distress, append_end, append_from,
-    append_position, append_request, append_sender, append_time,
+    append_address, append_area, append_casualty, append_distress, append_end, append_frequencies,
+    append_from, append_message, append_position, append_request, append_sender, append_time,
 };
 use arrayvec::ArrayVec;
 use call_grammar::end_of;
-use call_values::{Call, Casualty, Category, Kind, Message, Mmsi};
+use call_values::{Call, Casualty, Category, Kind, Mmsi};
 use slot_join::Extra;
 
 /// The text of a call and of what follows it on air.
@@ -63,14 +63,8 @@ pub fn append_call<const N: usize>(out: &mut ArrayVec<u8, N>, call: &Call)
             f2,
         } => {
             append(out, b"all");
-            append_request(
-                out,
-                category,
-                from,
-                first,
-                second,
-                &Message::Fields(*f1, *f2),
-            );
+            append_request(out, category, from, first, second);
+            append_frequencies(out, f1, f2);
         }
         Call::AreaCall {
             area,
@@ -83,14 +77,8 @@ pub fn append_call<const N: usize>(out: &mut ArrayVec<u8, N>, call: &Call)
         } => {
             append(out, b"area to=");
             append_area(out, area);
-            append_request(
-                out,
-                category,
-                from,
-                first,
-                second,
-                &Message::Fields(*f1, *f2),
-            );
+            append_request(out, category, from, first, second);
+            append_frequencies(out, f1, f2);
         }
         Call::GroupCall {
             group,
@@ -103,14 +91,8 @@ pub fn append_call<const N: usize>(out: &mut ArrayVec<u8, N>, call: &Call)
         } => {
             append(out, b"group to=");
             append_digits(out, 9, u64::from(group.number()));
-            append_request(
-                out,
-                category,
-                from,
-                first,
-                second,
-                &Message::Fields(*f1, *f2),
-            );
+            append_request(out, category, from, first, second);
+            append_frequencies(out, f1, f2);
         }
         Call::Individual {
             to,
@@ -123,7 +105,8 @@ pub fn append_call<const N: usize>(out: &mut ArrayVec<u8, N>, call: &Call)
         } => {
             append(out, b"one to=");
             append_digits(out, 9, u64::from(to.number()));
-            append_request(out, category, from, first, second, message);
+            append_request(out, category, from, first, second);
+            append_message(out, message);
             append_end(out, end_of(call));
         }
         Call::Service {

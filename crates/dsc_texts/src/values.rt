@@ -3,7 +3,7 @@ ghost use Rattle.arrayvec.specs.ArrayVec.{array_vec_len};
 ghost use Rattle.line_grammar.specs.Shapes.{digits};
 ghost use Rattle.line_grammar.specs.Grammar.{finish, none, part, written};
 ghost use Rattle.dsc_texts.specs.CallGrammar as grammar;
-ghost use Rattle.dsc_texts.specs.CallParts.{position_text, time_text, area_text, frequency_text, address_text, casualty_parts, distress_parts, sender_parts, message_parts, request_parts, end_parts};
+ghost use Rattle.dsc_texts.specs.CallParts.{position_text, time_text, area_text, frequency_text, address_text, casualty_parts, distress_parts, sender_parts, frequencies_parts, message_parts, request_parts, end_parts};
 
 use crate::pieces::{append, append_digits};
 use arrayvec::ArrayVec;
@@ -148,19 +148,26 @@ pub fn append_sender<const N: usize>(out: &mut ArrayVec<u8, N>, category: &Categ
     append_from(out, from);
 }
 
-/// Appends two fields or a position.
-fn append_message<const N: usize>(out: &mut ArrayVec<u8, N>, message: &Message)
+/// Appends two frequencies or channels.
+pub fn append_frequencies<const N: usize>(out: &mut ArrayVec<u8, N>, f1: &Field, f2: &Field)
+    requires { array_vec_len out.old + 24 ≤ N }
+    ensures items { out.new.items ≡ out.old.items ++ written (grammar.frequencies finish) (frequencies_parts f1.now f2.now none) }
+    ensures len { array_vec_len out.new ≤ array_vec_len out.old + 24 }
+{
+    append(out, b" f1=");
+    append_field(out, f1);
+    append(out, b" f2=");
+    append_field(out, f2);
+}
+
+/// Appends two frequencies or channels, or a position.
+pub fn append_message<const N: usize>(out: &mut ArrayVec<u8, N>, message: &Message)
     requires { array_vec_len out.old + 24 ≤ N }
     ensures items { out.new.items ≡ out.old.items ++ written (grammar.message finish) (message_parts message.now none) }
     ensures len { array_vec_len out.new ≤ array_vec_len out.old + 24 }
 {
     match message {
-        Message::Fields(f1, f2) => {
-            append(out, b" f1=");
-            append_field(out, f1);
-            append(out, b" f2=");
-            append_field(out, f2);
-        }
+        Message::Fields(f1, f2) => append_frequencies(out, f1, f2),
         Message::At(position) => {
             append(out, b" at=");
             append_position(out, position);
@@ -168,25 +175,23 @@ fn append_message<const N: usize>(out: &mut ArrayVec<u8, N>, message: &Message)
     }
 }
 
-/// Appends what stands between the address and the end of a call with a message.
+/// Appends a category, a sender and two telecommands.
 pub fn append_request<const N: usize>(
     out: &mut ArrayVec<u8, N>,
     category: &Category,
     from: &Mmsi,
     first: &First,
     second: &Second,
-    message: &Message,
 )
-    requires { array_vec_len out.old + 68 ≤ N }
-    ensures items { out.new.items ≡ out.old.items ++ written (grammar.request (grammar.message finish)) (request_parts category.now from.now first.now second.now (message_parts message.now none)) }
-    ensures len { array_vec_len out.new ≤ array_vec_len out.old + 68 }
+    requires { array_vec_len out.old + 44 ≤ N }
+    ensures items { out.new.items ≡ out.old.items ++ written (grammar.request finish) (request_parts category.now from.now first.now second.now none) }
+    ensures len { array_vec_len out.new ≡ array_vec_len out.old + 44 }
 {
     append_sender(out, category, from);
     append(out, b" first=");
     append_digits(out, 3, u64::from(first.number()));
     append(out, b" second=");
     append_digits(out, 3, u64::from(second.number()));
-    append_message(out, message);
 }
 
 /// Appends the symbol of an end of sequence.
