@@ -2,7 +2,7 @@ ghost use Rattle.std.specs.Prelude.{◌≡◌, ℕ, List};
 ghost use Rattle.slot_evidence.specs.declared.places.Seen.{Seen};
 ghost use Rattle.slot_evidence.specs.Facts.{Facts, Symbols, union};
 ghost use Rattle.slot_evidence.specs.Seen.{IsSeen};
-ghost use Rattle.slot_evidence.specs.Sheet.{IsEnds};
+ghost use Rattle.slot_evidence.specs.Sheet.{IsSheet, IsEnds, IsMeet};
 
 /// A set of symbols is kept in one way.
 pub fn one_seen()
@@ -15,9 +15,17 @@ pub fn one_sheet()
     ensures same { (F G : Facts) (s t : List Seen) → ((p v : ℕ) → F p v ≡ G p v) → IsEnds F s → IsEnds G t → s ≡ t }
 {}
 
-/// A sheet doesn't tell in which order, in which groups or how often sets of facts were taken in.
-pub fn meet_forgets_order()
+/// The sheet of united facts doesn't tell in which order, in which groups or how often they were united.
+pub fn unions_forget_order()
     ensures order { (F G : Facts) (s t : List Seen) → IsEnds (union F G) s → IsEnds (union G F) t → s ≡ t }
     ensures groups { (F G H : Facts) (s t : List Seen) → IsEnds (union (union F G) H) s → IsEnds (union F (union G H)) t → s ≡ t }
     ensures repeats { (F : Facts) (s t : List Seen) → IsEnds (union F F) s → IsEnds F t → s ≡ t }
+{}
+
+/// `Sheet::meet` doesn't tell in which order, in which groups or how often sheets were taken in: `IsMeet` is its contract.
+pub fn meet_forgets_order()
+    ensures order { (a b ab ba : List Seen) → IsSheet a → IsSheet b → IsMeet a b ab → IsMeet b a ba → ab ≡ ba }
+    ensures groups { (a b c ab bc left right : List Seen) → IsSheet a → IsSheet b → IsSheet c
+        → IsMeet a b ab → IsMeet ab c left → IsMeet b c bc → IsMeet a bc right → left ≡ right }
+    ensures repeats { (a aa : List Seen) → IsSheet a → IsMeet a a aa → aa ≡ a }
 {}

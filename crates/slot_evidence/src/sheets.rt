@@ -1,7 +1,7 @@
 ghost use Rattle.std.specs.Prelude.{◌≡◌, ℕ, ◌||◌, ◌<◌, ◌≤◌, length, replicate};
 ghost use Rattle.slot_evidence.specs.Facts.{Facts, Symbols, no_facts, one_fact, union};
 ghost use Rattle.slot_evidence.specs.Seen.{IsSeen, IsLawful};
-ghost use Rattle.slot_evidence.specs.Sheet.{IsSheet, IsEnds, seen_at};
+ghost use Rattle.slot_evidence.specs.Sheet.{IsSheet, IsEnds, IsMeet, seen_at};
 
 use crate::places::Seen;
 use std::marker::Model;
@@ -54,7 +54,7 @@ impl Sheet {
 
     /// Takes in all that another sheet keeps: the sheet becomes that of both sets of facts together.
     pub fn meet(&mut self, other: &Sheet)
-        ensures { (F G : Facts) → IsEnds F self.old → IsEnds G other.now → IsEnds (union F G) self.new }
+        ensures { IsMeet self.old other.now self.new }
     {
         self.places = met(&self.places, &other.places);
     }

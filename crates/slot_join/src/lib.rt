@@ -10,7 +10,7 @@ pub use gate::{Gate, Open};
 pub use joined::{Extra, Joined};
 pub use laws::{
     call_or_missing_place, heard_calls_show_no_other, intact_call_is_reported,
-    late_calls_are_found, one_answer,
+    late_calls_are_found, one_answer, unphased_receptions_are_heard,
 };
 pub use reading::report;
 pub use slot_evidence::{Seen, Sheet, read_sheet};

@@ -1,4 +1,4 @@
-use Rattle.std.proofs.Common.{ℕ, ◌≡◌, ◌∙◌, Bool, true, false, cond, List, [], get_or, ap, refl, arith}
+use Rattle.std.proofs.Common.{◌≡◌, ◌∙◌, Bool, true, false, cond, List, [], get_or, ap, refl, arith}
 use mir.Val.{bool_byte}
 use Rattle.ten_unit.specs.declared.character.Element.{Element}
 use Rattle.phasing.proofs.phase.rx_right.Goals as goal
