@@ -119,12 +119,11 @@ const ROWS: [Row; 11] = [
 
 // The list of a test call from 338040079 to 002241022.
 const TEST_CALL: [u8; 25] = [
-    120, 120, 0, 22, 41, 2, 20, 108, 33, 80, 40, 7, 90, 118, 126, 126, 126, 126, 126, 126, 126, 117,
-    68, 117, 117,
+    120, 120, 0, 22, 41, 2, 20, 108, 33, 80, 40, 7, 90, 118, 126, 126, 126, 126, 126, 126, 126,
+    117, 68, 117, 117,
 ];
 
-const TEST_CALL_REPORTED: &str =
-    "g0 reported test to=002241022 cat=108 from=338040079 end=117\n";
+const TEST_CALL_REPORTED: &str = "g0 reported test to=002241022 cat=108 from=338040079 end=117\n";
 
 const TEST_CALL_ROWS: [Row; 3] = [
     Row {

@@ -93,6 +93,7 @@ fn one_flush_at_the_end(rt: HostRuntime) -> Result<(), Fail> {
 }
 
 // A source that never ends, and counts the bytes that it gave.
+#[derive(Drop)]
 struct Endless {
     byte: u8,
     given: u64,
@@ -117,22 +118,22 @@ impl Source for Endless {
 fn a_source_that_never_ends(rt: HostRuntime) -> Result<(), Fail> {
     let alloc = rt.alloc();
     let words = words_of(alloc, "dsc join")?;
-    for (byte, want) in [
-        (b'#', "dsc: line 1 too long\n"),
-        (b'\n', "dsc: line 4097 too many lines\n"),
-    ] {
-        let mut source = Endless { byte, given: 0 };
-        let mut sink = SureSink::new(alloc, 64, 64)?;
-        let status = run(&rt, alloc, &words, &mut source, &mut sink, &Open);
-        assert_eq!(rt; status.number(), 7, "{byte}");
-        assert_eq!(rt; sink.bytes(), want.as_bytes(), "{byte}");
-        // All lines and bytes that the limits allow, and one piece of reading more.
-        assert!(rt; source.given <= 4096 * 4201 + 4096, "{byte}");
-    }
+    let mut source = Endless {
+        byte: b'\n',
+        given: 0,
+    };
+    let mut sink = SureSink::new(alloc, 64, 64)?;
+    let status = run(&rt, alloc, &words, &mut source, &mut sink, &Open);
+    assert_eq!(rt; status.number(), 7);
+    let want = b"dsc: line 4097 too many lines\n";
+    assert_eq!(rt; sink.bytes(), want.as_slice());
+    // All lines and bytes that the limits allow, and one piece of reading more.
+    assert!(rt; source.given <= 4096 * 4201 + 4096);
     Ok(())
 }
 
 // A gate that counts who enters.
+#[derive(Drop)]
 struct Counted {
     entered: AtomicU32,
 }
