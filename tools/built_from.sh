@@ -22,8 +22,9 @@ note_files() {
 # Whether the program was built from the files that stand here. Where no toolchain is found, the rest of the list decides.
 is_current() {
     [ -x "$program" ] && [ -s "$built_from" ] || return 1
+    files=$(list_files)
     case $(cat "$built_from") in
-    "$(list_files)"*) return 0 ;;
+    "${files:-none}"*) return 0 ;;
     esac
     return 1
 }
