@@ -1,3 +1,5 @@
 pub mod Carried
+pub mod Codes
 pub mod Errors
+pub mod Marks
 pub mod Word
