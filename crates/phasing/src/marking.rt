@@ -23,7 +23,8 @@ impl Phasing {
     }
 }
 
-/// The marks of 64 places that begin so many behind the low word's, of which the high word has the next 64.
+/// The marks of the 64 places that begin so many places behind the low word's first one. The high word has those of the
+/// 64 places behind the low word's.
 #[inline(always)]
 pub(crate) fn shifted(low: u64, high: u64, shift: u32) -> u64
     requires { shift < 64 }
@@ -32,7 +33,7 @@ pub(crate) fn shifted(low: u64, high: u64, shift: u32) -> u64
     low >> shift | high << 1 << (63 - shift)
 }
 
-/// At which of 64 places that begin so many behind the first planes' an element stands.
+/// At which of the 64 places that begin so many places behind the first planes' this element stands.
 #[inline(always)]
 fn element_marked(element: Element, here: Planes, next: Planes, shift: u32) -> u64
     requires { shift < 64 }
@@ -62,7 +63,8 @@ fn word_marked(word: &[Element; 10], here: Planes, next: Planes) -> u64
     all
 }
 
-/// At which of 64 places the words of the phasing symbols begin.
+/// At which of 64 places the words of the phasing symbols begin (ITU-R M.493, phasing sequence). The planes are of
+/// these places and of the 64 behind them.
 pub(crate) fn phasing_marked(here: Planes, next: Planes) -> Phasing
     ensures { (base : ℕ) (e : ℕ → Element) → IsPlanes here.y here.b base e → IsPlanes next.y next.b (base + 64) e
         → ArePhasing result base e }

@@ -58,8 +58,9 @@ fn phased(first: &Phasing, second: &Phasing, third: &Phasing, fourth: &Phasing) 
     )
 }
 
-/// The lead of a reception's origin: the origin, counted from 150 elements before the reception's first one.
-/// `None` comes exactly where no origin from -150 on is phased.
+/// The lead of a reception's origin (ITU-R M.493, phasing sequence): the origin, counted from 150 elements before the
+/// reception's first one. `None` comes exactly where no origin from -150 on is phased. None is below lead 40, where
+/// two RX slots at most, and no DX slot, stand in the reception.
 ///
 /// It tests 64 leads at once, in place of each lead and slot in turn: a block of 64 elements is two words of bits, shifts
 /// and ands of them give the places at which each phasing symbol's word begins, and three words count at each lead the
