@@ -5,7 +5,7 @@ use Rattle.slot_evidence.specs.Seen.{IsSeen, IsLawful}
 use Rattle.slot_evidence.proofs.Ends.{fill_more, everywhere, no_place}
 use Rattle.std.proofs.lemmas.Bool.{le-ltb}
 use Rattle.std.proofs.lemmas.List.{length-set}
-use Rattle.slot_evidence.proofs.reading.places_of.Goals as goal
+use Rattle.slot_evidence.proofs.plain.places_of.Goals as goal
 
 pub loop-p-preserved : goal.loop-p-preserved
 loop-p-preserved c =

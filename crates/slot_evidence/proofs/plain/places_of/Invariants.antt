@@ -2,7 +2,7 @@ use Rattle.std.proofs.Common.{◌≡◌, length, ℕ, ◌<◌, Some}
 use Rattle.slot_evidence.specs.Facts.{facts_at}
 use Rattle.slot_evidence.specs.Seen.{IsSeen, IsLawful}
 use Rattle.slot_evidence.specs.Sheet.{seen_at}
-use Rattle.slot_evidence.proofs.reading.places_of.Given as goal
+use Rattle.slot_evidence.proofs.plain.places_of.Given as goal
 
 abbrev pub invariant-loop-p : goal.invariant-loop-p
 invariant-loop-p l = record {

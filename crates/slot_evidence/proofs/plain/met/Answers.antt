@@ -4,7 +4,7 @@ use Rattle.slot_evidence.specs.declared.places.Seen.{Seen}
 use Rattle.slot_evidence.specs.Sheet.{seen_at}
 use Rattle.slot_evidence.proofs.Sets.{IsMet}
 use Rattle.slot_evidence.proofs.Ends.{fill_more, met_read, met_everywhere}
-use Rattle.slot_evidence.proofs.sheets.met.Goals as goal
+use Rattle.slot_evidence.proofs.plain.met.Goals as goal
 
 pub loop-p-preserved : goal.loop-p-preserved
 loop-p-preserved c =

@@ -1,7 +1,7 @@
 use Rattle.std.proofs.Common.{◌≡◌, length, ℕ, ◌<◌}
 use Rattle.slot_evidence.specs.Sheet.{seen_at}
 use Rattle.slot_evidence.proofs.Sets.{IsMet}
-use Rattle.slot_evidence.proofs.sheets.met.Given as goal
+use Rattle.slot_evidence.proofs.plain.met.Given as goal
 
 abbrev pub invariant-loop-p : goal.invariant-loop-p
 invariant-loop-p l = record {

@@ -1,5 +1,5 @@
 use Rattle.slot_evidence.proofs.Ends.{place_seen}
-use Rattle.slot_evidence.proofs.reading.seen_of.Goals as goal
+use Rattle.slot_evidence.proofs.plain.seen_of.Goals as goal
 
 pub returns-clause-seen : goal.returns-clause-seen
 returns-clause-seen c =
