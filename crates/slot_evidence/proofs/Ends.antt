@@ -150,7 +150,7 @@ IsEnds-add F s p symbol x inside ends here =
     (λ q v other. or_none (F q v) _ (and_left (q == p) (v == symbol) (ne_eqb q p other)))
 
 -- the facts of a place of a reception, by its two slots
-place_facts : (inside small a b : Bool) → inside ≡ true → ((small && a) || (small && b)) ≡ (inside && (small && (a || b)))
+pub place_facts : (inside small a b : Bool) → inside ≡ true → ((small && a) || (small && b)) ≡ (inside && (small && (a || b)))
 place_facts true true a b h = refl
 place_facts true false a b h = refl
 place_facts false small a b h = cc

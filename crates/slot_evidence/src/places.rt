@@ -1,4 +1,5 @@
 ghost use Rattle.std.specs.Prelude.{◌≡◌, ◌||◌, ◌<◌, ◌≤◌, MatchOption};
+ghost use Rattle.slot_evidence.specs.Kept.{AreInOrder, seen_between, span_seen};
 ghost use Rattle.slot_evidence.specs.Facts.{Symbols};
 ghost use Rattle.slot_evidence.specs.Seen.{ShowsNone, IsSpan, IsSeen, IsLawful, IsLawfulSpan};
 
@@ -12,6 +13,18 @@ pub enum Seen {
 }
 
 impl Seen {
+    /// What the least symbol and the greatest plus one say of a place: 128 and 0 where no symbol was shown.
+    pub(crate) fn between(least: u8, past: u8) -> Seen
+        requires { AreInOrder least past }
+        ensures seen { result ≡ seen_between least past }
+        ensures lawful { IsLawful result }
+    {
+        if past == 0 {
+            return Seen::None;
+        }
+        Seen::of_span(least, past - 1)
+    }
+
     /// What is kept of all the symbols that two of these were kept of.
     pub fn meet(self, other: Seen) -> Seen
         ensures union { (S T : Symbols) → IsSeen S self → IsSeen T other → IsSeen (λ v. S v || T v) result }
@@ -40,6 +53,7 @@ impl Seen {
 
     /// What is kept of symbols of which these are the least and the greatest.
     fn of_span(least: u8, greatest: u8) -> Seen
+        ensures value { result ≡ span_seen least greatest }
         ensures ends { (S : Symbols) → IsSpan S least greatest → IsSeen S result }
         ensures lawful { IsLawfulSpan (least, greatest) → IsLawful result }
     {

@@ -1,61 +1,56 @@
-ghost use Rattle.std.specs.Prelude.{◌≡◌, ℕ, ◌<◌, ◌≤◌, ◌&&◌, nat_lt, ◌↔◌, length, Some, IfSome, IsNone};
-ghost use Rattle.phasing.specs.Slot.{shows};
+ghost use Rattle.std.specs.Prelude.{◌≡◌, ℕ, ◌+◌, ◌*◌, ◌<◌, ◌≤◌, ◌↔◌, min, max, length, Some, IfSome, IsNone, slice_index};
 ghost use Rattle.phasing.specs.Origin.{lead_of};
-ghost use Rattle.slot_evidence.specs.Facts.{facts_at, facts_of};
-ghost use Rattle.slot_evidence.specs.Seen.{IsSeen, IsLawful};
-ghost use Rattle.slot_evidence.specs.Sheet.{IsSheet, IsEnds, seen_at};
+ghost use Rattle.slot_evidence.specs.Facts.{facts_of};
+ghost use Rattle.slot_evidence.specs.Kept.{past_symbol};
+ghost use Rattle.slot_evidence.specs.Sheet.{IsEnds};
 
-use crate::places::Seen;
 use crate::sheets::Sheet;
-use phasing::{lead, slot_symbol};
+use crate::slots::symbols_of;
+use phasing::lead;
 use ten_unit::Element;
-use time_diversity::{dx_slot, rx_slot};
 
-/// What a slot shows.
-fn seen_in(e: &[Element], lead: u32, slot: u16) -> Seen
-    requires length { length e.now ≤ 1000000 }
-    requires lead { lead ≤ 1000150 }
-    ensures seen { IsSeen (λ v. nat_lt v 128 && shows e.now lead slot v) result }
-    ensures lawful { IsLawful result }
+/// The number after a symbol, and 0 after none, which is 128.
+fn past(symbol: u8) -> u8
+    ensures { result ≡ past_symbol symbol }
 {
-    match slot_symbol(e, lead, slot) {
-        None => Seen::None,
-        Some(symbol) => Seen::One(symbol),
-    }
+    if symbol < 128 { symbol + 1 } else { 0 }
 }
 
-/// What the two slots of a place show.
-fn seen_of(e: &[Element], lead: u32, p: u8) -> Seen
-    requires length { length e.now ≤ 1000000 }
-    requires lead { lead ≤ 1000150 }
-    requires place { p < 64 }
-    ensures seen { IsSeen (facts_at e.now (Some lead) p) result }
-    ensures lawful { IsLawful result }
+/// The lesser symbol of each place's two slots, which stand five apart.
+fn leasts_of(symbols: &[u8; 132]) -> [u8; 64]
+    ensures places { length result ≡ 64 }
+    ensures each { (p : ℕ) → p < 64 → slice_index result p ≡ min (slice_index symbols.now (2 * p)) (slice_index symbols.now (2 * p + 5)) }
 {
-    seen_in(e, lead, dx_slot(p)).meet(seen_in(e, lead, rx_slot(p)))
-}
-
-/// What the slots of each place show.
-fn places_of(e: &[Element], lead: u32) -> [Seen; 64]
-    requires length { length e.now ≤ 1000000 }
-    requires lead { lead ≤ 1000150 }
-    ensures seen { (p : ℕ) → IsSeen (facts_at e.now (Some lead) p) (seen_at result p) }
-    ensures lawful { IsSheet result }
-{
-    let mut places = [Seen::None; 64];
+    let mut leasts = [128; 64];
     for p in 0..64 {
-        places[p as usize] = seen_of(e, lead, p);
+        leasts[p] = symbols[2 * p].min(symbols[2 * p + 5]);
     }
-    places
+    leasts
+}
+
+/// The greater number after the symbol of each place's two slots.
+fn pasts_of(symbols: &[u8; 132]) -> [u8; 64]
+    ensures places { length result ≡ 64 }
+    ensures each { (p : ℕ) → p < 64 → slice_index result p ≡ max (past_symbol (slice_index symbols.now (2 * p))) (past_symbol (slice_index symbols.now (2 * p + 5))) }
+{
+    let mut pasts = [0; 64];
+    for p in 0..64 {
+        pasts[p] = past(symbols[2 * p]).max(past(symbols[2 * p + 5]));
+    }
+    pasts
 }
 
 /// The sheet of a reception's facts: of each place below 64 what its DX slot and its RX slot show
 /// at the origin (ITU-R M.493, time diversity). `None` comes exactly where the reception has no origin.
+///
+/// Behind the origin it reads the slots' symbols six slots a step, and then the least and the greatest of each place's
+/// two, sixteen places a step.
 pub fn read_sheet(e: &[Element]) -> Option<Sheet>
     requires { length e.now ≤ 1000000 }
     ensures some { IfSome result (λ s. IsEnds (facts_of e.now) s) }
     ensures none { IsNone result ↔ (lead_of e.now ≡ None) }
 {
     let lead = lead(e)?;
-    Some(Sheet::of_places(places_of(e, lead)))
+    let symbols = symbols_of(e, lead);
+    Some(Sheet::of_numbers(leasts_of(&symbols), pasts_of(&symbols)))
 }

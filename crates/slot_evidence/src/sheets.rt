@@ -1,38 +1,44 @@
-ghost use Rattle.std.specs.Prelude.{◌≡◌, ℕ, ◌||◌, ◌<◌, ◌≤◌, length, replicate};
+ghost use Rattle.std.specs.Prelude.{◌≡◌, ℕ, ◌||◌, ◌<◌, ◌≤◌, length, replicate, min, max, slice_index};
 ghost use Rattle.slot_evidence.specs.Facts.{Facts, Symbols, no_facts, one_fact, union};
+ghost use Rattle.slot_evidence.specs.Kept.{AreKept, seen_of};
 ghost use Rattle.slot_evidence.specs.Seen.{IsSeen, IsLawful};
-ghost use Rattle.slot_evidence.specs.Sheet.{IsSheet, IsEnds, IsMeet, seen_at};
+ghost use Rattle.slot_evidence.specs.Sheet.{IsEnds, IsMeet, seen_at};
 
 use crate::places::Seen;
 use std::marker::Model;
 
-/// What a set of facts showed of each of 64 places. Contracts see it as the list of what it keeps of each.
+/// What a set of facts showed of each of 64 places: the least symbol, or 128 for none, and the greatest plus one, or 0 for
+/// none. So two sheets meet by minima and maxima alone. Contracts see it as the list of what it keeps of each.
 #[derive(Clone, Copy, Debug, PartialEq, Eq)]
 pub struct Sheet {
-    places: [Seen; 64],
+    leasts: [u8; 64],
+    pasts: [u8; 64],
 }
 
 impl Model for Sheet {
-    ghost use Rattle.std.specs.Prelude.{List};
+    ghost use Rattle.std.specs.Prelude.{List, map};
     ghost use Rattle.slot_evidence.specs.declared.places.Seen.{Seen};
-    ghost use Rattle.slot_evidence.specs.Sheet.{IsSheet};
+    ghost use Rattle.slot_evidence.specs.Kept.{AreKept, seen_of, least_of, past_of};
+    ghost use Rattle.slot_evidence.specs.Back.{leasts_back, pasts_back};
 
     ghost Value = { List Seen };
 
-    ghost view = { λ s. s.places };
+    ghost view = { λ s. seen_of s.leasts s.pasts };
 
-    ghost invariant = { λ s. IsSheet s.places };
+    ghost invariant = { λ s. AreKept s.leasts s.pasts };
 
-    ghost inverse = { λ l. record { places = l } };
+    ghost inverse = { λ l. record { leasts = map least_of l; pasts = map past_of l } };
+
+    ghost inverse_ok = { λ s h i. record { leasts = leasts_back s.leasts s.pasts h.ordered i; pasts = pasts_back s.leasts s.pasts h.ordered i } };
 }
 
 impl Sheet {
-    /// The sheet that keeps this of each place.
-    pub(crate) fn of_places(places: [Seen; 64]) -> Sheet
-        requires { IsSheet places }
-        ensures { result ≡ places }
+    /// The sheet that keeps these numbers.
+    pub(crate) fn of_numbers(leasts: [u8; 64], pasts: [u8; 64]) -> Sheet
+        requires { AreKept leasts pasts }
+        ensures { result ≡ seen_of leasts pasts }
     {
-        Sheet { places }
+        Sheet { leasts, pasts }
     }
 
     /// The sheet of no facts.
@@ -40,7 +46,7 @@ impl Sheet {
         ensures ends { IsEnds no_facts result }
         ensures blank { result ≡ replicate 64 Seen.None }
     {
-        Sheet::of_places([Seen::None; 64])
+        Sheet::of_numbers([128; 64], [0; 64])
     }
 
     /// What the sheet says of a place below 64.
@@ -49,14 +55,16 @@ impl Sheet {
         ensures seen { result ≡ seen_at self.now p }
         ensures lawful { IsLawful result }
     {
-        self.places[p as usize]
+        Seen::between(self.leasts[p as usize], self.pasts[p as usize])
     }
 
-    /// Takes in all that another sheet keeps: the sheet becomes that of both sets of facts together.
+    /// Takes in all that another sheet keeps: the sheet becomes that of both sets of facts together. The compiler makes
+    /// it sixteen places a step.
     pub fn meet(&mut self, other: &Sheet)
         ensures { IsMeet self.old other.now self.new }
     {
-        self.places = met(&self.places, &other.places);
+        self.leasts = least(&self.leasts, &other.leasts);
+        self.pasts = greatest(&self.pasts, &other.pasts);
     }
 
     /// Takes in that a place below 64 showed a symbol below 128.
@@ -65,26 +73,40 @@ impl Sheet {
         requires symbol { symbol < 128 }
         ensures { (F : Facts) → IsEnds F self.old → IsEnds (union F (one_fact p symbol)) self.new }
     {
-        let seen = self.places[p as usize].meet(Seen::One(symbol));
-        self.places[p as usize] = seen;
+        let least = self.leasts[p as usize].min(symbol);
+        let past = self.pasts[p as usize].max(symbol + 1);
+        self.leasts[p as usize] = least;
+        self.pasts[p as usize] = past;
     }
 }
 
-/// What is kept of each place by two sheets together.
-fn met(ours: &[Seen; 64], theirs: &[Seen; 64]) -> [Seen; 64]
-    ensures union { (p : ℕ) (S T : Symbols) → IsSeen S (seen_at ours.now p) → IsSeen T (seen_at theirs.now p) → IsSeen (λ v. S v || T v) (seen_at result p) }
-    ensures lawful { IsSheet ours.now → IsSheet theirs.now → IsSheet result }
+/// The lesser number of each place.
+fn least(ours: &[u8; 64], theirs: &[u8; 64]) -> [u8; 64]
+    ensures places { length result ≡ 64 }
+    ensures each { (p : ℕ) → p < 64 → slice_index result p ≡ min (slice_index ours.now p) (slice_index theirs.now p) }
 {
-    let mut places = *ours;
+    let mut numbers = *ours;
     for p in 0..64 {
-        places[p] = ours[p].meet(theirs[p]);
+        numbers[p] = ours[p].min(theirs[p]);
     }
-    places
+    numbers
+}
+
+/// The greater number of each place.
+fn greatest(ours: &[u8; 64], theirs: &[u8; 64]) -> [u8; 64]
+    ensures places { length result ≡ 64 }
+    ensures each { (p : ℕ) → p < 64 → slice_index result p ≡ max (slice_index ours.now p) (slice_index theirs.now p) }
+{
+    let mut numbers = *ours;
+    for p in 0..64 {
+        numbers[p] = ours[p].max(theirs[p]);
+    }
+    numbers
 }
 
 /// Every sheet keeps the ends of some facts, so what is said of all facts with a sheet speaks of some.
 pub fn sheet_has_facts(sheet: &Sheet)
     ensures { (F : Facts) × IsEnds F sheet.now }
 {
-    let _places = &sheet.places;
+    let _places = &sheet.leasts;
 }

@@ -1,2 +1,5 @@
+pub mod Bits
+pub mod Numbers
 pub mod Reading
+pub mod Rows
 pub mod Turned

@@ -2,8 +2,10 @@ ghost use Rattle.std.specs.Prelude.{◌≡◌, ◌↔◌, List, ℕ, ◌<◌, �
 ghost use Rattle.ten_unit.specs.Word.{word_of, element, count_of_b};
 ghost use Rattle.ten_unit.specs.Word as characters;
 ghost use Rattle.ten_unit.specs.declared.character.Element.{Element};
-ghost use Rattle.ten_unit.specs.Carried.{ones, value_of};
 ghost use Rattle.ten_unit.specs.Errors.{IsOneWay};
+ghost use Rattle.ten_unit.specs.Number.{weight as weight_of, number_of};
+
+use crate::table::symbol_of;
 
 /// An element on air: Y and B are the two tones, and a received one may be lost, as one is of which nothing is known.
 #[derive(Clone, Copy, Debug, Default, PartialEq, Eq)]
@@ -74,33 +76,46 @@ pub fn is_word(w: &[Element], symbol: u8) -> bool
     is_same(w, &word(symbol))
 }
 
-fn one(element: Element) -> u8
-    ensures value { result ≡ ones element }
-    ensures most { result ≤ 1 }
+/// What an element counts in the number of ten.
+fn weight(element: Element) -> u32
+    ensures value { result ≡ weight_of element }
+    ensures most { result ≤ 1024 }
 {
     match element {
         Element::Y => 1,
-        Element::B | Element::Lost => 0,
+        Element::B => 0,
+        Element::Lost => 1024,
     }
 }
 
-/// The number that the seven information elements carry, a lost one read as B.
-fn value(w: &[Element; 10]) -> u8
-    ensures value { result ≡ value_of w.now }
-    ensures most { result < 128 }
+/// The number of ten elements: the first one's bit is bit 0. A lost one brings it to 1,024 or more.
+fn number(w: &[Element; 10]) -> u32
+    ensures { result ≡ number_of w.now }
 {
-    let [a, b, c, d, e, f, g, _, _, _] = *w;
-    one(a) + 2 * one(b) + 4 * one(c) + 8 * one(d) + 16 * one(e) + 32 * one(f) + 64 * one(g)
+    let [a, b, c, d, e, f, g, h, i, j] = *w;
+    weight(a)
+        + 2 * weight(b)
+        + 4 * weight(c)
+        + 8 * weight(d)
+        + 16 * weight(e)
+        + 32 * weight(f)
+        + 64 * weight(g)
+        + 128 * weight(h)
+        + 256 * weight(i)
+        + 512 * weight(j)
 }
 
 /// The symbol of ten received elements. `None` comes exactly where they are no symbol's word: where an
 /// element is lost, or the last three disagree with the number of B among the first seven.
+///
+/// It adds the elements up to a number and looks into a table by it, with one test for lost ones: ten loads and no branch
+/// on an element.
 pub fn symbol(w: &[Element; 10]) -> Option<u8>
     ensures some { IfSome result (λ v. (v < 128) × (characters.is_word w.now v ≡ true)) }
     ensures only { (v : ℕ) → v < 128 → characters.is_word w.now v ≡ true → result ≡ Some v }
 {
-    let value = value(w);
-    is_word(w, value).then_some(value)
+    let symbol = symbol_of(number(w));
+    (symbol < 128).then_some(symbol)
 }
 
 /// A law: being a symbol's word is being equal to it, and no two symbols have one word.

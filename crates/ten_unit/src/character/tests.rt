@@ -1,4 +1,5 @@
 use super::*;
+use crate::plain;
 
 // Characters of the ten-unit code, as the table of the Recommendation gives them.
 const WORDS: [(u8, &str); 12] = [
@@ -43,4 +44,23 @@ fn no_word_has_no_symbol(rt: HostRuntime) {
     two_b_turned[0] = Element::Y;
     two_b_turned[9] = Element::Y;
     assert_eq!(rt; symbol(&two_b_turned), None);
+}
+
+#[test]
+fn every_ten_elements(rt: HostRuntime) {
+    for number in 0..1024u16 {
+        let mut elements = [Element::B; 10];
+        for i in 0..10usize {
+            if number >> i & 1 == 1 {
+                elements[i] = Element::Y;
+            }
+        }
+        assert_eq!(rt;
+            symbol(&elements),
+            plain::symbol(&elements),
+            "number {number}"
+        );
+        elements[number as usize % 10] = Element::Lost;
+        assert_eq!(rt; symbol(&elements), None, "number {number} with one lost");
+    }
 }

@@ -2,10 +2,22 @@ use Rattle.std.proofs.Common.{List, subst, sym}
 use Rattle.slot_evidence.specs.declared.places.Seen.{Seen}
 use Rattle.slot_evidence.specs.Facts.{facts_of}
 use Rattle.slot_evidence.specs.Sheet.{IsEnds}
-use Rattle.slot_evidence.proofs.Ends.{IsEnds-read}
+use Rattle.slot_evidence.proofs.Read.{AreRead, kept_read, ends_read}
 use Rattle.slot_evidence.proofs.reading.read_sheet.Goals as goal
+
+pub of_numbers-requires : goal.of_numbers-requires
+of_numbers-requires c =
+    let leasts = c.leasts_of.ensures in
+    let pasts = c.pasts_of.ensures in
+    kept_read c.args.e.now c.in_ok-lead.lead c.symbols_of-symbols.result _ _
+    (record { slots = c.symbols_of-symbols.ensures; places = leasts.places; as_many = pasts.places; least = leasts.each; past = pasts.each })
 
 pub returns-clause-some : goal.returns-clause-some
 returns-clause-some c =
-    let read = IsEnds-read c.args.e.now c.in_ok-lead.lead c.places_of.result c.in_ok-lead.ensures.least c.places_of.ensures.lawful c.places_of.ensures.seen in
-    subst (λ (s : List Seen). IsEnds (facts_of c.args.e.now) s) (sym c.of_places.ensures) read
+    let leasts = c.leasts_of.ensures in
+    let pasts = c.pasts_of.ensures in
+    let read : AreRead c.args.e.now c.in_ok-lead.lead c.symbols_of-symbols.result c.leasts_of.result c.pasts_of.result =
+    record { slots = c.symbols_of-symbols.ensures; places = leasts.places; as_many = pasts.places; least = leasts.each; past = pasts.each }
+    in
+    subst (λ (s : List Seen). IsEnds (facts_of c.args.e.now) s) (sym c.of_numbers.ensures)
+    (ends_read c.args.e.now c.in_ok-lead.lead _ _ _ c.in_ok-lead.ensures.least read)

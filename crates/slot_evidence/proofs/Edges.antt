@@ -1,0 +1,246 @@
+-- A set of symbols between two numbers: the least symbol, and the number after the greatest.
+use Rattle.std.proofs.Common.{◌≡◌, ◌⊎◌, ℕ, zero, suc, ◌+◌, ◌<◌, ◌≤◌, ◌==◌, min, max, Bool, true, false, cond, ◌||◌, List, length, set, slice_index, slice_index_or, refl, ap, sym, ◌∙◌, arith, subst, inl, inr}
+use Rattle.std.proofs.lemmas.Bool.{cases_lt, eq-eqb, eqb-true, lt-ltb, le-ltb, or_left, or_right, or_cases, false_from_ne_true}
+use Rattle.std.proofs.lemmas.List.{get_or_default, get_or_past, length-set}
+use Rattle.slot_evidence.specs.declared.places.Seen.{Seen}
+use Rattle.slot_evidence.specs.declared.places.Seen.TheVariants as seen
+use Rattle.slot_evidence.specs.Facts.{Symbols, Facts, one_fact, union}
+use Rattle.slot_evidence.specs.Seen.{IsSeen}
+use Rattle.slot_evidence.specs.Sheet.{IsEnds}
+use Rattle.slot_evidence.specs.Kept.{seen_between, seen_of, past_symbol, AreInOrder, AreKept}
+use Rattle.slot_evidence.proofs.Ends.{IsEnds-add, one_symbol}
+use Rattle.slot_evidence.proofs.Kept.{one_or_differ, as_many, ordered_at, ordered_from, ordered_set, seen_set, kept_at, kept_long}
+
+pub record IsEdges (S : Symbols) (least past : ℕ) : Type 0 where
+  pub has_least : least < 128 → S least ≡ true
+  pub has_greatest : (v : ℕ) → past ≡ suc v → S v ≡ true
+  pub between : (w : ℕ) → S w ≡ true → (least ≤ w) × (w < past)
+
+-- order by numbers
+order_tells : (least past : ℕ) → AreInOrder least past → ((least ≡ 128) × (past ≡ 0)) ⊎ ((least < past) × (past ≤ 128))
+order_tells least zero order = inl (order, refl)
+order_tells least (suc greatest) order = inr (omega (arith, order), omega (arith, order))
+
+order_none : (least past : ℕ) → least ≡ 128 → past ≡ 0 → AreInOrder least past
+order_none least zero is none = is
+order_none least (suc greatest) is none = absurd (omega arith)
+
+order_some : (least past : ℕ) → least < past → past ≤ 128 → AreInOrder least past
+order_some least zero below small = absurd (omega arith)
+order_some least (suc greatest) below small = (omega arith, omega arith)
+
+pub order_met : (a b c d : ℕ) → AreInOrder a b → AreInOrder c d → AreInOrder (min a c) (max b d)
+order_met a b c d left right =
+    elim (order_tells a b left) [
+      | inl none ↦
+          elim (order_tells c d right) [
+            | inl neither ↦ order_none _ _ (omega (arith, none, neither)) (omega (arith, none, neither))
+            | inr other ↦ order_some _ _ (omega (arith, none, other)) (omega (arith, none, other))
+          ]
+      | inr one ↦
+          elim (order_tells c d right) [
+            | inl alone ↦ order_some _ _ (omega (arith, one, alone)) (omega (arith, one, alone))
+            | inr both ↦ order_some _ _ (omega (arith, one, both)) (omega (arith, one, both))
+          ]
+    ]
+
+-- what is kept of a set of symbols says where its edges are, and the other way round
+pub edges_seen : (S : Symbols) (least past : ℕ) → AreInOrder least past → IsEdges S least past → IsSeen S (seen_between least past)
+edges_seen S least zero order edges = λ v. false_from_ne_true (S v) (λ shown. omega (arith, edges.between v shown))
+edges_seen S least (suc greatest) order edges =
+    one_or_differ least greatest (IsSeen S)
+    (λ same. (edges.has_least (omega (arith, order)), λ w shown. omega (arith, edges.between w shown)))
+    (λ other. record {
+      has_least = edges.has_least (omega (arith, order));
+      has_greatest = edges.has_greatest greatest refl;
+      apart = omega (arith, order);
+      between = λ w shown. (omega (arith, edges.between w shown), omega (arith, edges.between w shown));
+    })
+
+pub seen_edges : (S : Symbols) (least past : ℕ) → AreInOrder least past → IsSeen S (seen_between least past) → IsEdges S least past
+seen_edges S least zero order none = record {
+  has_least = λ below. absurd (omega (arith, order));
+  has_greatest = λ v is. absurd (omega arith);
+  between = λ w shown. let hidden = none w in absurd (cc);
+}
+seen_edges S least (suc greatest) order shows =
+    one_or_differ least greatest (λ x. IsSeen S x → IsEdges S least (suc greatest))
+    (λ same one. record {
+      has_least = λ below. one.0;
+      has_greatest = λ v is. let at : least ≡ v = omega arith in ap S (sym at) ∙ one.0;
+      between = λ w shown. let at = one.1 w shown in (omega (arith, at), omega (arith, at));
+    })
+    (λ other several. record {
+      has_least = λ below. several.has_least;
+      has_greatest = λ v is. let at : greatest ≡ v = omega arith in ap S (sym at) ∙ several.has_greatest;
+      between = λ w shown. let at = several.between w shown in (omega (arith, at), omega (arith, at));
+    })
+    shows
+
+-- the edges of two sets together
+pub edges_met : (S T : Symbols) (a b c d : ℕ) → IsEdges S a b → IsEdges T c d → IsEdges (λ v. S v || T v) (min a c) (max b d)
+edges_met S T a b c d s t = record {
+  has_least =
+      λ below.
+      elim (cases_lt a c) [
+        | inl first ↦ let at : min a c ≡ a = omega arith in or_left _ _ (ap S at ∙ s.has_least (omega arith))
+        | inr last ↦ let at : min a c ≡ c = omega arith in or_right _ _ (ap T at ∙ t.has_least (omega arith))
+      ];
+  has_greatest =
+      λ v is.
+      elim (cases_lt b d) [
+        | inl first ↦ or_right _ _ (t.has_greatest v (omega arith))
+        | inr last ↦ or_left _ _ (s.has_greatest v (omega arith))
+      ];
+  between =
+      λ w shown.
+      elim (or_cases (S w) (T w) shown) [
+        | inl one ↦ let at = s.between w one in (omega (arith, at), omega (arith, at))
+        | inr other ↦ let at = t.between w other in (omega (arith, at), omega (arith, at))
+      ];
+}
+
+-- the edges of one symbol at most, which is 128 for none
+past_some : (s : ℕ) → s < 128 → past_symbol s ≡ s + 1
+past_some s below = ap (λ (b : Bool). cond b (s + 1) 0) (lt-ltb s 128 below)
+
+past_none : (s : ℕ) → 128 ≤ s → past_symbol s ≡ 0
+past_none s above = ap (λ (b : Bool). cond b (s + 1) 0) (le-ltb s 128 above)
+
+pub order_symbol : (s : ℕ) → s ≤ 128 → AreInOrder s (past_symbol s)
+order_symbol s small =
+    elim (cases_lt s 128) [
+      | inl below ↦ order_some _ _ (omega (arith, past_some s below)) (omega (arith, past_some s below))
+      | inr above ↦ order_none _ _ (omega arith) (past_none s above)
+    ]
+
+pub edges_symbol : (S : Symbols) (s : ℕ) → s ≤ 128 → ((v : ℕ) → v < 128 → S v ≡ (v == s)) → ((v : ℕ) → 128 ≤ v → S v ≡ false) → IsEdges S s (past_symbol s)
+edges_symbol S s small inside outside = record {
+  has_least = λ below. inside s below ∙ eq-eqb s s refl;
+  has_greatest =
+      λ v is.
+      elim (cases_lt s 128) [
+        | inl below ↦ let at : v ≡ s = omega (arith, past_some s below) in inside v (omega arith) ∙ eq-eqb v s at
+        | inr above ↦ absurd (omega (arith, past_none s above))
+      ];
+  between =
+      λ w shown.
+      elim (cases_lt w 128) [
+        | inl below ↦
+            let at : w ≡ s = eqb-true w s (sym (inside w below) ∙ shown) in
+            let past : past_symbol s ≡ s + 1 = past_some s (omega arith) in
+            (omega arith, omega arith)
+        | inr above ↦ let hidden = outside w above in absurd (cc)
+      ];
+}
+
+-- the edges of each place of a sheet
+pub ends_edges : (F : Facts) (leasts pasts : List ℕ) → AreKept leasts pasts → IsEnds F (seen_of leasts pasts) → (p : ℕ) → IsEdges (F p) (slice_index_or leasts p 128) (slice_index_or pasts p 0)
+ends_edges F leasts pasts kept ends p =
+    seen_edges (F p) _ _ (ordered_at leasts pasts kept.ordered p) (subst (λ (x : Seen). IsSeen (F p) x) (kept_at leasts pasts kept p) (ends.each p))
+
+pub edges_ends : (F : Facts) (leasts pasts : List ℕ) → AreKept leasts pasts → ((p : ℕ) → IsEdges (F p) (slice_index_or leasts p 128) (slice_index_or pasts p 0)) → IsEnds F (seen_of leasts pasts)
+edges_ends F leasts pasts kept edges = record {
+  places = kept_long leasts pasts kept;
+  each = λ p. subst (λ (x : Seen). IsSeen (F p) x) (sym (kept_at leasts pasts kept p)) (edges_seen (F p) _ _ (ordered_at leasts pasts kept.ordered p) (edges p));
+}
+
+-- two rows of 64 numbers, by each place
+pub kept_from : (leasts pasts : List ℕ) → length leasts ≡ 64 → length pasts ≡ 64 → ((p : ℕ) → p < 64 → AreInOrder (slice_index leasts p) (slice_index pasts p)) → AreKept leasts pasts
+kept_from leasts pasts long as_long each = record {
+  places = long;
+  ordered =
+      ordered_from leasts pasts (as_long ∙ sym long)
+      (λ p below.
+      subst (λ (n : ℕ). AreInOrder n (slice_index pasts p)) (get_or_default leasts p 0 128 (omega arith)) (each p (omega arith)));
+}
+
+-- and a sheet by the edges of each place
+pub ends_from : (F : Facts) (leasts pasts : List ℕ) → AreKept leasts pasts → ((p : ℕ) → p < 64 → IsEdges (F p) (slice_index leasts p) (slice_index pasts p)) → ((p v : ℕ) → 64 ≤ p → F p v ≡ false) → IsEnds F (seen_of leasts pasts)
+ends_from F leasts pasts kept each none =
+    edges_ends F leasts pasts kept
+    (λ p.
+    elim (cases_lt p 64) [
+      | inl below ↦ subst (λ (n : ℕ). IsEdges (F p) n (slice_index pasts p)) (get_or_default leasts p 0 128 (omega (arith, kept.places))) (each p below)
+      | inr past ↦
+          let least : slice_index_or leasts p 128 ≡ 128 = get_or_past leasts p 128 (omega (arith, kept.places)) in
+          let greatest : slice_index_or pasts p 0 ≡ 0 = get_or_past pasts p 0 (omega (arith, kept.places, as_many leasts pasts kept.ordered)) in
+          record {
+            has_least = λ small. absurd (omega arith);
+            has_greatest = λ v is. absurd (omega arith);
+            between = λ w shown. let hidden = none p w past in absurd (cc);
+          }
+    ])
+
+-- the edges at a place below 64
+pub edges_at : (F : Facts) (leasts pasts : List ℕ) → AreKept leasts pasts → IsEnds F (seen_of leasts pasts) → (p : ℕ) → p < 64 → IsEdges (F p) (slice_index leasts p) (slice_index pasts p)
+edges_at F leasts pasts kept ends p below =
+    subst (λ (n : ℕ). IsEdges (F p) n (slice_index pasts p)) (sym (get_or_default leasts p 0 128 (omega (arith, kept.places)))) (ends_edges F leasts pasts kept ends p)
+
+pub order_at : (leasts pasts : List ℕ) → AreKept leasts pasts → (p : ℕ) → p < 64 → AreInOrder (slice_index leasts p) (slice_index pasts p)
+order_at leasts pasts kept p below =
+    subst (λ (n : ℕ). AreInOrder n (slice_index pasts p)) (sym (get_or_default leasts p 0 128 (omega (arith, kept.places)))) (ordered_at leasts pasts kept.ordered p)
+
+-- past the places no facts are kept
+pub none_past : (F : Facts) (leasts pasts : List ℕ) → AreKept leasts pasts → IsEnds F (seen_of leasts pasts) → (p v : ℕ) → 64 ≤ p → F p v ≡ false
+none_past F leasts pasts kept ends p v past =
+    subst (λ (x : Seen). IsSeen (F p) x) (get_or_past (seen_of leasts pasts) p seen.None (omega (arith, ends.places))) (ends.each p) v
+
+-- the numbers of two sheets together
+pub kept_met : (a b c d leasts pasts : List ℕ) → AreKept a b → AreKept c d → length leasts ≡ 64 → length pasts ≡ 64
+    → ((p : ℕ) → p < 64 → slice_index leasts p ≡ min (slice_index a p) (slice_index c p)) → ((p : ℕ) → p < 64 → slice_index pasts p ≡ max (slice_index b p) (slice_index d p)) → AreKept leasts pasts
+kept_met a b c d leasts pasts left right long as_long least greatest =
+    kept_from leasts pasts long as_long
+    (λ p below.
+    subst (λ (n : ℕ). AreInOrder n (slice_index pasts p)) (sym (least p below))
+    (subst (λ (n : ℕ). AreInOrder (min (slice_index a p) (slice_index c p)) n) (sym (greatest p below))
+    (order_met _ _ _ _ (order_at a b left p below) (order_at c d right p below))))
+
+pub ends_met : (F G : Facts) (a b c d leasts pasts : List ℕ) → AreKept a b → AreKept c d → AreKept leasts pasts
+    → ((p : ℕ) → p < 64 → slice_index leasts p ≡ min (slice_index a p) (slice_index c p)) → ((p : ℕ) → p < 64 → slice_index pasts p ≡ max (slice_index b p) (slice_index d p))
+    → IsEnds F (seen_of a b) → IsEnds G (seen_of c d) → IsEnds (union F G) (seen_of leasts pasts)
+ends_met F G a b c d leasts pasts left right kept least greatest f g =
+    ends_from (union F G) leasts pasts kept
+    (λ p below.
+    subst (λ (n : ℕ). IsEdges (union F G p) n (slice_index pasts p)) (sym (least p below))
+    (subst (λ (n : ℕ). IsEdges (union F G p) (min (slice_index a p) (slice_index c p)) n) (sym (greatest p below))
+    (edges_met (F p) (G p) _ _ _ _ (edges_at F a b left f p below) (edges_at G c d right g p below))))
+    (λ p v past.
+    let ours : F p v ≡ false = none_past F a b left f p v past in
+    let theirs : G p v ≡ false = none_past G c d right g p v past in
+    ap (λ (x : Bool). x || G p v) ours ∙ theirs)
+
+-- one symbol more at a place
+edges_one : (p symbol : ℕ) → IsEdges (one_fact p symbol p) symbol (symbol + 1)
+edges_one p symbol =
+    let one = one_symbol p symbol in
+    record {
+      has_least = λ below. one.0;
+      has_greatest = λ v is. let at : symbol ≡ v = omega arith in ap (one_fact p symbol p) (sym at) ∙ one.0;
+      between = λ w shown. let at = one.1 w shown in (omega (arith, at), omega (arith, at));
+    }
+
+order_added : (leasts pasts : List ℕ) (p symbol least past : ℕ) → AreKept leasts pasts → p < 64 → symbol < 128 → least ≡ min (slice_index leasts p) symbol → past ≡ max (slice_index pasts p) (symbol + 1) → AreInOrder least past
+order_added leasts pasts p symbol least past kept inside small is_least is_past =
+    subst (λ (n : ℕ). AreInOrder n past) (sym is_least)
+    (subst (λ (n : ℕ). AreInOrder (min (slice_index leasts p) symbol) n) (sym is_past)
+    (order_met _ _ _ _ (order_at leasts pasts kept p inside) (order_some symbol (symbol + 1) (omega arith) (omega arith))))
+
+pub kept_add : (leasts pasts : List ℕ) (p symbol least past : ℕ) → AreKept leasts pasts → p < 64 → symbol < 128 → least ≡ min (slice_index leasts p) symbol → past ≡ max (slice_index pasts p) (symbol + 1) → AreKept (set leasts p least) (set pasts p past)
+kept_add leasts pasts p symbol least past kept inside small is_least is_past = record {
+  places = length-set leasts p least ∙ kept.places;
+  ordered = ordered_set leasts pasts p least past kept.ordered (order_added leasts pasts p symbol least past kept inside small is_least is_past);
+}
+
+pub ends_add : (F : Facts) (leasts pasts : List ℕ) (p symbol least past : ℕ) → AreKept leasts pasts → p < 64 → symbol < 128 → least ≡ min (slice_index leasts p) symbol → past ≡ max (slice_index pasts p) (symbol + 1)
+    → IsEnds F (seen_of leasts pasts) → IsEnds (union F (one_fact p symbol)) (seen_of (set leasts p least) (set pasts p past))
+ends_add F leasts pasts p symbol least past kept inside small is_least is_past ends =
+    let both : Symbols = λ v. F p v || one_fact p symbol p v in
+    let edges : IsEdges both least past =
+    subst (λ (n : ℕ). IsEdges both n past) (sym is_least)
+    (subst (λ (n : ℕ). IsEdges both (min (slice_index leasts p) symbol) n) (sym is_past)
+    (edges_met (F p) (one_fact p symbol p) _ _ _ _ (edges_at F leasts pasts kept ends p inside) (edges_one p symbol)))
+    in
+    subst (λ (s : List Seen). IsEnds (union F (one_fact p symbol)) s) (sym (seen_set leasts pasts p least past kept.ordered))
+    (IsEnds-add F (seen_of leasts pasts) p symbol (seen_between least past) inside ends
+    (edges_seen both least past (order_added leasts pasts p symbol least past kept inside small is_least is_past) edges))
