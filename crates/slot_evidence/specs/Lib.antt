@@ -1,3 +1,4 @@
 pub mod Facts
 pub mod Seen
 pub mod Sheet
+pub mod Alike

@@ -6,7 +6,7 @@ mod places;
 mod reading;
 mod sheets;
 
-pub use laws::{meet_forgets_order, one_seen, one_sheet};
+pub use laws::{ends_are_kept, meet_forgets_order, one_seen, one_sheet};
 pub use places::Seen;
 pub use reading::read_sheet;
 pub use sheets::{Sheet, sheet_has_facts};

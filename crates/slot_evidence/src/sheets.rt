@@ -1,7 +1,7 @@
 ghost use Rattle.std.specs.Prelude.{◌≡◌, ℕ, ◌||◌, ◌<◌, ◌≤◌, length, replicate};
 ghost use Rattle.slot_evidence.specs.Facts.{Facts, Symbols, no_facts, one_fact, union};
 ghost use Rattle.slot_evidence.specs.Seen.{IsSeen, IsLawful};
-ghost use Rattle.slot_evidence.specs.Sheet.{IsSheet, IsEnds, seen_at};
+ghost use Rattle.slot_evidence.specs.Sheet.{IsSheet, IsEnds, seen_at, facts_in};
 
 use crate::places::Seen;
 use std::marker::Model;
@@ -82,9 +82,9 @@ fn met(ours: &[Seen; 64], theirs: &[Seen; 64]) -> [Seen; 64]
     places
 }
 
-/// Every sheet keeps the ends of some facts, so what is said of all facts with a sheet speaks of some.
+/// Every sheet keeps the ends of its own facts, so what is said of all facts with a sheet speaks of some.
 pub fn sheet_has_facts(sheet: &Sheet)
-    ensures { (F : Facts) × IsEnds F sheet.now }
+    ensures { IsEnds (facts_in sheet.now) sheet.now }
 {
     let _places = &sheet.places;
 }

@@ -1,10 +1,8 @@
 use Rattle.std.proofs.Common.{List, subst}
 use Rattle.slot_evidence.specs.declared.places.Seen.{Seen}
-use Rattle.slot_evidence.specs.Sheet.{IsEnds}
-use Rattle.slot_evidence.proofs.Ends.{facts_by}
+use Rattle.slot_evidence.specs.Sheet.{IsEnds, facts_in}
+use Rattle.slot_evidence.proofs.Ends.{own_ends}
 use Rattle.slot_evidence.proofs.sheets.sheet_has_facts.Goals as goal
 
 pub returns : goal.returns
-returns c =
-    let facts = facts_by c.sheet.inside.places c.sheet.invariant in
-    (facts.0, subst (λ (s : List Seen). IsEnds facts.0 s) c.sheet.view_is facts.1)
+returns c = subst (λ (s : List Seen). IsEnds (facts_in s) s) c.sheet.view_is (own_ends c.sheet.inside.places c.sheet.invariant)
