@@ -1,5 +1,5 @@
 -- What lacks the last symbol of a word lacks one symbol of every word that it begins: languages, along the forms of calls.
-use Rattle.std.proofs.Common.{◌≡◌, ℕ, ◌⊎◌, inl, inr, Bool, true, false, Option, Some, None, List, [], ◌∷◌, ◌++◌, length, refl, sym, ◌∙◌, ap, subst, append_assoc, append-nil, length-append, arith}
+use Rattle.std.proofs.Common.{◌≡◌, ℕ, inl, inr, Bool, true, false, Option, Some, None, List, [], ◌∷◌, ◌++◌, length, refl, sym, ◌∙◌, ap, subst, append_assoc, length-append, arith}
 use Rattle.symbol_reader.specs.declared.letters.Letter.{Letter}
 use Rattle.symbol_reader.specs.declared.letters.Letter.TheVariants.{Exactly}
 use Rattle.symbol_reader.specs.Letters.{Allows}
@@ -14,10 +14,10 @@ use Rattle.call_grammar.specs.declared.signs.Specifier.{Specifier}
 use Rattle.call_grammar.specs.declared.signs.Specifier.TheVariants as format
 use Rattle.call_grammar.specs.declared.signs.Telecommand.{Telecommand}
 use Rattle.call_grammar.specs.declared.signs.Telecommand.TheVariants as opener
-use Rattle.call_grammar.specs.Spelling.{format_of, covered, check_of, end_of, up_to_end, spell}
+use Rattle.call_grammar.specs.Spelling.{format_of, covered, check_of, end_of}
 use Rattle.call_grammar.specs.Grammar.{Opened}
 use Rattle.call_grammar.specs.Walk.{IsViable, IsAtEnd, IsAtCheck}
-use Rattle.call_grammar.specs.Forms.{Relays, Acks, AfterSign, AfterRelayer, Distress, Requests, Tests, Answers, Questions, AfterTold, Places, Others, AfterOpener, Individuals, AfterCategory, AfterLead, Addressed, Letters, AfterOneLead, AddressedOne, Alerts, AfterFormat}
+use Rattle.call_grammar.specs.Forms.{Relays, Acks, AfterSign, Distress, Requests, Tests, Answers, Questions, AfterTold, Places, Others, AfterOpener, AfterLead, Addressed, Letters, AfterOneLead, AddressedOne, Alerts, AfterFormat}
 use Rattle.call_grammar.proofs.IdentityParts.{identity_good}
 use Rattle.call_grammar.proofs.PositionParts.{position_good}
 use Rattle.call_grammar.proofs.TimeParts.{time_good}

@@ -4,7 +4,7 @@ use Rattle.std.proofs.lemmas.Bool.{eq-eqb, eqb-true, or_left, or_right, or_cases
 use Rattle.slot_evidence.specs.declared.places.Seen.{Seen}
 use Rattle.slot_evidence.specs.declared.places.Seen.TheVariants as seen
 use Rattle.slot_evidence.specs.Facts.{Symbols, Facts}
-use Rattle.slot_evidence.specs.Seen.{IsSeen, ShowsSeveral, symbols_in}
+use Rattle.slot_evidence.specs.Seen.{IsSeen, symbols_in}
 use Rattle.slot_evidence.specs.Sheet.{IsEnds, seen_at, facts_in}
 use Rattle.slot_evidence.specs.Alike.{IsBetween, AreAlike}
 
