@@ -1,7 +1,6 @@
 -- what a truly phased reception with one-way errors shows is what was sent
-use Rattle.std.proofs.Common.{◌≡◌, ℕ, ◌+◌, ◌*◌, ◌<◌, ◌≤◌, Bool, true, false, ◌&&◌, ◌||◌, ltb, List, ◌∷◌, [], ◌++◌, length, get_or, Option, Some, None, refl, sym, ap, subst, ◌∙◌, inl, inr, ◌⊎◌, arith, length-append, append_assoc, All}
+use Rattle.std.proofs.Common.{◌≡◌, ℕ, ◌+◌, ◌*◌, ◌<◌, ◌≤◌, true, ◌&&◌, ◌||◌, ltb, List, ◌∷◌, [], ◌++◌, length, get_or, Option, Some, None, refl, ap, subst, ◌∙◌, inl, inr, arith, length-append, append_assoc, All}
 use Rattle.std.specs.Prelude.{◌↔◌}
-use Rattle.std.specs.List.{range_with_len}
 use Rattle.std.proofs.lemmas.Bool.{ltb-true, and_parts, or_cases}
 use Rattle.std.proofs.lemmas.List.{get_or_append_left}
 use Rattle.std.proofs.lemmas.List.Elements.{All-get_or}
@@ -12,12 +11,11 @@ use Rattle.ten_unit.specs.Errors.{IsOneWay}
 use Rattle.time_diversity.specs.Slots.{dx_slot, rx_slot, IsSlotOf}
 use Rattle.time_diversity.specs.OnAir.{slot_symbol, on_air}
 use Rattle.phasing.specs.Slot.{slot, shows}
-use Rattle.phasing.specs.Origin.{lead_of}
 use Rattle.call_values.specs.declared.alerts.Call.{Call}
 use Rattle.call_values.specs.Calls.{IsCall}
 use Rattle.call_grammar.specs.Spelling.{spell, front, end_of}
-use Rattle.slot_evidence.specs.Facts.{Facts, facts_of, facts_at}
-use Rattle.slot_join.specs.Heard.{IsOneWayAt, IsTrulyPhased, IsHeard}
+use Rattle.slot_evidence.specs.Facts.{facts_of, facts_at}
+use Rattle.slot_join.specs.Heard.{IsOneWayAt, IsHeard}
 use Rattle.slot_join.specs.OneCall.{ShowsNoOther}
 
 -- the laws of the crates below that this one stands on
@@ -60,11 +58,10 @@ at_lead laws e list lead p v heard below small has =
 
 told : Laws → (e : List Element) (list : List ℕ) (p v : ℕ) → IsHeard e list → p + 2 < length list → get_or list p 0 < 128 → facts_of e p v ≡ true → v ≡ get_or list p 0
 unfolding facts_of
-told laws e list p v heard below small has =
-    elim heard.phased [
-      | inl found ↦ at_lead laws e list heard.lead p v heard.one_way below small (subst (λ (lead : Option ℕ). facts_at e lead p v ≡ true) found has)
-      | inr none ↦ (let never : facts_at e None p v ≡ true = subst (λ (lead : Option ℕ). facts_at e lead p v ≡ true) none has in absurd (cc))
-    ]
+told laws e list p v (inl none) below small has =
+    let never : facts_at e None p v ≡ true = subst (λ (lead : Option ℕ). facts_at e lead p v ≡ true) none has in absurd (cc)
+told laws e list p v (inr found) below small has =
+    at_lead laws e list found.0 p v found.2 below small (subst (λ (lead : Option ℕ). facts_at e lead p v ≡ true) found.1 has)
 
 -- the places of a call up to its check are those of what was sent
 in_call : (c : Call) (tail : List ℕ) (p : ℕ) → p < length (front c) → get_or (spell c ++ tail) p 0 ≡ get_or (front c) p 0

@@ -13,12 +13,7 @@ abbrev pub IsOneWayAt : List Element → List ℕ → ℕ → Type 0
 IsOneWayAt reception list lead =
     (s : ℕ) → s < length (on_air list) → length (slot reception lead s) ≡ 10 → IsOneWay (word_of (slice_index (on_air list) s)) (slot reception lead s)
 
--- the origin that is found is the true one, or none is found
-abbrev pub IsTrulyPhased : List Element → ℕ → Type 0
-IsTrulyPhased reception lead = (lead_of reception ≡ Some lead) ⊎ (lead_of reception ≡ None)
-
--- a truly phased reception of the list's transmission, wrong in one sense alone in each character
-pub record IsHeard (reception : List Element) (list : List ℕ) : Type 0 where
-  pub lead : ℕ
-  pub one_way : IsOneWayAt reception list lead
-  pub phased : IsTrulyPhased reception lead
+-- a truly phased reception of the list's transmission: no origin is found, or one at whose lead each character went wrong in
+-- one sense alone
+abbrev pub IsHeard : List Element → List ℕ → Type 0
+IsHeard reception list = (lead_of reception ≡ None) ⊎ ((lead : ℕ) × (lead_of reception ≡ Some lead) × IsOneWayAt reception list lead)
