@@ -8,7 +8,7 @@ use Rattle.slot_evidence.specs.Seen.{ShowsNone}
 use Rattle.slot_join.specs.declared.joined.Joined.TheVariants.{Reported, Missing}
 use Rattle.slot_join.specs.declared.joined.Extra.TheVariants.{Absent}
 use Rattle.slot_join.specs.Heard.{IsHeard}
-use Rattle.slot_join.specs.Intact.{CameNowhere}
+use Rattle.slot_join.specs.Intact.{CameNowhere, ArrivesInParts}
 use Rattle.join_lines.specs.Lines.{lines_of}
 use Rattle.join_lines.specs.Receptions.{receptions_of, facts_of_all}
 use Rattle.dsc_files.specs.Streams.{Loses, IsEnded}
@@ -41,9 +41,11 @@ abbrev pub IsSentText : List ℕ → Call → List ℕ → List ℕ → ℕ → 
 IsSentText input call tail text status = TellsCall call text status ⊎ TellsLostPlace (receptions_of (lines_of input)) call tail text status
 
 -- 0 and 1: where the input, read to its end, has receptions of one call alone, its line was written or that of a place of it no copy of
--- which came intact
+-- which came intact; and its line, where each of its places came intact at some receiver
 pub record ReportsSent (left_before left_after before after : Option (List ℕ)) (flushed status : ℕ) : Type 0 where
   pub input : List ℕ
   pub lost : Loses left_before left_after input
   pub ended : IsEnded left_after
   pub sent : (call : Call) (tail : List ℕ) → IsOfCall input call tail → (text : List ℕ) × IsSentText input call tail text status × Writes before after flushed text
+  pub whole : (call : Call) (tail : List ℕ) → IsOfCall input call tail → ArrivesInParts (receptions_of (lines_of input)) call tail
+      → (text : List ℕ) × TellsCall call text status × Writes before after flushed text

@@ -10,4 +10,4 @@ pub use dsc_files::{
     SureSource,
 };
 pub use running::run;
-pub use slot_join::sent_call_is_answered;
+pub use slot_join::{intact_copies_report_the_call, sent_call_is_answered};
