@@ -12,8 +12,8 @@ use Rattle.slot_join.specs.Heard.{IsHeard}
 use Rattle.slot_join.specs.Intact.{IsSentOrLostPlace, ArrivesInParts}
 use Rattle.join_lines.specs.Lines.{lines_of}
 use Rattle.join_lines.specs.Receptions.{receptions_of, facts_of_all}
-use Rattle.dsc_cmd.specs.Output.{status_of, answer_line, IsAnswered}
-use Rattle.dsc_cmd.specs.Endings.{Answers}
+use Rattle.dsc_cmd.specs.Output.{answer_status, answer_line, IsAnswered}
+use Rattle.dsc_cmd.specs.Endings.{TellsAnswers}
 use Rattle.dsc_cmd.specs.Sent.{IsOfCall, TellsCall, IsSentText, ReportsSent}
 
 abbrev pub SentLaw : Type 0
@@ -25,13 +25,13 @@ WholeLaw = (receptions : List (List Element)) (call : Call) (tail : List ℕ) (a
     → ArrivesInParts receptions call tail → IsAnswer (facts_of_all receptions) answer → answer ≡ Reported call Absent
 
 -- the line of the call
-call_text : (call : Call) (answer : Joined) (text : List ℕ) (status : ℕ) → answer ≡ Reported call Absent → text ≡ answer_line answer → status ≡ status_of answer
+call_text : (call : Call) (answer : Joined) (text : List ℕ) (status : ℕ) → answer ≡ Reported call Absent → text ≡ answer_line answer → status ≡ answer_status answer
     → TellsCall call text status
-call_text call answer text status is e f = record { text_is = e ∙ ap answer_line is; status_is = f ∙ ap status_of is }
+call_text call answer text status is e f = record { text_is = e ∙ ap answer_line is; status_is = f ∙ ap answer_status is }
 
 -- the text of the answer
 text_of : (input : List ℕ) (call : Call) (tail : List ℕ) (answer : Joined) (text : List ℕ) (status : ℕ) → IsSentOrLostPlace (receptions_of (lines_of input)) call tail answer
-    → text ≡ answer_line answer → status ≡ status_of answer → IsSentText input call tail text status
+    → text ≡ answer_line answer → status ≡ answer_status answer → IsSentText input call tail text status
 text_of input call tail answer text status (inl is) e f = inl (call_text call answer text status is e f)
 text_of input call tail answer text status (inr lost) e f = inr (record {
   place = lost.place;
@@ -39,7 +39,7 @@ text_of input call tail answer text status (inr lost) e f = inr (record {
   blank = lost.blank;
   nowhere = lost.nowhere;
   text_is = e ∙ ap answer_line lost.answer_is;
-  status_is = f ∙ ap status_of lost.answer_is;
+  status_is = f ∙ ap answer_status lost.answer_is;
 })
 
 answered_text : SentLaw → (input : List ℕ) (call : Call) (tail text : List ℕ) (status : ℕ) → IsOfCall input call tail → IsAnswered (receptions_of (lines_of input)) text status → IsSentText input call tail text status
@@ -56,7 +56,7 @@ whole_text law input call tail text status of arrives (inr some) =
     call_text call a.0 text status (law (receptions_of (lines_of input)) call tail a.0 of.lawful of.heard arrives a.1.0) a.1.1 a.1.2
 
 -- a run that answers its input reports the call
-pub reports_sent : SentLaw → WholeLaw → (left_before left_after before after : Option (List ℕ)) (flushed status : ℕ) → Answers left_before left_after before after flushed status → ReportsSent left_before left_after before after flushed status
+pub reports_sent : SentLaw → WholeLaw → (left_before left_after before after : Option (List ℕ)) (flushed status : ℕ) → TellsAnswers left_before left_after before after flushed status → ReportsSent left_before left_after before after flushed status
 reports_sent law all left_before left_after before after flushed status a = record {
   input = a.input;
   lost = a.lost;

@@ -103,20 +103,19 @@ fn follow(sheet: &Sheet, mut walk: Walk) -> Joined
     lists_are_short();
     open_is_not_done();
     for n in 2..64 {
-        match sheet.at(n) {
+        let symbol = match sheet.at(n) {
             Seen::None => return behind_blank(&walk, n),
             Seen::Differ(least, greatest) => return Joined::Differ(n, least, greatest),
-            Seen::One(symbol) => match walk.take(symbol) {
-                Step::More => {}
-                Step::Done(call) => {
-                    return Joined::Reported {
-                        call,
-                        expansion: Extra::Absent,
-                    };
-                }
-                Step::Outside => return Joined::Outside(n, symbol),
-                Step::Check { want, got } => return Joined::Check { n, want, got },
-            },
+            Seen::One(symbol) => symbol,
+        };
+        match walk.take(symbol) {
+            Step::More => {}
+            Step::Done(call) => {
+                let expansion = Extra::Absent;
+                return Joined::Reported { call, expansion };
+            }
+            Step::Outside => return Joined::Outside(n, symbol),
+            Step::Check { want, got } => return Joined::Check { n, want, got },
         }
     }
     unreachable!()
