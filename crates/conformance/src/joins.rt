@@ -1,119 +1,80 @@
-use crate::receptions::{REPORTED, Row, SLOTS, joined, line};
+use crate::receptions::{DX_AND_PLACE_7, REPORTED, Row, SLOTS, WHOLE, joined, line};
 use std::test::Fail;
 use time_diversity::on_air;
 
 const ROWS: [Row; 11] = [
     Row {
-        name: "clean",
+        name: "without dots",
         dots: 0,
-        first: 0,
-        last: 52,
-        lost: &[],
-        other: &[],
-        want: REPORTED,
-        status: 0,
+        ..WHOLE
     },
     Row {
         name: "after seven dots",
         dots: 7,
-        first: 0,
-        last: 52,
-        lost: &[],
-        other: &[],
-        want: REPORTED,
-        status: 0,
+        ..WHOLE
     },
     Row {
         name: "from slot 9 on",
         dots: 0,
         first: 9,
-        last: 52,
-        lost: &[],
-        other: &[],
-        want: REPORTED,
-        status: 0,
+        ..WHOLE
     },
     Row {
         name: "three DX phasing symbols alone",
-        dots: 20,
-        first: 0,
         last: 16,
         lost: &[1, 3, 5, 6, 7, 8, 9, 10, 11, 12, 13, 14, 15],
-        other: &[],
         want: "g0 missing 0\n",
         status: 1,
+        ..WHOLE
     },
     Row {
         name: "RX copies but that of place 7",
-        dots: 20,
-        first: 0,
-        last: 52,
-        lost: &[
-            12, 14, 16, 18, 20, 22, 24, 26, 28, 30, 31, 32, 34, 36, 38, 40, 42, 44, 46, 48, 50,
-        ],
-        other: &[],
+        lost: DX_AND_PLACE_7,
         want: "g0 missing 7\n",
         status: 1,
+        ..WHOLE
     },
     Row {
         name: "second format lost",
-        dots: 20,
-        first: 0,
-        last: 52,
         lost: &[14, 19],
-        other: &[],
         want: "g0 missing 1\n",
         status: 1,
+        ..WHOLE
     },
     Row {
         name: "two-way error in one copy",
-        dots: 20,
-        first: 0,
-        last: 52,
-        lost: &[],
         other: &[(28, 22)],
         want: "g0 differ 8 14 22\n",
         status: 1,
+        ..WHOLE
     },
     Row {
         name: "wrong check",
-        dots: 20,
-        first: 0,
-        last: 52,
-        lost: &[],
         other: &[(46, 79), (51, 79)],
         want: "g0 check 17 78 79\n",
         status: 1,
+        ..WHOLE
     },
     Row {
         name: "tenth identity digit",
-        dots: 20,
-        first: 0,
-        last: 52,
-        lost: &[],
         other: &[(24, 91), (29, 91)],
         want: "g0 outside 6 91\n",
         status: 1,
+        ..WHOLE
     },
     Row {
         name: "first end lost",
-        dots: 20,
-        first: 0,
-        last: 52,
         lost: &[44, 49],
-        other: &[],
         want: "g0 missing 16\n",
         status: 1,
+        ..WHOLE
     },
     Row {
         name: "a test call's format",
-        dots: 20,
-        first: 0,
-        last: 52,
-        lost: &[],
         other: &[(12, 120), (14, 120), (17, 120), (19, 120)],
         want: "g0 outside 7 106\n",
         status: 1,
+        ..WHOLE
     },
 ];
 
@@ -123,38 +84,24 @@ const TEST_CALL: [u8; 25] = [
     117, 68, 117, 117,
 ];
 
-const TEST_CALL_REPORTED: &str = "g0 reported test to=002241022 cat=108 from=338040079 end=117\n";
+// A whole reception of it.
+const WHOLE_TEST_CALL: Row = Row {
+    last: 62,
+    want: "g0 reported test to=002241022 cat=108 from=338040079 end=117\n",
+    ..WHOLE
+};
 
 const TEST_CALL_ROWS: [Row; 3] = [
-    Row {
-        name: "clean",
-        dots: 20,
-        first: 0,
-        last: 62,
-        lost: &[],
-        other: &[],
-        want: TEST_CALL_REPORTED,
-        status: 0,
-    },
+    WHOLE_TEST_CALL,
     Row {
         name: "second format lost",
-        dots: 20,
-        first: 0,
-        last: 62,
         lost: &[14, 19],
-        other: &[],
-        want: TEST_CALL_REPORTED,
-        status: 0,
+        ..WHOLE_TEST_CALL
     },
     Row {
         name: "first format lost",
-        dots: 20,
-        first: 0,
-        last: 62,
         lost: &[12, 17],
-        other: &[],
-        want: TEST_CALL_REPORTED,
-        status: 0,
+        ..WHOLE_TEST_CALL
     },
 ];
 
@@ -174,16 +121,8 @@ fn receptions_of_one_alert(rt: HostRuntime) -> Result<(), Fail> {
 fn two_receptions_of_one_alert(rt: HostRuntime) -> Result<(), Fail> {
     let alloc = rt.alloc();
     let mut late = Row {
-        name: "RX copies but that of place 7",
-        dots: 20,
-        first: 0,
-        last: 52,
-        lost: &[
-            12, 14, 16, 18, 20, 22, 24, 26, 28, 30, 31, 32, 34, 36, 38, 40, 42, 44, 46, 48, 50,
-        ],
-        other: &[],
-        want: REPORTED,
-        status: 0,
+        lost: DX_AND_PLACE_7,
+        ..WHOLE
     };
     let mut input = line(alloc, &SLOTS, &late)?;
     late.lost = &[

@@ -30,6 +30,23 @@ pub(crate) struct Row {
     pub(crate) status: u8,
 }
 
+// A whole reception of an alert, behind 20 dots: rows say what differs.
+pub(crate) const WHOLE: Row = Row {
+    name: "whole",
+    dots: 20,
+    first: 0,
+    last: 52,
+    lost: &[],
+    other: &[],
+    want: REPORTED,
+    status: 0,
+};
+
+// The slots that are lost where the RX copies alone are left, but for that of place 7.
+pub(crate) const DX_AND_PLACE_7: &[usize] = &[
+    12, 14, 16, 18, 20, 22, 24, 26, 28, 30, 31, 32, 34, 36, 38, 40, 42, 44, 46, 48, 50,
+];
+
 fn sign(element: Element) -> u8 {
     match element {
         Element::Y => b'Y',
