@@ -31,17 +31,17 @@ unfolding word_of
 word-digits v = refl
 
 -- no element of a word is lost
-word-sent : (v i : ℕ) → i < 10 → get_or (word_of v) i Lost ≡ Lost → ⊥
+pub word-sent : (v i : ℕ) → i < 10 → get_or (word_of v) i Lost ≡ Lost → ⊥
 word-sent v i below h =
     element-sent (get_or (digits v) i 0)
     (sym (get_or-map element (digits v) i 0 Lost below) ∙ ap (λ (l : List Element). get_or l i Lost) (sym (word-digits v)) ∙ h)
 
-length-word : (v : ℕ) → length (word_of v) ≡ 10
+pub length-word : (v : ℕ) → length (word_of v) ≡ 10
 unfolding word_of
 length-word v = refl
 
 -- the ten elements from an index on, counted from 150 before the first, are inside the list and are the word of a symbol
-record IsWordAt (e : List Element) (at v : ℕ) : Type 0 where
+pub record IsWordAt (e : List Element) (at v : ℕ) : Type 0 where
   pub low : 150 ≤ at
   pub high : at + 10 ≤ length e + 150
   pub word : take 10 (drop (at - 150) e) ≡ word_of v
@@ -52,7 +52,7 @@ inside true true xs v h = (refl, refl, elements_same xs (word_of v) h)
 inside true false xs v h = absurd cc
 inside false b xs v h = absurd cc
 
-word_at : (e : List Element) (lead s v : ℕ) → shows e lead s v ≡ true → IsWordAt e (lead + 10 * s) v
+pub word_at : (e : List Element) (lead s v : ℕ) → shows e lead s v ≡ true → IsWordAt e (lead + 10 * s) v
 unfolding shows
 word_at e lead s v h =
     let parts = inside (nat_le 150 (lead + 10 * s)) (nat_le (lead + 10 * s + 10) (length e + 150)) _ v h in
@@ -62,7 +62,7 @@ word_at e lead s v h =
       word = parts.2;
     }
 
-shown : (e : List Element) (lead s v : ℕ) → IsWordAt e (lead + 10 * s) v → shows e lead s v ≡ true
+pub shown : (e : List Element) (lead s v : ℕ) → IsWordAt e (lead + 10 * s) v → shows e lead s v ≡ true
 unfolding shows is_word
 shown e lead s v w =
     let within = and_from (nat_le 150 (lead + 10 * s)) (nat_le (lead + 10 * s + 10) (length e + 150)) (le-leb _ _ w.low) (le-leb _ _ w.high) in
@@ -75,7 +75,7 @@ pub record IsKept (e sent : List Element) (shift bound : ℕ) : Type 0 where
   pub long : bound + shift ≤ length sent
 
 -- an element of ten in a row
-get_or-part : (e : List Element) (a i : ℕ) → i < 10 → get_or (take 10 (drop a e)) i Lost ≡ get_or e (a + i) Lost
+pub get_or-part : (e : List Element) (a i : ℕ) → i < 10 → get_or (take 10 (drop a e)) i Lost ≡ get_or e (a + i) Lost
 get_or-part e a i below = get_or-take 10 (drop a e) i Lost below ∙ get_or-drop a e i Lost
 
 kept_element : (x y z : Element) → x ≡ z → (z ≡ Lost → ⊥) → (x ≡ Lost) ⊎ (x ≡ y) → y ≡ z

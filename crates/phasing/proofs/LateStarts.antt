@@ -1,7 +1,7 @@
 -- the origin of a call whose start is intact is found, however late its reception begins
-use Rattle.std.proofs.Common.{◌≡◌, ℕ, ◌+◌, ◌-◌, ◌<◌, ◌≤◌, ◌==◌, inl, inr, Bool, true, false, List, ◌++◌, length, get_or, take, drop, Option, Some, None, refl, arith, ap, sym, ◌∙◌}
+use Rattle.std.proofs.Common.{◌≡◌, ℕ, ◌+◌, ◌-◌, ◌<◌, ◌≤◌, ◌==◌, inl, inr, Bool, true, false, List, ◌++◌, length, get_or, take, drop, Some, refl, arith, ap, sym, ◌∙◌}
 use Rattle.std.specs.List.{list_any, flat_map}
-use Rattle.std.proofs.lemmas.Bool.{cases_order, both_ways, false_from_ne_true}
+use Rattle.std.proofs.lemmas.Bool.{both_ways, false_from_ne_true}
 use Rattle.std.proofs.lemmas.List.{append_assoc, take-append-drop, get_or_append_left}
 use Rattle.std.proofs.lemmas.List.Concat.{flat_map-append}
 use Rattle.ten_unit.specs.declared.character.Element.{Element}
@@ -12,7 +12,7 @@ use Rattle.phasing.specs.Sent.{dots, dot_count, sent}
 use Rattle.phasing.specs.Start.{start_symbols, formats, IsIntactStart}
 use Rattle.phasing.proofs.EarlyLeads.{early_unphased}
 use Rattle.phasing.proofs.Kept.{IsKept, kept_phased}
-use Rattle.phasing.proofs.Leads.{find_least, none_anywhere}
+use Rattle.phasing.proofs.Leads.{least_found}
 
 sent_front : (front back : List ℕ) (long : Bool) → sent (front ++ back) long ≡ sent front long ++ flat_map word_of back
 unfolding sent
@@ -58,17 +58,6 @@ none_before e slots long lead format q f h k below =
     both_ways (is_phased (sent (start_symbols format) long) (q + shift))
     (early_unphased format long (q + shift) f (omega arith))
     (kept_phased e (sent (start_symbols format) long) shift (lead + 10) q (kept_start e slots long lead format h k) (omega arith) phased))
-
--- the least phased lead is found
-least_found : (e : List Element) (lead : ℕ) (found : Option ℕ) → lead_of e ≡ found → is_phased e lead ≡ true → ((q : ℕ) → q < lead → is_phased e q ≡ false) → found ≡ Some lead
-least_found e lead None h phased least = absurd (both_ways (is_phased e lead) (none_anywhere e h lead) phased)
-least_found e lead (Some q) h phased least =
-    let l = find_least (is_phased e) 0 (length e + 150) q h in
-    elim (cases_order q lead) [
-      | inl same ↦ ap Some same
-      | inr (inl below) ↦ absurd (both_ways (is_phased e q) (least q below) l.passes)
-      | inr (inr above) ↦ absurd (both_ways (is_phased e lead) (l.least lead (omega arith) above) phased)
-    ]
 
 pub found : (e : List Element) (slots : List ℕ) (long : Bool) (lead format : ℕ) → list_any (λ f. f == format) formats ≡ true → take 16 slots ≡ start_symbols format → IsIntactStart e slots long lead → lead_of e ≡ Some lead
 found e slots long lead format f h k =

@@ -1,6 +1,6 @@
 -- what the slots of a reception are long, and what they show outside it
 use Rattle.std.proofs.Common.{◌≡◌, ℕ, ◌+◌, ◌-◌, ◌*◌, ◌<◌, ◌≤◌, Bool, true, false, cond, nat_le, List, [], length, take, drop, refl, arith, ap, sym, ◌∙◌}
-use Rattle.std.proofs.lemmas.Bool.{and_parts, and_right, leb-true, lt-leb, cond-false}
+use Rattle.std.proofs.lemmas.Bool.{and_parts, and_left, and_right, leb-true, lt-leb, cond-false}
 use Rattle.std.proofs.Math.Seq.{take-length}
 use Rattle.std.proofs.lemmas.List.{length-take-le, length-drop}
 use Rattle.ten_unit.specs.declared.character.Element.{Element}
@@ -51,6 +51,14 @@ slot-past e lead s past =
 
 pub shows-past : (e : List Element) (lead s v : ℕ) → length e + 150 ≤ lead → shows e lead s v ≡ false
 shows-past e lead s v past = shows-none e lead s v (slot-past e lead s past)
+
+-- before the first element there are none
+slot-early : (e : List Element) (lead s : ℕ) → lead + 10 * s < 150 → slot e lead s ≡ []
+slot-early e lead s before =
+    cond-false _ _ _ (and_left _ (nat_le (lead + 10 * s + 10) (length e + 150)) (lt-leb _ _ before))
+
+pub shows-early : (e : List Element) (lead s v : ℕ) → lead + 10 * s < 150 → shows e lead s v ≡ false
+shows-early e lead s v before = shows-none e lead s v (slot-early e lead s before)
 
 -- a slot shows what the word of its first ten elements is
 pub shows-first : (e w : List Element) (lead s v : ℕ) → w ≡ take 10 (slot e lead s) → shows e lead s v ≡ is_word w v

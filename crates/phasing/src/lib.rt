@@ -1,10 +1,15 @@
 //! Phasing of ITU-R M.493: where a transmission's slots stand in a reception, and what they show; and the elements that are sent.
 #![tactic(auto)]
 
+mod counting;
 mod laws;
+mod marking;
 mod phase;
+#[cfg(test)]
+mod plain;
 mod reception;
 mod sending;
+mod window;
 
 pub use laws::{late_starts_are_found, none_past_the_end, origin_is_least};
 pub use phase::{lead, origin};

@@ -1,86 +1,95 @@
-ghost use Rattle.std.specs.Prelude.{◌≡◌, ◌+◌, ◌<◌, ◌≤◌, length, IfSome};
+ghost use Rattle.std.specs.Prelude.{◌≡◌, ℕ, ◌+◌, ◌<◌, ◌≤◌, List, length, IfSome};
+ghost use Rattle.ten_unit.specs.declared.character.Element.{Element};
+ghost use Rattle.ten_unit.specs.Marks.{IsMarks};
+ghost use Rattle.phasing.specs.Marked.{ArePhasing, IsCount};
 ghost use Rattle.phasing.specs.Origin as sequence;
-ghost use Rattle.phasing.specs.Origin.{AreRxWords};
+ghost use Rattle.phasing.specs.Places.{element_at};
 
-use crate::reception::{has, shows};
-use ten_unit::{Element, word};
+use crate::counting::Count;
+use crate::marking::{Phasing, phasing_marked, shifted};
+use crate::window::planes_from;
+use ten_unit::Element;
 
-/// How many DX slots show their phasing symbol.
-fn dx_right(e: &[Element], lead: u32) -> usize
-    requires length { length e.now ≤ 1000000 }
-    requires lead { lead ≤ 1000150 }
-    ensures { result ≡ sequence.dx_right e.now lead }
+/// How many DX slots show their phasing symbol at each of 64 leads, from the marks of the places from the first lead on.
+fn dx_right(first: &Phasing, second: &Phasing, third: &Phasing) -> Count
+    ensures { (base : ℕ) (e : List Element) → ArePhasing first.now base (element_at e) → ArePhasing second.now (base + 64) (element_at e)
+        → ArePhasing third.now (base + 128) (element_at e) → IsCount result base (sequence.dx_right e) }
 {
-    [0, 2, 4, 6, 8, 10]
-        .iter()
-        .filter(|slot| shows(e, lead, **slot, 125))
-        .count()
+    Count::none()
+        .add(first.dx)
+        .add(shifted(first.dx, second.dx, 20))
+        .add(shifted(first.dx, second.dx, 40))
+        .add(shifted(first.dx, second.dx, 60))
+        .add(shifted(second.dx, third.dx, 16))
+        .add(shifted(second.dx, third.dx, 36))
 }
 
-/// The words of the phasing symbols 111 down to 104, which stand in the RX slots 1, 3, .. 15.
-fn rx_words() -> [[Element; 10]; 8]
-    ensures { AreRxWords result }
+/// How many RX slots show theirs.
+fn rx_right(first: &Phasing, second: &Phasing, third: &Phasing, fourth: &Phasing) -> Count
+    ensures { (base : ℕ) (e : List Element) → ArePhasing first.now base (element_at e) → ArePhasing second.now (base + 64) (element_at e)
+        → ArePhasing third.now (base + 128) (element_at e) → ArePhasing fourth.now (base + 192) (element_at e) → IsCount result base (sequence.rx_right e) }
 {
-    [
-        word(111),
-        word(110),
-        word(109),
-        word(108),
-        word(107),
-        word(106),
-        word(105),
-        word(104),
-    ]
+    Count::none()
+        .add(shifted(first.rx[0], second.rx[0], 10))
+        .add(shifted(first.rx[1], second.rx[1], 30))
+        .add(shifted(first.rx[2], second.rx[2], 50))
+        .add(shifted(second.rx[3], third.rx[3], 6))
+        .add(shifted(second.rx[4], third.rx[4], 26))
+        .add(shifted(second.rx[5], third.rx[5], 46))
+        .add(shifted(third.rx[6], fourth.rx[6], 2))
+        .add(shifted(third.rx[7], fourth.rx[7], 22))
 }
 
-/// How many RX slots show theirs, of which these are the words.
-fn rx_right(e: &[Element], lead: u32, words: &[[Element; 10]; 8]) -> usize
-    requires length { length e.now ≤ 1000000 }
-    requires lead { lead ≤ 1000150 }
-    requires words { AreRxWords words.now }
-    ensures { result ≡ sequence.rx_right e.now lead }
+/// At which of 64 leads so many right phasing symbols are enough.
+fn enough(dx: Count, rx: Count) -> u64
+    ensures { (base : ℕ) (e : List Element) → IsCount dx base (sequence.dx_right e) → IsCount rx base (sequence.rx_right e) → IsMarks result base (sequence.is_phased e) }
 {
-    let [a, b, c, d, f, g, h, i] = words;
-    usize::from(has(e, lead, 1, a))
-        + usize::from(has(e, lead, 3, b))
-        + usize::from(has(e, lead, 5, c))
-        + usize::from(has(e, lead, 7, d))
-        + usize::from(has(e, lead, 9, f))
-        + usize::from(has(e, lead, 11, g))
-        + usize::from(has(e, lead, 13, h))
-        + usize::from(has(e, lead, 15, i))
+    dx.two & rx.one | rx.two & dx.one | rx.three
 }
 
-/// Whether enough phasing symbols are right at a lead. Without an RX one the DX slots need no look.
-fn is_phased(e: &[Element], lead: u32, words: &[[Element; 10]; 8]) -> bool
-    requires length { length e.now ≤ 1000000 }
-    requires lead { lead ≤ 1000150 }
-    requires words { AreRxWords words.now }
-    ensures { result ≡ sequence.is_phased e.now lead }
+/// At which of 64 leads enough phasing symbols are right. Slot 15 of the last lead begins in the fourth block of 64 places.
+fn phased(first: &Phasing, second: &Phasing, third: &Phasing, fourth: &Phasing) -> u64
+    ensures { (base : ℕ) (e : List Element) → ArePhasing first.now base (element_at e) → ArePhasing second.now (base + 64) (element_at e)
+        → ArePhasing third.now (base + 128) (element_at e) → ArePhasing fourth.now (base + 192) (element_at e) → IsMarks result base (sequence.is_phased e) }
 {
-    let rx = rx_right(e, lead, words);
-    if rx == 0 {
-        return false;
-    }
-    is_enough(dx_right(e, lead), rx)
+    enough(
+        dx_right(first, second, third),
+        rx_right(first, second, third, fourth),
+    )
 }
 
-/// Whether so many right phasing symbols are enough.
-fn is_enough(dx: usize, rx: usize) -> bool
-    ensures { result ≡ sequence.is_enough dx rx }
-{
-    dx >= 2 && rx >= 1 || rx >= 2 && dx >= 1 || rx >= 3
-}
-
-/// The lead of a reception's origin: the origin, counted from 150 elements before the reception's first one.
-/// `None` comes exactly where no origin from -150 on is phased.
+/// The lead of a reception's origin (ITU-R M.493, phasing sequence): the origin, counted from 150 elements before the
+/// reception's first one. `None` comes exactly where no origin from -150 on is phased. None is below lead 40, where
+/// two RX slots at most, and no DX slot, stand in the reception.
+///
+/// It tests 64 leads at once, in place of each lead and slot in turn: a block of 64 elements is two words of bits, shifts
+/// and ands of them give the places at which each phasing symbol's word begins, and three words count at each lead the
+/// symbols that are right, as far as three. The first bit of a block that is enough is the origin. Four blocks of 64
+/// places move over the reception, from lead 22 on, so that element 0 is the first of a block. It takes some six
+/// instructions an element and under 1 KB of stack at any length.
 pub fn lead(e: &[Element]) -> Option<u32>
     requires { length e.now ≤ 1000000 }
     ensures least { result ≡ sequence.lead_of e.now }
     ensures within { IfSome result (λ lead. lead < length e.now + 150) }
+    ensures from { IfSome result (λ lead. 40 ≤ lead) }
 {
-    let words = rx_words();
-    (0..e.len() as u32 + 150).find(|lead| is_phased(e, *lead, &words))
+    let mut first = Phasing::before();
+    let mut second = Phasing::before();
+    let mut next = planes_from(e, 64);
+    let mut third = phasing_marked(planes_from(e, 0), next);
+    for block in 0..(e.len() as u32 + 191) / 64 {
+        let after = planes_from(e, 64 * block as usize + 128);
+        let fourth = phasing_marked(next, after);
+        let found = phased(&first, &second, &third, &fourth);
+        if found != 0 {
+            return Some(64 * block + 22 + found.trailing_zeros());
+        }
+        first = second;
+        second = third;
+        third = fourth;
+        next = after;
+    }
+    None
 }
 
 /// The origin of a reception (ITU-R M.493, phasing sequence): the index at which the transmission's slot 0 begins,

@@ -1,14 +1,13 @@
 ghost use Rattle.std.specs.Prelude.{◌≡◌, ℕ, ◌<◌, ◌≤◌, length, Some, IfSome, IsTrue};
-ghost use Rattle.ten_unit.specs.Word.{word_of};
 ghost use Rattle.phasing.specs.Slot as diversity;
 
-use ten_unit::{Element, is_same, is_word, symbol};
+use ten_unit::{Element, symbol};
 
 /// Leads count from this many elements before a reception's first one.
 const BEFORE: usize = 150;
 
 /// The ten elements of a slot, where all ten are inside the reception, and else none.
-fn elements(e: &[Element], lead: u32, slot: u16) -> &[Element]
+pub(crate) fn elements(e: &[Element], lead: u32, slot: u16) -> &[Element]
     requires length { length e.now ≤ 1000000 }
     requires lead { lead ≤ 1000150 }
     ensures { result.now ≡ diversity.slot e.now lead slot }
@@ -19,25 +18,6 @@ fn elements(e: &[Element], lead: u32, slot: u16) -> &[Element]
     } else {
         &[]
     }
-}
-
-/// Whether a slot shows the symbol of which this is the word.
-pub(crate) fn has(e: &[Element], lead: u32, slot: u16, word: &[Element; 10]) -> bool
-    requires length { length e.now ≤ 1000000 }
-    requires lead { lead ≤ 1000150 }
-    ensures { (v : ℕ) → word.now ≡ word_of v → result ≡ diversity.shows e.now lead slot v }
-{
-    is_same(elements(e, lead, slot), word)
-}
-
-/// Whether a slot shows a symbol from 0 to 127.
-pub(crate) fn shows(e: &[Element], lead: u32, slot: u16, symbol: u8) -> bool
-    requires length { length e.now ≤ 1000000 }
-    requires lead { lead ≤ 1000150 }
-    requires symbol { symbol < 128 }
-    ensures { result ≡ diversity.shows e.now lead slot symbol }
-{
-    is_word(elements(e, lead, slot), symbol)
 }
 
 /// The symbol that a slot of the reception shows at a lead: at the origin `lead - 150` (ITU-R M.493, time

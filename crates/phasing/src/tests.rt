@@ -1,4 +1,4 @@
-use crate::{lead, origin, slot_symbol, transmission};
+use crate::{lead, origin, plain, slot_symbol, transmission};
 use std::alloc::{AllocError, Global};
 use std::test::Fail;
 use ten_unit::{Element, word};
@@ -88,4 +88,58 @@ fn a_long_dot_pattern(rt: HostRuntime) {
     assert_eq!(rt; elements.len(), 210);
     assert_eq!(rt; &elements[198..200], [Element::B, Element::Y].as_slice());
     assert_eq!(rt; &elements[200..], word(125).as_slice());
+}
+
+/// Whether the search and the definition's program find one lead and one origin.
+fn is_found_alike(e: &[Element]) -> bool {
+    e.len() <= 1000000 && lead(e) == plain::lead(e) && origin(e) == plain::origin(e)
+}
+
+/// An alert behind dots, which begins later and later: its lead is each from 350 down to 0, and so at each edge of a
+/// block. Then one that ends earlier and earlier, from 720 elements down to none.
+#[test]
+fn each_lead_and_each_length(rt: HostRuntime) -> Result<(), Fail> {
+    let elements = received(rt.alloc(), 200, &ALERT, &[])?;
+    for begin in 0..=350 {
+        let late = elements.get(begin..).ok_or("short")?;
+        assert!(rt; is_found_alike(late), "from {begin} on");
+    }
+    for end in 0..=elements.len() {
+        assert!(rt; is_found_alike(&elements[..end]), "up to {end}");
+    }
+    Ok(())
+}
+
+/// So many elements, of which one in sixteen is lost, by numbers that look random.
+fn noise(alloc: Global, count: u32, mut seed: u32) -> Result<Vec<Element>, AllocError> {
+    let mut elements = Vec::new(alloc);
+    for _element in 0..count {
+        seed = seed.wrapping_mul(1664525).wrapping_add(1013904223);
+        elements.push(match seed / 65536 % 16 {
+            0 => Element::Lost,
+            1 | 3 | 5 | 7 | 9 | 11 | 13 => Element::B,
+            _ => Element::Y,
+        })?;
+    }
+    Ok(elements)
+}
+
+/// Two transmissions behind noise, in which most slots of phasing are lost, each time others.
+#[test]
+fn two_alerts_in_noise(rt: HostRuntime) -> Result<(), Fail> {
+    for turn in 0..200u32 {
+        let seed = turn.wrapping_mul(2654435761);
+        let mut lost = Vec::new(rt.alloc());
+        for slot in 0..16usize {
+            if seed >> slot & 1 == 1 {
+                lost.push(slot)?;
+            }
+        }
+        let mut elements = noise(rt.alloc(), seed / 65536 % 256, seed)?;
+        elements.extend_from_slice(&received(rt.alloc(), 20, &ALERT[..16], &lost)?)?;
+        elements.extend_from_slice(&received(rt.alloc(), 7, &ALERT, &[0, 3])?)?;
+        assert!(rt; is_found_alike(&elements), "turn {turn}");
+    }
+    assert!(rt; is_found_alike(&noise(rt.alloc(), 4198, 1)?));
+    Ok(())
 }

@@ -1,21 +1,25 @@
-use Rattle.std.proofs.Common.{ℕ, ◌≡◌, ◌∙◌, Bool, true, false, cond, List, [], get_or, ap, refl, arith}
-use mir.Val.{bool_byte}
-use Rattle.ten_unit.specs.declared.character.Element.{Element}
+use Rattle.std.proofs.Common.{◌+◌, lit<, arith}
+use Rattle.phasing.specs.Origin as sequence
+use Rattle.phasing.proofs.Counts.{same_count}
+use Rattle.phasing.proofs.Words.{later_slot}
 use Rattle.phasing.proofs.phase.rx_right.Goals as goal
 
-one_byte : (b : Bool) → bool_byte b ≡ cond b 1 0
-one_byte true = refl
-one_byte false = refl
-
 pub returns : goal.returns
-returns c =
-    let words = c.requires.words in
-    let s0 = c.from.ensures ∙ ap bool_byte (c.has.ensures 111 (ap (λ (w : List (List Element)). get_or w 0 []) words)) ∙ one_byte _ in
-    let s1 = c.from-2.ensures ∙ ap bool_byte (c.has-2.ensures 110 (ap (λ (w : List (List Element)). get_or w 1 []) words)) ∙ one_byte _ in
-    let s2 = c.from-3.ensures ∙ ap bool_byte (c.has-3.ensures 109 (ap (λ (w : List (List Element)). get_or w 2 []) words)) ∙ one_byte _ in
-    let s3 = c.from-4.ensures ∙ ap bool_byte (c.has-4.ensures 108 (ap (λ (w : List (List Element)). get_or w 3 []) words)) ∙ one_byte _ in
-    let s4 = c.from-5.ensures ∙ ap bool_byte (c.has-5.ensures 107 (ap (λ (w : List (List Element)). get_or w 4 []) words)) ∙ one_byte _ in
-    let s5 = c.from-6.ensures ∙ ap bool_byte (c.has-6.ensures 106 (ap (λ (w : List (List Element)). get_or w 5 []) words)) ∙ one_byte _ in
-    let s6 = c.from-7.ensures ∙ ap bool_byte (c.has-7.ensures 105 (ap (λ (w : List (List Element)). get_or w 6 []) words)) ∙ one_byte _ in
-    let s7 = c.from-8.ensures ∙ ap bool_byte (c.has-8.ensures 104 (ap (λ (w : List (List Element)). get_or w 7 []) words)) ∙ one_byte _ in
-    omega (arith, s0, s1, s2, s3, s4, s5, s6, s7)
+returns c = λ base e first second third fourth.
+    let s1 = later_slot _ _ c.shifted.result base base (base + 64) 10 1 111 e c.shifted.ensures (omega arith) (omega arith) (first.rx 0 (lit< tt)) (second.rx 0 (lit< tt)) in
+    let s3 = later_slot _ _ c.shifted-2.result base base (base + 64) 30 3 110 e c.shifted-2.ensures (omega arith) (omega arith) (first.rx 1 (lit< tt)) (second.rx 1 (lit< tt)) in
+    let s5 = later_slot _ _ c.shifted-3.result base base (base + 64) 50 5 109 e c.shifted-3.ensures (omega arith) (omega arith) (first.rx 2 (lit< tt)) (second.rx 2 (lit< tt)) in
+    let s7 = later_slot _ _ c.shifted-4.result base (base + 64) (base + 128) 6 7 108 e c.shifted-4.ensures (omega arith) (omega arith) (second.rx 3 (lit< tt)) (third.rx 3 (lit< tt)) in
+    let s9 = later_slot _ _ c.shifted-5.result base (base + 64) (base + 128) 26 9 107 e c.shifted-5.ensures (omega arith) (omega arith) (second.rx 4 (lit< tt)) (third.rx 4 (lit< tt)) in
+    let s11 = later_slot _ _ c.shifted-6.result base (base + 64) (base + 128) 46 11 106 e c.shifted-6.ensures (omega arith) (omega arith) (second.rx 5 (lit< tt)) (third.rx 5 (lit< tt)) in
+    let s13 = later_slot _ _ c.shifted-7.result base (base + 128) (base + 192) 2 13 105 e c.shifted-7.ensures (omega arith) (omega arith) (third.rx 6 (lit< tt)) (fourth.rx 6 (lit< tt)) in
+    let s15 = later_slot _ _ c.shifted-8.result base (base + 128) (base + 192) 22 15 104 e c.shifted-8.ensures (omega arith) (omega arith) (third.rx 7 (lit< tt)) (fourth.rx 7 (lit< tt)) in
+    let n1 = c.add.ensures base _ _ (c.none.ensures base) s1 in
+    let n3 = c.add-2.ensures base _ _ n1 s3 in
+    let n5 = c.add-3.ensures base _ _ n3 s5 in
+    let n7 = c.add-4.ensures base _ _ n5 s7 in
+    let n9 = c.add-5.ensures base _ _ n7 s9 in
+    let n11 = c.add-6.ensures base _ _ n9 s11 in
+    let n13 = c.add-7.ensures base _ _ n11 s13 in
+    let n15 = c.add-8.ensures base _ _ n13 s15 in
+    same_count c.add-8.result base _ (sequence.rx_right e) (λ lead. omega arith) n15

@@ -2,7 +2,7 @@ use Rattle.std.proofs.Common.{List, ◌∙◌, ap}
 use Rattle.ten_unit.specs.declared.character.Element.{Element}
 use Rattle.ten_unit.specs.Word.{elements_eq, is_word, word_of}
 use Rattle.phasing.specs.Slot.{shows}
-use Rattle.phasing.proofs.reception.has.Goals as goal
+use Rattle.phasing.proofs.plain.has.Goals as goal
 
 pub returns : goal.returns
 unfolding shows is_word

@@ -1,7 +1,7 @@
 use Rattle.std.proofs.Common.{◌≡◌, ℕ, false, sym, ◌∙◌, ap, arith}
 use Rattle.std.proofs.lemmas.Bool.Decides.{nat_tests}
 use Rattle.phasing.specs.Origin.{dx_right, is_enough, is_phased}
-use Rattle.phasing.proofs.phase.is_phased.Goals as goal
+use Rattle.phasing.proofs.plain.is_phased.Goals as goal
 
 no_rx : (dx : ℕ) → is_enough dx 0 ≡ false
 no_rx dx = grind (arith, nat_tests)

@@ -1,6 +1,6 @@
 use Rattle.std.proofs.Common.{rules}
 use Rattle.phasing.specs.Slot.{shows}
-use Rattle.phasing.proofs.reception.shows.Goals as goal
+use Rattle.phasing.proofs.plain.shows.Goals as goal
 
 pub returns : goal.returns
 unfolding shows

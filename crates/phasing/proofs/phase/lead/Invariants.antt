@@ -1,0 +1,15 @@
+use Rattle.std.proofs.Common.{◌≡◌, ℕ, ◌+◌, ◌*◌, ◌<◌, false}
+use Rattle.ten_unit.specs.Marks.{IsPlanes}
+use Rattle.phasing.specs.Marked.{ArePhasing}
+use Rattle.phasing.specs.Origin.{is_phased}
+use Rattle.phasing.specs.Places.{element_at}
+use Rattle.phasing.proofs.phase.lead.Given as goal
+
+abbrev pub invariant-loop-block : goal.invariant-loop-block
+invariant-loop-block l = record {
+  first : ArePhasing l.first (64 * l.block + 22) (element_at l.e);
+  second : ArePhasing l.second (64 * l.block + 86) (element_at l.e);
+  third : ArePhasing l.third (64 * l.block + 150) (element_at l.e);
+  next : IsPlanes l.next.y l.next.b (64 * l.block + 214) (element_at l.e);
+  none : (k : ℕ) → k < 64 * l.block + 22 → is_phased l.e k ≡ false;
+}

@@ -1,0 +1,19 @@
+-- What words of 64 bits say of 64 leads at once, a bit a lead: which phasing symbols begin at a place, and how many are right. This project's own form.
+use Rattle.std.specs.Prelude.{ℕ, ◌-◌, ◌<◌, nat_le, slice_index}
+use Rattle.ten_unit.specs.declared.character.Element.{Element}
+use Rattle.ten_unit.specs.Marks.{IsMarks}
+use Rattle.ten_unit.specs.Word.{word_of}
+use Rattle.phasing.specs.declared.marking.Phasing.{Phasing}
+use Rattle.phasing.specs.declared.counting.Count.{Count}
+use Rattle.phasing.specs.Places.{is_at}
+
+-- at which of 64 places from base on the word of 125 begins, and those of 111 down to 104
+pub record ArePhasing (marks : Phasing) (base : ℕ) (e : ℕ → Element) : Type 0 where
+  pub dx : IsMarks marks.dx base (is_at e (word_of 125))
+  pub rx : (k : ℕ) → k < 8 → IsMarks (slice_index marks.rx k) base (is_at e (word_of (111 - k)))
+
+-- at which of 64 places from base on a number is at least one, at least two, at least three
+pub record IsCount (count : Count) (base : ℕ) (number : ℕ → ℕ) : Type 0 where
+  pub one : IsMarks count.one base (λ place. nat_le 1 (number place))
+  pub two : IsMarks count.two base (λ place. nat_le 2 (number place))
+  pub three : IsMarks count.three base (λ place. nat_le 3 (number place))

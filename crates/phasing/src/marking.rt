@@ -1,0 +1,85 @@
+ghost use Rattle.std.specs.Prelude.{◌≡◌, ℕ, ◌+◌, ◌<◌, ◌≤◌, Bool, List};
+ghost use Rattle.ten_unit.specs.Marks.{IsMarks, IsPlanes};
+ghost use Rattle.ten_unit.specs.Word.{element_eq, word_of};
+ghost use Rattle.ten_unit.specs.declared.character.Element.{Element};
+ghost use Rattle.phasing.specs.Places.{element_at, is_at};
+ghost use Rattle.phasing.specs.Marked.{ArePhasing};
+
+use ten_unit::{Element, Planes, word};
+
+/// At which of 64 places the words of the phasing symbols begin, a bit a place: of 125, and of 111 down to 104.
+#[derive(Clone, Copy)]
+pub(crate) struct Phasing {
+    pub dx: u64,
+    pub rx: [u64; 8],
+}
+
+impl Phasing {
+    /// No word begins before a reception's first element, which stands at place 150.
+    pub fn before() -> Self
+        ensures { (base : ℕ) (e : List Element) → base + 64 ≤ 150 → ArePhasing result base (element_at e) }
+    {
+        Phasing { dx: 0, rx: [0; 8] }
+    }
+}
+
+/// The marks of the 64 places that begin so many places behind the low word's first one. The high word has those of the
+/// 64 places behind the low word's.
+#[inline(always)]
+pub(crate) fn shifted(low: u64, high: u64, shift: u32) -> u64
+    requires { shift < 64 }
+    ensures { (base : ℕ) (f : ℕ → Bool) → IsMarks low base f → IsMarks high (base + 64) f → IsMarks result (base + shift) f }
+{
+    low >> shift | high << 1 << (63 - shift)
+}
+
+/// At which of the 64 places that begin so many places behind the first planes' this element stands.
+#[inline(always)]
+fn element_marked(element: Element, here: Planes, next: Planes, shift: u32) -> u64
+    requires { shift < 64 }
+    ensures { (base : ℕ) (e : ℕ → Element) → IsPlanes here.y here.b base e → IsPlanes next.y next.b (base + 64) e
+        → IsMarks result (base + shift) (λ place. element_eq (e place) element) }
+{
+    let y = shifted(here.y, next.y, shift);
+    let b = shifted(here.b, next.b, shift);
+    match element {
+        Element::Y => y,
+        Element::B => b,
+        Element::Lost => !(y | b),
+    }
+}
+
+/// At which of 64 places a word begins. Each place is tested for the word's first element, the place behind it for
+/// the second, and so on. Where the word is a constant, the loop and its choices fold into shifts by constants.
+#[inline(always)]
+fn word_marked(word: &[Element; 10], here: Planes, next: Planes) -> u64
+    ensures { (base : ℕ) (e : ℕ → Element) → IsPlanes here.y here.b base e → IsPlanes next.y next.b (base + 64) e
+        → IsMarks result base (is_at e word.now) }
+{
+    let mut all = u64::MAX;
+    for shift in 0..10u32 {
+        all &= element_marked(word[shift as usize], here, next, shift);
+    }
+    all
+}
+
+/// At which of 64 places the words of the phasing symbols begin (ITU-R M.493, phasing sequence). The planes are of
+/// these places and of the 64 behind them.
+pub(crate) fn phasing_marked(here: Planes, next: Planes) -> Phasing
+    ensures { (base : ℕ) (e : ℕ → Element) → IsPlanes here.y here.b base e → IsPlanes next.y next.b (base + 64) e
+        → ArePhasing result base e }
+{
+    Phasing {
+        dx: word_marked(&word(125), here, next),
+        rx: [
+            word_marked(&word(111), here, next),
+            word_marked(&word(110), here, next),
+            word_marked(&word(109), here, next),
+            word_marked(&word(108), here, next),
+            word_marked(&word(107), here, next),
+            word_marked(&word(106), here, next),
+            word_marked(&word(105), here, next),
+            word_marked(&word(104), here, next),
+        ],
+    }
+}

@@ -1,0 +1,113 @@
+//! The search for the origin as its definition says it, lead by lead and slot by slot.
+ghost use Rattle.std.specs.Prelude.{◌≡◌, ℕ, ◌+◌, ◌<◌, ◌≤◌, length, IfSome};
+ghost use Rattle.ten_unit.specs.Word.{word_of};
+ghost use Rattle.phasing.specs.Origin as sequence;
+ghost use Rattle.phasing.specs.Origin.{AreRxWords};
+ghost use Rattle.phasing.specs.Slot as diversity;
+
+use crate::reception::elements;
+use ten_unit::{Element, is_same, is_word, word};
+
+/// Whether a slot shows the symbol of which this is the word.
+fn has(e: &[Element], lead: u32, slot: u16, word: &[Element; 10]) -> bool
+    requires length { length e.now ≤ 1000000 }
+    requires lead { lead ≤ 1000150 }
+    ensures { (v : ℕ) → word.now ≡ word_of v → result ≡ diversity.shows e.now lead slot v }
+{
+    is_same(elements(e, lead, slot), word)
+}
+
+/// Whether a slot shows a symbol from 0 to 127.
+fn shows(e: &[Element], lead: u32, slot: u16, symbol: u8) -> bool
+    requires length { length e.now ≤ 1000000 }
+    requires lead { lead ≤ 1000150 }
+    requires symbol { symbol < 128 }
+    ensures { result ≡ diversity.shows e.now lead slot symbol }
+{
+    is_word(elements(e, lead, slot), symbol)
+}
+
+/// How many DX slots show their phasing symbol.
+fn dx_right(e: &[Element], lead: u32) -> usize
+    requires length { length e.now ≤ 1000000 }
+    requires lead { lead ≤ 1000150 }
+    ensures { result ≡ sequence.dx_right e.now lead }
+{
+    [0, 2, 4, 6, 8, 10]
+        .iter()
+        .filter(|slot| shows(e, lead, **slot, 125))
+        .count()
+}
+
+/// The words of the phasing symbols 111 down to 104, which stand in the RX slots 1, 3, .. 15.
+fn rx_words() -> [[Element; 10]; 8]
+    ensures { AreRxWords result }
+{
+    [
+        word(111),
+        word(110),
+        word(109),
+        word(108),
+        word(107),
+        word(106),
+        word(105),
+        word(104),
+    ]
+}
+
+/// How many RX slots show theirs, of which these are the words.
+fn rx_right(e: &[Element], lead: u32, words: &[[Element; 10]; 8]) -> usize
+    requires length { length e.now ≤ 1000000 }
+    requires lead { lead ≤ 1000150 }
+    requires words { AreRxWords words.now }
+    ensures { result ≡ sequence.rx_right e.now lead }
+{
+    let [a, b, c, d, f, g, h, i] = words;
+    usize::from(has(e, lead, 1, a))
+        + usize::from(has(e, lead, 3, b))
+        + usize::from(has(e, lead, 5, c))
+        + usize::from(has(e, lead, 7, d))
+        + usize::from(has(e, lead, 9, f))
+        + usize::from(has(e, lead, 11, g))
+        + usize::from(has(e, lead, 13, h))
+        + usize::from(has(e, lead, 15, i))
+}
+
+/// Whether enough phasing symbols are right at a lead. Without an RX one the DX slots need no look.
+fn is_phased(e: &[Element], lead: u32, words: &[[Element; 10]; 8]) -> bool
+    requires length { length e.now ≤ 1000000 }
+    requires lead { lead ≤ 1000150 }
+    requires words { AreRxWords words.now }
+    ensures { result ≡ sequence.is_phased e.now lead }
+{
+    let rx = rx_right(e, lead, words);
+    if rx == 0 {
+        return false;
+    }
+    is_enough(dx_right(e, lead), rx)
+}
+
+/// Whether so many right phasing symbols are enough.
+fn is_enough(dx: usize, rx: usize) -> bool
+    ensures { result ≡ sequence.is_enough dx rx }
+{
+    dx >= 2 && rx >= 1 || rx >= 2 && dx >= 1 || rx >= 3
+}
+
+/// The lead of a reception's origin.
+pub(crate) fn lead(e: &[Element]) -> Option<u32>
+    requires { length e.now ≤ 1000000 }
+    ensures least { result ≡ sequence.lead_of e.now }
+    ensures within { IfSome result (λ lead. lead < length e.now + 150) }
+{
+    let words = rx_words();
+    (0..e.len() as u32 + 150).find(|lead| is_phased(e, *lead, &words))
+}
+
+/// The origin of a reception.
+pub(crate) fn origin(e: &[Element]) -> Option<i32>
+    requires { length e.now ≤ 1000000 }
+    ensures { result ≡ sequence.origin_of e.now }
+{
+    lead(e).map(|lead| lead as i32 - 150)
+}

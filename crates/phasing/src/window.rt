@@ -1,0 +1,26 @@
+ghost use Rattle.std.specs.Prelude.{◌≡◌, ℕ, ◌+◌, ◌<◌, length, slice_index_or};
+ghost use Rattle.ten_unit.specs.Marks.{IsPlanes};
+ghost use Rattle.phasing.specs.Places.{element_at};
+
+use ten_unit::{Element, Planes, packed};
+
+/// These elements, fewer than 64, and lost ones after them.
+fn padded(e: &[Element]) -> [Element; 64]
+    requires { length e.now < 64 }
+    ensures { (i : ℕ) → i < 64 → slice_index_or result i Element.Lost ≡ slice_index_or e.now i Element.Lost }
+{
+    let mut block = [Element::Lost; 64];
+    block[..e.len()].copy_from_slice(e);
+    block
+}
+
+/// The 64 elements of a reception from one on, of which those past its end are lost. Element 0 stands at place 150.
+pub(crate) fn planes_from(e: &[Element], begin: usize) -> Planes
+    ensures { IsPlanes result.y result.b (begin + 150) (element_at e.now) }
+{
+    let rest = &e[begin.min(e.len())..];
+    match rest.first_chunk::<64>() {
+        Some(block) => packed(block),
+        None => packed(&padded(rest)),
+    }
+}
