@@ -3,4 +3,3 @@ pub mod Facts
 pub mod Kept
 pub mod Seen
 pub mod Sheet
-pub mod Window
