@@ -1,6 +1,6 @@
 ghost use Rattle.call_values.specs.Calls.{IsCasualty, IsCall};
 ghost use Rattle.call_values.specs.Identity.{IsMmsi};
-ghost use Rattle.call_values.specs.Telecommands.{IsFirst, IsSecond};
+ghost use Rattle.dsc_symbols.specs.Telecommands.{IsFirst, IsSecond};
 ghost use Rattle.call_values.specs.Parts.{IsTo, IsMessage};
 
 use crate::{
