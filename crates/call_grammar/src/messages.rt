@@ -5,17 +5,18 @@ ghost use Rattle.call_grammar.specs.Grammar as grammar;
 
 use crate::fields::{longitude_ones, position};
 use call_values::{Area, Field, Message};
-use symbol_reader::{Letter, Reader, Stop};
+use cursor::Cursor;
+use symbol_reader::{Letter, Stop, symbol};
 
 /// Reads an area's five characters (ITU-R M.493, geographical coordinates).
-pub fn area(list: &mut Reader) -> Result<Area, Stop>
+pub fn area(list: &mut Cursor) -> Result<Area, Stop>
     ensures { Reads grammar.Areas list.old result list.new }
 {
-    let a = list.symbol(Letter::UpTo(39))?;
-    let b = list.symbol(area_latitude(a))?;
-    let c = list.symbol(longitude_ones(b))?;
-    let d = list.symbol(Letter::UpTo(99))?;
-    let e = list.symbol(Letter::UpTo(99))?;
+    let a = symbol(list, Letter::UpTo(39))?;
+    let b = symbol(list, area_latitude(a))?;
+    let c = symbol(list, longitude_ones(b))?;
+    let d = symbol(list, Letter::UpTo(99))?;
+    let e = symbol(list, Letter::UpTo(99))?;
     let longitude = b % 10 * 100 + c;
     Ok(Area::new(a / 10, a % 10 * 10 + b / 10, longitude, d, e).unwrap())
 }
@@ -31,21 +32,21 @@ fn area_latitude(lead: u8) -> Letter
 }
 
 /// Reads a frequency or channel field of three or four characters (ITU-R M.493, frequency or channel information).
-pub fn field(list: &mut Reader) -> Result<Field, Stop>
+pub fn field(list: &mut Cursor) -> Result<Field, Stop>
     ensures { Reads grammar.FieldWords list.old result list.new }
 {
-    let lead = list.symbol(Letter::Field)?;
+    let lead = symbol(list, Letter::Field)?;
     field_rest(list, lead)
 }
 
-fn field_rest(list: &mut Reader, lead: u8) -> Result<Field, Stop>
+fn field_rest(list: &mut Cursor, lead: u8) -> Result<Field, Stop>
     requires { Allows Letter.Field lead }
     ensures { Reads (grammar.FieldRest lead) list.old result list.new }
 {
-    let b = list.symbol(field_letter(lead))?;
-    let c = list.symbol(field_letter(lead))?;
+    let b = symbol(list, field_letter(lead))?;
+    let c = symbol(list, field_letter(lead))?;
     if lead / 10 == 4 {
-        let d = list.symbol(Letter::UpTo(99))?;
+        let d = symbol(list, Letter::UpTo(99))?;
         return Ok(long_field(lead, b, c, d));
     }
     Ok(short_field(lead, b, c))
@@ -94,10 +95,10 @@ fn long_field(lead: u8, b: u8, c: u8, d: u8) -> Field
 }
 
 /// Reads two fields, or 55 and a position.
-pub fn message(list: &mut Reader) -> Result<Message, Stop>
+pub fn message(list: &mut Cursor) -> Result<Message, Stop>
     ensures { Reads grammar.Messages list.old result list.new }
 {
-    let lead = list.symbol(Letter::Message)?;
+    let lead = symbol(list, Letter::Message)?;
     if lead == 55 {
         let position = position(list)?;
         return Ok(Message::At(position));

@@ -8,7 +8,8 @@ use crate::forms::{is_format, opened};
 use crate::judging::check;
 use crate::spelling::end_of;
 use call_values::Call;
-use symbol_reader::{Reader, Stop};
+use cursor::Cursor;
+use symbol_reader::Stop;
 
 /// Why a list isn't read as a call's.
 #[derive(Clone, Copy, Debug, PartialEq, Eq)]
@@ -27,12 +28,12 @@ pub fn read(list: &[u8]) -> Result<(Call, usize), ReadRefusal>
     ensures { IsReading list.now result }
 {
     heading(list)?;
-    let mut reader = Reader::new(&list[1..]);
-    match opened(&mut reader) {
-        Ok(call) => ending(list, list.len() - reader.rest().len(), call),
+    let mut cursor = Cursor::new(&list[1..]);
+    match opened(&mut cursor) {
+        Ok(call) => ending(list, list.len() - cursor.rest().len(), call),
         Err(Stop::Short) => Err(ReadRefusal::Short(list.len() as u8)),
         Err(Stop::Outside) => {
-            let n = list.len() - reader.rest().len();
+            let n = list.len() - cursor.rest().len();
             Err(ReadRefusal::Outside(n as u8, list[n]))
         }
     }

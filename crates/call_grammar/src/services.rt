@@ -5,10 +5,11 @@ use crate::fields::{position, time};
 use crate::messages::message;
 use crate::signs::{Telecommand, blanks, either, end, opener, second};
 use call_values::{Call, Category, First, Kind, Mmsi};
-use symbol_reader::{Letter, Reader, Stop};
+use cursor::Cursor;
+use symbol_reader::{Letter, Stop, symbol};
 
 /// Reads what follows the sender in a call to one station.
-pub fn individual(list: &mut Reader, to: Mmsi, category: Category, from: Mmsi) -> Result<Call, Stop>
+pub fn individual(list: &mut Cursor, to: Mmsi, category: Category, from: Mmsi) -> Result<Call, Stop>
     ensures { Reads (forms.Individuals to category from) list.old result list.new }
 {
     let first = opener(list)?;
@@ -16,7 +17,7 @@ pub fn individual(list: &mut Reader, to: Mmsi, category: Category, from: Mmsi) -
 }
 
 fn after_opener(
-    list: &mut Reader,
+    list: &mut Cursor,
     to: Mmsi,
     category: Category,
     from: Mmsi,
@@ -32,7 +33,7 @@ fn after_opener(
 }
 
 fn other(
-    list: &mut Reader,
+    list: &mut Cursor,
     to: Mmsi,
     category: Category,
     from: Mmsi,
@@ -54,11 +55,11 @@ fn other(
     })
 }
 
-fn test_call(list: &mut Reader, to: Mmsi, category: Category, from: Mmsi) -> Result<Call, Stop>
+fn test_call(list: &mut Cursor, to: Mmsi, category: Category, from: Mmsi) -> Result<Call, Stop>
     ensures { Reads (forms.Tests to category from) list.old result list.new }
 {
-    list.symbol(Letter::Exactly(126))?;
-    list.symbol(Letter::Exactly(126))?;
+    symbol(list, Letter::Exactly(126))?;
+    symbol(list, Letter::Exactly(126))?;
     blanks(list)?;
     let reply = either(list, 122, 117)?;
     Ok(Call::Service {
@@ -69,16 +70,16 @@ fn test_call(list: &mut Reader, to: Mmsi, category: Category, from: Mmsi) -> Res
     })
 }
 
-fn position_call(list: &mut Reader, to: Mmsi, category: Category, from: Mmsi) -> Result<Call, Stop>
+fn position_call(list: &mut Cursor, to: Mmsi, category: Category, from: Mmsi) -> Result<Call, Stop>
     ensures { Reads (forms.Places to category from) list.old result list.new }
 {
-    list.symbol(Letter::Exactly(126))?;
+    symbol(list, Letter::Exactly(126))?;
     let is_told = either(list, 55, 126)?;
     after_told(list, to, category, from, is_told)
 }
 
 fn after_told(
-    list: &mut Reader,
+    list: &mut Cursor,
     to: Mmsi,
     category: Category,
     from: Mmsi,
@@ -93,12 +94,12 @@ fn after_told(
     }
 }
 
-fn answer(list: &mut Reader, to: Mmsi, category: Category, from: Mmsi) -> Result<Call, Stop>
+fn answer(list: &mut Cursor, to: Mmsi, category: Category, from: Mmsi) -> Result<Call, Stop>
     ensures { Reads (forms.Answers to category from) list.old result list.new }
 {
     let position = position(list)?;
     let time = time(list)?;
-    list.symbol(Letter::Exactly(122))?;
+    symbol(list, Letter::Exactly(122))?;
     Ok(Call::Service {
         to,
         category,
@@ -107,11 +108,11 @@ fn answer(list: &mut Reader, to: Mmsi, category: Category, from: Mmsi) -> Result
     })
 }
 
-fn question(list: &mut Reader, to: Mmsi, category: Category, from: Mmsi) -> Result<Call, Stop>
+fn question(list: &mut Cursor, to: Mmsi, category: Category, from: Mmsi) -> Result<Call, Stop>
     ensures { Reads (forms.Questions to category from) list.old result list.new }
 {
     blanks(list)?;
-    list.symbol(Letter::Exactly(117))?;
+    symbol(list, Letter::Exactly(117))?;
     Ok(Call::Service {
         to,
         category,

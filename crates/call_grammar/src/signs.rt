@@ -6,7 +6,8 @@ ghost use Rattle.call_grammar.specs.Grammar.{Firsts, Seconds, Blanks};
 ghost use Rattle.call_grammar.specs.Forms as forms;
 
 use call_values::{Category, End, First, Second, To};
-use symbol_reader::{Letter, Reader, Stop};
+use cursor::Cursor;
+use symbol_reader::{Letter, Stop, symbol};
 
 /// The format specifiers by what follows them (ITU-R M.493, format specifier).
 #[derive(Clone, Copy, Debug, PartialEq, Eq)]
@@ -27,10 +28,10 @@ pub enum Telecommand {
 }
 
 /// Reads a format specifier.
-pub fn format(list: &mut Reader) -> Result<Specifier, Stop>
+pub fn format(list: &mut Cursor) -> Result<Specifier, Stop>
     ensures { Reads forms.Formats list.old result list.new }
 {
-    let symbol = list.symbol(Letter::Format)?;
+    let symbol = symbol(list, Letter::Format)?;
     Ok(format_told(symbol))
 }
 
@@ -48,10 +49,10 @@ fn format_told(symbol: u8) -> Specifier
 }
 
 /// Reads the category of a call, or `None` where the call is a distress call.
-pub fn lead(list: &mut Reader) -> Result<Option<Category>, Stop>
+pub fn lead(list: &mut Cursor) -> Result<Option<Category>, Stop>
     ensures { Reads forms.Leads list.old result list.new }
 {
-    let symbol = list.symbol(Letter::Lead)?;
+    let symbol = symbol(list, Letter::Lead)?;
     Ok(lead_told(symbol))
 }
 
@@ -68,10 +69,10 @@ fn lead_told(symbol: u8) -> Option<Category>
 }
 
 /// Reads an end of sequence.
-pub fn end(list: &mut Reader) -> Result<End, Stop>
+pub fn end(list: &mut Cursor) -> Result<End, Stop>
     ensures { Reads forms.Endings list.old result list.new }
 {
-    let symbol = list.symbol(Letter::End)?;
+    let symbol = symbol(list, Letter::End)?;
     Ok(end_told(symbol))
 }
 
@@ -87,19 +88,19 @@ fn end_told(symbol: u8) -> End
 }
 
 /// Reads one of two symbols, and answers whether it is the first.
-pub fn either(list: &mut Reader, one: u8, other: u8) -> Result<bool, Stop>
+pub fn either(list: &mut Cursor, one: u8, other: u8) -> Result<bool, Stop>
     requires { one ≡ other → ⊥ }
     ensures { Reads (forms.Eithers one other) list.old result list.new }
 {
-    let symbol = list.symbol(Letter::Either(one, other))?;
+    let symbol = symbol(list, Letter::Either(one, other))?;
     Ok(symbol == one)
 }
 
 /// Reads what stands after the sender of a distress call, and answers whether the call is an acknowledgement.
-pub fn sign(list: &mut Reader, to: &To) -> Result<bool, Stop>
+pub fn sign(list: &mut Cursor, to: &To) -> Result<bool, Stop>
     ensures { Reads (forms.Signs to.now) list.old result list.new }
 {
-    let symbol = list.symbol(sign_letter(to))?;
+    let symbol = symbol(list, sign_letter(to))?;
     Ok(symbol == 110)
 }
 
@@ -113,10 +114,10 @@ fn sign_letter(to: &To) -> Letter
 }
 
 /// Reads the first telecommand of a call to one station.
-pub fn opener(list: &mut Reader) -> Result<Telecommand, Stop>
+pub fn opener(list: &mut Cursor) -> Result<Telecommand, Stop>
     ensures { Reads forms.Openers list.old result list.new }
 {
-    let symbol = list.symbol(Letter::Opener)?;
+    let symbol = symbol(list, Letter::Opener)?;
     Ok(opener_told(symbol))
 }
 
@@ -133,30 +134,30 @@ fn opener_told(symbol: u8) -> Telecommand
 }
 
 /// Reads the first telecommand of a call that is for more than one station.
-pub fn first(list: &mut Reader) -> Result<First, Stop>
+pub fn first(list: &mut Cursor) -> Result<First, Stop>
     ensures { Reads Firsts list.old result list.new }
 {
-    let symbol = list.symbol(Letter::First)?;
+    let symbol = symbol(list, Letter::First)?;
     Ok(First::new(symbol).unwrap())
 }
 
 /// Reads a second telecommand.
-pub fn second(list: &mut Reader) -> Result<Second, Stop>
+pub fn second(list: &mut Cursor) -> Result<Second, Stop>
     ensures { Reads Seconds list.old result list.new }
 {
-    let symbol = list.symbol(Letter::Second)?;
+    let symbol = symbol(list, Letter::Second)?;
     Ok(Second::new(symbol).unwrap())
 }
 
 /// Reads five characters of no information.
-pub fn blanks(list: &mut Reader) -> Result<(), Stop>
+pub fn blanks(list: &mut Cursor) -> Result<(), Stop>
     ensures { Reads (Blanks 5) list.old result list.new }
 {
     let blank = Letter::Exactly(126);
-    list.symbol(blank)?;
-    list.symbol(blank)?;
-    list.symbol(blank)?;
-    list.symbol(blank)?;
-    list.symbol(blank)?;
+    symbol(list, blank)?;
+    symbol(list, blank)?;
+    symbol(list, blank)?;
+    symbol(list, blank)?;
+    symbol(list, blank)?;
     Ok(())
 }

@@ -8,20 +8,20 @@ use Rattle.call_grammar.proofs.reading.read.Goals as goal
 pub overflow_cast-result : goal.overflow_cast-result
 overflow_cast-result c =
     let whole : take (length c.args.list.now - 1) (drop 1 c.args.list.now) ≡ drop 1 c.args.list.now = grind (arith, common_steps) in
-    let wants = subst (Wants Opened) (c.new-reader.ensures ∙ whole) (rw c.in-Err-Short.field-0-is at c.in-Err-Short.ensures).outcome.wants in
+    let wants = subst (Wants Opened) (c.new-cursor.ensures ∙ whole) (rw c.in-Err-Short.field-0-is at c.in-Err-Short.ensures).outcome.wants in
     let short : length c.args.list.now ≤ 31 = part_short _ (opened_short c.args.list.now c.in_ok-heading.ensures wants).part in
     omega arith
 
 pub returns-in-Err-Short : goal.returns-in-Err-Short
 returns-in-Err-Short c =
     let whole : take (length c.args.list.now - 1) (drop 1 c.args.list.now) ≡ drop 1 c.args.list.now = grind (arith, common_steps) in
-    let wants = subst (Wants Opened) (c.new-reader.ensures ∙ whole) (rw c.in-Err-Short.field-0-is at c.in-Err-Short.ensures).outcome.wants in
+    let wants = subst (Wants Opened) (c.new-cursor.ensures ∙ whole) (rw c.in-Err-Short.field-0-is at c.in-Err-Short.ensures).outcome.wants in
     opened_short c.args.list.now c.in_ok-heading.ensures wants
 
 pub overflow_cast-result-in-Err-Outside : goal.overflow_cast-result-in-Err-Outside
 overflow_cast-result-in-Err-Outside c =
     let whole : take (length c.args.list.now - 1) (drop 1 c.args.list.now) ≡ drop 1 c.args.list.now = grind (arith, common_steps) in
-    let once = subst (λ a. Leaves Opened a c.opened.new.list) (c.new-reader.ensures ∙ whole) (rw c.in-Err-Outside.field-0-is at c.in-Err-Outside.ensures).outcome in
+    let once = subst (λ a. Leaves Opened a c.opened.new.list) (c.new-cursor.ensures ∙ whole) (rw c.in-Err-Outside.field-0-is at c.in-Err-Outside.ensures).outcome in
     let leaves = subst (λ a. Leaves Opened (drop 1 c.args.list.now) a) (sym c.rest-in-Err-Outside.ensures) once in
     let short : length c.args.list.now - length c.rest-in-Err-Outside.result.now ≤ 31 =
     outside_short _ _ _ (opened_outside c.args.list.now c.rest-in-Err-Outside.result.now c.in_ok-heading.ensures leaves) in
@@ -30,6 +30,6 @@ overflow_cast-result-in-Err-Outside c =
 pub returns-in-Err-Outside : goal.returns-in-Err-Outside
 returns-in-Err-Outside c =
     let whole : take (length c.args.list.now - 1) (drop 1 c.args.list.now) ≡ drop 1 c.args.list.now = grind (arith, common_steps) in
-    let once = subst (λ a. Leaves Opened a c.opened.new.list) (c.new-reader.ensures ∙ whole) (rw c.in-Err-Outside.field-0-is at c.in-Err-Outside.ensures).outcome in
+    let once = subst (λ a. Leaves Opened a c.opened.new.list) (c.new-cursor.ensures ∙ whole) (rw c.in-Err-Outside.field-0-is at c.in-Err-Outside.ensures).outcome in
     let leaves = subst (λ a. Leaves Opened (drop 1 c.args.list.now) a) (sym c.rest-in-Err-Outside.ensures) once in
     opened_outside c.args.list.now c.rest-in-Err-Outside.result.now c.in_ok-heading.ensures leaves
