@@ -12,15 +12,14 @@ use std::{env, io};
 /// The command line's words, the program's name first. Words that are no text name no command, as no
 /// words do.
 fn words<R: Env + AllocGlobal>(rt: &R, alloc: Global) -> Result<Vec<String>, AllocError> {
-    let mut words = Vec::new(alloc);
-    match env::args(rt) {
-        Ok(args) => {
-            for word in args {
-                words.push(word)?;
-            }
-        }
+    let args = match env::args(rt) {
+        Ok(args) => args,
         Err(error) if error.kind() == io::ErrorKind::OutOfMemory => return Err(AllocError),
-        Err(_) => {}
+        Err(_) => return Ok(Vec::new(alloc)),
+    };
+    let mut words = Vec::new(alloc);
+    for word in args {
+        words.push(word)?;
     }
     Ok(words)
 }

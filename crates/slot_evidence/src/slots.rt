@@ -6,6 +6,7 @@ ghost use Rattle.ten_unit.specs.Symbol.{IsSymbol};
 ghost use Rattle.phasing.specs.Slot.{slot};
 ghost use Rattle.slot_evidence.specs.Window.{element_at};
 
+use phasing::{LAST_LEAD, LONGEST};
 use ten_unit::{Element, Planes, packed, symbol_at};
 
 /// The symbols of slots 12 to 143, which are those of places, at a lead: 128 where a slot shows none. Slots from a
@@ -14,8 +15,8 @@ use ten_unit::{Element, Planes, packed, symbol_at};
 /// It packs 64 elements at a time, of which 60 are six slots, and reads each slot's ten bits by a look into a table: per
 /// slot about six elements' time in place of ten.
 pub(crate) fn symbols_of(e: &[Element], lead: u32) -> [u8; 132]
-    requires length { length e.now ≤ 1000000 }
-    requires lead { lead ≤ 1000150 }
+    requires length { length e.now ≤ LONGEST }
+    requires lead { lead ≤ LAST_LEAD }
     ensures { (k : ℕ) → k < 132 → IsSymbol (slot e.now lead (12 + k)) (slice_index result k) }
 {
     let mut symbols = [128; 132];
@@ -30,8 +31,8 @@ pub(crate) fn symbols_of(e: &[Element], lead: u32) -> [u8; 132]
 
 /// How many windows of six slots from slot 12 on begin inside a reception of this length, at most 22.
 fn windows(length: u32, lead: u32) -> u32
-    requires length { length ≤ 1000000 }
-    requires lead { lead ≤ 1000150 }
+    requires length { length ≤ LONGEST }
+    requires lead { lead ≤ LAST_LEAD }
     ensures most { result ≤ 22 }
     ensures rest { (k : ℕ) → 6 * result ≤ k → k < 132 → length + 150 ≤ lead + 10 * (12 + k) }
 {
@@ -40,7 +41,7 @@ fn windows(length: u32, lead: u32) -> u32
 
 /// The 64 elements from a place on, as bits.
 fn planes_at(e: &[Element], place: u32) -> Planes
-    requires length { length e.now ≤ 1000000 }
+    requires length { length e.now ≤ LONGEST }
     requires place { place ≤ 1001590 }
     ensures { IsPlanes result.y result.b place (element_at e.now) }
 {
@@ -60,7 +61,7 @@ fn whole(e: &[Element], place: u32) -> Option<&[Element; 64]>
 
 /// The 64 elements from a place on; those outside the reception are lost.
 fn edge(e: &[Element], place: u32) -> [Element; 64]
-    requires length { length e.now ≤ 1000000 }
+    requires length { length e.now ≤ LONGEST }
     requires place { place ≤ 1001590 }
     ensures { (i : ℕ) → i < 64 → element_at e.now (place + i) ≡ slice_index_or result i Tone.Lost }
 {

@@ -1,7 +1,7 @@
 use Rattle.std.proofs.Common.{◌≡◌, ◌≤◌, ◌⊎◌, refl, sym, ◌∙◌, arith}
 use Rattle.time_diversity.specs.Slots.{IsNoPlace}
 use Rattle.time_diversity.proofs.Shows.{shows_character, shows_phasing}
-use Rattle.time_diversity.proofs.sending.slot_symbol.Goals as goal
+use Rattle.time_diversity.proofs.sending.sent_symbol.Goals as goal
 
 pub returns-in-Some : goal.returns-in-Some
 returns-in-Some c = sym (shows_character _ _ _ c.in-Some.ensures.some.1)

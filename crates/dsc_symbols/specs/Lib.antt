@@ -1,0 +1,4 @@
+pub mod Ranges
+pub mod Formats
+pub mod Natures
+pub mod Telecommands
