@@ -44,7 +44,7 @@ pub record WritesSome (input : List ℕ) (before after : Option (List ℕ)) : Ty
   pub writes : WritesFront before after text
 
 -- 0 and 1: the input was read to its end, and its answers were written
-pub record Answers (left_before left_after before after : Option (List ℕ)) (flushed status : ℕ) : Type 0 where
+pub record TellsAnswers (left_before left_after before after : Option (List ℕ)) (flushed status : ℕ) : Type 0 where
   pub input : List ℕ
   pub lost : Loses left_before left_after input
   pub ended : IsEnded left_after

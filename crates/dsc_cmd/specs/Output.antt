@@ -20,18 +20,18 @@ abbrev pub answer_line : Joined → List ℕ
 answer_line answer = answer_text 0 answer ++ 10 ∷ []
 
 -- the status where an answer was written: 0 for a reported call
-abbrev pub status_of : Joined → ℕ
-status_of (Reported call extra) = 0
-status_of (Missing n) = 1
-status_of (Differ n least greatest) = 1
-status_of (Outside n symbol) = 1
-status_of (Check n want got) = 1
+abbrev pub answer_status : Joined → ℕ
+answer_status (Reported call extra) = 0
+answer_status (Missing n) = 1
+answer_status (Differ n least greatest) = 1
+answer_status (Outside n symbol) = 1
+answer_status (Check n want got) = 1
 
 -- receptions are answered: nothing is said of none, and else the answer to the facts of all of them together
 abbrev pub IsAnswered : List (List Element) → List ℕ → ℕ → Type 0
 IsAnswered receptions text status =
     ((receptions ≡ []) × (text ≡ []) × (status ≡ 0))
-    ⊎ ((receptions ≢ []) × ((answer : Joined) × (IsAnswer (facts_of_all receptions) answer × (text ≡ answer_line answer) × (status ≡ status_of answer))))
+    ⊎ ((receptions ≢ []) × ((answer : Joined) × (IsAnswer (facts_of_all receptions) answer × (text ≡ answer_line answer) × (status ≡ answer_status answer))))
 
 -- an input without a fault has this text and status
 pub record IsJoinText (input text : List ℕ) (status : ℕ) : Type 0 where

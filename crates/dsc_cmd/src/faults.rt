@@ -1,6 +1,7 @@
 ghost use Rattle.std.specs.Prelude.{◌≡◌, ◌+◌, ◌≤◌, ◌++◌};
 ghost use Rattle.arrayvec.specs.ArrayVec.{array_vec_len};
-ghost use Rattle.dsc_cmd.specs.Output.{fault_line, fault_name, fault_status};
+ghost use Rattle.dsc_cmd.specs.Output.{fault_line, fault_name};
+ghost use Rattle.dsc_cmd.specs.Output as output;
 
 use arrayvec::ArrayVec;
 use dsc_files::Status;
@@ -38,8 +39,8 @@ fn append_name<const N: usize>(out: &mut ArrayVec<u8, N>, fault: &Fault)
 }
 
 /// The status of a fault: 3 for an ill-formed line and 7 for a limit.
-pub fn status_of(fault: &Fault) -> Status
-    ensures { result ≡ fault_status fault.now }
+pub fn fault_status(fault: &Fault) -> Status
+    ensures { result ≡ output.fault_status fault.now }
 {
     match fault {
         Fault::TooManyLines | Fault::TooLong => Status::new(7),

@@ -9,16 +9,17 @@ ghost use Rattle.dsc_files.specs.Streams.{Rises, Told};
 ghost use Rattle.dsc_cmd.specs.Words.{IsJoin};
 ghost use Rattle.dsc_cmd.specs.Output as output;
 ghost use Rattle.dsc_cmd.specs.Output.{words_refused, answer_line, IsAnswered};
-ghost use Rattle.dsc_cmd.specs.Endings.{IsFinished, IsFaulty, Writes, WritesFront, WritesAnswers, WritesFault, WritesSome, Answers, TellsFault, CutsOff, CutsOffWords};
+ghost use Rattle.dsc_cmd.specs.Endings.{IsFinished, IsFaulty, Writes, WritesFront, WritesAnswers, WritesFault, WritesSome, TellsAnswers, TellsFault, CutsOff, CutsOffWords};
 ghost use Rattle.dsc_cmd.specs.Sent.{ReportsSent};
 
-use crate::faults::{self, put_fault};
-use crate::laws::sent_call_is_answered;
+use crate::faults::{fault_status, put_fault};
 use crate::words::is_join;
 use dsc_files::{Failed, ReadError, Sink, Source, Status, read_at_most, write_all};
 use dsc_texts::put_answer_line;
 use join_lines::{LinesError, early_fault, join_lines};
-use slot_join::{Gate, Joined, Sheet, report};
+use slot_join::{
+    Gate, Joined, Sheet, intact_copies_report_the_call, report, sent_call_is_answered,
+};
 use std::alloc::Global;
 use std::thread::Threads;
 
@@ -27,7 +28,7 @@ use std::thread::Threads;
 const MOST_BYTES: usize = 4096 * 4201;
 
 /// Writes a text and flushes the sink.
-fn put<K: Sink>(sink: &mut K, text: &[u8]) -> Result<(), Failed>
+fn write_flushed<K: Sink>(sink: &mut K, text: &[u8]) -> Result<(), Failed>
     ensures ok { OnOk result (Writes (K.written sink.old) (K.written sink.new) (K.flushed sink.new) text.now) }
     ensures sound { OnOk result (K.faults sink.new ≡ K.faults sink.old) }
     ensures front { OnErr result (WritesFront (K.written sink.old) (K.written sink.new) text.now) }
@@ -39,7 +40,7 @@ fn put<K: Sink>(sink: &mut K, text: &[u8]) -> Result<(), Failed>
 }
 
 /// Writes a text and ends with a status, or with that of a write fault.
-fn end<K: Sink>(sink: &mut K, text: &[u8], status: Status) -> Status
+fn finish<K: Sink>(sink: &mut K, text: &[u8], status: Status) -> Status
     requires { status ≢ 5 }
     ensures which { (result ≡ status) ⊎ (result ≡ 5) }
     ensures done { result ≢ 5 → Writes (K.written sink.old) (K.written sink.new) (K.flushed sink.new) text.now }
@@ -48,15 +49,15 @@ fn end<K: Sink>(sink: &mut K, text: &[u8], status: Status) -> Status
     ensures cause { result ≡ 5 → Rises (K.faults sink.old) (K.faults sink.new) }
     ensures told { Told (K.written sink.old) (K.written sink.new) }
 {
-    match put(sink, text) {
+    match write_flushed(sink, text) {
         Ok(()) => status,
         Err(Failed) => Status::new(5),
     }
 }
 
 /// The status where an answer was written: 0 for a reported call.
-fn status_of(answer: &Joined) -> Status
-    ensures value { result ≡ output.status_of answer.now }
+fn answer_status(answer: &Joined) -> Status
+    ensures value { result ≡ output.answer_status answer.now }
     ensures finished { IsFinished result }
 {
     match answer {
@@ -65,10 +66,10 @@ fn status_of(answer: &Joined) -> Status
     }
 }
 
-/// Writes the line of the answer to all that a sheet keeps the ends of.
+/// Writes the line of a sheet's answer.
 fn write_answer<K: Sink>(sheet: &Sheet, sink: &mut K) -> Status
     ensures done { IsFinished result → (facts : Facts) → IsEnds facts sheet.now → (answer : Joined) × (IsAnswer facts answer
-        × Writes (K.written sink.old) (K.written sink.new) (K.flushed sink.new) (answer_line answer) × (result ≡ output.status_of answer)) }
+        × Writes (K.written sink.old) (K.written sink.new) (K.flushed sink.new) (answer_line answer) × (result ≡ output.answer_status answer)) }
     ensures cut { result ≡ 5 → (facts : Facts) → IsEnds facts sheet.now → (answer : Joined) × (IsAnswer facts answer
         × WritesFront (K.written sink.old) (K.written sink.new) (answer_line answer)) }
     ensures cause { result ≡ 5 → Rises (K.faults sink.old) (K.faults sink.new) }
@@ -78,10 +79,10 @@ fn write_answer<K: Sink>(sheet: &Sheet, sink: &mut K) -> Status
 {
     let answer = report(sheet);
     let line = put_answer_line(0, &answer);
-    end(sink, &line, status_of(&answer))
+    finish(sink, &line, answer_status(&answer))
 }
 
-/// Writes the answers to receptions of which these are the ends of all facts together, or nothing where there are none.
+/// Writes the joined sheet's answer, if there is one.
 fn write_answers<K: Sink>(found: Option<Sheet>, sink: &mut K) -> Status
     ensures finished { IsFinished result → (receptions : List (List Tone)) → IsJoined receptions found
         → (text : List ℕ) × (IsAnswered receptions text result × Writes (K.written sink.old) (K.written sink.new) (K.flushed sink.new) text) }
@@ -94,12 +95,12 @@ fn write_answers<K: Sink>(found: Option<Sheet>, sink: &mut K) -> Status
 {
     match found {
         Some(sheet) => write_answer(&sheet, sink),
-        None => end(sink, b"", Status::new(0)),
+        None => finish(sink, b"", Status::new(0)),
     }
 }
 
 /// Writes what a whole input asks for.
-fn answer<K: Sink>(alloc: Global, input: &[u8], sink: &mut K) -> Status
+fn write_output<K: Sink>(alloc: Global, input: &[u8], sink: &mut K) -> Status
     ensures finished { IsFinished result
         → WritesAnswers input.now (K.written sink.old) (K.written sink.new) (K.flushed sink.new) result }
     ensures faulty { IsFaulty result
@@ -113,10 +114,10 @@ fn answer<K: Sink>(alloc: Global, input: &[u8], sink: &mut K) -> Status
 {
     match join_lines(alloc, input) {
         Ok(found) => write_answers(found, sink),
-        Err(LinesError::Fault(first)) => end(
+        Err(LinesError::Fault(first)) => finish(
             sink,
             &put_fault(&first),
-            faults::status_of(&first.fault),
+            fault_status(&first.fault),
         ),
         Err(LinesError::Memory) => Status::new(6),
     }
@@ -125,9 +126,9 @@ fn answer<K: Sink>(alloc: Global, input: &[u8], sink: &mut K) -> Status
 /// Runs the command that the words name, the program's name first: reads from the source, writes to the sink, and
 /// ends with a status.
 ///
-/// `join` alone behind the name is the one command yet. It reads a file of lines: `r` and a body of received elements
-/// is a reception, `r` alone one of no elements, an empty line and one that begins with `#` say nothing. It writes the
-/// line of the answer to the facts of all receptions together, and nothing where there is none.
+/// So far the only command is `join`. It reads a file of lines: `r` and a body of received elements is a reception, `r` alone is
+/// one of no elements, an empty line and one that begins with `#` say nothing. It writes the line of the answer to the facts of
+/// all receptions together, and nothing where there is no reception.
 ///
 /// | Status | What it says |
 /// |---|---|
@@ -148,9 +149,10 @@ pub fn run<R: Threads + Sync, S: Source, K: Sink, G: Gate>(
     _gate: &G,
 ) -> Status
     // Exactly the answer that the facts of the input's receptions determine, and the status of that answer.
-    ensures answered { IsFinished result → Answers (S.left source.old) (S.left source.new) (K.written sink.old) (K.written sink.new) (K.flushed sink.new) result }
+    ensures answered { IsFinished result → TellsAnswers (S.left source.old) (S.left source.new) (K.written sink.old) (K.written sink.new) (K.flushed sink.new) result }
 
-    // Where all receptions are of one call, truly phased and wrong in one sense alone: this call, or a missing place.
+    // Where all receptions are of one call, truly phased and wrong in one sense alone: this call, or a place of it no copy
+    // of which came intact; and the call, where each of its places came intact at some receiver.
     ensures sent { IsFinished result → ReportsSent (S.left source.old) (S.left source.new) (K.written sink.old) (K.written sink.new) (K.flushed sink.new) result }
 
     // The cause of each status, and what it leaves.
@@ -175,12 +177,13 @@ pub fn run<R: Threads + Sync, S: Source, K: Sink, G: Gate>(
         → (Rises (K.faults sink.old) (K.faults sink.new) → ⊥) → IsFinished result ⊎ IsFaulty result ⊎ (result ≡ 6) }
 {
     if !is_join(words) {
-        return end(sink, b"dsc: words refused\n", Status::new(2));
+        return finish(sink, b"dsc: words refused\n", Status::new(2));
     }
     early_fault();
     sent_call_is_answered();
+    intact_copies_report_the_call();
     match read_at_most(alloc, source, MOST_BYTES) {
-        Ok(input) => answer(alloc, &input, sink),
+        Ok(input) => write_output(alloc, &input, sink),
         Err(ReadError::Failed) => Status::new(4),
         Err(ReadError::Memory) => Status::new(6),
     }

@@ -1,13 +1,13 @@
 -- sheets: the facts of one, and that facts have one
-use Rattle.std.proofs.Common.{◌≡◌, ℕ, ◌<◌, ◌≤◌, Bool, true, false, ◌||◌, ◌==◌, List, length, slice_index_or, refl, arith, ap, sym, ◌∙◌, subst, inl, inr, set, replicate, nat_lt, ◌&&◌, ◌+◌, ◌≢◌, Option, Some}
+use Rattle.std.proofs.Common.{◌≡◌, ℕ, ◌<◌, ◌≤◌, Bool, true, false, ◌||◌, ◌==◌, List, length, refl, arith, ap, sym, ◌∙◌, subst, inl, inr, set, replicate, nat_lt, ◌&&◌, ◌+◌, ◌≢◌, Option, Some}
 use Rattle.std.proofs.lemmas.Bool.{eq-eqb, eqb-true, or_left, or_right, or_cases, cases_eq, cases_lt, ne_eqb, lt-ltb, and_from, and_parts, and_left}
-use Rattle.std.proofs.lemmas.List.{ext_get_or, get_or-set_same, get_or-set_other, get_or-replicate, get_or_past, length-set, get_or_default}
+use Rattle.std.proofs.lemmas.List.{ext_get_or, get_or-set_same, get_or-set_other, get_or-replicate, get_or_past, length-set}
 use Rattle.slot_evidence.specs.declared.places.Seen.{Seen}
 use Rattle.slot_evidence.specs.declared.places.Seen.TheVariants as seen
 use Rattle.slot_evidence.specs.Facts.{Symbols, Facts, no_facts, one_fact, union, facts_at, facts_of}
-use Rattle.slot_evidence.specs.Seen.{IsSeen, IsLawful}
-use Rattle.slot_evidence.specs.Sheet.{IsSheet, IsEnds, seen_at}
-use Rattle.slot_evidence.proofs.Sets.{IsSeen-same, IsMet, IsMet-none, one_seen, or_none}
+use Rattle.slot_evidence.specs.Seen.{IsSeen, IsLawful, symbols_in}
+use Rattle.slot_evidence.specs.Sheet.{IsSheet, IsEnds, seen_at, facts_in}
+use Rattle.slot_evidence.proofs.Sets.{IsSeen-same, one_seen, or_none}
 use Rattle.ten_unit.specs.declared.character.Element.{Element}
 use Rattle.time_diversity.specs.Slots.{dx_slot, rx_slot}
 use Rattle.phasing.specs.Slot.{shows}
@@ -42,14 +42,8 @@ pub or_repeats : (a : Bool) → (a || a) ≡ a
 or_repeats true = refl
 or_repeats false = refl
 
--- the symbols that what is kept names
-shown_by : Seen → Symbols
-shown_by seen.None v = false
-shown_by (seen.One w) v = v == w
-shown_by (seen.Differ a b) v = v == a || v == b
-
-seen_by : (x : Seen) → IsLawful x → IsSeen (shown_by x) x
-unfolding shown_by
+-- what is kept is kept of the symbols that it names
+seen_by : (x : Seen) → IsLawful x → IsSeen (symbols_in x) x
 seen_by seen.None h = λ v. refl
 seen_by (seen.One w) h = (eq-eqb w w refl, λ v e. eqb-true v w e)
 seen_by (seen.Differ a b) h = record {
@@ -64,8 +58,8 @@ seen_by (seen.Differ a b) h = record {
       ];
 }
 
-pub facts_by : (s : List Seen) → IsSheet s → (F : Facts) × IsEnds F s
-facts_by s h = (λ p. shown_by (seen_at s p), record { places = h.places; each = λ p. seen_by (seen_at s p) (h.lawful p) })
+pub own_ends : (s : List Seen) → IsSheet s → IsEnds (facts_in s) s
+own_ends s h = record { places = h.places; each = λ p. seen_by (seen_at s p) (h.lawful p) }
 
 -- no facts have the blank sheet
 blank_at : (p : ℕ) → seen_at (replicate 64 seen.None) p ≡ seen.None
@@ -74,9 +68,6 @@ blank_at p =
       | inl inside ↦ get_or-replicate 64 p seen.None seen.None inside
       | inr past ↦ get_or_past (replicate 64 seen.None) p seen.None past
     ]
-
-pub IsSheet-blank : IsSheet (replicate 64 seen.None)
-IsSheet-blank = record { places = refl; lawful = λ p. subst IsLawful (sym (blank_at p)) tt }
 
 pub IsEnds-blank : IsEnds no_facts (replicate 64 seen.None)
 IsEnds-blank = record { places = refl; each = λ p. subst (IsSeen (no_facts p)) (sym (blank_at p)) (λ v. refl) }
@@ -97,19 +88,6 @@ IsEnds-set F G s p x inside ends here others = record {
       ];
 }
 
-pub IsSheet-set : (s : List Seen) (p : ℕ) (x : Seen) → p < 64 → IsSheet s → IsLawful x → IsSheet (set s p x)
-IsSheet-set s p x inside sheet lawful = record {
-  places = length-set s p x ∙ sheet.places;
-  lawful =
-      λ q.
-      elim (cases_eq q p) [
-        | inl same ↦
-            let at : seen_at (set s p x) q ≡ x = ap (seen_at (set s p x)) same ∙ get_or-set_same s p x seen.None (omega (arith, sheet.places)) in
-            subst IsLawful (sym at) lawful
-        | inr other ↦ subst IsLawful (sym (get_or-set_other s p q x seen.None other)) (sheet.lawful q)
-      ];
-}
-
 -- a write at the next place keeps what holds of the places before
 pub fill_more : (P : ℕ → Seen → Type 0) (s : List Seen) (p : ℕ) (x : Seen) → p < length s → ((k : ℕ) → k < p → P k (seen_at s k)) → P p x → (k : ℕ) → k < p + 1 → P k (seen_at (set s p x) k)
 fill_more P s p x inside before here k below =
@@ -127,15 +105,6 @@ everywhere P s n long inside outside k =
       | inl below ↦ inside k below
       | inr past ↦ subst (P k) (sym (get_or_past s k seen.None (omega arith))) (outside k past)
     ]
-
--- an element that is read, at any default
-pub seen_read : (S : Symbols) (xs : List Seen) (p : ℕ) (d : Seen) → p < length xs → IsSeen S (seen_at xs p) → IsSeen S (slice_index_or xs p d)
-seen_read S xs p d inside = subst (λ (x : Seen). IsSeen S x) (get_or_default xs p seen.None d inside)
-
-pub met_read : (xs ys : List Seen) (p : ℕ) (d e z : Seen) → p < length xs → p < length ys → IsMet (slice_index_or xs p d) (slice_index_or ys p e) z → IsMet (seen_at xs p) (seen_at ys p) z
-met_read xs ys p d e z left right met =
-    subst (λ (x : Seen). IsMet x (seen_at ys p) z) (get_or_default xs p d seen.None left)
-    (subst (λ (y : Seen). IsMet (slice_index_or xs p d) y z) (get_or_default ys p e seen.None right) met)
 
 -- one more fact
 pub one_symbol : (p symbol : ℕ) → IsSeen (one_fact p symbol p) (seen.One symbol)
@@ -174,14 +143,3 @@ IsEnds-read e lead s origin sheet each = record {
   places = sheet.places;
   each = λ p. subst (λ (o : Option ℕ). IsSeen (facts_at e o p) (seen_at s p)) origin (each p);
 }
-
--- past the end nothing was shown, before and after
-met_past : (xs ys : List Seen) (k : ℕ) → length xs ≤ k → length ys ≤ k → IsMet (seen_at xs k) (seen_at ys k) seen.None
-met_past xs ys k left right =
-    subst (λ (x : Seen). IsMet x (seen_at ys k) seen.None) (sym (get_or_past xs k seen.None left))
-    (subst (λ (y : Seen). IsMet seen.None y seen.None) (sym (get_or_past ys k seen.None right)) IsMet-none)
-
-pub met_everywhere : (xs ys zs : List Seen) → length xs ≡ 64 → length ys ≡ 64 → length zs ≡ 64 → ((k : ℕ) → k < 64 → IsMet (seen_at xs k) (seen_at ys k) (seen_at zs k)) → (k : ℕ) → IsMet (seen_at xs k) (seen_at ys k) (seen_at zs k)
-met_everywhere xs ys zs a b c met =
-    everywhere (λ (k : ℕ) (x : Seen). IsMet (seen_at xs k) (seen_at ys k) x) zs 64 (omega (arith, c)) met
-    (λ k past. met_past xs ys k (omega (arith, a)) (omega (arith, b)))

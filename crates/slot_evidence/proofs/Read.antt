@@ -35,35 +35,36 @@ place_edges e lead p a b inside dx rx =
     (λ v. place_facts (nat_lt p 64) (nat_lt v 128) (shows e lead (dx_slot p) v) (shows e lead (rx_slot p) v) (lt-ltb p 64 inside))
     (edges_met _ _ _ _ _ _ (slot_edges e lead (dx_slot p) a dx) (slot_edges e lead (rx_slot p) b rx))
 
-pub record AreRead (e : List Element) (lead : ℕ) (symbols leasts pasts : List ℕ) : Type 0 where
-  pub slots : (k : ℕ) → k < 132 → IsSymbol (slot e lead (12 + k)) (slice_index symbols k)
+pub record AreRead (e : List Element) (lead : ℕ) (dx rx leasts pasts : List ℕ) : Type 0 where
+  pub even : (k : ℕ) → k < 66 → IsSymbol (slot e lead (12 + 2 * k)) (slice_index dx k)
+  pub odd : (k : ℕ) → k < 66 → IsSymbol (slot e lead (13 + 2 * k)) (slice_index rx k)
   pub places : length leasts ≡ 64
   pub as_many : length pasts ≡ 64
-  pub least : (p : ℕ) → p < 64 → slice_index leasts p ≡ min (slice_index symbols (2 * p)) (slice_index symbols (2 * p + 5))
-  pub past : (p : ℕ) → p < 64 → slice_index pasts p ≡ max (past_symbol (slice_index symbols (2 * p))) (past_symbol (slice_index symbols (2 * p + 5)))
+  pub least : (p : ℕ) → p < 64 → slice_index leasts p ≡ min (slice_index dx p) (slice_index rx (p + 2))
+  pub past : (p : ℕ) → p < 64 → slice_index pasts p ≡ max (past_symbol (slice_index dx p)) (past_symbol (slice_index rx (p + 2)))
 
-rx_read : (e : List Element) (lead : ℕ) (symbols leasts pasts : List ℕ) → AreRead e lead symbols leasts pasts → (p : ℕ) → p < 64 → IsSymbol (slot e lead (rx_slot p)) (slice_index symbols (2 * p + 5))
-rx_read e lead symbols leasts pasts read p inside =
-    let at : 12 + (2 * p + 5) ≡ rx_slot p = omega arith in
-    subst (λ (s : ℕ). IsSymbol (slot e lead s) (slice_index symbols (2 * p + 5))) at (read.slots (2 * p + 5) (omega arith))
+rx_read : (e : List Element) (lead : ℕ) (dx rx leasts pasts : List ℕ) → AreRead e lead dx rx leasts pasts → (p : ℕ) → p < 64 → IsSymbol (slot e lead (rx_slot p)) (slice_index rx (p + 2))
+rx_read e lead dx rx leasts pasts read p inside =
+    let at : 13 + 2 * (p + 2) ≡ rx_slot p = omega arith in
+    subst (λ (s : ℕ). IsSymbol (slot e lead s) (slice_index rx (p + 2))) at (read.odd (p + 2) (omega arith))
 
-pub kept_read : (e : List Element) (lead : ℕ) (symbols leasts pasts : List ℕ) → AreRead e lead symbols leasts pasts → AreKept leasts pasts
-kept_read e lead symbols leasts pasts read =
+pub kept_read : (e : List Element) (lead : ℕ) (dx rx leasts pasts : List ℕ) → AreRead e lead dx rx leasts pasts → AreKept leasts pasts
+kept_read e lead dx rx leasts pasts read =
     kept_from leasts pasts read.places read.as_many
     (λ p inside.
     subst (λ (n : ℕ). AreInOrder n (slice_index pasts p)) (sym (read.least p inside))
-    (subst (λ (n : ℕ). AreInOrder (min (slice_index symbols (2 * p)) (slice_index symbols (2 * p + 5))) n) (sym (read.past p inside))
+    (subst (λ (n : ℕ). AreInOrder (min (slice_index dx p) (slice_index rx (p + 2))) n) (sym (read.past p inside))
     (order_met _ _ _ _
-    (order_symbol (slice_index symbols (2 * p)) (read.slots (2 * p) (omega arith)).within)
-    (order_symbol (slice_index symbols (2 * p + 5)) (read.slots (2 * p + 5) (omega arith)).within))))
+    (order_symbol (slice_index dx p) (read.even p (omega arith)).within)
+    (order_symbol (slice_index rx (p + 2)) (read.odd (p + 2) (omega arith)).within))))
 
-pub ends_read : (e : List Element) (lead : ℕ) (symbols leasts pasts : List ℕ) → Some lead ≡ lead_of e → AreRead e lead symbols leasts pasts → IsEnds (facts_of e) (seen_of leasts pasts)
+pub ends_read : (e : List Element) (lead : ℕ) (dx rx leasts pasts : List ℕ) → Some lead ≡ lead_of e → AreRead e lead dx rx leasts pasts → IsEnds (facts_of e) (seen_of leasts pasts)
 unfolding facts_of
-ends_read e lead symbols leasts pasts origin read =
+ends_read e lead dx rx leasts pasts origin read =
     subst (λ (o : Option ℕ). IsEnds (facts_at e o) (seen_of leasts pasts)) origin
-    (ends_from (facts_at e (Some lead)) leasts pasts (kept_read e lead symbols leasts pasts read)
+    (ends_from (facts_at e (Some lead)) leasts pasts (kept_read e lead dx rx leasts pasts read)
     (λ p inside.
     subst (λ (n : ℕ). IsEdges (facts_at e (Some lead) p) n (slice_index pasts p)) (sym (read.least p inside))
-    (subst (λ (n : ℕ). IsEdges (facts_at e (Some lead) p) (min (slice_index symbols (2 * p)) (slice_index symbols (2 * p + 5))) n) (sym (read.past p inside))
-    (place_edges e lead p _ _ inside (read.slots (2 * p) (omega arith)) (rx_read e lead symbols leasts pasts read p inside))))
+    (subst (λ (n : ℕ). IsEdges (facts_at e (Some lead) p) (min (slice_index dx p) (slice_index rx (p + 2))) n) (sym (read.past p inside))
+    (place_edges e lead p _ _ inside (read.even p (omega arith)) (rx_read e lead dx rx leasts pasts read p inside))))
     (λ p v past. no_place _ _ (le-ltb p 64 past)))

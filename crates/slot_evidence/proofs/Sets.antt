@@ -4,7 +4,7 @@ use Rattle.std.proofs.lemmas.Bool.{or_cases, or_left, or_right, cases_lt}
 use Rattle.slot_evidence.specs.declared.places.Seen.{Seen}
 use Rattle.slot_evidence.specs.declared.places.Seen.TheVariants as seen
 use Rattle.slot_evidence.specs.Facts.{Symbols}
-use Rattle.slot_evidence.specs.Seen.{ShowsNone, ShowsOne, ShowsSeveral, IsSpan, IsSeen, IsLawful}
+use Rattle.slot_evidence.specs.Seen.{ShowsNone, ShowsOne, ShowsSeveral, IsSpan, IsSeen}
 
 -- the same set is kept in the same way
 pub IsSeen-same : (S T : Symbols) (x : Seen) → ((v : ℕ) → S v ≡ T v) → IsSeen S x → IsSeen T x
@@ -86,11 +86,3 @@ span_or S T a b c d least greatest s t low high =
     let both = span_min_max S T a b c d s t in
     subst (λ (x : ℕ). IsSpan (λ v. S v || T v) x greatest) (sym low)
     (subst (λ (x : ℕ). IsSpan (λ v. S v || T v) (min a c) x) (sym high) both)
-
--- what is kept of two sets together
-pub record IsMet (x y z : Seen) : Type 0 where
-  pub seen : (S T : Symbols) → IsSeen S x → IsSeen T y → IsSeen (λ v. S v || T v) z
-  pub lawful : IsLawful x → IsLawful y → IsLawful z
-
-pub IsMet-none : IsMet seen.None seen.None seen.None
-IsMet-none = record { seen = λ S T s t. none_or S T seen.None s t; lawful = λ h k. tt }

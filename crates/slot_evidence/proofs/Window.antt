@@ -1,7 +1,7 @@
 -- A reception through a window: elements at places, and what ten of them in a row show.
-use Rattle.std.proofs.Common.{◌≡◌, ℕ, zero, suc, ◌+◌, ◌-◌, ◌*◌, ◌<◌, ◌≤◌, ◌==◌, nat_le, Bool, true, false, cond, ◌&&◌, List, [], ◌∷◌, length, take, drop, replicate, slice_index_or, slice_range, refl, ap, sym, ◌∙◌, arith, subst, inl, inr}
-use Rattle.std.proofs.lemmas.Bool.{cases_lt, cases_Bool, le-leb, leb-true, lt-leb, and_parts, and_from, ne_eqb}
-use Rattle.std.proofs.lemmas.List.{get_or-take, get_or-drop, get_or_past, get_or-replicate}
+use Rattle.std.proofs.Common.{◌≡◌, ℕ, zero, suc, ◌+◌, ◌-◌, ◌*◌, ◌<◌, ◌≤◌, ◌==◌, nat_le, Bool, true, false, cond, ◌&&◌, List, [], ◌∷◌, length, take, drop, replicate, set, slice_index, slice_index_or, slice_range, refl, ap, sym, ◌∙◌, arith, subst, inl, inr}
+use Rattle.std.proofs.lemmas.Bool.{cases_lt, cases_eq, cases_Bool, le-leb, leb-true, lt-leb, and_parts, and_from, ne_eqb}
+use Rattle.std.proofs.lemmas.List.{get_or-take, get_or-drop, get_or_past, get_or-replicate, length-set, get_or-set_same, get_or-set_other}
 use Rattle.std.proofs.Math.Seq.{drop-cons}
 use Rattle.ten_unit.specs.declared.character.Element.{Element}
 use Rattle.ten_unit.specs.declared.character.Element.TheVariants.{Y, B, Lost}
@@ -143,3 +143,39 @@ pub slot_past : (e : List Element) (lead s : ℕ) → length e + 150 ≤ lead + 
 slot_past e lead s past =
     subst (λ (l : List Element). IsSymbol l 128) (sym (slot_is e lead s false (and_false (nat_le 150 (lead + 10 * s)) _ (lt-leb (lead + 10 * s + 10) (length e + 150) (omega arith)))))
     (record { within = omega arith; shown = λ v below. no_word_empty v ∙ sym (ne_eqb v 128 (λ e. omega arith)) })
+
+-- symbols of every second slot: the first n are there, and the rest are 128
+pub record IsFilled (e : List Element) (lead first : ℕ) (symbols : List ℕ) (n : ℕ) : Type 0 where
+  pub long : length symbols ≡ 66
+  pub there : (k : ℕ) → k < n → IsSymbol (slot e lead (first + 2 * k)) (slice_index symbols k)
+  pub none : (k : ℕ) → n ≤ k → k < 66 → slice_index symbols k ≡ 128
+
+pub filled_none : (e : List Element) (lead first : ℕ) → IsFilled e lead first (replicate 66 128) 0
+filled_none e lead first = record {
+  long = refl;
+  there = λ k below. absurd (omega arith);
+  none = λ k past below. get_or-replicate 66 k 128 0 below;
+}
+
+pub filled_more : (e : List Element) (lead first : ℕ) (symbols : List ℕ) (n m x : ℕ) → m ≡ n + 1 → n < 66 → IsFilled e lead first symbols n → IsSymbol (slot e lead (first + 2 * n)) x → IsFilled e lead first (set symbols n x) m
+filled_more e lead first symbols n m x next inside filled shown = record {
+  long = length-set symbols n x ∙ filled.long;
+  there =
+      λ k before.
+      elim (cases_eq k n) [
+        | inl same ↦
+            let at : slice_index (set symbols n x) k ≡ x = ap (slice_index (set symbols n x)) same ∙ get_or-set_same symbols n x 0 (omega (arith, filled.long)) in
+            subst (λ (v : ℕ). IsSymbol (slot e lead (first + 2 * k)) v) (sym at) (subst (λ (m : ℕ). IsSymbol (slot e lead (first + 2 * m)) x) (sym same) shown)
+        | inr other ↦ subst (λ (v : ℕ). IsSymbol (slot e lead (first + 2 * k)) v) (sym (get_or-set_other symbols n k x 0 other)) (filled.there k (omega arith))
+      ];
+  none = λ k past below. get_or-set_other symbols n k x 0 (omega arith) ∙ filled.none k (omega arith) below;
+}
+
+pub filled_all : (e : List Element) (lead first : ℕ) (symbols : List ℕ) (n : ℕ) → IsFilled e lead first symbols n → ((k : ℕ) → n ≤ k → k < 66 → length e + 150 ≤ lead + 10 * (first + 2 * k)) → (k : ℕ) → k < 66 → IsSymbol (slot e lead (first + 2 * k)) (slice_index symbols k)
+filled_all e lead first symbols n filled past k below =
+    elim (cases_lt k n) [
+      | inl before ↦ filled.there k before
+      | inr behind ↦
+          subst (λ (v : ℕ). IsSymbol (slot e lead (first + 2 * k)) v) (sym (filled.none k behind below))
+          (slot_past e lead (first + 2 * k) (past k behind below))
+    ]

@@ -4,3 +4,4 @@ pub mod Kept
 pub mod Seen
 pub mod Sheet
 pub mod Window
+pub mod Alike

@@ -1,8 +1,8 @@
 //! The definitions' own programs, with which tests compare the faster ones.
-ghost use Rattle.std.specs.Prelude.{◌≡◌, ℕ, ◌<◌, ◌≤◌, ◌&&◌, ◌||◌, nat_lt, ◌↔◌, length, Some, IfSome, IsNone};
+ghost use Rattle.std.specs.Prelude.{◌≡◌, ℕ, ◌<◌, ◌≤◌, ◌&&◌, nat_lt, ◌↔◌, length, Some, IfSome, IsNone};
 ghost use Rattle.phasing.specs.Slot.{shows};
 ghost use Rattle.phasing.specs.Origin.{lead_of};
-ghost use Rattle.slot_evidence.specs.Facts.{Symbols, facts_at, facts_of};
+ghost use Rattle.slot_evidence.specs.Facts.{facts_at, facts_of};
 ghost use Rattle.slot_evidence.specs.Seen.{IsSeen, IsLawful};
 ghost use Rattle.slot_evidence.specs.Sheet.{IsSheet, IsEnds, seen_at};
 
@@ -57,16 +57,4 @@ pub(crate) fn read_sheet(e: &[Element]) -> Option<[Seen; 64]>
 {
     let lead = lead(e)?;
     Some(places_of(e, lead))
-}
-
-/// What is kept of each place by two sheets together.
-pub(crate) fn met(ours: &[Seen; 64], theirs: &[Seen; 64]) -> [Seen; 64]
-    ensures union { (p : ℕ) (S T : Symbols) → IsSeen S (seen_at ours.now p) → IsSeen T (seen_at theirs.now p) → IsSeen (λ v. S v || T v) (seen_at result p) }
-    ensures lawful { IsSheet ours.now → IsSheet theirs.now → IsSheet result }
-{
-    let mut places = *ours;
-    for p in 0..64 {
-        places[p] = ours[p].meet(theirs[p]);
-    }
-    places
 }

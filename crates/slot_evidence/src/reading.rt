@@ -1,11 +1,11 @@
-ghost use Rattle.std.specs.Prelude.{◌≡◌, ℕ, ◌+◌, ◌*◌, ◌<◌, ◌≤◌, ◌↔◌, min, max, length, Some, IfSome, IsNone, slice_index};
+ghost use Rattle.std.specs.Prelude.{◌≡◌, ℕ, ◌+◌, ◌<◌, ◌≤◌, ◌↔◌, min, max, length, Some, IfSome, IsNone, slice_index};
 ghost use Rattle.phasing.specs.Origin.{lead_of};
 ghost use Rattle.slot_evidence.specs.Facts.{facts_of};
 ghost use Rattle.slot_evidence.specs.Kept.{past_symbol};
 ghost use Rattle.slot_evidence.specs.Sheet.{IsEnds};
 
 use crate::sheets::Sheet;
-use crate::slots::symbols_of;
+use crate::slots::{Shown, read_slots};
 use phasing::{LONGEST, lead};
 use ten_unit::Element;
 
@@ -16,26 +16,26 @@ fn past(symbol: u8) -> u8
     if symbol < 128 { symbol + 1 } else { 0 }
 }
 
-/// The lesser symbol of each place's two slots, which stand five apart.
-fn leasts_of(symbols: &[u8; 132]) -> [u8; 64]
+/// The lesser symbol of each place's two slots.
+fn leasts_of(shown: &Shown) -> [u8; 64]
     ensures places { length result ≡ 64 }
-    ensures each { (p : ℕ) → p < 64 → slice_index result p ≡ min (slice_index symbols.now (2 * p)) (slice_index symbols.now (2 * p + 5)) }
+    ensures each { (p : ℕ) → p < 64 → slice_index result p ≡ min (slice_index shown.now.dx p) (slice_index shown.now.rx (p + 2)) }
 {
     let mut leasts = [128; 64];
     for p in 0..64 {
-        leasts[p] = symbols[2 * p].min(symbols[2 * p + 5]);
+        leasts[p] = shown.dx[p].min(shown.rx[p + 2]);
     }
     leasts
 }
 
 /// The greater number after the symbol of each place's two slots.
-fn pasts_of(symbols: &[u8; 132]) -> [u8; 64]
+fn pasts_of(shown: &Shown) -> [u8; 64]
     ensures places { length result ≡ 64 }
-    ensures each { (p : ℕ) → p < 64 → slice_index result p ≡ max (past_symbol (slice_index symbols.now (2 * p))) (past_symbol (slice_index symbols.now (2 * p + 5))) }
+    ensures each { (p : ℕ) → p < 64 → slice_index result p ≡ max (past_symbol (slice_index shown.now.dx p)) (past_symbol (slice_index shown.now.rx (p + 2))) }
 {
     let mut pasts = [0; 64];
     for p in 0..64 {
-        pasts[p] = past(symbols[2 * p]).max(past(symbols[2 * p + 5]));
+        pasts[p] = past(shown.dx[p]).max(past(shown.rx[p + 2]));
     }
     pasts
 }
@@ -51,6 +51,6 @@ pub fn read_sheet(e: &[Element]) -> Option<Sheet>
     ensures none { IsNone result ↔ (lead_of e.now ≡ None) }
 {
     let lead = lead(e)?;
-    let symbols = symbols_of(e, lead);
-    Some(Sheet::of_numbers(leasts_of(&symbols), pasts_of(&symbols)))
+    let shown = read_slots(e, lead);
+    Some(Sheet::of_numbers(leasts_of(&shown), pasts_of(&shown)))
 }

@@ -9,24 +9,33 @@ ghost use Rattle.slot_evidence.specs.Window.{element_at};
 use phasing::{LAST_LEAD, LONGEST};
 use ten_unit::{Element, Planes, packed, symbol_at};
 
-/// The symbols of slots 12 to 143, which are those of places, at a lead: 128 where a slot shows none. Slots from a
-/// reception's end on cost nothing.
+/// The symbols of slots 12 to 143, 128 for none: in `dx` those of the even slots, in turn, of which the first 64 are places'
+/// DX slots, and in `rx` those of the odd ones, of which the third to the last are places' RX slots.
+#[derive(Drop)]
+pub(crate) struct Shown {
+    pub(crate) dx: [u8; 66],
+    pub(crate) rx: [u8; 66],
+}
+
+/// What slots 12 to 143 show at a lead. Slots from a reception's end on cost nothing.
 ///
-/// It packs 64 elements at a time, of which 60 are six slots, and reads each slot's ten bits by a look into a table: per
-/// slot about six elements' time in place of ten.
-pub(crate) fn symbols_of(e: &[Element], lead: u32) -> [u8; 132]
+/// It packs 64 elements a step as bits, of which 60 are six slots', and looks into a table by each slot's ten bits.
+pub(crate) fn read_slots(e: &[Element], lead: u32) -> Shown
     requires length { length e.now ≤ LONGEST }
     requires lead { lead ≤ LAST_LEAD }
-    ensures { (k : ℕ) → k < 132 → IsSymbol (slot e.now lead (12 + k)) (slice_index result k) }
+    ensures dx { (k : ℕ) → k < 66 → IsSymbol (slot e.now lead (12 + 2 * k)) (slice_index result.dx k) }
+    ensures rx { (k : ℕ) → k < 66 → IsSymbol (slot e.now lead (13 + 2 * k)) (slice_index result.rx k) }
 {
-    let mut symbols = [128; 132];
+    let mut dx = [128; 66];
+    let mut rx = [128; 66];
     for window in 0..windows(e.len() as u32, lead) {
         let planes = planes_at(e, lead + 120 + 60 * window);
-        for k in 0..6 {
-            symbols[(6 * window + k) as usize] = symbol_at(&planes, 10 * k);
+        for k in 0..3 {
+            dx[(3 * window + k) as usize] = symbol_at(&planes, 20 * k);
+            rx[(3 * window + k) as usize] = symbol_at(&planes, 20 * k + 10);
         }
     }
-    symbols
+    Shown { dx, rx }
 }
 
 /// How many windows of six slots from slot 12 on begin inside a reception of this length, at most 22.
@@ -34,7 +43,7 @@ fn windows(length: u32, lead: u32) -> u32
     requires length { length ≤ LONGEST }
     requires lead { lead ≤ LAST_LEAD }
     ensures most { result ≤ 22 }
-    ensures rest { (k : ℕ) → 6 * result ≤ k → k < 132 → length + 150 ≤ lead + 10 * (12 + k) }
+    ensures rest { (k : ℕ) → 3 * result ≤ k → k < 66 → length + 150 ≤ lead + 10 * (12 + 2 * k) }
 {
     (length + 30).saturating_sub(lead).div_ceil(60).min(22)
 }

@@ -1,4 +1,4 @@
-use crate::{Seen, Sheet, read_sheet};
+use crate::{Seen, Sheet, plain, read_sheet};
 use std::alloc::{AllocError, Global};
 use std::process::Abort;
 use std::test::Fail;
@@ -69,5 +69,58 @@ fn nothing_from_noise(rt: HostRuntime) -> Result<(), Fail> {
     sheet.add(63, 127);
     assert_eq!(rt; sheet.at(62), Seen::None);
     assert_eq!(rt; sheet.at(63), Seen::One(127));
+    Ok(())
+}
+
+/// An alert twice, with a few elements lost and a few received as Y.
+fn noisy(alloc: Global, mut noise: u32) -> Result<Vec<Element>, AllocError> {
+    let mut elements = Vec::new(alloc);
+    for symbol in ALERT.iter().chain(&ALERT) {
+        for element in &word(*symbol % 128) {
+            noise = noise.wrapping_mul(1664525).wrapping_add(1013904223);
+            elements.push(match noise >> 26 {
+                0 => Element::Lost,
+                1 => Element::Y,
+                _ => *element,
+            })?;
+        }
+    }
+    Ok(elements)
+}
+
+/// The sheet of a reception, where it has one, after a look that it says what the definitions' program says.
+fn compared(rt: &impl Abort, e: &[Element]) -> Sheet {
+    assert!(rt; e.len() <= 2000);
+    let Some(sheet) = read_sheet(e) else {
+        assert!(rt; plain::read_sheet(e).is_none(), "unphased");
+        return Sheet::empty();
+    };
+    let places = plain::read_sheet(e).expect(rt, "phased");
+    for p in 0..64u8 {
+        assert_eq!(rt; sheet.at(p), places[p as usize], "place {p}");
+    }
+    sheet
+}
+
+#[test]
+fn the_definitions_say_the_same(rt: HostRuntime) -> Result<(), Fail> {
+    let mut group = Sheet::empty();
+    for number in 0..30usize {
+        let elements = noisy(rt.alloc(), number as u32)?;
+        assert_eq!(rt; elements.len(), 1040);
+        let late = compared(&rt, &elements[11 * number..]);
+        let ended = compared(&rt, &elements[..480 + number]);
+        let mut both = ended;
+        both.meet(&late);
+        for p in 0..64u8 {
+            assert_eq!(rt;
+                both.at(p),
+                ended.at(p).meet(late.at(p)),
+                "place {p} of both"
+            );
+        }
+        group.meet(&both);
+    }
+    assert_eq!(rt; group.at(63), Seen::None);
     Ok(())
 }

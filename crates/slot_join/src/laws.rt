@@ -1,4 +1,4 @@
-ghost use Rattle.std.specs.Prelude.{◌≡◌, ◌++◌, ℕ, Bool, List, Some, pos, ◌-ℤ◌};
+ghost use Rattle.std.specs.Prelude.{◌≡◌, ◌++◌, ◌↔◌, ℕ, Bool, List, Some, pos, ◌-ℤ◌};
 ghost use Rattle.ten_unit.specs.declared.character.Element.{Element};
 ghost use Rattle.call_values.specs.declared.alerts.Call.{Call};
 ghost use Rattle.call_values.specs.Calls.{IsCall};
@@ -6,7 +6,9 @@ ghost use Rattle.call_grammar.specs.Spelling.{spell, front};
 ghost use Rattle.time_diversity.specs.OnAir.{on_air};
 ghost use Rattle.phasing.specs.Origin.{lead_of, origin_of};
 ghost use Rattle.phasing.specs.Start.{IsIntactStart};
-ghost use Rattle.slot_evidence.specs.Facts.{Facts, facts_of};
+ghost use Rattle.slot_evidence.specs.declared.places.Seen.{Seen};
+ghost use Rattle.slot_evidence.specs.Facts.{Facts, facts_of, union};
+ghost use Rattle.slot_evidence.specs.Sheet.{IsEnds, facts_in};
 ghost use Rattle.slot_join.specs.declared.joined.Joined.{Joined};
 ghost use Rattle.slot_join.specs.declared.joined.Joined.TheVariants.{Reported};
 ghost use Rattle.slot_join.specs.declared.joined.Extra.TheVariants.{Absent};
@@ -17,7 +19,7 @@ ghost use Rattle.slot_join.specs.OneCall.{ShowsNoOther, IsCallOrMissing};
 
 use call_grammar::{formats_begin_calls, fronts_differ, lists_are_characters, lists_are_short};
 use phasing::late_starts_are_found;
-use slot_evidence::one_seen;
+use slot_evidence::{ends_are_kept, one_seen};
 use ten_unit::{one_way_errors_are_seen, words_tell_symbols_apart};
 use time_diversity::both_slots_show_the_character;
 
@@ -27,6 +29,15 @@ pub fn one_answer()
 {
     one_seen();
     fronts_differ();
+}
+
+/// The law that the ends that a sheet keeps of facts give the answer that the facts give, whatever other facts are known
+/// beside them. It does nothing.
+pub fn ends_give_the_answer()
+    ensures { (F G : Facts) (sheet : List Seen) (answer : Joined) → IsEnds F sheet
+        → (IsAnswer (union F G) answer ↔ IsAnswer (union (facts_in sheet) G) answer) }
+{
+    ends_are_kept();
 }
 
 /// The law that a call whose slots all arrive intact at the origin is reported, and no other answer comes. It does

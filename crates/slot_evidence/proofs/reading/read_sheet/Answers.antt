@@ -9,15 +9,15 @@ pub of_numbers-requires : goal.of_numbers-requires
 of_numbers-requires c =
     let leasts = c.leasts_of.ensures in
     let pasts = c.pasts_of.ensures in
-    kept_read c.args.e.now c.in_ok-lead.lead c.symbols_of-symbols.result _ _
-    (record { slots = c.symbols_of-symbols.ensures; places = leasts.places; as_many = pasts.places; least = leasts.each; past = pasts.each })
+    kept_read c.args.e.now c.in_ok-lead.lead c.read_slots-shown.result.dx c.read_slots-shown.result.rx _ _
+    (record { even = c.read_slots-shown.ensures.dx; odd = c.read_slots-shown.ensures.rx; places = leasts.places; as_many = pasts.places; least = leasts.each; past = pasts.each })
 
 pub returns-clause-some : goal.returns-clause-some
 returns-clause-some c =
     let leasts = c.leasts_of.ensures in
     let pasts = c.pasts_of.ensures in
-    let read : AreRead c.args.e.now c.in_ok-lead.lead c.symbols_of-symbols.result c.leasts_of.result c.pasts_of.result =
-    record { slots = c.symbols_of-symbols.ensures; places = leasts.places; as_many = pasts.places; least = leasts.each; past = pasts.each }
+    let read : AreRead c.args.e.now c.in_ok-lead.lead c.read_slots-shown.result.dx c.read_slots-shown.result.rx c.leasts_of.result c.pasts_of.result =
+    record { even = c.read_slots-shown.ensures.dx; odd = c.read_slots-shown.ensures.rx; places = leasts.places; as_many = pasts.places; least = leasts.each; past = pasts.each }
     in
     subst (λ (s : List Seen). IsEnds (facts_of c.args.e.now) s) (sym c.of_numbers.ensures)
-    (ends_read c.args.e.now c.in_ok-lead.lead _ _ _ c.in_ok-lead.ensures.least read)
+    (ends_read c.args.e.now c.in_ok-lead.lead _ _ _ _ c.in_ok-lead.ensures.least read)

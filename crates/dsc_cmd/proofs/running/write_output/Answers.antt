@@ -1,7 +1,7 @@
 use Rattle.std.proofs.Common.{inl}
 use Rattle.join_lines.specs.Lines.{lines_of}
 use Rattle.join_lines.specs.Receptions.{receptions_of}
-use Rattle.dsc_cmd.proofs.running.answer.Goals as goal
+use Rattle.dsc_cmd.proofs.running.write_output.Goals as goal
 
 pub returns-in-Ok-clause-finished : goal.returns-in-Ok-clause-finished
 returns-in-Ok-clause-finished g c = λ is.

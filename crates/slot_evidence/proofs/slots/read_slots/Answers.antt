@@ -1,0 +1,32 @@
+use Rattle.std.proofs.Common.{◌<◌, ◌+◌, ◌*◌, arith}
+use Rattle.slot_evidence.specs.Window.{element_at}
+use Rattle.slot_evidence.proofs.Window.{slot_shown, filled_none, filled_more, filled_all}
+use Rattle.slot_evidence.proofs.slots.read_slots.Goals as goal
+
+pub loop-window-init : goal.loop-window-init
+loop-window-init c = record {
+  dx = filled_none c.args.e.now c.args.lead 12;
+  rx = filled_none c.args.e.now c.args.lead 13;
+}
+
+pub loop-k-preserved : goal.loop-k-preserved
+loop-k-preserved c =
+    let kept = c.loop-k.invariant in
+    let e = c.args.e.now in
+    let lead = c.args.lead in
+    let at = 3 * c.loop-window.window + c.loop-k.k in
+    let room : at < 66 = omega (arith, c.windows-window-end.ensures.most) in
+    let planes = c.planes_at-planes.ensures in
+    record {
+      dx = filled_more e lead 12 c.loop-k.dx at _ _ (omega arith) room kept.dx (slot_shown e lead (12 + 2 * at) _ _ (omega arith) (c.symbol_at.ensures _ (element_at e) planes));
+      rx = filled_more e lead 13 c.loop-k.rx at _ _ (omega arith) room kept.rx (slot_shown e lead (13 + 2 * at) _ _ (omega arith) (c.symbol_at-in-loop-k.ensures _ (element_at e) planes));
+    }
+
+pub returns : goal.returns
+returns c =
+    let kept = c.loop-window.invariant in
+    let rest = c.windows-window-end.ensures.rest in
+    record {
+      dx = filled_all c.args.e.now c.args.lead 12 c.loop-window.dx _ kept.dx (λ k past below. rest k (omega arith) below);
+      rx = filled_all c.args.e.now c.args.lead 13 c.loop-window.rx _ kept.rx (λ k past below. omega (arith, rest k (omega arith) below));
+    }
