@@ -6,3 +6,4 @@ pub mod Areas
 pub mod Fields
 pub mod Delays
 pub mod Parts
+pub mod Views

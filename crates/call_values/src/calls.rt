@@ -1,11 +1,10 @@
+ghost use Rattle.std.specs.Prelude.{◌≡◌};
 ghost use Rattle.call_values.specs.Calls.{IsCasualty, IsCall};
-ghost use Rattle.call_values.specs.Identity.{IsMmsi};
-ghost use Rattle.dsc_symbols.specs.Telecommands.{IsFirst, IsSecond};
-ghost use Rattle.call_values.specs.Parts.{IsTo, IsMessage};
+ghost use Rattle.call_values.specs.Views.{address_of, body_of};
 
 use crate::{
-    Area, Category, Comm, End, Field, First, HourMinute, Kind, Message, Mmsi, Nature, Position,
-    Second, To,
+    Area, Body, Category, Comm, End, Field, First, HourMinute, Kind, Message, Mmsi, Nature,
+    Position, Second, To,
 };
 
 /// A ship in distress, as a distress call tells of it (ITU-R M.493, distress alert).
@@ -105,95 +104,101 @@ pub enum Call {
 }
 
 impl Call {
-    /// The law that every call's parts are in their ranges. It does nothing.
-    pub fn lawful(&self)
-        ensures { IsCall self.now }
+    /// Whom the call is for (ITU-R M.493, format specifier and address). A distress alert and its acknowledgement are for
+    /// all ships.
+    pub fn address(&self) -> To
+        ensures { result ≡ address_of self.now }
     {
         match self {
-            Call::Alert(casualty) => casualty.lawful(),
-            Call::Ack { from, casualty } => lawful_relay(&To::All, from, casualty),
-            Call::Relay {
-                to,
+            Call::Alert(_) | Call::Ack { .. } | Call::AllShips { .. } => To::All,
+            Call::Relay { to, .. } | Call::RelayAck { to, .. } => *to,
+            Call::AreaCall { area, .. } => To::Area(*area),
+            Call::GroupCall { group, .. } => To::Group(*group),
+            Call::Individual { to, .. } | Call::Service { to, .. } => To::One(*to),
+        }
+    }
+
+    /// What the call says besides.
+    pub fn body(&self) -> Body
+        ensures { result ≡ body_of self.now }
+    {
+        match *self {
+            Call::Alert(casualty) => Body::Alert(casualty),
+            Call::Ack { from, casualty } => Body::Distress {
                 from,
+                acknowledges: true,
                 casualty,
+            },
+            Call::Relay { from, casualty, .. } | Call::RelayAck { from, casualty, .. } =>
+                Body::Distress {
+                    from,
+                    acknowledges: false,
+                    casualty,
+                },
+            Call::AllShips {
+                category,
+                from,
+                first,
+                second,
+                f1,
+                f2,
+            }
+            | Call::AreaCall {
+                category,
+                from,
+                first,
+                second,
+                f1,
+                f2,
                 ..
             }
-            | Call::RelayAck { to, from, casualty } => lawful_relay(to, from, casualty),
-            Call::AllShips {
+            | Call::GroupCall {
+                category,
                 from,
                 first,
                 second,
                 f1,
                 f2,
                 ..
-            } => lawful_request(&To::All, from, first, second, &Message::Fields(*f1, *f2)),
-            Call::AreaCall {
-                area,
+            } => Body::Request {
+                category,
                 from,
                 first,
                 second,
-                f1,
-                f2,
-                ..
-            } => lawful_request(
-                &To::Area(*area),
-                from,
-                first,
-                second,
-                &Message::Fields(*f1, *f2),
-            ),
-            Call::GroupCall {
-                group,
-                from,
-                first,
-                second,
-                f1,
-                f2,
-                ..
-            } => lawful_request(
-                &To::Group(*group),
-                from,
-                first,
-                second,
-                &Message::Fields(*f1, *f2),
-            ),
+                message: Message::Fields(f1, f2),
+            },
             Call::Individual {
-                to,
+                category,
                 from,
                 first,
                 second,
                 message,
                 ..
-            } => lawful_request(&To::One(*to), from, first, second, message),
-            Call::Service { to, from, kind, .. } => {
-                To::One(*to).lawful();
-                let _ = from.number();
-                kind.lawful();
-            }
+            } => Body::Request {
+                category,
+                from,
+                first,
+                second,
+                message,
+            },
+            Call::Service {
+                category,
+                from,
+                kind,
+                ..
+            } => Body::Service {
+                category,
+                from,
+                kind,
+            },
         }
     }
-}
 
-fn lawful_relay(to: &To, from: &Mmsi, casualty: &Casualty)
-    ensures to { IsTo to.now }
-    ensures from { IsMmsi from.now }
-    ensures casualty { IsCasualty casualty.now }
-{
-    to.lawful();
-    let _ = from.number();
-    casualty.lawful();
-}
-
-fn lawful_request(to: &To, from: &Mmsi, first: &First, second: &Second, message: &Message)
-    ensures to { IsTo to.now }
-    ensures from { IsMmsi from.now }
-    ensures first { IsFirst first.now }
-    ensures second { IsSecond second.now }
-    ensures message { IsMessage message.now }
-{
-    to.lawful();
-    let _ = from.number();
-    let _ = first.number();
-    let _ = second.number();
-    message.lawful();
+    /// The law that every call's parts are in their ranges. It does nothing.
+    pub fn lawful(&self)
+        ensures { IsCall self.now }
+    {
+        self.address().lawful();
+        self.body().lawful();
+    }
 }

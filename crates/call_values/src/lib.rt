@@ -3,6 +3,7 @@
 #![tactic(auto)]
 
 mod areas;
+mod bodies;
 mod calls;
 mod choices;
 mod clock;
@@ -15,6 +16,7 @@ mod places;
 mod telecommands;
 
 pub use areas::Area;
+pub use bodies::Body;
 pub use calls::{Call, Casualty};
 pub use choices::{Band, Category, End};
 pub use clock::HourMinute;

@@ -3,7 +3,7 @@ use Rattle.std.specs.Prelude.{ℕ, zero, suc, ◌+◌, ◌-◌, ◌^◌, Bool, t
 use Rattle.std.specs.List.{flat_map, list_any, list_all}
 use Rattle.line_grammar.specs.Shapes.{Shape, letters, numeral, pair, choice}
 use Rattle.line_grammar.specs.Tokens.{Token, run, number, shaped, is_one_of, is_digit}
-use Rattle.line_grammar.specs.Reading.{fits}
+use Rattle.line_grammar.specs.inside.Reading.{fits}
 use Rattle.line_grammar.specs.Grammar.{Grammar, finish, anything, word, field, either}
 
 -- a test of bytes: whether a shape may have it

@@ -2,7 +2,7 @@
 use Rattle.std.specs.Prelude.{◌≡◌, ℕ, List, Result, Ok, Err}
 use Rattle.call_grammar.specs.Spelling.{end_symbol}
 use Rattle.line_grammar.specs.Grammar.{Grammar, Parts}
-use Rattle.line_grammar.specs.Reading.{read, named}
+use Rattle.line_grammar.specs.inside.Reading.{read, named}
 use Rattle.dsc_texts.specs.CallParts.{message_parts, end_parts}
 use Rattle.dsc_texts.specs.declared.forms.Ending.{Ending}
 
