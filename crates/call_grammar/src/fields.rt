@@ -1,21 +1,24 @@
 ghost use Rattle.std.specs.Prelude.{◌≡◌, ◌≤◌, ◌∷◌, []};
 ghost use Rattle.symbol_reader.specs.Reading.{Reads};
-ghost use Rattle.call_values.specs.Symbols.{IsNature, IsComm};
+ghost use Rattle.dsc_symbols.specs.Natures.{IsNature};
+ghost use Rattle.dsc_symbols.specs.Telecommands.{IsComm};
 ghost use Rattle.call_grammar.specs.Grammar as grammar;
 ghost use Rattle.symbol_reader.specs.Languages.{Spelled};
 
 use call_values::{Casualty, Comm, Fix, HourMinute, Mmsi, Nature, Position};
-use symbol_reader::{Letter, Reader, Stop};
+use cursor::Cursor;
+use dsc_symbols::messages::{UNKNOWN_POSITION, UNKNOWN_TIME};
+use symbol_reader::{Letter, Stop, symbol};
 
 /// Reads nine digits and a 0, two to a character (ITU-R M.493, self-identification).
-pub fn identity(list: &mut Reader) -> Result<Mmsi, Stop>
+pub fn identity(list: &mut Cursor) -> Result<Mmsi, Stop>
     ensures { Reads grammar.Identities list.old result list.new }
 {
-    let a = list.symbol(Letter::UpTo(99))?;
-    let b = list.symbol(Letter::UpTo(99))?;
-    let c = list.symbol(Letter::UpTo(99))?;
-    let d = list.symbol(Letter::UpTo(99))?;
-    let e = list.symbol(Letter::Digits(9, 0))?;
+    let a = symbol(list, Letter::UpTo(99))?;
+    let b = symbol(list, Letter::UpTo(99))?;
+    let c = symbol(list, Letter::UpTo(99))?;
+    let d = symbol(list, Letter::UpTo(99))?;
+    let e = symbol(list, Letter::Digits(9, 0))?;
     Ok(identity_of(a, b, c, d, e))
 }
 
@@ -35,55 +38,55 @@ fn identity_of(a: u8, b: u8, c: u8, d: u8, e: u8) -> Mmsi
 }
 
 /// Reads a nature of distress.
-fn nature(list: &mut Reader) -> Result<Nature, Stop>
+fn nature(list: &mut Cursor) -> Result<Nature, Stop>
     ensures { Reads (Spelled IsNature (λ n. n ∷ [])) list.old result list.new }
 {
-    let symbol = list.symbol(Letter::Nature)?;
+    let symbol = symbol(list, Letter::Nature)?;
     Ok(Nature::new(symbol).unwrap())
 }
 
 /// Reads the subsequent communications of a distress call.
-fn comm(list: &mut Reader) -> Result<Comm, Stop>
+fn comm(list: &mut Cursor) -> Result<Comm, Stop>
     ensures { Reads (Spelled IsComm (λ n. n ∷ [])) list.old result list.new }
 {
-    let symbol = list.symbol(Letter::Comm)?;
+    let symbol = symbol(list, Letter::Comm)?;
     Ok(Comm::new(symbol).unwrap())
 }
 
 /// Reads a position, known or not (ITU-R M.493, distress coordinates).
-pub fn position(list: &mut Reader) -> Result<Position, Stop>
+pub fn position(list: &mut Cursor) -> Result<Position, Stop>
     ensures { Reads grammar.Positions list.old result list.new }
 {
-    let lead = list.symbol(Letter::UpToOr(39, 99))?;
-    if lead == 99 {
+    let initial = symbol(list, Letter::UpToOr(39, UNKNOWN_POSITION))?;
+    if initial == UNKNOWN_POSITION {
         unknown_rest(list)
     } else {
-        known_rest(list, lead)
+        known_rest(list, initial)
     }
 }
 
-fn unknown_rest(list: &mut Reader) -> Result<Position, Stop>
+fn unknown_rest(list: &mut Cursor) -> Result<Position, Stop>
     ensures { Reads grammar.UnknownRest list.old result list.new }
 {
-    let nines = Letter::Exactly(99);
-    list.symbol(nines)?;
-    list.symbol(nines)?;
-    list.symbol(nines)?;
-    list.symbol(nines)?;
+    let nines = Letter::Exactly(UNKNOWN_POSITION);
+    symbol(list, nines)?;
+    symbol(list, nines)?;
+    symbol(list, nines)?;
+    symbol(list, nines)?;
     Ok(Position::unknown())
 }
 
-fn known_rest(list: &mut Reader, lead: u8) -> Result<Position, Stop>
-    requires { lead ≤ 39 }
-    ensures { Reads (grammar.KnownRest lead) list.old result list.new }
+fn known_rest(list: &mut Cursor, initial: u8) -> Result<Position, Stop>
+    requires { initial ≤ 39 }
+    ensures { Reads (grammar.KnownRest initial) list.old result list.new }
 {
-    let b = list.symbol(latitude_ones(lead))?;
-    let c = list.symbol(minutes_and_hundreds(lead))?;
-    let d = list.symbol(longitude_ones(c))?;
-    let e = list.symbol(longitude_minutes(c, d))?;
+    let b = symbol(list, latitude_ones(initial))?;
+    let c = symbol(list, minutes_and_hundreds(initial))?;
+    let d = symbol(list, longitude_ones(c))?;
+    let e = symbol(list, longitude_minutes(c, d))?;
     let fix = Fix {
-        quadrant: lead / 10,
-        lat_deg: lead % 10 * 10 + b / 10,
+        quadrant: initial / 10,
+        lat_deg: initial % 10 * 10 + b / 10,
         lat_min: b % 10 * 10 + c / 10,
         lon_deg: c % 10 * 100 + d,
         lon_min: e,
@@ -91,20 +94,20 @@ fn known_rest(list: &mut Reader, lead: u8) -> Result<Position, Stop>
     Ok(Position::new(fix).unwrap())
 }
 
-fn latitude_ones(lead: u8) -> Letter
-    ensures { result ≡ grammar.latitude_ones lead }
+fn latitude_ones(initial: u8) -> Letter
+    ensures { result ≡ grammar.latitude_ones initial }
 {
-    if lead % 10 == 9 {
+    if initial % 10 == 9 {
         Letter::Exactly(0)
     } else {
         Letter::Digits(9, 5)
     }
 }
 
-fn minutes_and_hundreds(lead: u8) -> Letter
-    ensures { result ≡ grammar.minutes_and_hundreds lead }
+fn minutes_and_hundreds(initial: u8) -> Letter
+    ensures { result ≡ grammar.minutes_and_hundreds initial }
 {
-    if lead % 10 == 9 {
+    if initial % 10 == 9 {
         Letter::UpTo(1)
     } else {
         Letter::Digits(9, 1)
@@ -132,20 +135,20 @@ fn longitude_minutes(hundreds: u8, ones: u8) -> Letter
 }
 
 /// Reads a time, known or not (ITU-R M.493, time of a distress alert).
-pub fn time(list: &mut Reader) -> Result<HourMinute, Stop>
+pub fn time(list: &mut Cursor) -> Result<HourMinute, Stop>
     ensures { Reads grammar.Times list.old result list.new }
 {
-    let hour = list.symbol(Letter::UpToOr(23, 88))?;
-    if hour == 88 {
-        list.symbol(Letter::Exactly(88))?;
+    let hour = symbol(list, Letter::UpToOr(23, UNKNOWN_TIME))?;
+    if hour == UNKNOWN_TIME {
+        symbol(list, Letter::Exactly(UNKNOWN_TIME))?;
         return Ok(HourMinute::unknown());
     }
-    let minute = list.symbol(Letter::UpTo(59))?;
+    let minute = symbol(list, Letter::UpTo(59))?;
     Ok(HourMinute::new(hour, minute).unwrap())
 }
 
 /// Reads what a distress call tells of a casualty.
-pub fn casualty(list: &mut Reader) -> Result<Casualty, Stop>
+pub fn casualty(list: &mut Cursor) -> Result<Casualty, Stop>
     ensures { Reads grammar.Casualties list.old result list.new }
 {
     let mmsi = identity(list)?;

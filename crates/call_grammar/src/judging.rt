@@ -3,10 +3,11 @@ ghost use Rattle.call_values.specs.Calls.{IsCall};
 ghost use Rattle.call_grammar.specs.Spelling.{covered, check_of};
 ghost use Rattle.call_grammar.specs.Judging.{Judges, IsCovered};
 
-use crate::forms::opened;
+use crate::forms::checked_characters;
 use crate::walking::Step;
 use call_values::Call;
-use symbol_reader::{Reader, Stop};
+use cursor::Cursor;
+use symbol_reader::Stop;
 
 /// The error check character of these symbols, their bitwise exclusive or (ITU-R M.493, error check character).
 pub fn check(list: &[u8]) -> u8
@@ -25,13 +26,13 @@ pub fn judge(list: &[u8]) -> Step
     ensures { Judges (drop 1 list.now) result }
 {
     let once = &list[1..];
-    let mut reader = Reader::new(once);
-    let call = match opened(&mut reader) {
+    let mut cursor = Cursor::new(once);
+    let call = match checked_characters(&mut cursor) {
         Ok(call) => call,
         Err(Stop::Short) => return Step::More,
         Err(Stop::Outside) => return Step::Outside,
     };
-    let rest = reader.rest();
+    let rest = cursor.rest();
     match rest.first() {
         None => Step::More,
         Some(got) => compare(call, check(&once[..once.len() - rest.len()]), *got),
@@ -43,9 +44,9 @@ pub fn is_covered(list: &[u8]) -> bool
     requires { 0 < length list.now }
     ensures { IsTrue result ↔ IsCovered (drop 1 list.now) }
 {
-    let mut reader = Reader::new(&list[1..]);
-    match opened(&mut reader) {
-        Ok(_) => reader.rest().is_empty(),
+    let mut cursor = Cursor::new(&list[1..]);
+    match checked_characters(&mut cursor) {
+        Ok(_) => cursor.rest().is_empty(),
         Err(_) => false,
     }
 }

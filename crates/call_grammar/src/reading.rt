@@ -1,14 +1,16 @@
 ghost use Rattle.std.specs.Prelude.{◌≡◌, ℕ, ◌≤◌, List, ◌∷◌, ◌++◌, length, MatchResult, IsTrue, ◌↔◌, Err};
 ghost use Rattle.call_values.specs.Calls.{IsCall};
 ghost use Rattle.call_grammar.specs.Spelling.{up_to_end};
-ghost use Rattle.call_grammar.specs.Walk.{IsFormat};
+ghost use Rattle.dsc_symbols.specs.Formats.{IsFormat};
 ghost use Rattle.call_grammar.specs.Reading.{IsReading, IsTwice, Shows, Misses};
 
-use crate::forms::{is_format, opened};
+use crate::forms::checked_characters;
 use crate::judging::check;
 use crate::spelling::end_of;
 use call_values::Call;
-use symbol_reader::{Reader, Stop};
+use cursor::Cursor;
+use dsc_symbols::formats::is_format;
+use symbol_reader::Stop;
 
 /// Why a list isn't read as a call's.
 #[derive(Clone, Copy, Debug, PartialEq, Eq)]
@@ -27,12 +29,12 @@ pub fn read(list: &[u8]) -> Result<(Call, usize), ReadRefusal>
     ensures { IsReading list.now result }
 {
     heading(list)?;
-    let mut reader = Reader::new(&list[1..]);
-    match opened(&mut reader) {
-        Ok(call) => ending(list, list.len() - reader.rest().len(), call),
+    let mut cursor = Cursor::new(&list[1..]);
+    match checked_characters(&mut cursor) {
+        Ok(call) => ending(list, list.len() - cursor.rest().len(), call),
         Err(Stop::Short) => Err(ReadRefusal::Short(list.len() as u8)),
         Err(Stop::Outside) => {
-            let n = list.len() - reader.rest().len();
+            let n = list.len() - cursor.rest().len();
             Err(ReadRefusal::Outside(n as u8, list[n]))
         }
     }

@@ -1,16 +1,16 @@
 -- Calls whose parts are in their ranges: ITU-R M.493, composition of the calls.
 use Rattle.std.specs.Prelude.{ℕ}
-use Rattle.call_values.specs.declared.alerts.Casualty.{Casualty}
-use Rattle.call_values.specs.declared.alerts.Call.{Call}
-use Rattle.call_values.specs.declared.alerts.Call.TheVariants.{Alert, Ack, Relay, RelayAck, AllShips, AreaCall, GroupCall, Individual, Service}
+use Rattle.call_values.specs.declared.calls.Casualty.{Casualty}
+use Rattle.call_values.specs.declared.calls.Call.{Call}
+use Rattle.call_values.specs.declared.calls.Call.TheVariants.{Alert, Ack, Relay, RelayAck, AllShips, AreaCall, GroupCall, Individual, Service}
 use Rattle.call_values.specs.declared.parts.Message.{Message}
 use Rattle.call_values.specs.declared.parts.Message.TheVariants.{Fields}
 use Rattle.call_values.specs.Identity.{IsMmsi}
-use Rattle.call_values.specs.Symbols.{IsNature, IsComm}
+use Rattle.dsc_symbols.specs.Natures.{IsNature}
 use Rattle.call_values.specs.Places.{IsPosition}
 use Rattle.call_values.specs.Clock.{IsHourMinute}
 use Rattle.call_values.specs.Areas.{IsArea}
-use Rattle.call_values.specs.Telecommands.{IsFirst, IsSecond}
+use Rattle.dsc_symbols.specs.Telecommands.{IsFirst, IsSecond, IsComm}
 use Rattle.call_values.specs.Parts.{IsTo, IsMessage, IsKind}
 
 -- each part of a casualty is in its range

@@ -1,10 +1,9 @@
 pub mod Identity
-pub mod Symbols
 pub mod Places
 pub mod Clock
 pub mod Calls
 pub mod Areas
-pub mod Telecommands
 pub mod Fields
 pub mod Delays
 pub mod Parts
+pub mod Views

@@ -2,29 +2,31 @@
 //! are made of; and the delays of ITU-R M.541.
 #![tactic(auto)]
 
-mod alerts;
 mod areas;
+mod bodies;
+mod calls;
 mod choices;
 mod clock;
 mod delays;
 mod fields;
 mod identity;
+mod natures;
 mod parts;
 mod places;
-mod symbols;
 mod telecommands;
 
-pub use alerts::{Call, Casualty};
 pub use areas::Area;
+pub use bodies::Body;
+pub use calls::{Call, Casualty};
 pub use choices::{Band, Category, End};
 pub use clock::HourMinute;
 pub use delays::{AlertDelay, CoastDelay};
 pub use fields::{Field, FieldKind};
 pub use identity::Mmsi;
+pub use natures::Nature;
 pub use parts::{Kind, Message, To};
 pub use places::{Fix, Position};
-pub use symbols::{Comm, Nature};
-pub use telecommands::{First, Second};
+pub use telecommands::{Comm, First, Second};
 
 #[cfg(test)]
 mod tests;

@@ -1,6 +1,8 @@
 ghost use Rattle.std.specs.Prelude.{◌≡◌, ◌↔◌, IfSome, IsSome};
-ghost use Rattle.call_values.specs.Telecommands.{IsFirst, IsSecond};
+ghost use Rattle.dsc_symbols.specs.Telecommands.{IsFirst, IsSecond, IsComm};
 
+use dsc_symbols::notices::is_second;
+use dsc_symbols::telecommands::{is_comm, is_first};
 use std::marker::Model;
 
 /// The symbol of a first telecommand (ITU-R M.493, telecommands): 100 F3E/G3E all modes, 101 F3E/G3E duplex, 103 polling,
@@ -13,7 +15,7 @@ pub struct First {
 
 impl Model for First {
     ghost use Rattle.std.specs.Prelude.{ℕ};
-    ghost use Rattle.call_values.specs.Telecommands.{IsFirst};
+    ghost use Rattle.dsc_symbols.specs.Telecommands.{IsFirst};
 
     ghost Value = { ℕ };
 
@@ -30,9 +32,10 @@ impl First {
         ensures value { IfSome result (λ v. v ≡ n) }
         ensures some { IsSome result ↔ IsFirst n }
     {
-        match n {
-            100 | 101 | 103 | 104 | 106 | 109 | 113 | 115 | 126 => Some(First { number: n }),
-            _ => None,
+        if is_first(n) {
+            Some(First { number: n })
+        } else {
+            None
         }
     }
 
@@ -54,7 +57,7 @@ pub struct Second {
 
 impl Model for Second {
     ghost use Rattle.std.specs.Prelude.{ℕ};
-    ghost use Rattle.call_values.specs.Telecommands.{IsSecond};
+    ghost use Rattle.dsc_symbols.specs.Telecommands.{IsSecond};
 
     ghost Value = { ℕ };
 
@@ -71,9 +74,10 @@ impl Second {
         ensures value { IfSome result (λ v. v ≡ n) }
         ensures some { IsSome result ↔ IsSecond n }
     {
-        match n {
-            100..=113 | 126 => Some(Second { number: n }),
-            _ => None,
+        if is_second(n) {
+            Some(Second { number: n })
+        } else {
+            None
         }
     }
 
@@ -81,6 +85,48 @@ impl Second {
     pub fn number(&self) -> u8
         ensures value { result ≡ self.now }
         ensures range { IsSecond result }
+    {
+        self.number
+    }
+}
+
+/// The symbol of the kind of communication that is to follow a distress call (ITU-R M.493, telecommands): 100 F3E/G3E
+/// all modes, 101 F3E/G3E duplex, 106 data, 109 J3E, 113 TTY-FEC, 115 TTY-ARQ or 126 no information.
+#[derive(Clone, Copy, Debug, PartialEq, Eq)]
+pub struct Comm {
+    number: u8,
+}
+
+impl Model for Comm {
+    ghost use Rattle.std.specs.Prelude.{ℕ};
+    ghost use Rattle.dsc_symbols.specs.Telecommands.{IsComm};
+
+    ghost Value = { ℕ };
+
+    ghost view = { λ a. a.number };
+
+    ghost invariant = { λ a. IsComm a.number };
+
+    ghost inverse = { λ n. record { number = n } };
+}
+
+impl Comm {
+    /// The subsequent communications with this symbol, and `None` exactly where there are none.
+    pub fn new(n: u8) -> Option<Comm>
+        ensures value { IfSome result (λ v. v ≡ n) }
+        ensures some { IsSome result ↔ IsComm n }
+    {
+        if is_comm(n) {
+            Some(Comm { number: n })
+        } else {
+            None
+        }
+    }
+
+    /// The symbol that the subsequent communications were made from.
+    pub fn number(&self) -> u8
+        ensures value { result ≡ self.now }
+        ensures range { IsComm result }
     {
         self.number
     }

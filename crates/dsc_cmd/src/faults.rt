@@ -5,7 +5,7 @@ ghost use Rattle.dsc_cmd.specs.Output as output;
 
 use arrayvec::ArrayVec;
 use dsc_files::Status;
-use dsc_texts::{append, append_size};
+use dsc_texts::{append, append_number};
 use join_lines::{Fault, FirstFault};
 
 /// The line that tells of a fault in the input: `dsc: line 3 column 7`, `dsc: line 2 too long` or
@@ -16,7 +16,7 @@ pub fn put_fault(first: &FirstFault) -> ArrayVec<u8, 80>
 {
     let mut out = ArrayVec::new();
     append(&mut out, b"dsc: line ");
-    append_size(&mut out, first.line);
+    append_number(&mut out, first.line as u64);
     append_name(&mut out, &first.fault);
     out.push(b'\n');
     out
@@ -33,7 +33,7 @@ fn append_name<const N: usize>(out: &mut ArrayVec<u8, N>, fault: &Fault)
         Fault::TooLong => append(out, b" too long"),
         Fault::Column(n) => {
             append(out, b" column ");
-            append_size(out, *n);
+            append_number(out, *n as u64);
         }
     }
 }

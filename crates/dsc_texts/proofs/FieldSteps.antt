@@ -1,7 +1,7 @@
 -- the steps of the readers of fields
 use Rattle.std.proofs.Common.{◌≡◌, ℕ, List, ◌++◌, Result, Ok, Err, IfOk, IfErr, IsErrAnd, sym, ◌∙◌, ap}
 use Rattle.line_grammar.specs.Shapes.{Shape, letters, pair, choice}
-use Rattle.line_grammar.specs.Reading.{read_shape, after, behind, and_shape, and_letters, further}
+use Rattle.line_grammar.specs.inside.Reading.{read_shape, after, behind, and_shape, and_letters, further}
 
 -- the exit of ? keeps the fault
 pub passed_on : {A B : Type 0} (r : Result A ℕ) (left : ℕ) (answer : Result B ℕ) → IsErrAnd r (λ y. y ≡ left) → answer ≡ Err left → IfErr r (λ n. answer ≡ Err n)

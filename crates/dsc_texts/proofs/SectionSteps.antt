@@ -2,9 +2,9 @@
 use Rattle.std.proofs.Common.{◌≡◌, ℕ, List, Result, Ok, Err, IfOk, IsOkAnd, IfErr, IsErrAnd, refl, sym, ◌∙◌, ap, subst}
 use Rattle.line_grammar.specs.Tokens.{Token}
 use Rattle.line_grammar.specs.Grammar.{Grammar, finish, word, field, either, Parts, none, part, first, second}
-use Rattle.line_grammar.specs.Reading.{after, read_token, and_then, and_part, named, further, ended, read}
+use Rattle.line_grammar.specs.inside.Reading.{after, read_token, and_then, and_part, named, further, ended, read}
 use Rattle.dsc_texts.specs.CallGrammar.{labelled}
-use Rattle.dsc_texts.specs.Reading.{ReadsSection, ReadsForm}
+use Rattle.dsc_texts.specs.inside.Reading.{ReadsSection, ReadsForm}
 
 -- a field behind its label
 pub no_label : {V : Type 0} (label : List ℕ) (token : Token) (parts : V → Parts → Parts) (old new : List ℕ) (r : Result V ℕ) (left : ℕ) → IsErrAnd r (λ y. y ≡ left)

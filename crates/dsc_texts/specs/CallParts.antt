@@ -1,5 +1,5 @@
 -- The parts of call texts: this project's profile.
-use Rattle.std.specs.Prelude.{◌≡◌, ℕ, zero, suc, ◌+◌, Bool, if◌then◌else◌, List, ◌++◌, Option, Some, None, codes}
+use Rattle.std.specs.Prelude.{◌≡◌, ℕ, ◌+◌, Bool, if◌then◌else◌, List, ◌++◌, Option, Some, None, codes}
 use Rattle.call_values.specs.declared.places.Fix.{Fix}
 use Rattle.call_values.specs.Areas.{Rectangle}
 use Rattle.call_values.specs.declared.alerts.Casualty.{Casualty}
@@ -18,7 +18,7 @@ use Rattle.call_values.specs.Calls.{IsCall}
 use Rattle.call_grammar.specs.Spelling.{category_symbol, end_symbol}
 use Rattle.line_grammar.specs.Shapes.{digits}
 use Rattle.line_grammar.specs.Grammar.{Parts, none, part, first, second, written}
-use Rattle.dsc_texts.specs.CallGrammar.{calls}
+use Rattle.dsc_texts.specs.CallGrammar as grammar
 
 -- the digits of a position; nines where it is not known
 abbrev pub position_text : Option Fix → List ℕ
@@ -48,16 +48,6 @@ address_text to.All = codes "all"
 address_text (to.Area a) = codes "area:" ++ area_text a
 address_text (to.Group mmsi) = codes "group:" ++ digits 9 mmsi
 address_text (to.One mmsi) = codes "one:" ++ digits 9 mmsi
-
--- the parts of a form that stands behind so many others, and before the last
-abbrev pub nth : ℕ → Parts → Parts
-nth zero parts = first parts
-nth (suc n) parts = second (nth n parts)
-
--- the parts of the last form, which stands behind so many others
-abbrev pub last : ℕ → Parts → Parts
-last zero parts = parts
-last (suc n) parts = second (last n parts)
 
 -- nature of distress, position, time and subsequent communications
 abbrev pub casualty_parts : Casualty → Parts → Parts
@@ -96,29 +86,41 @@ test_end reply = if reply then 122 else 117
 abbrev pub end_parts : ℕ → Parts
 end_parts symbol = part (digits 3 symbol) none
 
--- a test, a position that is asked for, and one that is told
+-- the parts of a test, of a call that asks for a position, and of one that tells it
 abbrev pub service_parts : ℕ → Category → ℕ → Kind → Parts
-service_parts mmsi category from (Test reply) = nth 8 (part (digits 9 mmsi) (sender_parts category from (end_parts (test_end reply))))
-service_parts mmsi category from AskPosition = nth 9 (part (digits 9 mmsi) (sender_parts category from none))
-service_parts mmsi category from (Position position time) =
-    last 10 (part (digits 9 mmsi) (sender_parts category from (part (position_text position) (part (time_text time) none))))
+service_parts to category from (Test reply) = part (digits 9 to) (sender_parts category from (end_parts (test_end reply)))
+service_parts to category from AskPosition = part (digits 9 to) (sender_parts category from none)
+service_parts to category from (Position position time) =
+    part (digits 9 to) (sender_parts category from (part (position_text position) (part (time_text time) none)))
 
 -- the parts of a call's text
-abbrev pub call_parts : Call → Parts
-call_parts (Alert casualty) = nth 0 (part (digits 9 casualty.mmsi) (casualty_parts casualty none))
-call_parts (Ack from casualty) = nth 1 (distress_parts from casualty none)
-call_parts (Relay to from casualty ask) = nth 2 (part (address_text to) (distress_parts from casualty (end_parts (relay_end ask))))
-call_parts (RelayAck to from casualty) = nth 3 (part (address_text to) (distress_parts from casualty none))
-call_parts (AllShips category from one two f1 f2) = nth 4 (request_parts category from one two (frequencies_parts f1 f2 none))
-call_parts (AreaCall area category from one two f1 f2) = nth 5 (part (area_text area) (request_parts category from one two (frequencies_parts f1 f2 none)))
-call_parts (GroupCall group category from one two f1 f2) = nth 6 (part (digits 9 group) (request_parts category from one two (frequencies_parts f1 f2 none)))
-call_parts (Individual to category from one two message end) =
-    nth 7 (part (digits 9 to) (request_parts category from one two (message_parts message (end_parts (end_symbol end)))))
-call_parts (Service to category from kind) = service_parts to category from kind
+abbrev pub parts_of : Call → Parts
+parts_of (Alert casualty) = part (digits 9 casualty.mmsi) (casualty_parts casualty none)
+parts_of (Ack from casualty) = distress_parts from casualty none
+parts_of (Relay to from casualty ask) = part (address_text to) (distress_parts from casualty (end_parts (relay_end ask)))
+parts_of (RelayAck to from casualty) = part (address_text to) (distress_parts from casualty none)
+parts_of (AllShips category from one two f1 f2) = request_parts category from one two (frequencies_parts f1 f2 none)
+parts_of (AreaCall area category from one two f1 f2) =
+    part (area_text area) (request_parts category from one two (frequencies_parts f1 f2 none))
+parts_of (GroupCall group category from one two f1 f2) =
+    part (digits 9 group) (request_parts category from one two (frequencies_parts f1 f2 none))
+parts_of (Individual to category from one two message end) =
+    part (digits 9 to) (request_parts category from one two (message_parts message (end_parts (end_symbol end))))
+parts_of (Service to category from kind) = service_parts to category from kind
 
--- a call's text
+-- a call's text: the parts as the grammar of its form writes them
 unfoldable pub call_text : Call → List ℕ
-call_text call = written calls (call_parts call)
+call_text (Alert casualty) = written grammar.alert (parts_of (Alert casualty))
+call_text (Ack from casualty) = written grammar.ack (parts_of (Ack from casualty))
+call_text (Relay to from casualty ask) = written grammar.relay (parts_of (Relay to from casualty ask))
+call_text (RelayAck to from casualty) = written grammar.relay_ack (parts_of (RelayAck to from casualty))
+call_text (AllShips category from one two f1 f2) = written grammar.all_ships (parts_of (AllShips category from one two f1 f2))
+call_text (AreaCall area category from one two f1 f2) = written grammar.area_call (parts_of (AreaCall area category from one two f1 f2))
+call_text (GroupCall group category from one two f1 f2) = written grammar.group_call (parts_of (GroupCall group category from one two f1 f2))
+call_text (Individual to category from one two message end) = written grammar.individual (parts_of (Individual to category from one two message end))
+call_text (Service to category from (Test reply)) = written grammar.test (parts_of (Service to category from (Test reply)))
+call_text (Service to category from AskPosition) = written grammar.position_request (parts_of (Service to category from AskPosition))
+call_text (Service to category from (Position position time)) = written grammar.position_answer (parts_of (Service to category from (Position position time)))
 
 -- the bytes are the text of a call whose parts are in their ranges
 abbrev pub IsCallText : Call → List ℕ → Type 0

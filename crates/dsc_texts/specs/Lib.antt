@@ -1,4 +1,4 @@
 pub mod CallGrammar
 pub mod CallParts
-pub mod Reading
 pub mod Texts
+pub mod inside

@@ -29,12 +29,12 @@ pub fn put_answer_line(group: u32, answer: &Joined) -> ArrayVec<u8, 289>
 
 #[tactic(auto, unfolding(crate::specs::Texts::answer_text))]
 fn append_answer<const N: usize>(out: &mut ArrayVec<u8, N>, group: u32, answer: &Joined)
-    requires { array_vec_len out.old + 132 ≤ N }
+    requires { array_vec_len out.old + 142 ≤ N }
     ensures items { out.new.items ≡ out.old.items ++ answer_text group answer.now }
-    ensures len { array_vec_len out.new ≤ array_vec_len out.old + 132 }
+    ensures len { array_vec_len out.new ≤ array_vec_len out.old + 142 }
 {
     append(out, b"g");
-    append_number(out, group);
+    append_number(out, u64::from(group));
     append_verdict(out, answer);
 }
 
@@ -53,22 +53,22 @@ fn append_verdict<const N: usize>(out: &mut ArrayVec<u8, N>, answer: &Joined)
         }
         Joined::Missing(n) => {
             append(out, b" missing ");
-            append_number(out, u32::from(*n));
+            append_number(out, u64::from(*n));
         }
         Joined::Differ(n, least, greatest) => {
             append(out, b" differ ");
-            append_number(out, u32::from(*n));
+            append_number(out, u64::from(*n));
             append_behind_blank(out, *least);
             append_behind_blank(out, *greatest);
         }
         Joined::Outside(n, symbol) => {
             append(out, b" outside ");
-            append_number(out, u32::from(*n));
+            append_number(out, u64::from(*n));
             append_behind_blank(out, *symbol);
         }
         Joined::Check { n, want, got } => {
             append(out, b" check ");
-            append_number(out, u32::from(*n));
+            append_number(out, u64::from(*n));
             append_behind_blank(out, *want);
             append_behind_blank(out, *got);
         }
@@ -76,10 +76,10 @@ fn append_verdict<const N: usize>(out: &mut ArrayVec<u8, N>, answer: &Joined)
 }
 
 fn append_behind_blank<const N: usize>(out: &mut ArrayVec<u8, N>, number: u8)
-    requires { array_vec_len out.old + 11 ≤ N }
+    requires { array_vec_len out.old + 21 ≤ N }
     ensures items { out.new.items ≡ out.old.items ++ codes " " ++ decimal number }
-    ensures len { array_vec_len out.new ≤ array_vec_len out.old + 11 }
+    ensures len { array_vec_len out.new ≤ array_vec_len out.old + 21 }
 {
     append(out, b" ");
-    append_number(out, u32::from(number));
+    append_number(out, u64::from(number));
 }

@@ -1,11 +1,11 @@
-#![tactic(auto, unfolding(line_grammar::specs::Reading::read_token))]
+#![tactic(auto, unfolding(line_grammar::specs::inside::Reading::read_token))]
 
 ghost use Rattle.std.specs.Prelude.{◌≡◌, ◌≤◌, ◌<◌, ◌^◌, ◌++◌, ◌∷◌, [], IfOk, IfErr, Ok, Err, List, ℕ, codes, true};
 ghost use Rattle.line_grammar.specs.Tokens.{Token};
 ghost use Rattle.line_grammar.specs.Shapes as shape;
 ghost use Rattle.line_grammar.specs.Shapes.{digits, is_within};
-ghost use Rattle.line_grammar.specs.Reading as readers;
-ghost use Rattle.line_grammar.specs.Reading.{read_shape, read_token};
+ghost use Rattle.line_grammar.specs.inside.Reading as readers;
+ghost use Rattle.line_grammar.specs.inside.Reading.{read_shape, read_token};
 ghost use Rattle.call_values.specs.Places.{IsArc};
 ghost use Rattle.call_grammar.specs.Spelling as spelling;
 ghost use Rattle.dsc_texts.specs.CallGrammar as grammar;

@@ -2,23 +2,24 @@ ghost use Rattle.std.specs.Prelude.{◌≡◌, ◌∷◌, [], codes};
 ghost use Rattle.line_grammar.specs.Grammar.{first, second};
 ghost use Rattle.dsc_texts.specs.CallGrammar as grammar;
 ghost use Rattle.dsc_texts.specs.CallGrammar.{labelled};
-ghost use Rattle.dsc_texts.specs.CallParts.{nth, last, call_parts};
-ghost use Rattle.dsc_texts.specs.Reading.{ReadsForm, ending_parts};
+ghost use Rattle.dsc_texts.specs.inside.Places.{nth, last, call_parts};
+ghost use Rattle.dsc_texts.specs.inside.Reading.{ReadsForm, ending_parts};
 
 use crate::fields::{RelayEnd, TestEnd, further};
-use crate::line::Line;
+use crate::line::{end, word};
 use crate::sections::{Distress, Frequencies, Request, Sender, casualty, field};
 use call_values::{Area, Call, End, HourMinute, Kind, Message, Mmsi, Position, To};
+use cursor::Cursor;
 
 /// Reads a distress alert. An error is how many bytes are left at the fault.
 pub fn alert(bytes: &[u8]) -> Result<Call, usize>
     ensures { ReadsForm grammar.alert (nth 0) call_parts bytes.now result }
 {
-    let mut line = Line::new(bytes);
-    line.word(b"alert")?;
+    let mut line = Cursor::new(bytes);
+    word(&mut line, b"alert")?;
     let from: Mmsi = field(&mut line, b" from=")?;
     let casualty = casualty(&mut line, from)?;
-    line.end()?;
+    end(&line)?;
     Ok(Call::Alert(casualty))
 }
 
@@ -26,10 +27,10 @@ pub fn alert(bytes: &[u8]) -> Result<Call, usize>
 pub fn ack(bytes: &[u8]) -> Result<Call, usize>
     ensures { ReadsForm grammar.ack (nth 1) call_parts bytes.now result }
 {
-    let mut line = Line::new(bytes);
-    line.word(b"ack")?;
+    let mut line = Cursor::new(bytes);
+    word(&mut line, b"ack")?;
     let distress = Distress::read(&mut line)?;
-    line.end()?;
+    end(&line)?;
     Ok(Call::Ack {
         from: distress.from,
         casualty: distress.casualty,
@@ -40,11 +41,11 @@ pub fn ack(bytes: &[u8]) -> Result<Call, usize>
 pub fn relay(bytes: &[u8]) -> Result<Call, usize>
     ensures { ReadsForm grammar.relay (nth 2) call_parts bytes.now result }
 {
-    let mut line = Line::new(bytes);
+    let mut line = Cursor::new(bytes);
     let to: To = field(&mut line, b"relay to=")?;
     let distress = Distress::read(&mut line)?;
     let sign: RelayEnd = field(&mut line, b" end=")?;
-    line.end()?;
+    end(&line)?;
     Ok(Call::Relay {
         to,
         from: distress.from,
@@ -57,10 +58,10 @@ pub fn relay(bytes: &[u8]) -> Result<Call, usize>
 pub fn relay_ack(bytes: &[u8]) -> Result<Call, usize>
     ensures { ReadsForm grammar.relay_ack (nth 3) call_parts bytes.now result }
 {
-    let mut line = Line::new(bytes);
+    let mut line = Cursor::new(bytes);
     let to: To = field(&mut line, b"relayack to=")?;
     let distress = Distress::read(&mut line)?;
-    line.end()?;
+    end(&line)?;
     Ok(Call::RelayAck {
         to,
         from: distress.from,
@@ -72,11 +73,11 @@ pub fn relay_ack(bytes: &[u8]) -> Result<Call, usize>
 pub fn all_ships(bytes: &[u8]) -> Result<Call, usize>
     ensures { ReadsForm grammar.all_ships (nth 4) call_parts bytes.now result }
 {
-    let mut line = Line::new(bytes);
-    line.word(b"all")?;
+    let mut line = Cursor::new(bytes);
+    word(&mut line, b"all")?;
     let request = Request::read(&mut line)?;
     let frequencies = Frequencies::read(&mut line)?;
-    line.end()?;
+    end(&line)?;
     Ok(Call::AllShips {
         category: request.category,
         from: request.from,
@@ -91,11 +92,11 @@ pub fn all_ships(bytes: &[u8]) -> Result<Call, usize>
 pub fn area_call(bytes: &[u8]) -> Result<Call, usize>
     ensures { ReadsForm grammar.area_call (nth 5) call_parts bytes.now result }
 {
-    let mut line = Line::new(bytes);
+    let mut line = Cursor::new(bytes);
     let area: Area = field(&mut line, b"area to=")?;
     let request = Request::read(&mut line)?;
     let frequencies = Frequencies::read(&mut line)?;
-    line.end()?;
+    end(&line)?;
     Ok(Call::AreaCall {
         area,
         category: request.category,
@@ -111,11 +112,11 @@ pub fn area_call(bytes: &[u8]) -> Result<Call, usize>
 pub fn group_call(bytes: &[u8]) -> Result<Call, usize>
     ensures { ReadsForm grammar.group_call (nth 6) call_parts bytes.now result }
 {
-    let mut line = Line::new(bytes);
+    let mut line = Cursor::new(bytes);
     let group: Mmsi = field(&mut line, b"group to=")?;
     let request = Request::read(&mut line)?;
     let frequencies = Frequencies::read(&mut line)?;
-    line.end()?;
+    end(&line)?;
     Ok(Call::GroupCall {
         group,
         category: request.category,
@@ -139,10 +140,10 @@ pub struct Ending {
 fn frequencies_and_end(bytes: &[u8]) -> Result<Ending, usize>
     ensures { ReadsForm (grammar.frequencies (grammar.end grammar.all_ends)) first ending_parts bytes.now result }
 {
-    let mut line = Line::new(bytes);
+    let mut line = Cursor::new(bytes);
     let frequencies = Frequencies::read(&mut line)?;
     let sign: End = field(&mut line, b" end=")?;
-    line.end()?;
+    end(&line)?;
     Ok(Ending {
         message: Message::Fields(frequencies.f1, frequencies.f2),
         end: sign,
@@ -154,10 +155,10 @@ fn frequencies_and_end(bytes: &[u8]) -> Result<Ending, usize>
 fn position_and_end(bytes: &[u8]) -> Result<Ending, usize>
     ensures { ReadsForm (labelled (codes " at=") grammar.position (grammar.end grammar.all_ends)) second ending_parts bytes.now result }
 {
-    let mut line = Line::new(bytes);
+    let mut line = Cursor::new(bytes);
     let position: Position = field(&mut line, b" at=")?;
     let sign: End = field(&mut line, b" end=")?;
-    line.end()?;
+    end(&line)?;
     Ok(Ending {
         message: Message::At(position),
         end: sign,
@@ -175,7 +176,7 @@ fn message_and_end(bytes: &[u8]) -> Result<Ending, usize>
 pub fn individual(bytes: &[u8]) -> Result<Call, usize>
     ensures { ReadsForm grammar.individual (nth 7) call_parts bytes.now result }
 {
-    let mut line = Line::new(bytes);
+    let mut line = Cursor::new(bytes);
     let to: Mmsi = field(&mut line, b"one to=")?;
     let request = Request::read(&mut line)?;
     let ending = message_and_end(line.rest())?;
@@ -194,11 +195,11 @@ pub fn individual(bytes: &[u8]) -> Result<Call, usize>
 pub fn test(bytes: &[u8]) -> Result<Call, usize>
     ensures { ReadsForm grammar.test (nth 8) call_parts bytes.now result }
 {
-    let mut line = Line::new(bytes);
+    let mut line = Cursor::new(bytes);
     let to: Mmsi = field(&mut line, b"test to=")?;
     let sender = Sender::read(&mut line)?;
     let sign: TestEnd = field(&mut line, b" end=")?;
-    line.end()?;
+    end(&line)?;
     Ok(Call::Service {
         to,
         category: sender.category,
@@ -211,10 +212,10 @@ pub fn test(bytes: &[u8]) -> Result<Call, usize>
 pub fn position_request(bytes: &[u8]) -> Result<Call, usize>
     ensures { ReadsForm grammar.position_request (nth 9) call_parts bytes.now result }
 {
-    let mut line = Line::new(bytes);
+    let mut line = Cursor::new(bytes);
     let to: Mmsi = field(&mut line, b"askpos to=")?;
     let sender = Sender::read(&mut line)?;
-    line.end()?;
+    end(&line)?;
     Ok(Call::Service {
         to,
         category: sender.category,
@@ -227,12 +228,12 @@ pub fn position_request(bytes: &[u8]) -> Result<Call, usize>
 pub fn position_answer(bytes: &[u8]) -> Result<Call, usize>
     ensures { ReadsForm grammar.position_answer (last 10) call_parts bytes.now result }
 {
-    let mut line = Line::new(bytes);
+    let mut line = Cursor::new(bytes);
     let to: Mmsi = field(&mut line, b"pos to=")?;
     let sender = Sender::read(&mut line)?;
     let position: Position = field(&mut line, b" pos=")?;
     let time: HourMinute = field(&mut line, b" time=")?;
-    line.end()?;
+    end(&line)?;
     Ok(Call::Service {
         to,
         category: sender.category,

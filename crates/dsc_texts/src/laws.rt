@@ -1,9 +1,10 @@
 ghost use Rattle.std.specs.Prelude.{◌≡◌, Ok};
 ghost use Rattle.call_values.specs.declared.alerts.Call.{Call};
 ghost use Rattle.call_values.specs.Calls.{IsCall};
-ghost use Rattle.line_grammar.specs.Reading.{read};
+ghost use Rattle.line_grammar.specs.inside.Reading.{read};
 ghost use Rattle.dsc_texts.specs.CallGrammar.{calls};
-ghost use Rattle.dsc_texts.specs.CallParts.{call_parts, call_text};
+ghost use Rattle.dsc_texts.specs.CallParts.{call_text};
+ghost use Rattle.dsc_texts.specs.inside.Places.{call_parts};
 
 /// The law that the plain reader of the grammar of call texts reads a call's text back as its parts. It does nothing.
 pub fn call_texts_are_read()

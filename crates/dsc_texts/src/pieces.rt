@@ -27,11 +27,11 @@ pub fn append_digits<const N: usize>(out: &mut ArrayVec<u8, N>, width: usize, nu
     }
 }
 
-/// Appends a number in plain decimal digits, at most ten.
-pub fn append_number<const N: usize>(out: &mut ArrayVec<u8, N>, number: u32)
-    requires { array_vec_len out.old + 10 ≤ N }
+/// Appends a number in plain decimal digits, at most twenty.
+pub fn append_number<const N: usize>(out: &mut ArrayVec<u8, N>, number: u64)
+    requires { array_vec_len out.old + 20 ≤ N }
     ensures items { out.new.items ≡ out.old.items ++ decimal number }
-    ensures len { array_vec_len out.new ≤ array_vec_len out.old + 10 }
+    ensures len { array_vec_len out.new ≤ array_vec_len out.old + 20 }
 {
     let mut buffer = Buffer::new();
     append(out, buffer.format(number).as_bytes());

@@ -3,25 +3,26 @@ ghost use Rattle.line_grammar.specs.Grammar.{part};
 ghost use Rattle.dsc_texts.specs.CallGrammar as grammar;
 ghost use Rattle.dsc_texts.specs.CallGrammar.{labelled};
 ghost use Rattle.dsc_texts.specs.CallParts.{casualty_parts, distress_parts, sender_parts, request_parts, frequencies_parts};
-ghost use Rattle.dsc_texts.specs.Reading.{ReadsSection};
+ghost use Rattle.dsc_texts.specs.inside.Reading.{ReadsSection};
 
 use crate::fields::Token;
-use crate::line::Line;
+use crate::line::{take, word};
 use call_values::{
     Casualty, Category, Comm, Field, First, HourMinute, Mmsi, Nature, Position, Second,
 };
+use cursor::Cursor;
 
 /// Reads a value behind its label. An error is how many bytes are left at the fault.
-pub fn field<T: Token>(line: &mut Line, label: &[u8]) -> Result<T, usize>
+pub fn field<T: Token>(line: &mut Cursor, label: &[u8]) -> Result<T, usize>
     ensures { ReadsSection (labelled label.now T.token) (λ v. part (T.text v)) line.old result line.new }
 {
-    line.word(label)?;
-    line.take(&T::read(line.rest()))
+    word(line, label)?;
+    take(line, &T::read(line.rest()))
 }
 
 /// Reads nature of distress, position, time and subsequent communications of this ship. An error is how many bytes
 /// are left at the fault.
-pub fn casualty(line: &mut Line, mmsi: Mmsi) -> Result<Casualty, usize>
+pub fn casualty(line: &mut Cursor, mmsi: Mmsi) -> Result<Casualty, usize>
     ensures mmsi { IfOk result (λ casualty. casualty.mmsi ≡ mmsi) }
     ensures reads { ReadsSection grammar.casualty casualty_parts line.old result line.new }
 {
@@ -47,7 +48,7 @@ pub struct Distress {
 
 impl Distress {
     /// Reads a sender, and a casualty that is another ship. An error is how many bytes are left at the fault.
-    pub fn read(line: &mut Line) -> Result<Distress, usize>
+    pub fn read(line: &mut Cursor) -> Result<Distress, usize>
         ensures { ReadsSection grammar.distress (λ v. distress_parts v.from v.casualty) line.old result line.new }
     {
         let from: Mmsi = field(line, b" from=")?;
@@ -66,7 +67,7 @@ pub struct Sender {
 
 impl Sender {
     /// Reads a category and a sender. An error is how many bytes are left at the fault.
-    pub fn read(line: &mut Line) -> Result<Sender, usize>
+    pub fn read(line: &mut Cursor) -> Result<Sender, usize>
         ensures { ReadsSection grammar.sender (λ v. sender_parts v.category v.from) line.old result line.new }
     {
         let category: Category = field(line, b" cat=")?;
@@ -86,7 +87,7 @@ pub struct Request {
 
 impl Request {
     /// Reads a category, a sender and two telecommands. An error is how many bytes are left at the fault.
-    pub fn read(line: &mut Line) -> Result<Request, usize>
+    pub fn read(line: &mut Cursor) -> Result<Request, usize>
         ensures { ReadsSection grammar.request (λ v. request_parts v.category v.from v.first v.second) line.old result line.new }
     {
         let sender = Sender::read(line)?;
@@ -110,7 +111,7 @@ pub struct Frequencies {
 
 impl Frequencies {
     /// Reads two frequencies or channels. An error is how many bytes are left at the fault.
-    pub fn read(line: &mut Line) -> Result<Frequencies, usize>
+    pub fn read(line: &mut Cursor) -> Result<Frequencies, usize>
         ensures { ReadsSection grammar.frequencies (λ v. frequencies_parts v.f1 v.f2) line.old result line.new }
     {
         let f1: Field = field(line, b" f1=")?;

@@ -4,13 +4,13 @@ use Rattle.std.proofs.lemmas.List.{get_or_append_left, get_or_at}
 use Rattle.std.proofs.lemmas.Bool.{cases_lt, cases_order}
 use Rattle.line_grammar.specs.Columns.{IsColumn}
 use Rattle.line_grammar.specs.Grammar.{Parts, Spells}
-use Rattle.line_grammar.specs.Reading.{read}
+use Rattle.line_grammar.specs.inside.Reading.{read}
 use Rattle.line_grammar.proofs.Stops.{Reads, Stops-alike}
 use Rattle.line_grammar.proofs.Grammars.{reads}
 use Rattle.join_lines.specs.declared.faults.Fault.{Fault}
 use Rattle.join_lines.specs.declared.faults.Fault.TheVariants as fault
 use Rattle.join_lines.specs.JoinLine.{JoinLine, IsLine}
-use Rattle.join_lines.specs.Reading.{join_grammar}
+use Rattle.join_lines.specs.inside.Reading.{join_grammar}
 use Rattle.join_lines.specs.Faults.{IsFault, IsFaultless, IsFirstFault}
 use Rattle.join_lines.proofs.Spelled.{lines_alike}
 use Rattle.join_lines.proofs.Readers.{within_line, column_of}

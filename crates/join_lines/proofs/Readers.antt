@@ -5,12 +5,12 @@ use Rattle.std.proofs.lemmas.List.{nil_from_length}
 use Rattle.line_grammar.specs.Columns.{IsColumn}
 use Rattle.line_grammar.specs.Tokens.{run}
 use Rattle.line_grammar.specs.Grammar.{Grammar, finish, anything, field, either, Parts, none, part, first, second, Spells}
-use Rattle.line_grammar.specs.Reading.{read, ended, after, read_token, and_then, and_part, named, further}
+use Rattle.line_grammar.specs.inside.Reading.{read, ended, after, read_token, and_then, and_part, named, further}
 use Rattle.line_grammar.proofs.Stops.{Stops, Reads, Stops-alike, left_le, IsColumn-stops}
 use Rattle.line_grammar.proofs.Grammars.{reads}
 use Rattle.join_lines.specs.JoinLine.{reception, IsLine}
 use Rattle.join_lines.specs.Receptions.{element_of}
-use Rattle.join_lines.specs.Reading.{body_grammar, reception_grammar, join_grammar, parts_of}
+use Rattle.join_lines.specs.inside.Reading.{body_grammar, reception_grammar, join_grammar, parts_of}
 use Rattle.join_lines.proofs.Spelled.{lines_alike, reception_line}
 
 -- a body

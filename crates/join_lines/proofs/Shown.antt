@@ -6,10 +6,15 @@ use Rattle.std.proofs.lemmas.Bool.{or_cases}
 use Rattle.ten_unit.specs.declared.character.Element.{Element}
 use Rattle.phasing.specs.Origin.{lead_of}
 use Rattle.slot_evidence.specs.declared.places.Seen.{Seen}
-use Rattle.slot_evidence.specs.Facts.{no_facts, union, facts_at, facts_of}
+use Rattle.slot_evidence.specs.Facts.{Facts, no_facts, union, facts_at, facts_of}
 use Rattle.slot_evidence.specs.Sheet.{IsEnds}
-use Rattle.slot_evidence.proofs.Ends.{IsEnds-same}
 use Rattle.join_lines.specs.Receptions.{facts_of_all, IsJoined}
+
+-- sets of the same facts have the same sheet
+IsEnds-same : (F G : Facts) (s : List Seen) → ((p v : ℕ) → F p v ≡ G p v) → IsEnds F s → IsEnds G s
+IsEnds-same F G s same ends =
+    let one : F ≡ G = λ i p v. same p v i in
+    subst (λ (H : Facts). IsEnds H s) one ends
 
 -- a reception without origin shows nothing
 no_origin : (e : List Element) (p v : ℕ) → lead_of e ≡ None → no_facts p v ≡ facts_of e p v

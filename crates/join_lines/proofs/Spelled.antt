@@ -9,7 +9,7 @@ use Rattle.line_grammar.specs.Grammar.{finish, either, Parts, none, part, first,
 use Rattle.line_grammar.proofs.Stops.{IsAlike}
 use Rattle.join_lines.specs.JoinLine.{JoinLine, nothing, reception, sign_of, IsLine}
 use Rattle.join_lines.specs.Receptions.{element_of, receptions_in}
-use Rattle.join_lines.specs.Reading.{body_grammar, reception_grammar, join_grammar, parts_of}
+use Rattle.join_lines.specs.inside.Reading.{body_grammar, reception_grammar, join_grammar, parts_of}
 
 -- signs and elements
 sign_again : (b : ℕ) → is_one_of (codes "YB-") b ≡ true → sign_of (element_of b) ≡ b

@@ -1,5 +1,5 @@
 pub mod Faults
 pub mod JoinLine
 pub mod Lines
-pub mod Reading
 pub mod Receptions
+pub mod inside

@@ -1,12 +1,12 @@
 ghost use Rattle.std.specs.Prelude.{◌≡◌, ◌<◌, ◌≤◌, List, [], ◌∷◌, length, map, IfOk, IfErr, OnOk, MatchOption, Ok, Err};
 ghost use Rattle.line_grammar.specs.Columns.{IsColumn};
 ghost use Rattle.line_grammar.specs.Grammar.{part, none};
-ghost use Rattle.line_grammar.specs.Reading.{read};
+ghost use Rattle.line_grammar.specs.inside.Reading.{read};
 ghost use Rattle.join_lines.specs.declared.faults.Fault.{Fault};
 ghost use Rattle.std.specs.List.{prefix_len};
 ghost use Rattle.join_lines.specs.Lines.{lines_of, is_inside};
 ghost use Rattle.join_lines.specs.JoinLine.{JoinLine, IsLine};
-ghost use Rattle.join_lines.specs.Reading.{body_grammar, reception_grammar, parts_of};
+ghost use Rattle.join_lines.specs.inside.Reading.{body_grammar, reception_grammar, parts_of};
 ghost use Rattle.join_lines.specs.Receptions.{receptions_in, element_of};
 ghost use Rattle.join_lines.specs.Faults.{IsFault};
 

@@ -6,8 +6,8 @@ use Rattle.std.proofs.lemmas.List.{append_cancel_left}
 use Rattle.line_grammar.specs.Columns.{Answers, with_column}
 use Rattle.line_grammar.specs.Tokens.{Token, IsToken}
 use Rattle.line_grammar.specs.Grammar.{Grammar, finish, anything, word, field, either, Parts, none, part, first, second, Spells}
-use Rattle.line_grammar.specs.Soundness.{may_have, may_follow, is_some_token, is_sound, cut, cut_all, may_end, differs, is_plain}
-use Rattle.line_grammar.specs.Reading.{read}
+use Rattle.line_grammar.specs.inside.Soundness.{may_have, may_follow, is_some_token, is_sound, cut, cut_all, may_end, differs, is_plain}
+use Rattle.line_grammar.specs.inside.Reading.{read}
 use Rattle.line_grammar.proofs.Splits.{split}
 use Rattle.line_grammar.proofs.Stops.{Reads, left_le, IsColumn-stops}
 use Rattle.line_grammar.proofs.Munching.{has, some_byte, no_token}

@@ -2,7 +2,7 @@
 use Rattle.std.proofs.Common.{◌≡◌, ℕ, zero, suc, ◌+◌, ◌-◌, ◌*◌, ◌<◌, ◌≤◌, Bool, true, false, ◌==◌, ◌&&◌, nat_le, if◌then◌else◌, List, [], ◌∷◌, ◌++◌, length, Ok, Err, refl, sym, ◌∙◌, ap, subst, arith}
 use Rattle.std.proofs.lemmas.Bool.{le-leb, lt-leb, cond-true, cond-false, eq-eqb, ne_eqb}
 use Rattle.line_grammar.specs.Tokens.{number, is_digit, value_after}
-use Rattle.line_grammar.specs.Reading.{reaches, goes_on, judged, judged_zero, read_digits, read_number, read_token}
+use Rattle.line_grammar.specs.inside.Reading.{reaches, goes_on, judged, judged_zero, read_digits, read_number, read_token}
 use Rattle.line_grammar.proofs.Numbers.{reaches_low, value_append}
 
 -- the test in code

@@ -3,7 +3,7 @@ use Rattle.std.proofs.Common.{◌≡◌, ℕ, ◌<◌, true, false, List, [], �
 use Rattle.std.proofs.lemmas.Bool.{and_parts, not-true}
 use Rattle.line_grammar.specs.Tokens.{Token, IsToken}
 use Rattle.line_grammar.specs.Grammar.{Grammar, finish, anything, word, field, either, Parts, none, part, first, second, Spells}
-use Rattle.line_grammar.specs.Soundness.{may_have, may_follow}
+use Rattle.line_grammar.specs.inside.Soundness.{may_have, may_follow}
 use Rattle.line_grammar.proofs.Splits.{split}
 use Rattle.line_grammar.proofs.Stops.{Stops}
 use Rattle.line_grammar.proofs.Tokens.{Munches, Misses}

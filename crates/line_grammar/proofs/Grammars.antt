@@ -4,8 +4,8 @@ use Rattle.std.proofs.lemmas.Bool.{and_parts, eqb-true, eqb-false}
 use Rattle.line_grammar.specs.Columns.{Begins}
 use Rattle.line_grammar.specs.Tokens.{Token}
 use Rattle.line_grammar.specs.Grammar.{Grammar, finish, anything, word, field, either, Parts, none, part, first, second, Spells}
-use Rattle.line_grammar.specs.Soundness.{may_follow, is_some_token, is_sound}
-use Rattle.line_grammar.specs.Reading.{ended, after, read_token, and_then, named, and_part, further, read}
+use Rattle.line_grammar.specs.inside.Soundness.{may_follow, is_some_token, is_sound}
+use Rattle.line_grammar.specs.inside.Reading.{ended, after, read_token, and_then, named, and_part, further, read}
 use Rattle.line_grammar.proofs.Stops.{Stops, Reads, IsChoice, Stops-choice, IsAlike, Stops-alike}
 use Rattle.line_grammar.proofs.Words.{IsByte, Stops-byte, Stops-other, Stops-short}
 use Rattle.line_grammar.proofs.Tokens.{TokenReads}

@@ -3,8 +3,8 @@ use Rattle.std.proofs.Common.{◌≡◌, ℕ, true, ◌==◌, List, [], ◌∷�
 use Rattle.std.specs.List.{prefix_len, list_all}
 use Rattle.std.proofs.lemmas.Bool.{leb-true}
 use Rattle.line_grammar.specs.Tokens.{Token, run, number, shaped, is_one_of, is_digit, IsToken}
-use Rattle.line_grammar.specs.Soundness.{shape_may_have, may_have, is_some_token}
-use Rattle.line_grammar.specs.Reading.{read_token}
+use Rattle.line_grammar.specs.inside.Soundness.{shape_may_have, may_have, is_some_token}
+use Rattle.line_grammar.specs.inside.Reading.{read_token}
 use Rattle.line_grammar.proofs.Tokens.{TokenReads, all_have, some_run, run_reads}
 use Rattle.line_grammar.proofs.Numbers.{some_number, number_reads}
 use Rattle.line_grammar.proofs.Shapes.{shape_has, no_shape, some_shape, shape_reads}

@@ -4,7 +4,7 @@ use Rattle.std.specs.List.{list_all}
 use Rattle.std.proofs.lemmas.Bool.{and_parts, and_from, leb-true, leb-false, le-leb, eqb-true, eqb-false, cases_lt}
 use Rattle.std.proofs.lemmas.List.Folds.{list_all-append}
 use Rattle.line_grammar.specs.Tokens.{number, is_digit, value_after, HasNoLeadingZero, IsNumber}
-use Rattle.line_grammar.specs.Reading.{reaches, goes_on, judged, judged_zero, read_digits, read_number}
+use Rattle.line_grammar.specs.inside.Reading.{reaches, goes_on, judged, judged_zero, read_digits, read_number}
 use Rattle.line_grammar.proofs.Splits.{split}
 use Rattle.line_grammar.proofs.Tokens.{Misses, TokenReads}
 

@@ -5,8 +5,8 @@ use Rattle.std.proofs.lemmas.List.{nil_from_length}
 use Rattle.std.proofs.Math.Nat.{div-eq_of_lt}
 use Rattle.line_grammar.specs.Shapes.{numeral, digits, is_within}
 use Rattle.line_grammar.specs.Tokens.{is_digit}
-use Rattle.line_grammar.specs.Reading.{behind, fits, read_numeral, read_shape}
-use Rattle.line_grammar.specs.Soundness.{are_ranges}
+use Rattle.line_grammar.specs.inside.Reading.{behind, fits, read_numeral, read_shape}
+use Rattle.line_grammar.specs.inside.Soundness.{are_ranges}
 use Rattle.line_grammar.proofs.ShapesNumerals.{are_all_of, some_numeral, within_below, within_fits, fits_below, fits_within, power_order}
 
 -- digits that were read so far

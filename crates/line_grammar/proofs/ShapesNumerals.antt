@@ -7,8 +7,8 @@ use Rattle.std.proofs.lemmas.Nat.{le-div}
 use Rattle.std.proofs.Math.Nat.{div-div-eq-div-mul, div-mul-le_self, pow-suc, pow-succ', pow-zero, div-eq_of_lt, div-one, div-le_self, mul-div_cancel, mul-le-mul_right}
 use Rattle.line_grammar.specs.Shapes.{digits, is_within}
 use Rattle.line_grammar.specs.Tokens.{is_digit}
-use Rattle.line_grammar.specs.Soundness.{are_ranges}
-use Rattle.line_grammar.specs.Reading.{fits}
+use Rattle.line_grammar.specs.inside.Soundness.{are_ranges}
+use Rattle.line_grammar.specs.inside.Reading.{fits}
 
 -- powers of ten
 pub power_positive : (k : ℕ) → 0 < 10 ^ k

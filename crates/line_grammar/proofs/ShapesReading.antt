@@ -2,7 +2,7 @@
 use Rattle.std.proofs.Common.{◌≡◌, ℕ, zero, suc, ◌+◌, ◌-◌, ◌*◌, ◌<◌, ◌≤◌, Bool, true, false, ◌==◌, ◌&&◌, if◌then◌else◌, List, [], ◌∷◌, ◌++◌, length, Result, Ok, Err, refl, sym, ap, subst, arith, length-append}
 use Rattle.std.proofs.lemmas.Bool.{and_parts, and_from, eqb-true, eqb-false}
 use Rattle.line_grammar.specs.Tokens.{is_digit}
-use Rattle.line_grammar.specs.Reading.{after, behind, and_letters, fits, read_numeral}
+use Rattle.line_grammar.specs.inside.Reading.{after, behind, and_letters, fits, read_numeral}
 use Rattle.line_grammar.proofs.ShapesNumerals.{digits_none, are_all, Numbered, numbered_some, numbered_none, numbered_more, numbered_next}
 
 -- no such part stands there, and this many bytes are left where none goes on

@@ -5,7 +5,7 @@ use Rattle.std.proofs.lemmas.Bool.{eq-eqb, ne_eqb, cond-true, cond-false}
 use Rattle.std.proofs.lemmas.List.{drop_more, drop_all, nil_from_length}
 use Rattle.line_grammar.specs.Grammar.{none}
 use Rattle.line_grammar.specs.Tokens.{run, is_one_of}
-use Rattle.line_grammar.specs.Reading.{ended, after, read_token}
+use Rattle.line_grammar.specs.inside.Reading.{ended, after, read_token}
 
 pub after_end : (text rest : List ℕ) (i : ℕ) → i < length text → length rest ≡ 0 → after (drop i text) rest ≡ Err 0
 unfolding after

@@ -5,7 +5,7 @@ use Rattle.std.proofs.lemmas.Bool.{eqb-true, eqb-false, eq-eqb, and_parts, and_f
 use Rattle.std.proofs.lemmas.List.{take-append-drop}
 use Rattle.std.proofs.lemmas.List.Folds.{length-prefix_len}
 use Rattle.line_grammar.specs.Tokens.{Token, run, is_one_of, IsToken}
-use Rattle.line_grammar.specs.Soundness.{is_some_token}
+use Rattle.line_grammar.specs.inside.Soundness.{is_some_token}
 
 -- a token was read, and can't be longer
 pub record Munches (token : Token) (bytes front back : List ℕ) : Type 0 where

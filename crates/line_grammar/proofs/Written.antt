@@ -3,8 +3,8 @@ use Rattle.std.proofs.Common.{◌≡◌, ℕ, Bool, true, false, ◌&&◌, List,
 use Rattle.std.proofs.lemmas.Bool.{and_parts}
 use Rattle.line_grammar.specs.Columns.{Answers, with_column}
 use Rattle.line_grammar.specs.Grammar.{Grammar, finish, anything, word, field, either, Parts, none, part, first, second, Spells, AreParts, written}
-use Rattle.line_grammar.specs.Soundness.{is_sound, is_plain}
-use Rattle.line_grammar.specs.Reading.{read}
+use Rattle.line_grammar.specs.inside.Soundness.{is_sound, is_plain}
+use Rattle.line_grammar.specs.inside.Reading.{read}
 use Rattle.line_grammar.proofs.Apart.{answers}
 
 -- what was written is a line of its parts

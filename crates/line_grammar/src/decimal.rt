@@ -1,8 +1,8 @@
 ghost use Rattle.std.specs.Prelude.{◌≡◌, ℕ, ◌+◌, ◌-◌, ◌*◌, ◌<◌, ◌≤◌, ◌^◌, ◌&&◌, true, false, List, length, IfOk, IfErr, MatchOption, Ok, Err};
 ghost use Rattle.line_grammar.specs.Tokens as tokens;
 ghost use Rattle.line_grammar.specs.Tokens.{is_digit, value_after};
-ghost use Rattle.line_grammar.specs.Reading as readers;
-ghost use Rattle.line_grammar.specs.Reading.{judged, read_digits, read_token};
+ghost use Rattle.line_grammar.specs.inside.Reading as readers;
+ghost use Rattle.line_grammar.specs.inside.Reading.{judged, read_digits, read_token};
 
 /// Whether some number from the least to the most begins with the digits of this one, which isn't 0.
 fn goes_on(least: u64, most: u64, number: u64) -> bool

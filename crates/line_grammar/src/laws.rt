@@ -1,8 +1,8 @@
 ghost use Rattle.std.specs.Prelude.{◌≡◌, ℕ, List, Ok, true};
 ghost use Rattle.line_grammar.specs.Columns.{Answers, with_column};
 ghost use Rattle.line_grammar.specs.Grammar.{AreParts, Grammar, Parts, Spells, written};
-ghost use Rattle.line_grammar.specs.Reading.{read};
-ghost use Rattle.line_grammar.specs.Soundness.{is_sound, is_plain};
+ghost use Rattle.line_grammar.specs.inside.Reading.{read};
+ghost use Rattle.line_grammar.specs.inside.Soundness.{is_sound, is_plain};
 
 /// The plain reader of a sound and plain grammar answers each line with its one reading, or with its column.
 pub fn grammars_are_read()

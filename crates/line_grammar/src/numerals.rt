@@ -2,8 +2,8 @@ ghost use Rattle.std.specs.Prelude.{◌≡◌, ℕ, ◌+◌, ◌-◌, ◌*◌, �
 ghost use Rattle.line_grammar.specs.Shapes as shape;
 ghost use Rattle.line_grammar.specs.Shapes.{digits, is_within};
 ghost use Rattle.line_grammar.specs.Tokens.{is_digit};
-ghost use Rattle.line_grammar.specs.Reading.{fits, read_shape};
-ghost use Rattle.line_grammar.specs.Soundness.{are_ranges};
+ghost use Rattle.line_grammar.specs.inside.Reading.{fits, read_shape};
+ghost use Rattle.line_grammar.specs.inside.Soundness.{are_ranges};
 
 /// Ten to this power.
 fn power_of_ten(exponent: usize) -> u64
@@ -15,7 +15,7 @@ fn power_of_ten(exponent: usize) -> u64
 }
 
 /// Whether some number of these ranges has so many digits more behind those of this one.
-#[tactic(auto, unfolding(crate::specs::Reading::fits))]
+#[tactic(auto, unfolding(crate::specs::inside::Reading::fits))]
 fn goes_on(more: usize, ranges: &[(u64, u64)], number: u64) -> bool
     requires { more ≤ 10 }
     ensures { result ≡ fits more ranges.now number }

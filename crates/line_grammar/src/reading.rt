@@ -2,7 +2,7 @@ ghost use Rattle.std.specs.Prelude.{◌≡◌, ◌+◌, ◌≤◌, ◌<◌, ◌^
 ghost use Rattle.std.specs.List.{prefix_len};
 ghost use Rattle.line_grammar.specs.Grammar.{none};
 ghost use Rattle.line_grammar.specs.Tokens as tokens;
-ghost use Rattle.line_grammar.specs.Reading.{after, ended, read_token};
+ghost use Rattle.line_grammar.specs.inside.Reading.{after, ended, read_token};
 
 /// What follows a word at the front of these bytes. An error is how many bytes are left where they leave the word.
 pub fn word<'a>(text: &[u8], bytes: &'a [u8]) -> Result<&'a [u8], usize>

@@ -1,5 +1,6 @@
 -- What words of 64 bits say of 64 leads at once, a bit a lead: which phasing symbols begin at a place, and how many are right. This project's own form.
 use Rattle.std.specs.Prelude.{ℕ, ◌-◌, ◌<◌, nat_le, slice_index}
+use Rattle.dsc_symbols.specs.declared.phasing.TheConstants.{DX, RX_7}
 use Rattle.ten_unit.specs.declared.character.Element.{Element}
 use Rattle.ten_unit.specs.Marks.{IsMarks}
 use Rattle.ten_unit.specs.Word.{word_of}
@@ -7,10 +8,10 @@ use Rattle.phasing.specs.declared.marking.Phasing.{Phasing}
 use Rattle.phasing.specs.declared.counting.Count.{Count}
 use Rattle.phasing.specs.Places.{is_at}
 
--- at which of 64 places from base on the word of 125 begins, and those of 111 down to 104
+-- at which of 64 places from base on the word of DX begins, and those of RX 7 down to RX 0
 pub record ArePhasing (marks : Phasing) (base : ℕ) (e : ℕ → Element) : Type 0 where
-  pub dx : IsMarks marks.dx base (is_at e (word_of 125))
-  pub rx : (k : ℕ) → k < 8 → IsMarks (slice_index marks.rx k) base (is_at e (word_of (111 - k)))
+  pub dx : IsMarks marks.dx base (is_at e (word_of DX))
+  pub rx : (k : ℕ) → k < 8 → IsMarks (slice_index marks.rx k) base (is_at e (word_of (RX_7 - k)))
 
 -- at which of 64 places from base on a number is at least one, at least two, at least three
 pub record IsCount (count : Count) (base : ℕ) (number : ℕ → ℕ) : Type 0 where

@@ -1,18 +1,19 @@
 -- The origin of a reception: ITU-R M.493, section on the phasing sequence. That no origin stands before -150 is this project's profile.
 use Rattle.std.specs.Prelude.{◌≡◌, ℕ, ◌+◌, ◌-◌, ◌/◌, Bool, ◌&&◌, ◌||◌, nat_le, List, [], ◌∷◌, length, count_by, map, find, Option, option_map, ℤ, pos, ◌-ℤ◌}
 use Rattle.std.specs.List.{range_with_len}
+use Rattle.dsc_symbols.specs.declared.phasing.TheConstants.{DX, RX_7, RX_6, RX_5, RX_4, RX_3, RX_2, RX_1, RX_0}
 use Rattle.ten_unit.specs.declared.character.Element.{Element}
 use Rattle.ten_unit.specs.Word.{word_of}
 use Rattle.phasing.specs.Slot.{shows}
 
--- how many DX slots show their phasing symbol, which is 125
+-- how many DX slots show their phasing symbol, which is DX
 abbrev pub dx_right : List Element → ℕ → ℕ
-dx_right e lead = count_by (λ s. shows e lead s 125) (0 ∷ 2 ∷ 4 ∷ 6 ∷ 8 ∷ 10 ∷ [])
+dx_right e lead = count_by (λ s. shows e lead s DX) (0 ∷ 2 ∷ 4 ∷ 6 ∷ 8 ∷ 10 ∷ [])
 
--- how many RX slots show theirs, which falls from 111 to 104
+-- how many RX slots show theirs, which falls from RX 7 to RX 0
 abbrev pub rx_right : List Element → ℕ → ℕ
 rx_right e lead =
-    count_by (λ s. shows e lead s (111 - (s - 1) / 2)) (1 ∷ 3 ∷ 5 ∷ 7 ∷ 9 ∷ 11 ∷ 13 ∷ 15 ∷ [])
+    count_by (λ s. shows e lead s (RX_7 - (s - 1) / 2)) (1 ∷ 3 ∷ 5 ∷ 7 ∷ 9 ∷ 11 ∷ 13 ∷ 15 ∷ [])
 
 -- these many right phasing symbols are enough: two DX and one RX, or two RX and one DX, or three RX
 abbrev pub is_enough : ℕ → ℕ → Bool
@@ -30,6 +31,6 @@ lead_of e = find (is_phased e) (range_with_len 0 (length e + 150))
 abbrev pub origin_of : List Element → Option ℤ
 origin_of e = option_map (λ lead. pos lead -ℤ pos 150) (lead_of e)
 
--- the words of the symbols 111 down to 104
+-- the words of the symbols RX 7 down to RX 0
 abbrev pub AreRxWords : List (List Element) → Type 0
-AreRxWords words = words ≡ map word_of (111 ∷ 110 ∷ 109 ∷ 108 ∷ 107 ∷ 106 ∷ 105 ∷ 104 ∷ [])
+AreRxWords words = words ≡ map word_of (RX_7 ∷ RX_6 ∷ RX_5 ∷ RX_4 ∷ RX_3 ∷ RX_2 ∷ RX_1 ∷ RX_0 ∷ [])

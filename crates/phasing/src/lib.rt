@@ -13,7 +13,7 @@ mod window;
 
 pub use laws::{late_starts_are_found, none_past_the_end, origin_is_least};
 pub use phase::{lead, origin};
-pub use reception::slot_symbol;
+pub use reception::{LAST_LEAD, LONGEST, slot_symbol};
 pub use sending::transmission;
 pub use window::planes_from;
 

@@ -5,9 +5,10 @@ ghost use Rattle.ten_unit.specs.declared.character.Element.{Element};
 ghost use Rattle.phasing.specs.Places.{element_at, is_at};
 ghost use Rattle.phasing.specs.Marked.{ArePhasing};
 
+use dsc_symbols::phasing::{DX, RX_0, RX_1, RX_2, RX_3, RX_4, RX_5, RX_6, RX_7};
 use ten_unit::{Element, Planes, word};
 
-/// At which of 64 places the words of the phasing symbols begin, a bit a place: of 125, and of 111 down to 104.
+/// At which of 64 places the words of the phasing symbols begin, a bit a place: of DX, and of RX 7 down to RX 0.
 #[derive(Clone, Copy)]
 pub(crate) struct Phasing {
     pub dx: u64,
@@ -70,16 +71,16 @@ pub(crate) fn phasing_marked(here: Planes, next: Planes) -> Phasing
         → ArePhasing result base e }
 {
     Phasing {
-        dx: word_marked(&word(125), here, next),
+        dx: word_marked(&word(DX), here, next),
         rx: [
-            word_marked(&word(111), here, next),
-            word_marked(&word(110), here, next),
-            word_marked(&word(109), here, next),
-            word_marked(&word(108), here, next),
-            word_marked(&word(107), here, next),
-            word_marked(&word(106), here, next),
-            word_marked(&word(105), here, next),
-            word_marked(&word(104), here, next),
+            word_marked(&word(RX_7), here, next),
+            word_marked(&word(RX_6), here, next),
+            word_marked(&word(RX_5), here, next),
+            word_marked(&word(RX_4), here, next),
+            word_marked(&word(RX_3), here, next),
+            word_marked(&word(RX_2), here, next),
+            word_marked(&word(RX_1), here, next),
+            word_marked(&word(RX_0), here, next),
         ],
     }
 }

@@ -7,6 +7,7 @@ ghost use Rattle.phasing.specs.Places.{element_at};
 
 use crate::counting::Count;
 use crate::marking::{Phasing, phasing_marked, shifted};
+use crate::reception::LONGEST;
 use crate::window::planes_from;
 use ten_unit::Element;
 
@@ -68,7 +69,7 @@ fn phased(first: &Phasing, second: &Phasing, third: &Phasing, fourth: &Phasing) 
 /// places move over the reception, from lead 22 on, so that element 0 is the first of a block. It takes some six
 /// instructions an element and under 1 KB of stack at any length.
 pub fn lead(e: &[Element]) -> Option<u32>
-    requires { length e.now ≤ 1000000 }
+    requires { length e.now ≤ LONGEST }
     ensures least { result ≡ sequence.lead_of e.now }
     ensures within { IfSome result (λ lead. lead < length e.now + 150) }
     ensures from { IfSome result (λ lead. 40 ≤ lead) }
@@ -96,7 +97,7 @@ pub fn lead(e: &[Element]) -> Option<u32>
 /// from -150 on (this project's profile), the least one at which at least two DX and one RX phasing symbols are
 /// right, or two RX and one DX, or three RX. `None` comes exactly where there is none.
 pub fn origin(e: &[Element]) -> Option<i32>
-    requires { length e.now ≤ 1000000 }
+    requires { length e.now ≤ LONGEST }
     ensures { result ≡ sequence.origin_of e.now }
 {
     lead(e).map(|lead| lead as i32 - 150)

@@ -5,13 +5,14 @@ ghost use Rattle.phasing.specs.Origin as sequence;
 ghost use Rattle.phasing.specs.Origin.{AreRxWords};
 ghost use Rattle.phasing.specs.Slot as diversity;
 
-use crate::reception::elements;
+use crate::reception::{LAST_LEAD, LONGEST, elements};
+use dsc_symbols::phasing::{DX, RX_0, RX_1, RX_2, RX_3, RX_4, RX_5, RX_6, RX_7};
 use ten_unit::{Element, is_same, is_word, word};
 
 /// Whether a slot shows the symbol of which this is the word.
 fn has(e: &[Element], lead: u32, slot: u16, word: &[Element; 10]) -> bool
-    requires length { length e.now ≤ 1000000 }
-    requires lead { lead ≤ 1000150 }
+    requires length { length e.now ≤ LONGEST }
+    requires lead { lead ≤ LAST_LEAD }
     ensures { (v : ℕ) → word.now ≡ word_of v → result ≡ diversity.shows e.now lead slot v }
 {
     is_same(elements(e, lead, slot), word)
@@ -19,8 +20,8 @@ fn has(e: &[Element], lead: u32, slot: u16, word: &[Element; 10]) -> bool
 
 /// Whether a slot shows a symbol from 0 to 127.
 fn shows(e: &[Element], lead: u32, slot: u16, symbol: u8) -> bool
-    requires length { length e.now ≤ 1000000 }
-    requires lead { lead ≤ 1000150 }
+    requires length { length e.now ≤ LONGEST }
+    requires lead { lead ≤ LAST_LEAD }
     requires symbol { symbol < 128 }
     ensures { result ≡ diversity.shows e.now lead slot symbol }
 {
@@ -29,36 +30,36 @@ fn shows(e: &[Element], lead: u32, slot: u16, symbol: u8) -> bool
 
 /// How many DX slots show their phasing symbol.
 fn dx_right(e: &[Element], lead: u32) -> usize
-    requires length { length e.now ≤ 1000000 }
-    requires lead { lead ≤ 1000150 }
+    requires length { length e.now ≤ LONGEST }
+    requires lead { lead ≤ LAST_LEAD }
     ensures { result ≡ sequence.dx_right e.now lead }
 {
     [0, 2, 4, 6, 8, 10]
         .iter()
-        .filter(|slot| shows(e, lead, **slot, 125))
+        .filter(|slot| shows(e, lead, **slot, DX))
         .count()
 }
 
-/// The words of the phasing symbols 111 down to 104, which stand in the RX slots 1, 3, .. 15.
+/// The words of the phasing symbols RX 7 down to RX 0, which stand in the RX slots 1, 3, .. 15.
 fn rx_words() -> [[Element; 10]; 8]
     ensures { AreRxWords result }
 {
     [
-        word(111),
-        word(110),
-        word(109),
-        word(108),
-        word(107),
-        word(106),
-        word(105),
-        word(104),
+        word(RX_7),
+        word(RX_6),
+        word(RX_5),
+        word(RX_4),
+        word(RX_3),
+        word(RX_2),
+        word(RX_1),
+        word(RX_0),
     ]
 }
 
 /// How many RX slots show theirs, of which these are the words.
 fn rx_right(e: &[Element], lead: u32, words: &[[Element; 10]; 8]) -> usize
-    requires length { length e.now ≤ 1000000 }
-    requires lead { lead ≤ 1000150 }
+    requires length { length e.now ≤ LONGEST }
+    requires lead { lead ≤ LAST_LEAD }
     requires words { AreRxWords words.now }
     ensures { result ≡ sequence.rx_right e.now lead }
 {
@@ -75,8 +76,8 @@ fn rx_right(e: &[Element], lead: u32, words: &[[Element; 10]; 8]) -> usize
 
 /// Whether enough phasing symbols are right at a lead. Without an RX one the DX slots need no look.
 fn is_phased(e: &[Element], lead: u32, words: &[[Element; 10]; 8]) -> bool
-    requires length { length e.now ≤ 1000000 }
-    requires lead { lead ≤ 1000150 }
+    requires length { length e.now ≤ LONGEST }
+    requires lead { lead ≤ LAST_LEAD }
     requires words { AreRxWords words.now }
     ensures { result ≡ sequence.is_phased e.now lead }
 {
@@ -96,7 +97,7 @@ fn is_enough(dx: usize, rx: usize) -> bool
 
 /// The lead of a reception's origin.
 pub(crate) fn lead(e: &[Element]) -> Option<u32>
-    requires { length e.now ≤ 1000000 }
+    requires { length e.now ≤ LONGEST }
     ensures least { result ≡ sequence.lead_of e.now }
     ensures within { IfSome result (λ lead. lead < length e.now + 150) }
 {
@@ -106,7 +107,7 @@ pub(crate) fn lead(e: &[Element]) -> Option<u32>
 
 /// The origin of a reception.
 pub(crate) fn origin(e: &[Element]) -> Option<i32>
-    requires { length e.now ≤ 1000000 }
+    requires { length e.now ≤ LONGEST }
     ensures { result ≡ sequence.origin_of e.now }
 {
     lead(e).map(|lead| lead as i32 - 150)

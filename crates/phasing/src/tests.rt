@@ -1,4 +1,4 @@
-use crate::{lead, origin, plain, slot_symbol, transmission};
+use crate::{LONGEST, lead, origin, plain, slot_symbol, transmission};
 use std::alloc::{AllocError, Global};
 use std::test::Fail;
 use ten_unit::{Element, word};
@@ -92,7 +92,7 @@ fn a_long_dot_pattern(rt: HostRuntime) {
 
 /// Whether the search and the definition's program find one lead and one origin.
 fn is_found_alike(e: &[Element]) -> bool {
-    e.len() <= 1000000 && lead(e) == plain::lead(e) && origin(e) == plain::origin(e)
+    e.len() <= LONGEST && lead(e) == plain::lead(e) && origin(e) == plain::origin(e)
 }
 
 /// An alert behind dots, which begins later and later: its lead is each from 350 down to 0, and so at each edge of a

@@ -7,14 +7,14 @@ ghost use Rattle.slot_evidence.specs.Seen.{IsSeen, IsLawful};
 ghost use Rattle.slot_evidence.specs.Sheet.{IsSheet, IsEnds, seen_at};
 
 use crate::places::Seen;
-use phasing::{lead, slot_symbol};
+use phasing::{LAST_LEAD, LONGEST, lead, slot_symbol};
 use ten_unit::Element;
 use time_diversity::{dx_slot, rx_slot};
 
 /// What a slot shows.
 fn seen_in(e: &[Element], lead: u32, slot: u16) -> Seen
-    requires length { length e.now ≤ 1000000 }
-    requires lead { lead ≤ 1000150 }
+    requires length { length e.now ≤ LONGEST }
+    requires lead { lead ≤ LAST_LEAD }
     ensures seen { IsSeen (λ v. nat_lt v 128 && shows e.now lead slot v) result }
     ensures lawful { IsLawful result }
 {
@@ -26,8 +26,8 @@ fn seen_in(e: &[Element], lead: u32, slot: u16) -> Seen
 
 /// What the two slots of a place show.
 fn seen_of(e: &[Element], lead: u32, p: u8) -> Seen
-    requires length { length e.now ≤ 1000000 }
-    requires lead { lead ≤ 1000150 }
+    requires length { length e.now ≤ LONGEST }
+    requires lead { lead ≤ LAST_LEAD }
     requires place { p < 64 }
     ensures seen { IsSeen (facts_at e.now (Some lead) p) result }
     ensures lawful { IsLawful result }
@@ -37,8 +37,8 @@ fn seen_of(e: &[Element], lead: u32, p: u8) -> Seen
 
 /// What the slots of each place show.
 fn places_of(e: &[Element], lead: u32) -> [Seen; 64]
-    requires length { length e.now ≤ 1000000 }
-    requires lead { lead ≤ 1000150 }
+    requires length { length e.now ≤ LONGEST }
+    requires lead { lead ≤ LAST_LEAD }
     ensures seen { (p : ℕ) → IsSeen (facts_at e.now (Some lead) p) (seen_at result p) }
     ensures lawful { IsSheet result }
 {
@@ -51,7 +51,7 @@ fn places_of(e: &[Element], lead: u32) -> [Seen; 64]
 
 /// What is kept of each place of a reception's facts.
 pub(crate) fn read_sheet(e: &[Element]) -> Option<[Seen; 64]>
-    requires { length e.now ≤ 1000000 }
+    requires { length e.now ≤ LONGEST }
     ensures some { IfSome result (λ s. IsEnds (facts_of e.now) s) }
     ensures none { IsNone result ↔ (lead_of e.now ≡ None) }
 {

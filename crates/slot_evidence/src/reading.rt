@@ -6,7 +6,7 @@ ghost use Rattle.slot_evidence.specs.Sheet.{IsEnds};
 
 use crate::sheets::Sheet;
 use crate::slots::{Shown, read_slots};
-use phasing::lead;
+use phasing::{LONGEST, lead};
 use ten_unit::Element;
 
 /// The number after a symbol, and 0 after none, which is 128.
@@ -46,7 +46,7 @@ fn pasts_of(shown: &Shown) -> [u8; 64]
 /// Behind the origin it reads the slots' symbols six slots a step, and then the least and the greatest of each place's
 /// two, sixteen places a step.
 pub fn read_sheet(e: &[Element]) -> Option<Sheet>
-    requires { length e.now ≤ 1000000 }
+    requires { length e.now ≤ LONGEST }
     ensures some { IfSome result (λ s. IsEnds (facts_of e.now) s) }
     ensures none { IsNone result ↔ (lead_of e.now ≡ None) }
 {

@@ -3,7 +3,7 @@ ghost use Rattle.std.specs.Prelude.{◌≡◌, ℕ, ◌+◌, ◌*◌, ◌<◌, �
 ghost use Rattle.ten_unit.specs.Symbol.{IsSymbol};
 ghost use Rattle.phasing.specs.Slot.{slot};
 
-use phasing::planes_from;
+use phasing::{LAST_LEAD, LONGEST, planes_from};
 use ten_unit::{Element, symbol_at};
 
 /// The symbols of slots 12 to 143, 128 for none: in `dx` those of the even ones, in turn, from slot 12 on, which is the DX
@@ -18,9 +18,9 @@ pub(crate) struct Shown {
 ///
 /// It packs 64 elements a step as bits, of which 60 are six slots', and looks into a table by each slot's ten bits.
 pub(crate) fn read_slots(e: &[Element], lead: u32) -> Shown
-    requires length { length e.now ≤ 1000000 }
+    requires length { length e.now ≤ LONGEST }
     requires begun { 40 ≤ lead }
-    requires lead { lead ≤ 1000150 }
+    requires lead { lead ≤ LAST_LEAD }
     ensures dx { (k : ℕ) → k < 66 → IsSymbol (slot e.now lead (12 + 2 * k)) (slice_index result.dx k) }
     ensures rx { (k : ℕ) → k < 66 → IsSymbol (slot e.now lead (13 + 2 * k)) (slice_index result.rx k) }
 {
@@ -38,8 +38,8 @@ pub(crate) fn read_slots(e: &[Element], lead: u32) -> Shown
 
 /// How many windows of six slots from slot 12 on begin inside a reception of this length, at most 22.
 fn windows(length: u32, lead: u32) -> u32
-    requires length { length ≤ 1000000 }
-    requires lead { lead ≤ 1000150 }
+    requires length { length ≤ LONGEST }
+    requires lead { lead ≤ LAST_LEAD }
     ensures most { result ≤ 22 }
     ensures rest { (k : ℕ) → 3 * result ≤ k → k < 66 → length + 150 ≤ lead + 10 * (12 + 2 * k) }
 {

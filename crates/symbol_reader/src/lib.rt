@@ -5,4 +5,4 @@ mod letters;
 mod reading;
 
 pub use letters::Letter;
-pub use reading::{Reader, Stop};
+pub use reading::{Stop, symbol};

@@ -1,6 +1,6 @@
 ghost use Rattle.std.specs.Prelude.{◌≡◌, ◌≢◌, ℕ, List, slice_index};
 ghost use Rattle.time_diversity.specs.Slots.{dx_slot, rx_slot, IsSlotOf};
-ghost use Rattle.time_diversity.specs.OnAir.{slot_symbol};
+ghost use Rattle.time_diversity.specs.OnAir.{sent_symbol};
 
 /// Every place has two slots, and no slot is one of two places.
 pub fn slots_of_a_place()
@@ -10,5 +10,5 @@ pub fn slots_of_a_place()
 
 /// Both slots of a place show the place's character.
 pub fn both_slots_show_the_character()
-    ensures { (list : List ℕ) (slot p : ℕ) → IsSlotOf slot p → slot_symbol list slot ≡ slice_index list p }
+    ensures { (list : List ℕ) (slot p : ℕ) → IsSlotOf slot p → sent_symbol list slot ≡ slice_index list p }
 {}

@@ -3,6 +3,7 @@ ghost use Rattle.time_diversity.specs.OnAir as diversity;
 
 use crate::slots::place_of;
 use arrayvec::ArrayVec;
+use dsc_symbols::phasing::{DX, RX_7};
 
 /// The phasing symbol of a slot that is no place's.
 fn phasing_symbol(slot: u16) -> u8
@@ -10,17 +11,17 @@ fn phasing_symbol(slot: u16) -> u8
     ensures { result ≡ diversity.phasing_symbol slot }
 {
     if slot % 2 == 0 {
-        125
+        DX
     } else {
-        111 - (slot as u8 - 1) / 2
+        RX_7 - (slot as u8 - 1) / 2
     }
 }
 
 /// The symbol of a slot of the transmission of a list.
-fn slot_symbol(list: &[u8], slot: u16) -> u8
+fn sent_symbol(list: &[u8], slot: u16) -> u8
     requires length { length list.now ≤ 64 }
     requires slot { slot < 2 * length list.now + 12 }
-    ensures { result ≡ diversity.slot_symbol list.now slot }
+    ensures { result ≡ diversity.sent_symbol list.now slot }
 {
     match place_of(slot) {
         Some(p) => list[p as usize],
@@ -39,7 +40,7 @@ pub fn on_air(list: &[u8]) -> ArrayVec<u8, 160>
 {
     let mut slots = ArrayVec::new();
     for slot in 0..2 * list.len() as u16 + 12 {
-        slots.push(slot_symbol(list, slot));
+        slots.push(sent_symbol(list, slot));
     }
     slots
 }

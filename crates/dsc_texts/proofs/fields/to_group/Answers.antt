@@ -1,4 +1,4 @@
-use Rattle.line_grammar.specs.Reading.{read_token}
+use Rattle.line_grammar.specs.inside.Reading.{read_token}
 use Rattle.dsc_texts.proofs.FieldSteps.{passed_on, letters_missed, letters_read, first_missed, second_missed, pair_read}
 use Rattle.dsc_texts.proofs.fields.to_group.Goals as goal
 

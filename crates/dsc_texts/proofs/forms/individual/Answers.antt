@@ -1,10 +1,11 @@
 use Rattle.std.proofs.Common.{codes, sym, ◌∙◌, ap}
 use Rattle.line_grammar.specs.Grammar.{Parts, part}
 use Rattle.line_grammar.specs.Shapes.{digits}
-use Rattle.line_grammar.specs.Reading.{read}
+use Rattle.line_grammar.specs.inside.Reading.{read}
 use Rattle.dsc_texts.specs.CallGrammar as grammar
 use Rattle.dsc_texts.specs.CallGrammar.{labelled}
-use Rattle.dsc_texts.specs.CallParts.{nth, request_parts, call_parts}
+use Rattle.dsc_texts.specs.CallParts.{request_parts}
+use Rattle.dsc_texts.specs.inside.Places.{nth, call_parts}
 use Rattle.dsc_texts.proofs.SectionSteps.{two_before, leaves_form}
 use Rattle.dsc_texts.proofs.forms.individual.Goals as goal
 

@@ -1,9 +1,9 @@
 use Rattle.std.proofs.Common.{codes, refl, sym, ◌∙◌, ap}
 use Rattle.line_grammar.specs.Grammar.{finish}
-use Rattle.line_grammar.specs.Reading.{read}
+use Rattle.line_grammar.specs.inside.Reading.{read}
 use Rattle.dsc_texts.specs.CallGrammar as grammar
 use Rattle.dsc_texts.specs.CallGrammar.{labelled}
-use Rattle.dsc_texts.specs.CallParts.{nth, call_parts}
+use Rattle.dsc_texts.specs.inside.Places.{nth, call_parts}
 use Rattle.dsc_texts.proofs.SectionSteps.{both, behind, whole, no_end, leaves_form}
 use Rattle.dsc_texts.proofs.forms.relay_ack.Goals as goal
 

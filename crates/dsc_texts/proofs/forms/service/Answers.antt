@@ -1,6 +1,6 @@
 use Rattle.line_grammar.specs.Grammar.{either}
 use Rattle.dsc_texts.specs.CallGrammar as grammar
-use Rattle.dsc_texts.specs.CallParts.{last, call_parts}
+use Rattle.dsc_texts.specs.inside.Places.{last, call_parts}
 use Rattle.dsc_texts.proofs.SectionSteps.{further_form}
 use Rattle.dsc_texts.proofs.forms.service.Goals as goal
 

@@ -1,4 +1,4 @@
-use Rattle.join_lines.specs.Reading.{body_grammar}
+use Rattle.join_lines.specs.inside.Reading.{body_grammar}
 use Rattle.join_lines.proofs.Readers.{passed_on, no_blank, no_sign, no_end, whole_body}
 use Rattle.join_lines.proofs.line.body.Goals as goal
 

@@ -1,6 +1,6 @@
 use Rattle.std.proofs.Common.{rules, sym}
 use Rattle.std.proofs.lemmas.Bool.{eqb-false}
-use Rattle.join_lines.specs.Reading.{reception_grammar}
+use Rattle.join_lines.specs.inside.Reading.{reception_grammar}
 use Rattle.join_lines.proofs.Readers.{passed_on, no_r, bare_r, some_body, no_body}
 use Rattle.join_lines.proofs.line.reception.Goals as goal
 

@@ -1,5 +1,5 @@
 use Rattle.std.proofs.Common.{◌≡◌, ◌+◌, ◌-◌, ◌≤◌, ℕ}
-use Rattle.line_grammar.specs.Reading.{reaches}
+use Rattle.line_grammar.specs.inside.Reading.{reaches}
 use Rattle.line_grammar.proofs.decimal.goes_on.Given as goal
 
 abbrev pub invariant-loop-high : goal.invariant-loop-high

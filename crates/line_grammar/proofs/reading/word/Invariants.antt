@@ -1,5 +1,5 @@
 use Rattle.std.proofs.Common.{◌≡◌, drop}
-use Rattle.line_grammar.specs.Reading.{after}
+use Rattle.line_grammar.specs.inside.Reading.{after}
 use Rattle.line_grammar.proofs.reading.word.Given as goal
 
 abbrev pub invariant-loop-c : goal.invariant-loop-c

@@ -1,6 +1,6 @@
 use Rattle.std.proofs.Common.{◌≡◌, arith}
 use Rattle.std.proofs.lemmas.Grind.{common_steps}
-use Rattle.line_grammar.specs.Reading.{read_token}
+use Rattle.line_grammar.specs.inside.Reading.{read_token}
 use Rattle.dsc_texts.proofs.FieldSteps.{passed_on, first_missed, second_missed, pair_read}
 use Rattle.dsc_texts.proofs.fields.AreaToken.read.Goals as goal
 

@@ -1,5 +1,5 @@
 use Rattle.std.proofs.Common.{sym, ap}
-use Rattle.line_grammar.specs.Reading.{read_token}
+use Rattle.line_grammar.specs.inside.Reading.{read_token}
 use Rattle.dsc_texts.specs.CallParts.{time_text}
 use Rattle.dsc_texts.proofs.FieldSteps.{choice_shows, letters_show}
 use Rattle.dsc_texts.proofs.fields.HourMinuteToken.read.Goals as goal

@@ -1,7 +1,7 @@
 use Rattle.std.proofs.Common.{ℕ, codes, sym, ◌∙◌, ap}
 use Rattle.line_grammar.specs.Grammar.{part}
 use Rattle.line_grammar.specs.Shapes.{digits}
-use Rattle.line_grammar.specs.Reading.{named, read}
+use Rattle.line_grammar.specs.inside.Reading.{named, read}
 use Rattle.dsc_texts.specs.CallGrammar as grammar
 use Rattle.dsc_texts.specs.CallGrammar.{labelled}
 use Rattle.dsc_texts.specs.CallParts.{casualty_parts, distress_parts}

@@ -1,0 +1,61 @@
+ghost use Rattle.call_values.specs.Views.{IsBody};
+
+use crate::{Casualty, Category, First, Kind, Message, Mmsi, Second};
+
+/// What a call says besides whom it is for (ITU-R M.493, composition of the calls).
+#[derive(Clone, Copy, Debug, PartialEq, Eq)]
+pub enum Body {
+    /// A distress alert. Its sender is the casualty.
+    Alert(Casualty),
+    /// Another ship's distress alert, acknowledged or told on.
+    Distress {
+        from: Mmsi,
+        acknowledges: bool,
+        casualty: Casualty,
+    },
+    /// A category, a sender, two telecommands and a message.
+    Request {
+        category: Category,
+        from: Mmsi,
+        first: First,
+        second: Second,
+        message: Message,
+    },
+    /// A test, or a ship's position asked for or told.
+    Service {
+        category: Category,
+        from: Mmsi,
+        kind: Kind,
+    },
+}
+
+impl Body {
+    /// The law that all of its parts are in their ranges. It does nothing.
+    pub fn lawful(&self)
+        ensures { IsBody self.now }
+    {
+        match self {
+            Body::Alert(casualty) => casualty.lawful(),
+            Body::Distress { from, casualty, .. } => {
+                let _ = from.number();
+                casualty.lawful();
+            }
+            Body::Request {
+                from,
+                first,
+                second,
+                message,
+                ..
+            } => {
+                let _ = from.number();
+                let _ = first.number();
+                let _ = second.number();
+                message.lawful();
+            }
+            Body::Service { from, kind, .. } => {
+                let _ = from.number();
+                kind.lawful();
+            }
+        }
+    }
+}

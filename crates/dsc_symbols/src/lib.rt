@@ -1,0 +1,11 @@
+//! The symbols of ITU-R M.493 by name, and the sets of them that this project's calls may have.
+#![tactic(auto)]
+
+pub mod categories;
+pub mod ends;
+pub mod formats;
+pub mod messages;
+pub mod natures;
+pub mod notices;
+pub mod phasing;
+pub mod telecommands;
