@@ -1,10 +1,10 @@
 //! What the slots of a reception show, six at a time.
 ghost use Rattle.std.specs.Prelude.{◌≡◌, ℕ, ◌+◌, ◌*◌, ◌<◌, ◌≤◌, length, IfSome, slice_index, slice_index_or};
 ghost use Rattle.ten_unit.specs.declared.character.Element.{Element as Tone};
-ghost use Rattle.ten_unit.specs.Marks.{IsPlanes};
-ghost use Rattle.ten_unit.specs.Symbol.{IsSymbol};
+ghost use Rattle.ten_unit.specs.inside.Marks.{IsPlanes};
+ghost use Rattle.ten_unit.specs.inside.Symbol.{IsSymbol};
 ghost use Rattle.phasing.specs.Slot.{slot};
-ghost use Rattle.slot_evidence.specs.Window.{element_at};
+ghost use Rattle.slot_evidence.specs.inside.Window.{element_at};
 
 use phasing::{LAST_LEAD, LONGEST};
 use ten_unit::{Element, Planes, packed, symbol_at};

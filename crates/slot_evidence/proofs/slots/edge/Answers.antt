@@ -2,7 +2,7 @@ use Rattle.std.proofs.Common.{ℕ, ◌+◌, ◌-◌, ◌<◌, length, slice_inde
 use Rattle.std.proofs.lemmas.Bool.{cases_eq, cases_lt}
 use Rattle.std.proofs.lemmas.List.{length-set, get_or-set_same, get_or-set_other, get_or_default}
 use Rattle.ten_unit.specs.declared.character.Element.TheVariants.{Y, Lost}
-use Rattle.slot_evidence.specs.Window.{element_at}
+use Rattle.slot_evidence.specs.inside.Window.{element_at}
 use Rattle.slot_evidence.proofs.Window.{inside_at, before_at, past_at, all_lost}
 use Rattle.slot_evidence.proofs.slots.edge.Goals as goal
 

@@ -1,6 +1,6 @@
 use Rattle.std.proofs.Common.{◌≡◌, ℕ, ◌+◌, ◌-◌, ◌<◌, ◌≤◌, length, slice_index_or}
 use Rattle.ten_unit.specs.declared.character.Element.TheVariants.{Lost}
-use Rattle.slot_evidence.specs.Window.{element_at}
+use Rattle.slot_evidence.specs.inside.Window.{element_at}
 use Rattle.slot_evidence.proofs.slots.edge.Given as goal
 
 -- the elements before i are there, and those from i on are lost
