@@ -1,6 +1,6 @@
 ghost use Rattle.std.specs.Prelude.{◌≡◌, ℕ, ◌+◌, ◌<◌, length, slice_index_or};
-ghost use Rattle.ten_unit.specs.Marks.{IsPlanes};
-ghost use Rattle.phasing.specs.Places.{element_at};
+ghost use Rattle.ten_unit.specs.inside.Marks.{IsPlanes};
+ghost use Rattle.phasing.specs.inside.Places.{element_at};
 
 use ten_unit::{Element, Planes, packed};
 

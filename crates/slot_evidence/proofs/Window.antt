@@ -6,9 +6,9 @@ use Rattle.std.proofs.Math.Seq.{drop-cons}
 use Rattle.ten_unit.specs.declared.character.Element.{Element}
 use Rattle.ten_unit.specs.declared.character.Element.TheVariants.{Y, B, Lost}
 use Rattle.ten_unit.specs.Word.{word_of, is_word, element, element_eq, elements_eq}
-use Rattle.ten_unit.specs.Symbol.{IsSymbol, stretch}
+use Rattle.ten_unit.specs.inside.Symbol.{IsSymbol, stretch}
 use Rattle.phasing.specs.Slot.{slot}
-use Rattle.phasing.specs.Places.{element_at}
+use Rattle.phasing.specs.inside.Places.{element_at}
 
 -- the element at a place inside the reception, and that outside all are lost
 inside_at : (e : List Element) (place : ℕ) → 150 ≤ place → element_at e place ≡ slice_index_or e (place - 150) Lost

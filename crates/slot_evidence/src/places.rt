@@ -1,7 +1,8 @@
 ghost use Rattle.std.specs.Prelude.{◌≡◌, ◌||◌, ◌<◌, ◌≤◌, MatchOption};
-ghost use Rattle.slot_evidence.specs.Kept.{AreInOrder, seen_between, span_seen};
+ghost use Rattle.slot_evidence.specs.inside.Kept.{AreInOrder, seen_between, span_seen};
 ghost use Rattle.slot_evidence.specs.Facts.{Symbols};
-ghost use Rattle.slot_evidence.specs.Seen.{ShowsNone, IsSpan, IsSeen, IsLawful, IsLawfulSpan};
+ghost use Rattle.slot_evidence.specs.Seen.{ShowsNone, IsSeen, IsLawful};
+ghost use Rattle.slot_evidence.specs.inside.Span.{IsSpan, IsLawfulSpan};
 
 /// What is known of a place: no symbol was shown, one and no other, or several, of which the least and the
 /// greatest are kept.

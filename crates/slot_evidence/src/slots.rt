@@ -1,6 +1,6 @@
 //! What the slots of a reception show, six at a time.
 ghost use Rattle.std.specs.Prelude.{◌≡◌, ℕ, ◌+◌, ◌*◌, ◌<◌, ◌≤◌, length, slice_index};
-ghost use Rattle.ten_unit.specs.Symbol.{IsSymbol};
+ghost use Rattle.ten_unit.specs.inside.Symbol.{IsSymbol};
 ghost use Rattle.phasing.specs.Slot.{slot};
 
 use phasing::{LAST_LEAD, LONGEST, planes_from};

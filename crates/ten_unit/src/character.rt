@@ -3,7 +3,7 @@ ghost use Rattle.ten_unit.specs.Word.{word_of, element, count_of_b};
 ghost use Rattle.ten_unit.specs.Word as characters;
 ghost use Rattle.ten_unit.specs.declared.character.Element.{Element};
 ghost use Rattle.ten_unit.specs.Errors.{IsOneWay};
-ghost use Rattle.ten_unit.specs.Number.{weight as weight_of, number_of};
+ghost use Rattle.ten_unit.specs.inside.Number.{weight as weight_of, number_of};
 
 use crate::table::symbol_of;
 

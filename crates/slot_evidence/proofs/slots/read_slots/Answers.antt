@@ -1,5 +1,5 @@
 use Rattle.std.proofs.Common.{◌<◌, ◌+◌, ◌*◌, arith}
-use Rattle.phasing.specs.Places.{element_at}
+use Rattle.phasing.specs.inside.Places.{element_at}
 use Rattle.slot_evidence.proofs.Window.{slot_shown, filled_none, filled_more, filled_all}
 use Rattle.slot_evidence.proofs.slots.read_slots.Goals as goal
 
