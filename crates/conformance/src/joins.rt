@@ -1,4 +1,5 @@
-use crate::receptions::{DX_AND_PLACE_7, REPORTED, Row, SLOTS, WHOLE, joined, line};
+use crate::receptions::{DX_AND_PLACE_7, REPORTED, Row, WHOLE, joined, line};
+use dsc_symbols::worked::ALERT_SLOTS;
 use std::test::Fail;
 use time_diversity::on_air;
 
@@ -109,7 +110,7 @@ const TEST_CALL_ROWS: [Row; 3] = [
 fn receptions_of_one_alert(rt: HostRuntime) -> Result<(), Fail> {
     let alloc = rt.alloc();
     for row in &ROWS {
-        let (written, status) = joined(&rt, alloc, "dsc join", line(alloc, &SLOTS, row)?)?;
+        let (written, status) = joined(&rt, alloc, "dsc join", line(alloc, &ALERT_SLOTS, row)?)?;
         let name = row.name;
         assert_eq!(rt; written.as_slice(), row.want.as_bytes(), "{name}");
         assert_eq!(rt; status, row.status, "{name}");
@@ -124,12 +125,12 @@ fn two_receptions_of_one_alert(rt: HostRuntime) -> Result<(), Fail> {
         lost: DX_AND_PLACE_7,
         ..WHOLE
     };
-    let mut input = line(alloc, &SLOTS, &late)?;
+    let mut input = line(alloc, &ALERT_SLOTS, &late)?;
     late.lost = &[
         16, 17, 18, 19, 20, 21, 22, 23, 24, 25, 27, 28, 29, 30, 31, 32, 33, 34, 35, 36, 37, 38, 39,
         40, 41, 42, 43, 44, 45, 46, 47, 48, 49, 50, 51,
     ];
-    input.extend_from_slice(&line(alloc, &SLOTS, &late)?)?;
+    input.extend_from_slice(&line(alloc, &ALERT_SLOTS, &late)?)?;
     let (written, status) = joined(&rt, alloc, "dsc join", input)?;
     assert_eq!(rt; written.as_slice(), REPORTED.as_bytes());
     assert_eq!(rt; status, 0);
@@ -139,8 +140,8 @@ fn two_receptions_of_one_alert(rt: HostRuntime) -> Result<(), Fail> {
 #[test]
 fn a_clean_and_a_damaged_reception_in_both_orders(rt: HostRuntime) -> Result<(), Fail> {
     let alloc = rt.alloc();
-    let clean = line(alloc, &SLOTS, &ROWS[0])?;
-    let damaged = line(alloc, &SLOTS, &ROWS[6])?;
+    let clean = line(alloc, &ALERT_SLOTS, &ROWS[0])?;
+    let damaged = line(alloc, &ALERT_SLOTS, &ROWS[6])?;
     for (first, second) in [(&clean, &damaged), (&damaged, &clean)] {
         let mut input = first.as_slice().to_vec(alloc)?;
         input.extend_from_slice(second)?;
