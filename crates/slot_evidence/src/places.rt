@@ -52,7 +52,7 @@ impl Seen {
         }
     }
 
-    /// What is kept of symbols of which these are the least and the greatest.
+    /// What is kept of several symbols, by the least and the greatest of them.
     fn of_span(least: u8, greatest: u8) -> Seen
         ensures value { result ≡ span_seen least greatest }
         ensures ends { (S : Symbols) → IsSpan S least greatest → IsSeen S result }
