@@ -2,19 +2,19 @@
 use Rattle.std.proofs.Common.{sym, subst}
 use Rattle.symbol_reader.specs.Languages.{Then}
 use Rattle.symbol_reader.proofs.Laws.{Good, Alike, then_good, alike_good}
-use Rattle.call_grammar.specs.Grammar.{Opened}
+use Rattle.call_grammar.specs.Grammar.{CheckedCharacters}
 use Rattle.call_grammar.specs.Forms.{Formats, AfterFormat}
-use Rattle.call_grammar.proofs.SignParts.{formats_good}
+use Rattle.call_grammar.proofs.CodedParts.{formats_good}
 use Rattle.call_grammar.proofs.FormParts.{after_format_good}
 use Rattle.call_grammar.proofs.ToForms.{to_call}
 use Rattle.call_grammar.proofs.FromForms.{from_covered}
 
 -- the grammar of all forms spells the calls' lists
-pub call_alike : Alike (Then Formats AfterFormat) Opened
+pub call_alike : Alike (Then Formats AfterFormat) CheckedCharacters
 call_alike = record {
   to = to_call;
   back = λ c word p. subst (Then Formats AfterFormat c) (sym p.list) (from_covered c p.is_lawful);
 }
 
-pub opened_good : Good Opened
-opened_good = alike_good _ _ call_alike (then_good _ _ formats_good (λ f _ _. after_format_good f))
+pub checked_characters_good : Good CheckedCharacters
+checked_characters_good = alike_good _ _ call_alike (then_good _ _ formats_good (λ f _ _. after_format_good f))

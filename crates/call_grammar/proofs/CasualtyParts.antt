@@ -4,8 +4,9 @@ use Rattle.symbol_reader.specs.Languages.{Only, Then, Spelled}
 use Rattle.symbol_reader.proofs.Laws.{Good, Alike, then_good, only_good, alike_good}
 use Rattle.symbol_reader.proofs.Steps.{spelled_then}
 use Rattle.call_values.specs.declared.places.Fix.{Fix}
-use Rattle.call_values.specs.declared.alerts.Casualty.{Casualty}
-use Rattle.call_values.specs.Symbols.{IsNature, IsComm}
+use Rattle.call_values.specs.declared.calls.Casualty.{Casualty}
+use Rattle.dsc_symbols.specs.Natures.{IsNature}
+use Rattle.dsc_symbols.specs.Telecommands.{IsComm}
 use Rattle.call_grammar.specs.Spelling.{identity_symbols, position_symbols, time_symbols, casualty_symbols}
 use Rattle.call_grammar.specs.Grammar.{Identities, Positions, Times, Casualties}
 use Rattle.call_grammar.proofs.IdentityParts.{identity_good}

@@ -3,9 +3,9 @@ use Rattle.std.proofs.Common.{◌≡◌, ℕ, zero, suc, Bool, true, false, cond
 use Rattle.std.specs.List.{AllByRecursion}
 use Rattle.std.proofs.lemmas.Nat.{xor_lt}
 use Rattle.call_values.specs.declared.places.Fix.{Fix}
-use Rattle.call_values.specs.declared.alerts.Casualty.{Casualty}
-use Rattle.call_values.specs.declared.alerts.Call.{Call}
-use Rattle.call_values.specs.declared.alerts.Call.TheVariants.{Alert, Ack, Relay, RelayAck, AllShips, AreaCall, GroupCall, Individual, Service}
+use Rattle.call_values.specs.declared.calls.Casualty.{Casualty}
+use Rattle.call_values.specs.declared.calls.Call.{Call}
+use Rattle.call_values.specs.declared.calls.Call.TheVariants.{Alert, Ack, Relay, RelayAck, AllShips, AreaCall, GroupCall, Individual, Service}
 use Rattle.call_values.specs.declared.choices.Category.{Category}
 use Rattle.call_values.specs.declared.choices.Category.TheVariants.{Routine, Safety, Urgency}
 use Rattle.call_values.specs.declared.choices.End.{End}
@@ -20,10 +20,11 @@ use Rattle.call_values.specs.declared.parts.Kind.{Kind}
 use Rattle.call_values.specs.declared.parts.Kind.TheVariants.{Test, AskPosition, Position}
 use Rattle.call_values.specs.Areas.{Rectangle, IsArea}
 use Rattle.call_values.specs.Fields.{IsField}
-use Rattle.call_values.specs.Telecommands.{IsFirst, IsSecond}
+use Rattle.dsc_symbols.specs.Telecommands.{IsFirst, IsSecond}
 use Rattle.call_values.specs.Parts.{IsTo, IsMessage, IsKind}
 use Rattle.call_values.specs.Identity.{IsMmsi}
-use Rattle.call_values.specs.Symbols.{IsNature, IsComm}
+use Rattle.dsc_symbols.specs.Natures.{IsNature}
+use Rattle.dsc_symbols.specs.Telecommands.{IsComm}
 use Rattle.call_values.specs.Places.{IsPosition}
 use Rattle.call_values.specs.Clock.{IsHourMinute}
 use Rattle.call_values.specs.Calls.{IsCasualty, IsRequest, IsCall}
@@ -95,9 +96,9 @@ of_address (to.Area a) lawful = of_area a lawful
 of_address (to.Group m) lawful = of_identity m lawful
 of_address (to.One m) lawful = of_identity m lawful
 
-of_distress : (from sign : ℕ) (k : Casualty) → IsMmsi from → sign < 128 → IsCasualty k → AreCharacters (distress_symbols from sign k)
-of_distress from sign k mmsi small lawful =
-    (omega arith, both (identity_symbols from) (sign ∷ casualty_symbols k) (of_identity from mmsi) (small, of_casualty k lawful))
+of_distress : (from telecommand : ℕ) (k : Casualty) → IsMmsi from → telecommand < 128 → IsCasualty k → AreCharacters (distress_symbols from telecommand k)
+of_distress from telecommand k mmsi small lawful =
+    (omega arith, both (identity_symbols from) (telecommand ∷ casualty_symbols k) (of_identity from mmsi) (small, of_casualty k lawful))
 
 of_first : (n : ℕ) → IsFirst n → n < 128
 of_first n lawful = grind (arith, lawful)

@@ -4,15 +4,15 @@ use Rattle.symbol_reader.specs.declared.reading.Stop.{Stop}
 use Rattle.symbol_reader.specs.declared.reading.Stop.TheVariants.{Short, Outside}
 use Rattle.symbol_reader.specs.Reading.{Took, Outcome}
 use Rattle.symbol_reader.proofs.Laws.{no_word_goes_on}
-use Rattle.call_values.specs.declared.alerts.Call.{Call}
-use Rattle.call_values.specs.declared.alerts.Call.TheVariants.{Alert, Ack, Relay, RelayAck, AllShips, AreaCall, GroupCall, Individual, Service}
+use Rattle.call_values.specs.declared.calls.Call.{Call}
+use Rattle.call_values.specs.declared.calls.Call.TheVariants.{Alert, Ack, Relay, RelayAck, AllShips, AreaCall, GroupCall, Individual, Service}
 use Rattle.call_values.specs.declared.choices.End.TheVariants.{Ask, Reply, Plain}
 use Rattle.call_values.specs.declared.parts.Kind.TheVariants.{Test, AskPosition, Position}
 use Rattle.call_grammar.specs.Spelling.{format_of, fields_of, end_of, covered, check_of, front}
-use Rattle.call_grammar.specs.Grammar.{Opened}
+use Rattle.call_grammar.specs.Grammar.{CheckedCharacters}
 use Rattle.call_grammar.specs.Walk.{IsDone, IsAtEnd}
 use Rattle.call_grammar.specs.Judging.{IsWalking, IsCovered}
-use Rattle.call_grammar.proofs.CallParts.{opened_good}
+use Rattle.call_grammar.proofs.CallParts.{checked_characters_good}
 use Rattle.call_grammar.proofs.Lengths.{walking_short, length-front}
 use Rattle.call_grammar.proofs.Steps.{heads, spelled, no_cover}
 
@@ -23,29 +23,29 @@ taken_short l (inr (inl w)) = omega (arith, walking_short l (inr w))
 taken_short l (inr (inr d)) = let k : length l ≡ length (front d.call) = ap length d.list in omega (arith, length-front d.call)
 
 -- what is read to its end is what a check covers
-pub read_covered : (l new : List ℕ) (v : Call) → Took Opened v l new → length new ≡ 0 → IsCovered l
+pub read_covered : (l new : List ℕ) (v : Call) → Took CheckedCharacters v l new → length new ≡ 0 → IsCovered l
 read_covered l [] v t n =
     let w : t.front ≡ covered v = t.word.list in
     record { call = v; lawful = t.word.is_lawful; list = t.list ∙ append-nil t.front ∙ w }
 read_covered l (x ∷ new) v t n = absurd (omega arith)
 
-pub none_left : (l new : List ℕ) (v : Call) → IsCovered l → Took Opened v l new → length new ≡ 0
+pub none_left : (l new : List ℕ) (v : Call) → IsCovered l → Took CheckedCharacters v l new → length new ≡ 0
 none_left l new v w t =
     let c : Call = w.call in
     let parts : covered c ++ [] ≡ t.front ++ new = append-nil (covered c) ∙ sym w.list ∙ t.list in
-    let same = opened_good.one c v (covered c) t.front [] new (spelled c w.lawful) t.word parts in
+    let same = checked_characters_good.one c v (covered c) t.front [] new (spelled c w.lawful) t.word parts in
     sym (ap length same.2)
 
-pub not_refused : (l new : List ℕ) (why : Stop) → IsCovered l → Outcome Opened l (Err why) new → ⊥
+pub not_refused : (l new : List ℕ) (why : Stop) → IsCovered l → Outcome CheckedCharacters l (Err why) new → ⊥
 not_refused l new Short w o =
     let c : Call = w.call in
     let s = o.wants in
-    no_word_goes_on Opened opened_good c s.value (covered c) s.next s.rest (spelled c w.lawful)
-    (subst (λ a. Opened s.value (a ++ (s.next ∷ s.rest))) w.list s.word)
+    no_word_goes_on CheckedCharacters checked_characters_good c s.value (covered c) s.next s.rest (spelled c w.lawful)
+    (subst (λ a. CheckedCharacters s.value (a ++ (s.next ∷ s.rest))) w.list s.word)
 not_refused l new Outside w o =
     let c : Call = w.call in
     let list : covered c ≡ o.front ++ (o.next ∷ o.rest) = sym w.list ∙ o.list in
-    o.never (record { value = c; rest = o.rest; word = subst (Opened c) (list ∙ sym (append_assoc o.front (o.next ∷ []) o.rest)) (spelled c w.lawful) })
+    o.never (record { value = c; rest = o.rest; word = subst (CheckedCharacters c) (list ∙ sym (append_assoc o.front (o.next ∷ []) o.rest)) (spelled c w.lawful) })
 
 -- the last symbols of two lists
 last_same : (a b : List ℕ) (x y : ℕ) → a ++ (x ∷ []) ≡ b ++ (y ∷ []) → x ≡ y
@@ -75,7 +75,7 @@ end_at l e (inr (inr d)) w =
     let whole : (covered c ++ (k ∷ [])) ++ (e ∷ []) ≡ covered w.call = ap (λ a. drop 1 (a ++ (e ∷ []))) (sym d.list) ∙ w.list in
     let parts : covered c ++ (k ∷ e ∷ []) ≡ covered w.call ++ [] =
     sym (append_assoc (covered c) (k ∷ []) (e ∷ [])) ∙ whole ∙ sym (append-nil (covered w.call)) in
-    let same = opened_good.one c w.call (covered c) (covered w.call) (k ∷ e ∷ []) [] (spelled c d.lawful) (spelled w.call w.lawful) parts in
+    let same = checked_characters_good.one c w.call (covered c) (covered w.call) (k ∷ e ∷ []) [] (spelled c d.lawful) (spelled w.call w.lawful) parts in
     let none : k ∷ e ∷ [] ≡ [] = same.2 in
     absurd (cc)
 

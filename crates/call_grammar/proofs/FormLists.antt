@@ -1,6 +1,6 @@
 -- The lists of the forms, part after part.
 use Rattle.std.proofs.Common.{◌≡◌, ℕ, List, ◌∷◌, ◌++◌, ◌∙◌, ap, append_assoc}
-use Rattle.call_values.specs.declared.alerts.Casualty.{Casualty}
+use Rattle.call_values.specs.declared.calls.Casualty.{Casualty}
 use Rattle.call_values.specs.declared.choices.Category.{Category}
 use Rattle.call_values.specs.declared.fields.FieldKind.{FieldKind}
 use Rattle.call_values.specs.declared.parts.Message.{Message}
@@ -8,14 +8,14 @@ use Rattle.call_values.specs.declared.parts.Message.TheVariants.{Fields}
 use Rattle.call_grammar.specs.Spelling.{identity_symbols, casualty_symbols, category_symbol, field_symbols, message_symbols, distress_symbols, request_symbols}
 
 -- a distress call and what follows it
-pub distress-list : (from sign : ℕ) (k : Casualty) (l : List ℕ)
-    → distress_symbols from sign k ++ l ≡ 112 ∷ (identity_symbols from ++ (sign ∷ (casualty_symbols k ++ l)))
-distress-list from sign k l = ap (λ a. 112 ∷ a) (append_assoc (identity_symbols from) (sign ∷ casualty_symbols k) l)
+pub distress-list : (from telecommand : ℕ) (k : Casualty) (l : List ℕ)
+    → distress_symbols from telecommand k ++ l ≡ 112 ∷ (identity_symbols from ++ (telecommand ∷ (casualty_symbols k ++ l)))
+distress-list from telecommand k l = ap (λ a. 112 ∷ a) (append_assoc (identity_symbols from) (telecommand ∷ casualty_symbols k) l)
 
 -- behind an address
-pub relay-list : (a : List ℕ) (from sign : ℕ) (k : Casualty) (l : List ℕ)
-    → (a ++ distress_symbols from sign k) ++ l ≡ a ++ (112 ∷ (identity_symbols from ++ (sign ∷ (casualty_symbols k ++ l))))
-relay-list a from sign k l = append_assoc a (distress_symbols from sign k) l ∙ ap (λ b. a ++ b) (distress-list from sign k l)
+pub relay-list : (a : List ℕ) (from telecommand : ℕ) (k : Casualty) (l : List ℕ)
+    → (a ++ distress_symbols from telecommand k) ++ l ≡ a ++ (112 ∷ (identity_symbols from ++ (telecommand ∷ (casualty_symbols k ++ l))))
+relay-list a from telecommand k l = append_assoc a (distress_symbols from telecommand k) l ∙ ap (λ b. a ++ b) (distress-list from telecommand k l)
 
 -- a call with a message, and what follows it, behind an address
 pub letter-list : (a : List ℕ) (g : Category) (from first second : ℕ) (m : Message) (l : List ℕ)

@@ -6,11 +6,11 @@ use Rattle.symbol_reader.proofs.Steps.{letter_good}
 use Rattle.call_values.specs.declared.choices.Category.{Category}
 use Rattle.call_values.specs.declared.parts.To.{To}
 use Rattle.call_values.specs.declared.parts.To.TheVariants as to
-use Rattle.call_grammar.specs.declared.signs.Specifier.{Specifier}
-use Rattle.call_grammar.specs.declared.signs.Specifier.TheVariants as format
-use Rattle.call_grammar.specs.declared.signs.Telecommand.{Telecommand}
-use Rattle.call_grammar.specs.declared.signs.Telecommand.TheVariants as opener
-use Rattle.call_grammar.specs.Forms.{Relays, Acks, AfterSign, AfterRelayer, Distress, Requests, Tests, Answers, Questions, AfterTold, Places, Others, AfterOpener, Individuals, AfterCategory, AfterLead, Addressed, Letters, AfterOneLead, AddressedOne, Alerts, AfterFormat}
+use Rattle.call_grammar.specs.declared.symbols.Specifier.{Specifier}
+use Rattle.call_grammar.specs.declared.symbols.Specifier.TheVariants as format
+use Rattle.call_grammar.specs.declared.symbols.Telecommand.{Telecommand}
+use Rattle.call_grammar.specs.declared.symbols.Telecommand.TheVariants as telecommand
+use Rattle.call_grammar.specs.Forms.{Relays, Acks, AfterDistressTelecommand, AfterRelayer, Distress, Requests, Tests, Answers, Questions, AfterTold, Places, Others, AfterTelecommand, Individuals, SenderAndRequest, AfterCategory, Addressed, SenderAndIndividual, AfterCategoryToOne, AddressedOne, Alerts, AfterFormat}
 use Rattle.call_grammar.proofs.IdentityParts.{identity_good}
 use Rattle.call_grammar.proofs.PositionParts.{position_good}
 use Rattle.call_grammar.proofs.TimeParts.{time_good}
@@ -18,7 +18,7 @@ use Rattle.call_grammar.proofs.CasualtyParts.{casualty_good}
 use Rattle.call_grammar.proofs.AreaParts.{area_good}
 use Rattle.call_grammar.proofs.FieldParts.{field_good}
 use Rattle.call_grammar.proofs.MessageParts.{message_good}
-use Rattle.call_grammar.proofs.SignParts.{leads_good, endings_good, eithers_good, signs_good, openers_good, first_good, second_good, blanks_good}
+use Rattle.call_grammar.proofs.CodedParts.{categories_good, endings_good, eithers_good, distress_telecommands_good, telecommands_good, first_good, second_good, blanks_good}
 
 pub relays_good : (t : To) (from : ℕ) → Good (Relays t from)
 relays_good t from = then_good _ _ casualty_good (λ _ _ _. then_good _ _ endings_good (λ _ _ _. only_good _))
@@ -26,12 +26,12 @@ relays_good t from = then_good _ _ casualty_good (λ _ _ _. then_good _ _ ending
 pub acks_good : (from : ℕ) → Good (Acks from)
 acks_good from = then_good _ _ casualty_good (λ _ _ _. then_good _ _ (letter_good (Exactly 127)) (λ _ _ _. only_good _))
 
-pub after_sign_good : (t : To) (from : ℕ) (is_ack : Bool) → Good (AfterSign t from is_ack)
-after_sign_good t from true = acks_good from
-after_sign_good t from false = relays_good t from
+pub after_distress_telecommand_good : (t : To) (from : ℕ) (is_ack : Bool) → Good (AfterDistressTelecommand t from is_ack)
+after_distress_telecommand_good t from true = acks_good from
+after_distress_telecommand_good t from false = relays_good t from
 
 pub after_relayer_good : (t : To) (from : ℕ) → Good (AfterRelayer t from)
-after_relayer_good t from = then_good _ _ (signs_good t) (λ b _ _. after_sign_good t from b)
+after_relayer_good t from = then_good _ _ (distress_telecommands_good t) (λ b _ _. after_distress_telecommand_good t from b)
 
 pub distress_good : (t : To) → Good (Distress t)
 distress_good t = then_good _ _ identity_good (λ from _ _. after_relayer_good t from)
@@ -65,33 +65,33 @@ pub others_good : (m : ℕ) (g : Category) (from first : ℕ) → Good (Others m
 others_good m g from first =
     then_good _ _ second_good (λ _ _ _. then_good _ _ message_good (λ _ _ _. then_good _ _ endings_good (λ _ _ _. only_good _)))
 
-pub after_opener_good : (m : ℕ) (g : Category) (from : ℕ) (o : Telecommand) → Good (AfterOpener m g from o)
-after_opener_good m g from opener.Test = tests_good m g from
-after_opener_good m g from opener.Position = places_good m g from
-after_opener_good m g from (opener.Request first) = others_good m g from first
+pub after_telecommand_good : (m : ℕ) (g : Category) (from : ℕ) (o : Telecommand) → Good (AfterTelecommand m g from o)
+after_telecommand_good m g from telecommand.Test = tests_good m g from
+after_telecommand_good m g from telecommand.Position = places_good m g from
+after_telecommand_good m g from (telecommand.Request first) = others_good m g from first
 
 pub individuals_good : (m : ℕ) (g : Category) (from : ℕ) → Good (Individuals m g from)
-individuals_good m g from = then_good _ _ openers_good (λ o _ _. after_opener_good m g from o)
+individuals_good m g from = then_good _ _ telecommands_good (λ o _ _. after_telecommand_good m g from o)
 
-pub after_category_good : (t : To) (g : Category) → Good (AfterCategory t g)
-after_category_good t g = then_good _ _ identity_good (λ from _ _. requests_good t g from)
+pub sender_and_request_good : (t : To) (g : Category) → Good (SenderAndRequest t g)
+sender_and_request_good t g = then_good _ _ identity_good (λ from _ _. requests_good t g from)
 
-pub after_lead_good : (t : To) (lead : Option Category) → Good (AfterLead t lead)
-after_lead_good t None = distress_good t
-after_lead_good t (Some g) = after_category_good t g
+pub after_category_good : (t : To) (category : Option Category) → Good (AfterCategory t category)
+after_category_good t None = distress_good t
+after_category_good t (Some g) = sender_and_request_good t g
 
 pub addressed_good : (t : To) → Good (Addressed t)
-addressed_good t = then_good _ _ leads_good (λ lead _ _. after_lead_good t lead)
+addressed_good t = then_good _ _ categories_good (λ category _ _. after_category_good t category)
 
-pub letters_good : (m : ℕ) (g : Category) → Good (Letters m g)
-letters_good m g = then_good _ _ identity_good (λ from _ _. individuals_good m g from)
+pub sender_and_individual_good : (m : ℕ) (g : Category) → Good (SenderAndIndividual m g)
+sender_and_individual_good m g = then_good _ _ identity_good (λ from _ _. individuals_good m g from)
 
-pub after_one_lead_good : (m : ℕ) (lead : Option Category) → Good (AfterOneLead m lead)
-after_one_lead_good m None = distress_good (to.One m)
-after_one_lead_good m (Some g) = letters_good m g
+pub after_category_to_one_good : (m : ℕ) (category : Option Category) → Good (AfterCategoryToOne m category)
+after_category_to_one_good m None = distress_good (to.One m)
+after_category_to_one_good m (Some g) = sender_and_individual_good m g
 
 pub addressed_one_good : (m : ℕ) → Good (AddressedOne m)
-addressed_one_good m = then_good _ _ leads_good (λ lead _ _. after_one_lead_good m lead)
+addressed_one_good m = then_good _ _ categories_good (λ category _ _. after_category_to_one_good m category)
 
 pub alerts_good : Good Alerts
 alerts_good = then_good _ _ casualty_good (λ _ _ _. then_good _ _ (letter_good (Exactly 127)) (λ _ _ _. only_good _))

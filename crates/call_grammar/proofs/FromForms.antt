@@ -2,9 +2,9 @@
 use Rattle.std.proofs.Common.{◌≡◌, ℕ, List, [], ◌∷◌, ◌++◌, true, false, Some, None, refl, sym, ap, subst, append_assoc}
 use Rattle.symbol_reader.specs.Languages.{Only, Then}
 use Rattle.symbol_reader.proofs.Steps.{one_then, spelled_then}
-use Rattle.call_values.specs.declared.alerts.Casualty.{Casualty}
-use Rattle.call_values.specs.declared.alerts.Call.{Call}
-use Rattle.call_values.specs.declared.alerts.Call.TheVariants.{Alert, Ack, Relay, RelayAck, AllShips, AreaCall, GroupCall, Individual, Service}
+use Rattle.call_values.specs.declared.calls.Casualty.{Casualty}
+use Rattle.call_values.specs.declared.calls.Call.{Call}
+use Rattle.call_values.specs.declared.calls.Call.TheVariants.{Alert, Ack, Relay, RelayAck, AllShips, AreaCall, GroupCall, Individual, Service}
 use Rattle.call_values.specs.declared.choices.Category.{Category}
 use Rattle.call_values.specs.declared.choices.End.{End}
 use Rattle.call_values.specs.declared.choices.End.TheVariants.{Ask, Reply, Plain}
@@ -17,11 +17,11 @@ use Rattle.call_values.specs.declared.parts.Kind.TheVariants.{Test, AskPosition,
 use Rattle.call_values.specs.Identity.{IsMmsi}
 use Rattle.call_values.specs.Parts.{IsTo, IsKind}
 use Rattle.call_values.specs.Calls.{IsCasualty, IsCall, IsRequest}
-use Rattle.call_grammar.specs.declared.signs.Specifier.TheVariants as format
-use Rattle.call_grammar.specs.declared.signs.Telecommand.TheVariants as opener
+use Rattle.call_grammar.specs.declared.symbols.Specifier.TheVariants as format
+use Rattle.call_grammar.specs.declared.symbols.Telecommand.TheVariants as telecommand
 use Rattle.call_grammar.specs.Spelling.{identity_symbols, casualty_symbols, position_symbols, time_symbols, area_symbols, category_symbol, field_symbols, end_symbol, format_to, address_symbols, blanks, kind_symbols, kind_end, covered}
-use Rattle.call_grammar.specs.Forms.{relay, request, IsSign, Distress, AfterCategory, Letters, AfterFormat, Formats}
-use Rattle.call_grammar.proofs.SignParts.{blanks_word}
+use Rattle.call_grammar.specs.Forms.{relay, request, IsDistressTelecommand, Distress, SenderAndRequest, SenderAndIndividual, AfterFormat, Formats}
+use Rattle.call_grammar.proofs.CodedParts.{blanks_word}
 use Rattle.call_grammar.proofs.FormLists.{distress-list, relay-list, letter-list, request-list, service-list}
 
 abbrev CallWords : Call → List ℕ → Type 0
@@ -30,11 +30,11 @@ CallWords = Then Formats AfterFormat
 only : {v : Call} → Only v v []
 only = record { value = refl; list = refl }
 
-IsSign-relay : (t : To) → IsSign t false
-IsSign-relay to.All = tt
-IsSign-relay (to.Area a) = refl
-IsSign-relay (to.Group m) = refl
-IsSign-relay (to.One m) = refl
+IsDistressTelecommand-relay : (t : To) → IsDistressTelecommand t false
+IsDistressTelecommand-relay to.All = tt
+IsDistressTelecommand-relay (to.Area a) = refl
+IsDistressTelecommand-relay (to.Group m) = refl
+IsDistressTelecommand-relay (to.One m) = refl
 
 -- behind each address
 from_distress : (t : To) (v : Call) (w : List ℕ) → IsTo t → Distress t v w → CallWords v (format_to t ∷ (address_symbols t ++ (112 ∷ w)))
@@ -46,23 +46,23 @@ from_distress (to.One m) v w h p = spelled_then format.One _ tt (spelled_then m 
 relay_words : (t : To) (from : ℕ) (k : Casualty) (e : End) → IsTo t → IsMmsi from → IsCasualty k
     → CallWords (relay t from k e) (format_to t ∷ (address_symbols t ++ (112 ∷ (identity_symbols from ++ (112 ∷ (casualty_symbols k ++ (end_symbol e ∷ [])))))))
 relay_words t from k e h i j =
-    from_distress t (relay t from k e) _ h (spelled_then from _ i (spelled_then false _ (IsSign-relay t) (spelled_then k _ j (spelled_then e _ tt only))))
+    from_distress t (relay t from k e) _ h (spelled_then from _ i (spelled_then false _ (IsDistressTelecommand-relay t) (spelled_then k _ j (spelled_then e _ tt only))))
 
 request_words : (t : To) (g : Category) (from first second : ℕ) (f1 f2 : FieldKind) → IsMmsi from → IsRequest first second (Fields f1 f2)
-    → AfterCategory t g (request t g from first second f1 f2)
+    → SenderAndRequest t g (request t g from first second f1 f2)
     (identity_symbols from ++ (first ∷ second ∷ (field_symbols f1 ++ (field_symbols f2 ++ (127 ∷ [])))))
 request_words t g from first second f1 f2 i h =
     spelled_then from _ i (spelled_then first _ h.one (spelled_then second _ h.two (spelled_then f1 _ h.told.0 (spelled_then f2 _ h.told.1 (one_then 127 refl only)))))
 
 -- a call to one station, behind its sender
-from_letter : (m : ℕ) (g : Category) (from : ℕ) (v : Call) (w : List ℕ) → IsMmsi m → Letters m g v w
+from_sender_and_individual : (m : ℕ) (g : Category) (from : ℕ) (v : Call) (w : List ℕ) → IsMmsi m → SenderAndIndividual m g v w
     → CallWords v (120 ∷ (identity_symbols m ++ (category_symbol g ∷ w)))
-from_letter m g from v w h p = spelled_then format.One _ tt (spelled_then m _ h (spelled_then (Some g) _ tt p))
+from_sender_and_individual m g from v w h p = spelled_then format.One _ tt (spelled_then m _ h (spelled_then (Some g) _ tt p))
 
 service_words : (m : ℕ) (g : Category) (from : ℕ) (k : Kind) → IsMmsi from → IsKind k
-    → Letters m g (Service m g from k) (identity_symbols from ++ (kind_symbols k ++ (kind_end k ∷ [])))
+    → SenderAndIndividual m g (Service m g from k) (identity_symbols from ++ (kind_symbols k ++ (kind_end k ∷ [])))
 service_words m g from (Test reply) i j =
-    spelled_then from _ i (spelled_then opener.Test _ tt (one_then 126 refl (one_then 126 refl (record {
+    spelled_then from _ i (spelled_then telecommand.Test _ tt (one_then 126 refl (one_then 126 refl (record {
       chosen = tt;
       front = blanks 5;
       back = kind_end (Test reply) ∷ [];
@@ -71,7 +71,7 @@ service_words m g from (Test reply) i j =
       list = refl;
     }))))
 service_words m g from AskPosition i j =
-    spelled_then from _ i (spelled_then opener.Position _ tt (one_then 126 refl (spelled_then false _ tt (record {
+    spelled_then from _ i (spelled_then telecommand.Position _ tt (one_then 126 refl (spelled_then false _ tt (record {
       chosen = tt;
       front = blanks 5;
       back = 117 ∷ [];
@@ -80,9 +80,9 @@ service_words m g from AskPosition i j =
       list = refl;
     }))))
 service_words m g from (Position p t) i j =
-    subst (λ a. Letters m g (Service m g from (Position p t)) (identity_symbols from ++ (121 ∷ 126 ∷ 55 ∷ a)))
+    subst (λ a. SenderAndIndividual m g (Service m g from (Position p t)) (identity_symbols from ++ (121 ∷ 126 ∷ 55 ∷ a)))
     (sym (append_assoc (position_symbols p) (time_symbols t) (122 ∷ [])))
-    (spelled_then from _ i (spelled_then opener.Position _ tt (one_then 126 refl (spelled_then true _ tt
+    (spelled_then from _ i (spelled_then telecommand.Position _ tt (one_then 126 refl (spelled_then true _ tt
     (spelled_then p _ j.0 (spelled_then t _ j.1 (one_then 122 refl only)))))))
 
 words : (v : Call) (l m : List ℕ) → l ≡ m → CallWords v m → CallWords v l
@@ -110,8 +110,8 @@ from_covered (GroupCall m g from s k f1 f2) h =
     (spelled_then format.Group _ tt (spelled_then m _ h.0 (spelled_then (Some g) _ tt (request_words (to.Group m) g from s k f1 f2 h.1 h.2))))
 from_covered (Individual m g from s k x e) h =
     words _ _ _ (ap (λ a. 120 ∷ a) (letter-list (identity_symbols m) g from s k x (end_symbol e ∷ [])))
-    (from_letter m g from _ _ h.0 (spelled_then from _ h.1 (spelled_then (opener.Request s) _ h.2.one (spelled_then k _ h.2.two (spelled_then x _ h.2.told
+    (from_sender_and_individual m g from _ _ h.0 (spelled_then from _ h.1 (spelled_then (telecommand.Request s) _ h.2.one (spelled_then k _ h.2.two (spelled_then x _ h.2.told
     (spelled_then e _ tt only))))))
 from_covered (Service m g from k) h =
     words _ _ _ (ap (λ a. 120 ∷ a) (service-list (identity_symbols m) g from (kind_symbols k) (kind_end k ∷ [])))
-    (from_letter m g from _ _ h.0 (service_words m g from k h.1 h.2))
+    (from_sender_and_individual m g from _ _ h.0 (service_words m g from k h.1 h.2))

@@ -1,14 +1,14 @@
 -- Lists of different calls differ before their ends.
 use Rattle.std.proofs.Common.{◌≡◌, ℕ, ◌⊎◌, inl, inr, List, [], ◌∷◌, ◌++◌, refl, sym, ◌∙◌, ap, append_assoc}
-use Rattle.call_values.specs.declared.alerts.Call.{Call}
+use Rattle.call_values.specs.declared.calls.Call.{Call}
 use Rattle.call_values.specs.Calls.{IsCall}
 use Rattle.call_grammar.specs.Spelling.{format_of, end_of, covered, check_of, front, spell}
 use Rattle.call_grammar.specs.Walk.{IsOpen, IsDone}
-use Rattle.call_grammar.proofs.CallParts.{opened_good}
+use Rattle.call_grammar.proofs.CallParts.{checked_characters_good}
 
 pub same_covered : (c d : Call) (r s : List ℕ) → IsCall c → IsCall d → covered d ++ r ≡ covered c ++ s → (c ≡ d) × (r ≡ s)
 same_covered c d r s h k e =
-    let one = opened_good.one d c (covered d) (covered c) r s (record { is_lawful = k; list = refl }) (record { is_lawful = h; list = refl }) e in
+    let one = checked_characters_good.one d c (covered d) (covered c) r s (record { is_lawful = k; list = refl }) (record { is_lawful = h; list = refl }) e in
     (sym one.0, one.2)
 
 pub front_same : (c d : Call) (rest : List ℕ) → IsCall c → IsCall d → front d ≡ front c ++ rest → (c ≡ d) × (rest ≡ [])

@@ -1,9 +1,9 @@
 -- How long the lists of calls are.
 use Rattle.std.proofs.Common.{◌≡◌, ℕ, ◌+◌, ◌*◌, ◌≤◌, ◌⊎◌, inl, inr, List, [], ◌∷◌, ◌++◌, length, Option, Some, None, refl, ap, length-append, arith}
 use Rattle.call_values.specs.declared.places.Fix.{Fix}
-use Rattle.call_values.specs.declared.alerts.Casualty.{Casualty}
-use Rattle.call_values.specs.declared.alerts.Call.{Call}
-use Rattle.call_values.specs.declared.alerts.Call.TheVariants.{Alert, Ack, Relay, RelayAck, AllShips, AreaCall, GroupCall, Individual, Service}
+use Rattle.call_values.specs.declared.calls.Casualty.{Casualty}
+use Rattle.call_values.specs.declared.calls.Call.{Call}
+use Rattle.call_values.specs.declared.calls.Call.TheVariants.{Alert, Ack, Relay, RelayAck, AllShips, AreaCall, GroupCall, Individual, Service}
 use Rattle.call_values.specs.declared.choices.Category.{Category}
 use Rattle.call_values.specs.declared.fields.FieldKind.{FieldKind}
 use Rattle.call_values.specs.declared.fields.FieldKind.TheVariants.{Absent, Hundreds, Hf, Vhf, Tens}
@@ -65,9 +65,9 @@ length-address (to.Area a) = omega (arith, length-ten_digits (area_digits a))
 length-address (to.Group m) = omega (arith, length-ten_digits (10 * m))
 length-address (to.One m) = omega (arith, length-ten_digits (10 * m))
 
-length-distress : (from sign : ℕ) (k : Casualty) → length (distress_symbols from sign k) ≡ 21
-length-distress from sign k =
-    omega (arith, length-casualty k, length-ten_digits (10 * from), length-append (identity_symbols from) (sign ∷ casualty_symbols k))
+length-distress : (from telecommand : ℕ) (k : Casualty) → length (distress_symbols from telecommand k) ≡ 21
+length-distress from telecommand k =
+    omega (arith, length-casualty k, length-ten_digits (10 * from), length-append (identity_symbols from) (telecommand ∷ casualty_symbols k))
 
 length-request : (g : Category) (from first second : ℕ) (m : Message) → length (request_symbols g from first second m) ≤ 16
 length-request g from first second m =

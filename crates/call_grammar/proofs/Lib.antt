@@ -4,7 +4,7 @@ pub mod SymbolParts
 pub mod TimeParts
 pub mod PositionParts
 pub mod CasualtyParts
-pub mod SignParts
+pub mod CodedParts
 pub mod AreaParts
 pub mod FieldParts
 pub mod MessageParts

@@ -19,10 +19,10 @@ abbrev pub AtRest : Message → List ℕ → Type 0
 AtRest = Then Positions (λ p. Only (At p))
 
 abbrev pub FieldsRest : ℕ → Message → List ℕ → Type 0
-FieldsRest lead = Then (FieldRest lead) (λ f. Then FieldWords (λ g. Only (Fields f g)))
+FieldsRest initial = Then (FieldRest initial) (λ f. Then FieldWords (λ g. Only (Fields f g)))
 
 abbrev pub MessageRest : ℕ → Message → List ℕ → Type 0
-MessageRest lead = Choice (lead == 55) AtRest (FieldsRest lead)
+MessageRest initial = Choice (initial == 55) AtRest (FieldsRest initial)
 
 abbrev pub MessageParts : Message → List ℕ → Type 0
 MessageParts = Then (Symbol letter.Message) MessageRest
@@ -36,14 +36,14 @@ at_rest_good = then_good _ _ position_good (λ p _ _. at_good p)
 pub second_field_good : (f : FieldKind) → Good (Then FieldWords (λ g. Only (Fields f g)))
 second_field_good f = then_good _ _ field_good (λ g _ _. only_good (Fields f g))
 
-pub fields_rest_good : (lead : ℕ) → Good (FieldsRest lead)
-fields_rest_good lead = then_good _ _ (field_rest_good lead) (λ f _ _. second_field_good f)
+pub fields_rest_good : (initial : ℕ) → Good (FieldsRest initial)
+fields_rest_good initial = then_good _ _ (field_rest_good initial) (λ f _ _. second_field_good f)
 
-pub message_rest_good : (lead : ℕ) → Good (MessageRest lead)
-message_rest_good lead = choice_good (lead == 55) _ _ (λ _. at_rest_good) (λ _. fields_rest_good lead)
+pub message_rest_good : (initial : ℕ) → Good (MessageRest initial)
+message_rest_good initial = choice_good (initial == 55) _ _ (λ _. at_rest_good) (λ _. fields_rest_good initial)
 
 parts_good : Good MessageParts
-parts_good = then_good _ _ (letter_good letter.Message) (λ lead _ _. message_rest_good lead)
+parts_good = then_good _ _ (letter_good letter.Message) (λ initial _ _. message_rest_good initial)
 
 test_is : (m n : ℕ) → (m == n) ≡ true → m ≡ n
 test_is m n e = grind (arith, nat_tests)
@@ -52,39 +52,39 @@ test_not : (m n : ℕ) → (m == n) ≡ false → m ≡ n → ⊥
 test_not m n e h = grind (arith, nat_tests)
 
 -- what begins a message and is not 55 begins a field
-pub field_lead : (lead : ℕ) → Allows letter.Message lead → (lead ≡ 55 → ⊥) → Allows letter.Field lead
-field_lead lead (inl e) n = absurd (n e)
-field_lead lead (inr h) n = h
+pub field_initial : (initial : ℕ) → Allows letter.Message initial → (initial ≡ 55 → ⊥) → Allows letter.Field initial
+field_initial initial (inl e) n = absurd (n e)
+field_initial initial (inr h) n = h
 
-to_message_at : (lead : ℕ) (v : Message) (l : List ℕ) → lead ≡ 55 → AtRest v l → Messages v (lead ∷ l)
-to_message_at lead v l e p =
+to_message_at : (initial : ℕ) (v : Message) (l : List ℕ) → initial ≡ 55 → AtRest v l → Messages v (initial ∷ l)
+to_message_at initial v l e p =
     let value : v ≡ At p.chosen = p.after.value in
     let list : l ≡ position_symbols p.chosen = spelt p p.after.list ∙ append-nil (position_symbols p.chosen) in
-    let whole : lead ∷ l ≡ 55 ∷ position_symbols p.chosen = cc in
-    subst (λ x. Messages x (lead ∷ l)) (sym value) (record { is_lawful = p.before.is_lawful; list = whole })
+    let whole : initial ∷ l ≡ 55 ∷ position_symbols p.chosen = cc in
+    subst (λ x. Messages x (initial ∷ l)) (sym value) (record { is_lawful = p.before.is_lawful; list = whole })
 
-to_message_fields : (lead : ℕ) (v : Message) (l : List ℕ) → Allows letter.Field lead → FieldsRest lead v l → Messages v (lead ∷ l)
-to_message_fields lead v l h p =
+to_message_fields : (initial : ℕ) (v : Message) (l : List ℕ) → Allows letter.Field initial → FieldsRest initial v l → Messages v (initial ∷ l)
+to_message_fields initial v l h p =
     let q = p.after in
     let value : v ≡ Fields p.chosen q.chosen = q.after.value in
-    let first = to_rest lead p.chosen p.front h p.before in
-    let one : lead ∷ p.front ≡ field_symbols p.chosen = first.list in
+    let first = to_rest initial p.chosen p.front h p.before in
+    let one : initial ∷ p.front ≡ field_symbols p.chosen = first.list in
     let two : p.back ≡ field_symbols q.chosen = spelt q q.after.list ∙ append-nil (field_symbols q.chosen) in
     let list : l ≡ p.front ++ p.back = p.list in
-    let whole : lead ∷ l ≡ field_symbols p.chosen ++ field_symbols q.chosen =
-    ap (λ a. lead ∷ a) list ∙ ap (λ a. a ++ p.back) one ∙ ap (λ a. field_symbols p.chosen ++ a) two in
-    subst (λ x. Messages x (lead ∷ l)) (sym value) (record { is_lawful = (first.is_lawful, q.before.is_lawful); list = whole })
+    let whole : initial ∷ l ≡ field_symbols p.chosen ++ field_symbols q.chosen =
+    ap (λ a. initial ∷ a) list ∙ ap (λ a. a ++ p.back) one ∙ ap (λ a. field_symbols p.chosen ++ a) two in
+    subst (λ x. Messages x (initial ∷ l)) (sym value) (record { is_lawful = (first.is_lawful, q.before.is_lawful); list = whole })
 
-to_message_rest : (lead : ℕ) (t : Bool) (v : Message) (l : List ℕ) → (lead == 55) ≡ t → Allows letter.Message lead → MessageRest lead v l → Messages v (lead ∷ l)
-to_message_rest lead true v l e h p = to_message_at lead v l (test_is lead 55 e) (p.yes e)
-to_message_rest lead false v l e h p = to_message_fields lead v l (field_lead lead h (test_not lead 55 e)) (p.no e)
+to_message_rest : (initial : ℕ) (t : Bool) (v : Message) (l : List ℕ) → (initial == 55) ≡ t → Allows letter.Message initial → MessageRest initial v l → Messages v (initial ∷ l)
+to_message_rest initial true v l e h p = to_message_at initial v l (test_is initial 55 e) (p.yes e)
+to_message_rest initial false v l e h p = to_message_fields initial v l (field_initial initial h (test_not initial 55 e)) (p.no e)
 
 to_message : (v : Message) (word : List ℕ) → MessageParts v word → Messages v word
 to_message v word p =
     subst (Messages v) (sym (joined p refl)) (to_message_rest p.chosen (p.chosen == 55) v p.back refl p.before.allowed p.after)
 
-not_55 : (lead : ℕ) → Allows letter.Field lead → lead ≡ 55 → ⊥
-not_55 lead h e = grind arith
+not_55 : (initial : ℕ) → Allows letter.Field initial → initial ≡ 55 → ⊥
+not_55 initial h e = grind arith
 
 from_message : (v : Message) (word : List ℕ) → Messages v word → MessageParts v word
 from_message (At p) word m =
@@ -98,8 +98,8 @@ from_message (Fields f g) word m =
     subst (Then FieldWords (λ g. Only (Fields f g)) (Fields f g)) (append-nil (field_symbols g))
     (spelled_then g [] m.is_lawful.1 (record { value = refl; list = refl })) in
     subst (MessageParts (Fields f g)) (sym (m.list ∙ ap (λ a. a ++ field_symbols g) s.list))
-    (one_then s.lead (inr s.allowed) (record {
-      yes = λ e. absurd (not_55 s.lead s.allowed (test_is s.lead 55 e));
+    (one_then s.initial (inr s.allowed) (record {
+      yes = λ e. absurd (not_55 s.initial s.allowed (test_is s.initial 55 e));
       no = λ _. record { chosen = f; front = s.rest; back = field_symbols g; before = s.word; after = second; list = refl };
     }))
 

@@ -42,18 +42,18 @@ pub nines_good : (n : ℕ) → Good (Nines n)
 nines_good zero = only_good None
 nines_good (suc n) = then_good _ _ (letter_good (Exactly 99)) (λ _ _ _. nines_good n)
 
-pub rest_good : (lead : ℕ) → Good (Choice (lead == 99) UnknownRest (KnownRest lead))
-rest_good lead = choice_good (lead == 99) _ _ (λ _. nines_good 4) (λ _. known_good lead)
+pub rest_good : (initial : ℕ) → Good (Choice (initial == 99) UnknownRest (KnownRest initial))
+rest_good initial = choice_good (initial == 99) _ _ (λ _. nines_good 4) (λ _. known_good initial)
 
 abbrev pub PositionParts : Option Fix → List ℕ → Type 0
-PositionParts = Then (Symbol (UpToOr 39 99)) (λ lead. Choice (lead == 99) UnknownRest (KnownRest lead))
+PositionParts = Then (Symbol (UpToOr 39 99)) (λ initial. Choice (initial == 99) UnknownRest (KnownRest initial))
 
 parts_good : Good PositionParts
-parts_good = then_good _ _ (letter_good (UpToOr 39 99)) (λ lead _ _. rest_good lead)
+parts_good = then_good _ _ (letter_good (UpToOr 39 99)) (λ initial _ _. rest_good initial)
 
 -- what the letters allow, in numbers
 record Lawful (a b c d e : ℕ) : Type 0 where
-  lead : a ≤ 39
+  initial : a ≤ 39
   ones : b / 10 ≤ 9
   tens : b % 10 ≤ 5
   pole : a % 10 ≡ 9 → b ≡ 0
@@ -102,7 +102,7 @@ lawful_from a b c d e ha hb hc hd he =
     let kd = degrees_at c d (c % 10 == 1) refl hd in
     let ke = last_at c d e ((c % 10 == 1) && (d == 80)) refl he in
     record {
-      lead = ha;
+      initial = ha;
       ones = kb.0;
       tens = kb.1;
       pole = kb.2;
@@ -137,7 +137,7 @@ longitude_half c d e h k l p = l (omega arith) (omega arith)
 
 fix_lawful : (a b c d e : ℕ) → Lawful a b c d e → IsFix (fix_of a b c d e)
 fix_lawful a b c d e h = record {
-  quadrant = (let k : a ≤ 39 = h.lead in omega arith);
+  quadrant = (let k : a ≤ 39 = h.initial in omega arith);
   latitude = arc _ _ _ (let k : b % 10 ≤ 5 = h.tens in let l : c / 10 ≤ 9 = h.minutes in omega arith)
       (latitude_most a b h.ones h.pole) (latitude_pole a b c h.ones h.pole h.pole_minutes);
   longitude = arc _ _ _ (let k : e ≤ 59 = h.last in omega arith)
@@ -174,13 +174,13 @@ to_unknown v back word p e =
     let list : word ≡ 99 ∷ 99 ∷ 99 ∷ 99 ∷ 99 ∷ [] = cc in
     subst (λ x. Positions x word) (sym value) (record { is_lawful = tt; list = list })
 
-below_lead : (lead : ℕ) → (lead ≤ 39) ⊎ (lead ≡ 99) → (lead == 99) ≡ false → lead ≤ 39
-below_lead lead h e = grind (arith, nat_tests)
+below_initial : (initial : ℕ) → (initial ≤ 39) ⊎ (initial ≡ 99) → (initial == 99) ≡ false → initial ≤ 39
+below_initial initial h e = grind (arith, nat_tests)
 
-to_rest : (lead : ℕ) (test : Bool) (v : Option Fix) (back word : List ℕ) → (lead ≤ 39) ⊎ (lead ≡ 99) → (lead == 99) ≡ test
-    → Choice (lead == 99) UnknownRest (KnownRest lead) v back → word ≡ lead ∷ back → Positions v word
-to_rest lead true v back word h test p e = to_unknown v back word (p.yes test) (e ∙ ap (λ x. x ∷ back) (is_test lead 99 test))
-to_rest lead false v back word h test p e = to_known lead v back word (below_lead lead h test) (p.no test) e
+to_rest : (initial : ℕ) (test : Bool) (v : Option Fix) (back word : List ℕ) → (initial ≤ 39) ⊎ (initial ≡ 99) → (initial == 99) ≡ test
+    → Choice (initial == 99) UnknownRest (KnownRest initial) v back → word ≡ initial ∷ back → Positions v word
+to_rest initial true v back word h test p e = to_unknown v back word (p.yes test) (e ∙ ap (λ x. x ∷ back) (is_test initial 99 test))
+to_rest initial false v back word h test p e = to_known initial v back word (below_initial initial h test) (p.no test) e
 
 to_position : (v : Option Fix) (word : List ℕ) → PositionParts v word → Positions v word
 to_position v word p = to_rest p.chosen (p.chosen == 99) v p.back word p.before.allowed refl p.after (joined p refl)
@@ -265,9 +265,9 @@ from_known f h =
     let k3 : f.lon_deg ≤ 180 = arc_most _ _ _ h.longitude in
     let k4 : f.lon_min < 60 = arc_minutes _ _ _ h.longitude in
     let a : ℕ = first_of_fix f in let b : ℕ = second_of f in let c : ℕ = third_of f in let d : ℕ = f.lon_deg % 100 in
-    let lead : a ≤ 39 = omega arith in
-    one_then a (inl lead) (record {
-      yes = λ e. absurd (not_99 a lead e);
+    let initial : a ≤ 39 = omega arith in
+    one_then a (inl initial) (record {
+      yes = λ e. absurd (not_99 a initial e);
       no = λ _.
           one_then b (ones_allowed a b (a % 10 == 9) refl (omega arith) (omega arith) (λ e. let p = pole_of f h e in omega arith))
           (one_then c (hundreds_allowed a c (a % 10 == 9) refl (omega arith) (omega arith) (λ e. let p = pole_of f h e in omega arith))
@@ -293,8 +293,8 @@ position_alike = record { to = to_position; back = from_position }
 pub position_good : Good Positions
 position_good = alike_good _ _ position_alike parts_good
 
-pub is_99 : (lead : ℕ) → lead ≡ 99 → (lead == 99) ≡ true
-is_99 lead h = grind (arith, nat_tests)
+pub is_99 : (initial : ℕ) → initial ≡ 99 → (initial == 99) ≡ true
+is_99 initial h = grind (arith, nat_tests)
 
-pub is_not_99 : (lead : ℕ) → (lead ≡ 99 → ⊥) → (lead == 99) ≡ false
-is_not_99 lead h = grind (arith, nat_tests)
+pub is_not_99 : (initial : ℕ) → (initial ≡ 99 → ⊥) → (initial == 99) ≡ false
+is_not_99 initial h = grind (arith, nat_tests)

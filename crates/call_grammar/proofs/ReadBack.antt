@@ -1,7 +1,7 @@
 -- What is read of a list that begins with a call's list.
 use Rattle.std.proofs.Common.{◌≡◌, ℕ, inl, inr, List, [], ◌∷◌, ◌++◌, length, Result, Ok, Err, sym, ◌∙◌, ap, append-nil, append_assoc, length-append, arith}
 use Rattle.symbol_reader.proofs.Steps.{split}
-use Rattle.call_values.specs.declared.alerts.Call.{Call}
+use Rattle.call_values.specs.declared.calls.Call.{Call}
 use Rattle.call_values.specs.Calls.{IsCall}
 use Rattle.call_grammar.specs.Spelling.{format_of, covered, up_to_end, spell}
 use Rattle.call_grammar.specs.Walk.{IsViable}

@@ -2,20 +2,21 @@
 use Rattle.std.proofs.Common.{◌≡◌, ℕ, ◌-◌, ◌<◌, ◌≤◌, inl, inr, List, [], ◌∷◌, ◌++◌, length, drop, get_or, refl, sym, ◌∙◌, ap, subst, append_assoc, length-append, arith}
 use Rattle.symbol_reader.specs.Reading.{Begins, Wants, Leaves}
 use Rattle.symbol_reader.proofs.Laws.{no_word_goes_on}
-use Rattle.call_values.specs.declared.alerts.Call.{Call}
-use Rattle.call_values.specs.declared.alerts.Call.TheVariants.{Alert, Ack, Relay, RelayAck, AllShips, AreaCall, GroupCall, Individual, Service}
+use Rattle.call_values.specs.declared.calls.Call.{Call}
+use Rattle.call_values.specs.declared.calls.Call.TheVariants.{Alert, Ack, Relay, RelayAck, AllShips, AreaCall, GroupCall, Individual, Service}
 use Rattle.call_values.specs.declared.parts.To.{To}
 use Rattle.call_values.specs.declared.parts.To.TheVariants as to
 use Rattle.call_values.specs.Calls.{IsCall}
 use Rattle.call_grammar.specs.Spelling.{format_to, format_of, fields_of, end_of, covered, check_of, up_to_end, spell}
-use Rattle.call_grammar.specs.Grammar.{Opened}
-use Rattle.call_grammar.specs.Walk.{IsFormat, IsViable, IsOpen}
+use Rattle.call_grammar.specs.Grammar.{CheckedCharacters}
+use Rattle.dsc_symbols.specs.Formats.{IsFormat}
+use Rattle.call_grammar.specs.Walk.{IsViable, IsOpen}
 use Rattle.call_grammar.specs.Reading.{IsPart, EndsShort, EndsOutside, IsTwice}
 use Rattle.call_grammar.specs.Forms.{format_symbol}
-use Rattle.call_grammar.proofs.SignParts.{format_told, format_there}
+use Rattle.call_grammar.proofs.CodedParts.{format_told, format_there}
 use Rattle.call_grammar.proofs.FormParts.{after_format_good}
 use Rattle.call_grammar.proofs.ToForms.{to_format}
-use Rattle.call_grammar.proofs.CallParts.{opened_good}
+use Rattle.call_grammar.proofs.CallParts.{checked_characters_good}
 use Rattle.call_grammar.proofs.Lengths.{length-spell}
 use Rattle.call_grammar.proofs.Steps.{heads, spelled, open_of, not_viable, no_cover, no_check_first}
 
@@ -54,14 +55,14 @@ format_call f h =
 
 pub empty_short : (l : List ℕ) → length l < 1 → EndsShort l 0
 empty_short [] h =
-    let c : Call = opened_good.value in
+    let c : Call = checked_characters_good.value in
     let k : ℕ = check_of (covered c) in
     record {
       part = record {
         call = c;
         next = format_of c;
         rest = (covered c ++ (k ∷ [])) ++ (end_of c ∷ end_of c ∷ []);
-        lawful = opened_good.word.is_lawful;
+        lawful = checked_characters_good.word.is_lawful;
         list = refl;
       };
       place = refl;
@@ -132,27 +133,27 @@ open_part l o =
       list = ap (λ a. a ++ ends) o.list ∙ append_assoc l (o.next ∷ o.rest) ends;
     }
 
-pub opened_short : (l : List ℕ) → IsTwice l → Wants Opened (drop 1 l) → EndsShort l (length l)
-opened_short l t w =
+pub checked_short : (l : List ℕ) → IsTwice l → Wants CheckedCharacters (drop 1 l) → EndsShort l (length l)
+checked_short l t w =
     let once : drop 1 l ≡ t.format ∷ t.rest = ap (λ a. drop 1 a) t.list in
     record {
-      part = subst IsPart (sym t.list) (open_part _ (open_of t.format (t.format ∷ t.rest) t.rest refl (inl (subst (Wants Opened) once w))));
+      part = subst IsPart (sym t.list) (open_part _ (open_of t.format (t.format ∷ t.rest) t.rest refl (inl (subst (Wants CheckedCharacters) once w))));
       place = refl;
     }
 
 -- a format specifier begins what a check covers
-format_begins : (f : ℕ) → IsFormat f → Begins Opened (f ∷ [])
+format_begins : (f : ℕ) → IsFormat f → Begins CheckedCharacters (f ∷ [])
 format_begins f h =
     let e = format_call f h in
     let c : Call = e.0 in
     let rest : List ℕ = fields_of c ++ (end_of c ∷ []) in
-    record { value = c; rest = rest; word = subst (Opened c) (ap (λ a. a ∷ rest) e.2) (spelled c e.1) }
+    record { value = c; rest = rest; word = subst (CheckedCharacters c) (ap (λ a. a ∷ rest) e.2) (spelled c e.1) }
 
-left_outside : (f n : ℕ) (m rest tail : List ℕ) → IsFormat f → f ∷ tail ≡ m ++ (n ∷ rest) → Wants Opened m → (Begins Opened (m ++ (n ∷ [])) → ⊥)
+left_outside : (f n : ℕ) (m rest tail : List ℕ) → IsFormat f → f ∷ tail ≡ m ++ (n ∷ rest) → Wants CheckedCharacters m → (Begins CheckedCharacters (m ++ (n ∷ [])) → ⊥)
     → EndsOutside (f ∷ f ∷ tail) (length (f ∷ m)) n
 left_outside f n [] rest tail h e w never =
     let same : f ≡ n = heads _ _ _ _ e in
-    absurd (never (subst (λ a. Begins Opened (a ∷ [])) same (format_begins f h)))
+    absurd (never (subst (λ a. Begins CheckedCharacters (a ∷ [])) same (format_begins f h)))
 left_outside f n (g ∷ m) rest tail h e w never = record {
   front = f ∷ g ∷ m;
   rest = rest;
@@ -164,8 +165,8 @@ left_outside f n (g ∷ m) rest tail h e w never = record {
       (let c = a.call in
       let p : f ∷ g ∷ m ≡ format_of c ∷ covered c = a.list in
       let q : g ∷ m ≡ covered c = cc in
-      no_word_goes_on Opened opened_good c w.value (covered c) w.next w.rest (spelled c a.lawful)
-      (subst (λ b. Opened w.value (b ++ (w.next ∷ w.rest))) q w.word));
+      no_word_goes_on CheckedCharacters checked_characters_good c w.value (covered c) w.next w.rest (spelled c a.lawful)
+      (subst (λ b. CheckedCharacters w.value (b ++ (w.next ∷ w.rest))) q w.word));
 }
 
 -- the symbol at the end of a front
@@ -176,9 +177,9 @@ at_front (x ∷ m) rest n = at_front m rest n
 length_left : (m rest : List ℕ) (n : ℕ) → length (m ++ (n ∷ rest)) - length (n ∷ rest) ≡ length m
 length_left m rest n = omega (arith, length-append m (n ∷ rest))
 
-pub opened_outside : (l new : List ℕ) → IsTwice l → Leaves Opened (drop 1 l) new
+pub checked_outside : (l new : List ℕ) → IsTwice l → Leaves CheckedCharacters (drop 1 l) new
     → EndsOutside l (length l - length new) (get_or l (length l - length new) 0)
-opened_outside l new t v =
+checked_outside l new t v =
     let once : drop 1 l ≡ t.format ∷ t.rest = ap (λ a. drop 1 a) t.list in
     let parts : t.format ∷ t.rest ≡ v.front ++ (v.next ∷ v.rest) = sym once ∙ v.list in
     let whole : l ≡ (t.format ∷ v.front) ++ (v.next ∷ v.rest) = t.list ∙ ap (λ a. t.format ∷ a) parts in

@@ -4,23 +4,23 @@ use Rattle.std.proofs.lemmas.List.{take-append-le}
 use Rattle.symbol_reader.specs.Reading.{Begins, Wants, Took}
 use Rattle.symbol_reader.proofs.Laws.{no_word_goes_on}
 use Rattle.symbol_reader.proofs.Steps.{split, shorter}
-use Rattle.call_values.specs.declared.alerts.Call.{Call}
+use Rattle.call_values.specs.declared.calls.Call.{Call}
 use Rattle.call_values.specs.Calls.{IsCall}
 use Rattle.call_grammar.specs.Spelling.{format_of, fields_of, end_of, covered, check_of, front}
-use Rattle.call_grammar.specs.Grammar.{Opened}
+use Rattle.call_grammar.specs.Grammar.{CheckedCharacters}
 use Rattle.call_grammar.specs.Walk.{IsViable, IsOpen, IsAtCheck, IsDone, after, FailsCheck, IsStep}
 use Rattle.call_grammar.specs.Judging.{IsCovered, IsRight, Judges, IsWalking, is_taken}
 use Rattle.call_grammar.specs.declared.walking.Step.{Step}
 use Rattle.call_grammar.specs.declared.walking.Step.TheVariants.{More, Done, Outside, Check}
-use Rattle.call_grammar.proofs.CallParts.{opened_good}
+use Rattle.call_grammar.proofs.CallParts.{checked_characters_good}
 
-pub spelled : (c : Call) → IsCall c → Opened c (covered c)
+pub spelled : (c : Call) → IsCall c → CheckedCharacters c (covered c)
 spelled c h = record { is_lawful = h; list = refl }
 
 -- a list that ends before the check of a call begins what the check covers
-open_begins : (c : Call) (k n : ℕ) (l rest : List ℕ) → IsCall c → covered c ++ (k ∷ []) ≡ l ++ (n ∷ rest) → Begins Opened l
+open_begins : (c : Call) (k n : ℕ) (l rest : List ℕ) → IsCall c → covered c ++ (k ∷ []) ≡ l ++ (n ∷ rest) → Begins CheckedCharacters l
 open_begins c k n l rest h e = elim (split (covered c) (k ∷ []) l (n ∷ rest) e) [
-  | inl s ↦ record { value = c; rest = s.0; word = subst (Opened c) s.1 (spelled c h) }
+  | inl s ↦ record { value = c; rest = s.0; word = subst (CheckedCharacters c) s.1 (spelled c h) }
   | inr s ↦ (let few : length (k ∷ []) ≡ length (s.0 ∷ (s.1 ++ (n ∷ rest))) = ap length s.3 in
       absurd (omega (arith, length-append s.1 (n ∷ rest))))
 ]
@@ -30,15 +30,15 @@ no_rest [] b e = e
 no_rest (x ∷ a) b e = absurd (cc)
 
 -- a list that begins what a check covers has no call's whole list in front of its last symbol
-at_end : (c : Call) (l rest s : List ℕ) (x k : ℕ) → IsCall c → Begins Opened l → l ≡ covered c ++ s → k ∷ rest ≡ s ++ (x ∷ [])
+at_end : (c : Call) (l rest s : List ℕ) (x k : ℕ) → IsCall c → Begins CheckedCharacters l → l ≡ covered c ++ s → k ∷ rest ≡ s ++ (x ∷ [])
     → (l ≡ covered c) × (x ≡ k) × (rest ≡ [])
 at_end c l rest [] x k h b e d = let p : k ≡ x = cc in let q : rest ≡ [] = cc in (e ∙ append-nil (covered c), sym p, q)
 at_end c l rest (y ∷ s) x k h b e d =
-    absurd (no_word_goes_on Opened opened_good c b.value (covered c) y (s ++ b.rest) (spelled c h)
-    (subst (Opened b.value) (ap (λ a. a ++ b.rest) e ∙ append_assoc (covered c) (y ∷ s) b.rest) b.word))
+    absurd (no_word_goes_on CheckedCharacters checked_characters_good c b.value (covered c) y (s ++ b.rest) (spelled c h)
+    (subst (CheckedCharacters b.value) (ap (λ a. a ++ b.rest) e ∙ append_assoc (covered c) (y ∷ s) b.rest) b.word))
 
 -- the check of a call stands nowhere but at the end of a list that begins what a check covers
-at_place : (c : Call) (l rest : List ℕ) (x k : ℕ) → IsCall c → Begins Opened l → l ++ (x ∷ []) ≡ covered c ++ (k ∷ rest)
+at_place : (c : Call) (l rest : List ℕ) (x k : ℕ) → IsCall c → Begins CheckedCharacters l → l ++ (x ∷ []) ≡ covered c ++ (k ∷ rest)
     → (l ≡ covered c) × (x ≡ k) × (rest ≡ [])
 at_place c l rest x k h b e = elim (split l (x ∷ []) (covered c) (k ∷ rest) e) [
   | inl s ↦ at_end c l rest s.0 x k h b s.1 s.2
@@ -51,7 +51,7 @@ pub heads : (x y : ℕ) (l m : List ℕ) → x ∷ l ≡ y ∷ m → x ≡ y
 heads x y l m e = cc
 
 -- a list that begins what a check covers, and has the format specifier once more in front, is open
-pub open_of : (f : ℕ) (m tail : List ℕ) → m ≡ f ∷ tail → Wants Opened m ⊎ IsCovered m → IsOpen (f ∷ m)
+pub open_of : (f : ℕ) (m tail : List ℕ) → m ≡ f ∷ tail → Wants CheckedCharacters m ⊎ IsCovered m → IsOpen (f ∷ m)
 open_of f m tail twice (inl w) =
     let c = w.value in
     let list : m ++ (w.next ∷ w.rest) ≡ covered c = w.word.list in
@@ -80,7 +80,7 @@ open_of f m tail twice (inr w) =
     }
 
 -- the call is done
-completes : (f x : ℕ) (l tail : List ℕ) (c : Call) → l ++ (x ∷ []) ≡ f ∷ tail → Begins Opened l → IsRight (l ++ (x ∷ [])) c
+completes : (f x : ℕ) (l tail : List ℕ) (c : Call) → l ++ (x ∷ []) ≡ f ∷ tail → Begins CheckedCharacters l → IsRight (l ++ (x ∷ [])) c
     → f ∷ (l ++ (x ∷ [])) ≡ front c
 completes f x l tail c twice b right =
     let place = at_place c l right.rest x (check_of (covered c)) right.lawful b right.list in
@@ -90,8 +90,8 @@ completes f x l tail c twice b right =
     ap (λ a. a ∷ (l ++ (x ∷ []))) format ∙ ap (λ a. format_of c ∷ (a ++ (x ∷ []))) e1 ∙ ap (λ a. format_of c ∷ (covered c ++ (a ∷ []))) e2
 
 -- what can't be begun so is viable at no format specifier
-pub not_viable : (f : ℕ) (l m : List ℕ) (n x : ℕ) → Wants Opened m → l ++ (x ∷ []) ≡ m ++ (n ∷ [])
-    → (Begins Opened (l ++ (x ∷ [])) → ⊥) → IsViable (f ∷ (l ++ (x ∷ []))) → ⊥
+pub not_viable : (f : ℕ) (l m : List ℕ) (n x : ℕ) → Wants CheckedCharacters m → l ++ (x ∷ []) ≡ m ++ (n ∷ [])
+    → (Begins CheckedCharacters (l ++ (x ∷ [])) → ⊥) → IsViable (f ∷ (l ++ (x ∷ []))) → ⊥
 not_viable f l m n x wants e never v =
     let c = v.call in
     let ends : List ℕ = end_of c ∷ end_of c ∷ [] in
@@ -100,12 +100,12 @@ not_viable f l m n x wants e never v =
     let tails : (covered c ++ (k ∷ [])) ++ ends ≡ (l ++ (x ∷ [])) ++ v.rest = cc in
     let parts : covered c ++ (k ∷ ends) ≡ (l ++ (x ∷ [])) ++ v.rest = sym (append_assoc (covered c) (k ∷ []) ends) ∙ tails in
     elim (split (covered c) (k ∷ ends) (l ++ (x ∷ [])) v.rest parts) [
-      | inl s ↦ never (record { value = c; rest = s.0; word = subst (Opened c) s.1 (spelled c v.lawful) })
-      | inr s ↦ shorter Opened c (covered c) m n s.0 s.1 opened_good (spelled c v.lawful) wants (sym e ∙ s.2)
+      | inl s ↦ never (record { value = c; rest = s.0; word = subst (CheckedCharacters c) s.1 (spelled c v.lawful) })
+      | inr s ↦ shorter CheckedCharacters c (covered c) m n s.0 s.1 checked_characters_good (spelled c v.lawful) wants (sym e ∙ s.2)
     ]
 
 -- where reading left the list, it left it at the last symbol
-left_at_end : (l m rest : List ℕ) (n x : ℕ) → Begins Opened l → l ++ (x ∷ []) ≡ m ++ (n ∷ rest) → (Begins Opened (m ++ (n ∷ [])) → ⊥)
+left_at_end : (l m rest : List ℕ) (n x : ℕ) → Begins CheckedCharacters l → l ++ (x ∷ []) ≡ m ++ (n ∷ rest) → (Begins CheckedCharacters (m ++ (n ∷ [])) → ⊥)
     → l ++ (x ∷ []) ≡ m ++ (n ∷ [])
 left_at_end l m rest n x b e never =
     let parts : l ++ (x ∷ []) ≡ (m ++ (n ∷ [])) ++ rest = e ∙ sym (append_assoc m (n ∷ []) rest) in
@@ -113,7 +113,7 @@ left_at_end l m rest n x b e never =
       | inl s ↦ absurd (never (record {
         value = b.value;
         rest = s.0 ++ b.rest;
-        word = subst (Opened b.value) (ap (λ a. a ++ b.rest) s.1 ∙ append_assoc (m ++ (n ∷ [])) s.0 b.rest) b.word;
+        word = subst (CheckedCharacters b.value) (ap (λ a. a ++ b.rest) s.1 ∙ append_assoc (m ++ (n ∷ [])) s.0 b.rest) b.word;
       }))
       | inr s ↦ (
           let few : x ∷ [] ≡ s.0 ∷ (s.1 ++ rest) = s.3 in
@@ -123,7 +123,7 @@ left_at_end l m rest n x b e never =
     ]
 
 -- a list that goes on after what the check covers
-pub checked_at : (c : Call) (l m : List ℕ) (got : ℕ) → Took Opened c l m → 0 < length m → got ≡ get_or m 0 0
+pub checked_at : (c : Call) (l m : List ℕ) (got : ℕ) → Took CheckedCharacters c l m → 0 < length m → got ≡ get_or m 0 0
     → l ≡ covered c ++ (got ∷ drop 1 m)
 checked_at c l [] got p h e = absurd (omega arith)
 checked_at c l (x ∷ m) got p h e =
@@ -138,10 +138,10 @@ pub record Stands (old : List ℕ) (x : ℕ) : Type 0 where
   pub tail : List ℕ
   pub list : after old x ≡ f ∷ (l ++ (x ∷ []))
   pub twice : l ++ (x ∷ []) ≡ f ∷ tail
-  pub begins : Begins Opened l
+  pub begins : Begins CheckedCharacters l
   pub before : ((old ≡ []) × (l ≡ [])) ⊎ (old ≡ f ∷ l)
 
-walking_begins : (l m : List ℕ) (f : ℕ) → l ≡ f ∷ m → IsOpen l → Begins Opened m
+walking_begins : (l m : List ℕ) (f : ℕ) → l ≡ f ∷ m → IsOpen l → Begins CheckedCharacters m
 walking_begins l m f e o =
     let c = o.call in
     let k : ℕ = check_of (covered c) in
@@ -159,7 +159,7 @@ stands old x (inl e) = record {
   tail = [];
   list = ap (λ a. after a x) e;
   twice = refl;
-  begins = record { value = opened_good.value; rest = opened_good.text; word = opened_good.word };
+  begins = record { value = checked_characters_good.value; rest = checked_characters_good.text; word = checked_characters_good.word };
   before = inl (e, refl);
 }
 stands old x (inr w) = record {
@@ -192,14 +192,14 @@ outside_after old x s j =
     let k = judged old x Outside s j in
     let leaves = k.1 in
     let e = left_at_end s.l leaves.front leaves.rest leaves.next x s.begins leaves.list leaves.never in
-    let never = λ (b : Begins Opened (s.l ++ (x ∷ []))). leaves.never (subst (Begins Opened) e b) in (
+    let never = λ (b : Begins CheckedCharacters (s.l ++ (x ∷ []))). leaves.never (subst (Begins CheckedCharacters) e b) in (
       (λ v. not_viable s.f s.l leaves.front leaves.next x leaves.wants e never (subst IsViable s.list v)),
       (λ a. elim s.before [
         | inl b ↦ no_check_first (subst IsAtCheck b.0 a)
         | inr b ↦ (
             let whole : s.f ∷ s.l ≡ format_of a.call ∷ covered a.call = sym b ∙ a.list in
             let tails : s.l ≡ covered a.call = cc in
-            shorter Opened a.call (covered a.call) leaves.front leaves.next x [] opened_good (spelled a.call a.lawful) leaves.wants
+            shorter CheckedCharacters a.call (covered a.call) leaves.front leaves.next x [] checked_characters_good (spelled a.call a.lawful) leaves.wants
             (sym e ∙ ap (λ m. m ++ (x ∷ [])) tails))
       ]),
     )
@@ -214,7 +214,7 @@ wrong_not_viable f x l c h e differ v =
     let tails : (covered d ++ (k ∷ [])) ++ ends ≡ (l ++ (x ∷ [])) ++ v.rest = cc in
     let parts : covered d ++ (k ∷ ends) ≡ covered c ++ (x ∷ v.rest) =
     sym (append_assoc (covered d) (k ∷ []) ends) ∙ tails ∙ append_assoc l (x ∷ []) v.rest ∙ ap (λ a. a ++ (x ∷ v.rest)) e in
-    let same = opened_good.one d c (covered d) (covered c) (k ∷ ends) (x ∷ v.rest) (spelled d v.lawful) (spelled c h) parts in
+    let same = checked_characters_good.one d c (covered d) (covered c) (k ∷ ends) (x ∷ v.rest) (spelled d v.lawful) (spelled c h) parts in
     let check : k ≡ x = heads _ _ _ _ same.2 in
     let call : covered d ≡ covered c = same.1 in
     differ (ap check_of (sym call) ∙ check)

@@ -4,7 +4,8 @@ use Rattle.symbol_reader.specs.declared.letters.Letter.TheVariants.{Nature, Comm
 use Rattle.symbol_reader.specs.Languages.{One, Spelled}
 use Rattle.symbol_reader.proofs.Laws.{Good, Alike, alike_good}
 use Rattle.symbol_reader.proofs.Steps.{letter_good}
-use Rattle.call_values.specs.Symbols.{IsNature, IsComm}
+use Rattle.dsc_symbols.specs.Natures.{IsNature}
+use Rattle.dsc_symbols.specs.Telecommands.{IsComm}
 
 -- one symbol of a set spells itself
 pub symbol_alike : (allows : ℕ → Type 0) → Alike (One allows) (Spelled allows (λ n. n ∷ []))

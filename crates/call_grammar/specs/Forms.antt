@@ -1,12 +1,17 @@
 -- The grammar of the forms, each symbol that parts two of them by itself: ITU-R M.493, composition of call sequences.
 -- Which telecommands and ends each form may have is this project's profile.
 use Rattle.std.specs.Prelude.{◌≡◌, ℕ, ◌∷◌, [], Bool, true, false, if◌then◌else◌, List, Option, Some, None}
+use Rattle.dsc_symbols.specs.declared.formats.TheConstants as formats
+use Rattle.dsc_symbols.specs.declared.categories.TheConstants as categories
+use Rattle.dsc_symbols.specs.declared.telecommands.TheConstants as telecommands
+use Rattle.dsc_symbols.specs.declared.ends.TheConstants as ends
+use Rattle.dsc_symbols.specs.declared.messages.TheConstants.{NO_INFORMATION, POSITION_FOLLOWS}
 use Rattle.symbol_reader.specs.declared.letters.Letter.{Letter}
 use Rattle.symbol_reader.specs.declared.letters.Letter.TheVariants.{Exactly, Either}
 use Rattle.symbol_reader.specs.Languages.{Only, Then, Spelled}
-use Rattle.call_values.specs.declared.alerts.Casualty.{Casualty}
-use Rattle.call_values.specs.declared.alerts.Call.{Call}
-use Rattle.call_values.specs.declared.alerts.Call.TheVariants.{Alert, Ack, Relay, RelayAck, AllShips, AreaCall, GroupCall, Individual, Service}
+use Rattle.call_values.specs.declared.calls.Casualty.{Casualty}
+use Rattle.call_values.specs.declared.calls.Call.{Call}
+use Rattle.call_values.specs.declared.calls.Call.TheVariants.{Alert, Ack, Relay, RelayAck, AllShips, AreaCall, GroupCall, Individual, Service}
 use Rattle.call_values.specs.declared.choices.Category.{Category}
 use Rattle.call_values.specs.declared.choices.End.{End}
 use Rattle.call_values.specs.declared.choices.End.TheVariants.{Ask, Reply, Plain}
@@ -15,32 +20,32 @@ use Rattle.call_values.specs.declared.parts.To.{To}
 use Rattle.call_values.specs.declared.parts.To.TheVariants as to
 use Rattle.call_values.specs.declared.parts.Message.TheVariants.{Fields}
 use Rattle.call_values.specs.declared.parts.Kind.TheVariants.{Test, AskPosition, Position}
-use Rattle.call_values.specs.Telecommands.{IsFirst}
-use Rattle.call_grammar.specs.declared.signs.Specifier.{Specifier}
-use Rattle.call_grammar.specs.declared.signs.Specifier.TheVariants as format
-use Rattle.call_grammar.specs.declared.signs.Telecommand.{Telecommand}
-use Rattle.call_grammar.specs.declared.signs.Telecommand.TheVariants as opener
+use Rattle.dsc_symbols.specs.Telecommands.{IsFirst}
+use Rattle.call_grammar.specs.declared.symbols.Specifier.{Specifier}
+use Rattle.call_grammar.specs.declared.symbols.Specifier.TheVariants as format
+use Rattle.call_grammar.specs.declared.symbols.Telecommand.{Telecommand}
+use Rattle.call_grammar.specs.declared.symbols.Telecommand.TheVariants as telecommand
 use Rattle.call_grammar.specs.Spelling.{category_symbol, end_symbol}
 use Rattle.call_grammar.specs.Grammar.{Symbol, Identities, Positions, Times, Casualties, Areas, Firsts, Seconds, FieldWords, Messages, Blanks}
 
 -- the symbol of each format specifier
 abbrev pub format_symbol : Specifier → ℕ
-format_symbol format.Alert = 112
-format_symbol format.All = 116
-format_symbol format.Area = 102
-format_symbol format.Group = 114
-format_symbol format.One = 120
+format_symbol format.Alert = formats.DISTRESS
+format_symbol format.All = formats.ALL_SHIPS
+format_symbol format.Area = formats.AREA
+format_symbol format.Group = formats.GROUP
+format_symbol format.One = formats.INDIVIDUAL
 
 abbrev pub Formats : Specifier → List ℕ → Type 0
 Formats = Spelled (λ _. Unit {0}) (λ f. format_symbol f ∷ [])
 
--- the sign of a distress call, or the category of another
-abbrev pub lead_symbol : Option Category → ℕ
-lead_symbol None = 112
-lead_symbol (Some category) = category_symbol category
+-- the category of a call, or distress
+abbrev pub category_or_distress : Option Category → ℕ
+category_or_distress None = categories.DISTRESS
+category_or_distress (Some category) = category_symbol category
 
-abbrev pub Leads : Option Category → List ℕ → Type 0
-Leads = Spelled (λ _. Unit {0}) (λ lead. lead_symbol lead ∷ [])
+abbrev pub Categories : Option Category → List ℕ → Type 0
+Categories = Spelled (λ _. Unit {0}) (λ category. category_or_distress category ∷ [])
 
 -- an end of sequence
 abbrev pub Endings : End → List ℕ → Type 0
@@ -50,39 +55,39 @@ Endings = Spelled (λ _. Unit {0}) (λ e. end_symbol e ∷ [])
 abbrev pub Eithers : ℕ → ℕ → Bool → List ℕ → Type 0
 Eithers one other = Spelled (λ _. Unit {0}) (λ is_one. (if is_one then one else other) ∷ [])
 
--- what stands after the sender of a distress call: 110 of an acknowledgement, to all ships alone, or 112 of a relay
-abbrev pub sign_letter : To → Letter
-sign_letter to.All = Either 110 112
-sign_letter (to.Area area) = Exactly 112
-sign_letter (to.Group mmsi) = Exactly 112
-sign_letter (to.One mmsi) = Exactly 112
+-- the telecommand that stands after the sender of a distress call: that of an acknowledgement, to all ships alone, or of a relay
+abbrev pub distress_telecommand_letter : To → Letter
+distress_telecommand_letter to.All = Either telecommands.DISTRESS_ACKNOWLEDGEMENT telecommands.DISTRESS_RELAY
+distress_telecommand_letter (to.Area area) = Exactly telecommands.DISTRESS_RELAY
+distress_telecommand_letter (to.Group mmsi) = Exactly telecommands.DISTRESS_RELAY
+distress_telecommand_letter (to.One mmsi) = Exactly telecommands.DISTRESS_RELAY
 
-abbrev pub IsSign : To → Bool → Type 0
-IsSign to.All is_ack = Unit {0}
-IsSign (to.Area area) is_ack = is_ack ≡ false
-IsSign (to.Group mmsi) is_ack = is_ack ≡ false
-IsSign (to.One mmsi) is_ack = is_ack ≡ false
+abbrev pub IsDistressTelecommand : To → Bool → Type 0
+IsDistressTelecommand to.All is_ack = Unit {0}
+IsDistressTelecommand (to.Area area) is_ack = is_ack ≡ false
+IsDistressTelecommand (to.Group mmsi) is_ack = is_ack ≡ false
+IsDistressTelecommand (to.One mmsi) is_ack = is_ack ≡ false
 
-abbrev pub sign_symbol : Bool → ℕ
-sign_symbol true = 110
-sign_symbol false = 112
+abbrev pub distress_telecommand_symbol : Bool → ℕ
+distress_telecommand_symbol true = telecommands.DISTRESS_ACKNOWLEDGEMENT
+distress_telecommand_symbol false = telecommands.DISTRESS_RELAY
 
-abbrev pub Signs : To → Bool → List ℕ → Type 0
-Signs to = Spelled (IsSign to) (λ is_ack. sign_symbol is_ack ∷ [])
+abbrev pub DistressTelecommands : To → Bool → List ℕ → Type 0
+DistressTelecommands to = Spelled (IsDistressTelecommand to) (λ is_ack. distress_telecommand_symbol is_ack ∷ [])
 
 -- the first telecommand of a test, of a ship's position, or of another call to one station
-abbrev pub opener_symbol : Telecommand → ℕ
-opener_symbol opener.Test = 118
-opener_symbol opener.Position = 121
-opener_symbol (opener.Request first) = first
+abbrev pub telecommand_symbol : Telecommand → ℕ
+telecommand_symbol telecommand.Test = telecommands.TEST
+telecommand_symbol telecommand.Position = telecommands.SHIP_POSITION
+telecommand_symbol (telecommand.Request first) = first
 
 abbrev pub IsTelecommand : Telecommand → Type 0
-IsTelecommand opener.Test = Unit {0}
-IsTelecommand opener.Position = Unit {0}
-IsTelecommand (opener.Request first) = IsFirst first
+IsTelecommand telecommand.Test = Unit {0}
+IsTelecommand telecommand.Position = Unit {0}
+IsTelecommand (telecommand.Request first) = IsFirst first
 
-abbrev pub Openers : Telecommand → List ℕ → Type 0
-Openers = Spelled IsTelecommand (λ o. opener_symbol o ∷ [])
+abbrev pub Telecommands : Telecommand → List ℕ → Type 0
+Telecommands = Spelled IsTelecommand (λ o. telecommand_symbol o ∷ [])
 
 -- a relay or its acknowledgement, by its end of sequence
 abbrev pub relay : To → ℕ → Casualty → End → Call
@@ -94,17 +99,17 @@ abbrev pub Relays : To → ℕ → Call → List ℕ → Type 0
 Relays to from = Then Casualties (λ casualty. Then Endings (λ e. Only (relay to from casualty e)))
 
 abbrev pub Acks : ℕ → Call → List ℕ → Type 0
-Acks from = Then Casualties (λ casualty. Then (Symbol (Exactly 127)) (λ _. Only (Ack from casualty)))
+Acks from = Then Casualties (λ casualty. Then (Symbol (Exactly ends.EOS)) (λ _. Only (Ack from casualty)))
 
 -- an acknowledgement or a relay
-abbrev pub AfterSign : To → ℕ → Bool → Call → List ℕ → Type 0
-AfterSign to from true = Acks from
-AfterSign to from false = Relays to from
+abbrev pub AfterDistressTelecommand : To → ℕ → Bool → Call → List ℕ → Type 0
+AfterDistressTelecommand to from true = Acks from
+AfterDistressTelecommand to from false = Relays to from
 
 abbrev pub AfterRelayer : To → ℕ → Call → List ℕ → Type 0
-AfterRelayer to from = Then (Signs to) (AfterSign to from)
+AfterRelayer to from = Then (DistressTelecommands to) (AfterDistressTelecommand to from)
 
--- what follows the sign of a distress call
+-- what follows the category distress
 abbrev pub Distress : To → Call → List ℕ → Type 0
 Distress to = Then Identities (AfterRelayer to)
 
@@ -117,71 +122,71 @@ request (to.One mmsi) category from first second f1 f2 = Individual mmsi categor
 
 abbrev pub Requests : To → Category → ℕ → Call → List ℕ → Type 0
 Requests to category from =
-    Then Firsts (λ first. Then Seconds (λ second. Then FieldWords (λ f1. Then FieldWords (λ f2. Then (Symbol (Exactly 127)) (λ _.
+    Then Firsts (λ first. Then Seconds (λ second. Then FieldWords (λ f1. Then FieldWords (λ f2. Then (Symbol (Exactly ends.EOS)) (λ _.
     Only (request to category from first second f1 f2))))))
 
 -- a test, or the reply to one
 abbrev pub Tests : ℕ → Category → ℕ → Call → List ℕ → Type 0
 Tests mmsi category from =
-    Then (Symbol (Exactly 126)) (λ _. Then (Symbol (Exactly 126)) (λ _. Then (Blanks 5) (λ _.
-    Then (Eithers 122 117) (λ reply. Only (Service mmsi category from (Test reply))))))
+    Then (Symbol (Exactly NO_INFORMATION)) (λ _. Then (Symbol (Exactly NO_INFORMATION)) (λ _. Then (Blanks 5) (λ _.
+    Then (Eithers ends.ACKNOWLEDGE_BQ ends.ACKNOWLEDGE_RQ) (λ reply. Only (Service mmsi category from (Test reply))))))
 
 -- a position that is told
 abbrev pub Answers : ℕ → Category → ℕ → Call → List ℕ → Type 0
 Answers mmsi category from =
-    Then Positions (λ position. Then Times (λ time. Then (Symbol (Exactly 122)) (λ _. Only (Service mmsi category from (Position position time)))))
+    Then Positions (λ position. Then Times (λ time. Then (Symbol (Exactly ends.ACKNOWLEDGE_BQ)) (λ _. Only (Service mmsi category from (Position position time)))))
 
 -- a position that is asked for
 abbrev pub Questions : ℕ → Category → ℕ → Call → List ℕ → Type 0
-Questions mmsi category from = Then (Blanks 5) (λ _. Then (Symbol (Exactly 117)) (λ _. Only (Service mmsi category from AskPosition)))
+Questions mmsi category from = Then (Blanks 5) (λ _. Then (Symbol (Exactly ends.ACKNOWLEDGE_RQ)) (λ _. Only (Service mmsi category from AskPosition)))
 
 abbrev pub AfterTold : ℕ → Category → ℕ → Bool → Call → List ℕ → Type 0
 AfterTold mmsi category from true = Answers mmsi category from
 AfterTold mmsi category from false = Questions mmsi category from
 
 abbrev pub Places : ℕ → Category → ℕ → Call → List ℕ → Type 0
-Places mmsi category from = Then (Symbol (Exactly 126)) (λ _. Then (Eithers 55 126) (AfterTold mmsi category from))
+Places mmsi category from = Then (Symbol (Exactly NO_INFORMATION)) (λ _. Then (Eithers POSITION_FOLLOWS NO_INFORMATION) (AfterTold mmsi category from))
 
 -- another call to one station
 abbrev pub Others : ℕ → Category → ℕ → ℕ → Call → List ℕ → Type 0
 Others mmsi category from first =
     Then Seconds (λ second. Then Messages (λ message. Then Endings (λ e. Only (Individual mmsi category from first second message e))))
 
-abbrev pub AfterOpener : ℕ → Category → ℕ → Telecommand → Call → List ℕ → Type 0
-AfterOpener mmsi category from opener.Test = Tests mmsi category from
-AfterOpener mmsi category from opener.Position = Places mmsi category from
-AfterOpener mmsi category from (opener.Request first) = Others mmsi category from first
+abbrev pub AfterTelecommand : ℕ → Category → ℕ → Telecommand → Call → List ℕ → Type 0
+AfterTelecommand mmsi category from telecommand.Test = Tests mmsi category from
+AfterTelecommand mmsi category from telecommand.Position = Places mmsi category from
+AfterTelecommand mmsi category from (telecommand.Request first) = Others mmsi category from first
 
 abbrev pub Individuals : ℕ → Category → ℕ → Call → List ℕ → Type 0
-Individuals mmsi category from = Then Openers (AfterOpener mmsi category from)
+Individuals mmsi category from = Then Telecommands (AfterTelecommand mmsi category from)
 
 -- what follows the category of a call that is for more than one station
-abbrev pub AfterCategory : To → Category → Call → List ℕ → Type 0
-AfterCategory to category = Then Identities (Requests to category)
+abbrev pub SenderAndRequest : To → Category → Call → List ℕ → Type 0
+SenderAndRequest to category = Then Identities (Requests to category)
 
-abbrev pub AfterLead : To → Option Category → Call → List ℕ → Type 0
-AfterLead to None = Distress to
-AfterLead to (Some category) = AfterCategory to category
+abbrev pub AfterCategory : To → Option Category → Call → List ℕ → Type 0
+AfterCategory to None = Distress to
+AfterCategory to (Some category) = SenderAndRequest to category
 
 -- what follows the address of a call that is for more than one station
 abbrev pub Addressed : To → Call → List ℕ → Type 0
-Addressed to = Then Leads (AfterLead to)
+Addressed to = Then Categories (AfterCategory to)
 
 -- what follows the category of a call to one station
-abbrev pub Letters : ℕ → Category → Call → List ℕ → Type 0
-Letters mmsi category = Then Identities (Individuals mmsi category)
+abbrev pub SenderAndIndividual : ℕ → Category → Call → List ℕ → Type 0
+SenderAndIndividual mmsi category = Then Identities (Individuals mmsi category)
 
-abbrev pub AfterOneLead : ℕ → Option Category → Call → List ℕ → Type 0
-AfterOneLead mmsi None = Distress (to.One mmsi)
-AfterOneLead mmsi (Some category) = Letters mmsi category
+abbrev pub AfterCategoryToOne : ℕ → Option Category → Call → List ℕ → Type 0
+AfterCategoryToOne mmsi None = Distress (to.One mmsi)
+AfterCategoryToOne mmsi (Some category) = SenderAndIndividual mmsi category
 
 -- what follows the address of a call to one station
 abbrev pub AddressedOne : ℕ → Call → List ℕ → Type 0
-AddressedOne mmsi = Then Leads (AfterOneLead mmsi)
+AddressedOne mmsi = Then Categories (AfterCategoryToOne mmsi)
 
 -- an alert's casualty and its end of sequence
 abbrev pub Alerts : Call → List ℕ → Type 0
-Alerts = Then Casualties (λ casualty. Then (Symbol (Exactly 127)) (λ _. Only (Alert casualty)))
+Alerts = Then Casualties (λ casualty. Then (Symbol (Exactly ends.EOS)) (λ _. Only (Alert casualty)))
 
 -- what follows the format specifier
 abbrev pub AfterFormat : Specifier → Call → List ℕ → Type 0

@@ -1,17 +1,18 @@
 -- The grammar of the fields, by the letters that may stand at each place: ITU-R M.493, fields of call sequences.
 use Rattle.std.specs.Prelude.{ℕ, ◌+◌, ◌*◌, ◌/◌, ◌%◌, ◌==◌, ◌&&◌, if◌then◌else◌, zero, suc, List, [], ◌∷◌, Option, Some, None}
+use Rattle.dsc_symbols.specs.declared.messages.TheConstants.{NO_INFORMATION, UNKNOWN_POSITION, VHF_CHANNEL}
 use Rattle.symbol_reader.specs.declared.letters.Letter.{Letter}
 use Rattle.symbol_reader.specs.declared.letters.Letter.TheVariants.{Exactly, UpTo, Digits}
 use Rattle.symbol_reader.specs.Letters.{Allows}
 use Rattle.symbol_reader.specs.Languages.{One, Only, Then, Choice, Spelled}
 use Rattle.call_values.specs.declared.places.Fix.{Fix}
-use Rattle.call_values.specs.declared.alerts.Casualty.{Casualty}
-use Rattle.call_values.specs.declared.alerts.Call.{Call}
+use Rattle.call_values.specs.declared.calls.Casualty.{Casualty}
+use Rattle.call_values.specs.declared.calls.Call.{Call}
 use Rattle.call_values.specs.declared.fields.FieldKind.{FieldKind}
 use Rattle.call_values.specs.declared.fields.FieldKind.TheVariants.{Absent, Hundreds, Hf, Vhf, Tens}
 use Rattle.call_values.specs.declared.parts.Message.{Message}
 use Rattle.call_values.specs.Areas.{Rectangle, IsArea}
-use Rattle.call_values.specs.Telecommands.{IsFirst, IsSecond}
+use Rattle.dsc_symbols.specs.Telecommands.{IsFirst, IsSecond}
 use Rattle.call_values.specs.Fields.{IsField}
 use Rattle.call_values.specs.Parts.{IsMessage}
 use Rattle.call_values.specs.Identity.{IsMmsi}
@@ -41,8 +42,8 @@ abbrev pub Casualties : Casualty → List ℕ → Type 0
 Casualties = Spelled IsCasualty casualty_symbols
 
 -- what the check covers of a call
-abbrev pub Opened : Call → List ℕ → Type 0
-Opened = Spelled IsCall covered
+abbrev pub CheckedCharacters : Call → List ℕ → Type 0
+CheckedCharacters = Spelled IsCall covered
 
 -- an area's five characters
 abbrev pub Areas : Rectangle → List ℕ → Type 0
@@ -70,11 +71,11 @@ identity_of a b c d e = ((a * 100 + b) * 100 + c) * 1000 + d * 10 + e / 10
 
 -- after the tens of a latitude, its ones and the tens of its minutes: zeros alone at 90 degrees
 abbrev pub latitude_ones : ℕ → Letter
-latitude_ones lead = if lead % 10 == 9 then Exactly 0 else Digits 9 5
+latitude_ones initial = if initial % 10 == 9 then Exactly 0 else Digits 9 5
 
 -- the ones of a latitude's minutes and the hundreds of a longitude
 abbrev pub minutes_and_hundreds : ℕ → Letter
-minutes_and_hundreds lead = if lead % 10 == 9 then UpTo 1 else Digits 9 1
+minutes_and_hundreds initial = if initial % 10 == 9 then UpTo 1 else Digits 9 1
 
 -- after the hundreds of a longitude, its tens and ones: at most 180 degrees
 abbrev pub longitude_ones : ℕ → Letter
@@ -98,12 +99,12 @@ KnownRest a =
 -- the rest of a position that is not known
 abbrev pub UnknownRest : Option Fix → List ℕ → Type 0
 UnknownRest =
-    Then (Symbol (Exactly 99)) (λ _. Then (Symbol (Exactly 99)) (λ _. Then (Symbol (Exactly 99)) (λ _.
-    Then (Symbol (Exactly 99)) (λ _. Only None))))
+    Then (Symbol (Exactly UNKNOWN_POSITION)) (λ _. Then (Symbol (Exactly UNKNOWN_POSITION)) (λ _. Then (Symbol (Exactly UNKNOWN_POSITION)) (λ _.
+    Then (Symbol (Exactly UNKNOWN_POSITION)) (λ _. Only None))))
 
 -- after the tens of an area's latitude, its ones and the hundreds of a longitude: at most 90 degrees
 abbrev pub area_latitude : ℕ → Letter
-area_latitude lead = if lead % 10 == 9 then Digits 0 1 else Digits 9 1
+area_latitude initial = if initial % 10 == 9 then Digits 0 1 else Digits 9 1
 
 -- the area whose ten digits stand in these five characters
 abbrev pub area_of : ℕ → ℕ → ℕ → ℕ → ℕ → Rectangle
@@ -111,25 +112,25 @@ area_of a b c d e = record { quadrant = a / 10; latitude = a % 10 * 10 + b / 10;
 
 -- the second and third character of a field that begins so
 abbrev pub field_letter : ℕ → Letter
-field_letter lead = if lead == 126 then Exactly 126 else UpTo 99
+field_letter initial = if initial == NO_INFORMATION then Exactly NO_INFORMATION else UpTo 99
 
 -- the field of three characters
 abbrev pub short_field : ℕ → ℕ → ℕ → FieldKind
-short_field lead b c =
-    if lead == 126 then Absent else (if lead == 90 then Vhf (b * 100 + c) else
-    (if lead / 10 == 3 then Hf (lead % 10 * 10000 + (b * 100 + c)) else Hundreds (lead * 10000 + (b * 100 + c))))
+short_field initial b c =
+    if initial == NO_INFORMATION then Absent else (if initial == VHF_CHANNEL then Vhf (b * 100 + c) else
+    (if initial / 10 == 3 then Hf (initial % 10 * 10000 + (b * 100 + c)) else Hundreds (initial * 10000 + (b * 100 + c))))
 
 -- the field of four characters
 abbrev pub long_field : ℕ → ℕ → ℕ → ℕ → FieldKind
-long_field lead b c d = Tens (lead % 10 * 1000000 + (b * 10000 + (c * 100 + d)))
+long_field initial b c d = Tens (initial % 10 * 1000000 + (b * 10000 + (c * 100 + d)))
 
 -- the rest of a field, after its first character
 abbrev pub FieldRest : ℕ → FieldKind → List ℕ → Type 0
-FieldRest lead =
-    Then (Symbol (field_letter lead)) (λ b. Then (Symbol (field_letter lead)) (λ c.
-    Choice (lead / 10 == 4) (Then (Symbol (UpTo 99)) (λ d. Only (long_field lead b c d))) (Only (short_field lead b c))))
+FieldRest initial =
+    Then (Symbol (field_letter initial)) (λ b. Then (Symbol (field_letter initial)) (λ c.
+    Choice (initial / 10 == 4) (Then (Symbol (UpTo 99)) (λ d. Only (long_field initial b c d))) (Only (short_field initial b c))))
 
 -- so many characters of no information
 abbrev pub Blanks : ℕ → Unit {0} → List ℕ → Type 0
 Blanks zero = Only tt
-Blanks (suc n) = Then (Symbol (Exactly 126)) (λ _. Blanks n)
+Blanks (suc n) = Then (Symbol (Exactly NO_INFORMATION)) (λ _. Blanks n)

@@ -1,10 +1,10 @@
 -- What is read of a list on which the format specifier stands once.
 use Rattle.std.specs.Prelude.{◌≡◌, ℕ, ◌≢◌, ◌⊎◌, Bool, true, false, List, ◌∷◌, ◌++◌}
 use Rattle.symbol_reader.specs.Reading.{Wants, Leaves}
-use Rattle.call_values.specs.declared.alerts.Call.{Call}
+use Rattle.call_values.specs.declared.calls.Call.{Call}
 use Rattle.call_values.specs.Calls.{IsCall}
 use Rattle.call_grammar.specs.Spelling.{covered, check_of}
-use Rattle.call_grammar.specs.Grammar.{Opened}
+use Rattle.call_grammar.specs.Grammar.{CheckedCharacters}
 use Rattle.call_grammar.specs.Walk.{IsOpen}
 use Rattle.call_grammar.specs.declared.walking.Step.{Step}
 use Rattle.call_grammar.specs.declared.walking.Step.TheVariants.{More, Done, Outside, Check}
@@ -32,9 +32,9 @@ pub record IsWrong (l : List ℕ) (want got : ℕ) : Type 0 where
 
 -- what each answer says of the list
 abbrev pub Judges : List ℕ → Step → Type 0
-Judges l More = Wants Opened l ⊎ IsCovered l
+Judges l More = Wants CheckedCharacters l ⊎ IsCovered l
 Judges l (Done call) = IsRight l call
-Judges l Outside = (new : List ℕ) × Leaves Opened l new
+Judges l Outside = (new : List ℕ) × Leaves CheckedCharacters l new
 Judges l (Check want got) = IsWrong l want got
 
 -- whether the step takes the symbol

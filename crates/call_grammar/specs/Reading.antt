@@ -1,9 +1,10 @@
 -- Reading of whole lists: the lists are those of ITU-R M.493, the refusals this project's profile.
 use Rattle.std.specs.Prelude.{◌≡◌, ℕ, List, [], ◌∷◌, ◌++◌, ◌<◌, ◌≤◌, ◌≢◌, length, drop, slice_index, Result, Ok, Err}
-use Rattle.call_values.specs.declared.alerts.Call.{Call}
+use Rattle.call_values.specs.declared.calls.Call.{Call}
 use Rattle.call_values.specs.Calls.{IsCall}
 use Rattle.call_grammar.specs.Spelling.{spell, check_of}
-use Rattle.call_grammar.specs.Walk.{IsFormat, IsViable, IsAtCheck}
+use Rattle.dsc_symbols.specs.Formats.{IsFormat}
+use Rattle.call_grammar.specs.Walk.{IsViable, IsAtCheck}
 use Rattle.call_grammar.specs.declared.reading.ReadRefusal.{ReadRefusal}
 use Rattle.call_grammar.specs.declared.reading.ReadRefusal.TheVariants.{Short, Outside, Check}
 

@@ -1,9 +1,14 @@
 -- The lists of calls: ITU-R M.493, composition of call sequences and their fields.
 use Rattle.std.specs.Prelude.{ℕ, zero, suc, ◌+◌, ◌*◌, ◌/◌, ◌%◌, if◌then◌else◌, List, [], ◌∷◌, ◌++◌, Option, Some, None, bit_xor}
+use Rattle.dsc_symbols.specs.declared.formats.TheConstants as formats
+use Rattle.dsc_symbols.specs.declared.categories.TheConstants as categories
+use Rattle.dsc_symbols.specs.declared.telecommands.TheConstants as telecommands
+use Rattle.dsc_symbols.specs.declared.ends.TheConstants as ends
+use Rattle.dsc_symbols.specs.declared.messages.TheConstants.{NO_INFORMATION, POSITION_FOLLOWS, UNKNOWN_POSITION, UNKNOWN_TIME}
 use Rattle.call_values.specs.declared.places.Fix.{Fix}
-use Rattle.call_values.specs.declared.alerts.Casualty.{Casualty}
-use Rattle.call_values.specs.declared.alerts.Call.{Call}
-use Rattle.call_values.specs.declared.alerts.Call.TheVariants.{Alert, Ack, Relay, RelayAck, AllShips, AreaCall, GroupCall, Individual, Service}
+use Rattle.call_values.specs.declared.calls.Casualty.{Casualty}
+use Rattle.call_values.specs.declared.calls.Call.{Call}
+use Rattle.call_values.specs.declared.calls.Call.TheVariants.{Alert, Ack, Relay, RelayAck, AllShips, AreaCall, GroupCall, Individual, Service}
 use Rattle.call_values.specs.declared.choices.Category.{Category}
 use Rattle.call_values.specs.declared.choices.Category.TheVariants.{Routine, Safety, Urgency}
 use Rattle.call_values.specs.declared.choices.End.{End}
@@ -33,12 +38,12 @@ position_digits f = 1000000000 * f.quadrant + 10000000 * f.lat_deg + 100000 * f.
 -- the digits of a position, and 99 five times where it is not known
 abbrev pub position_symbols : Option Fix → List ℕ
 position_symbols (Some f) = ten_digits (position_digits f)
-position_symbols None = 99 ∷ 99 ∷ 99 ∷ 99 ∷ 99 ∷ []
+position_symbols None = UNKNOWN_POSITION ∷ UNKNOWN_POSITION ∷ UNKNOWN_POSITION ∷ UNKNOWN_POSITION ∷ UNKNOWN_POSITION ∷ []
 
 -- hour and minute, and 88 twice where they are not known
 abbrev pub time_symbols : Option (ℕ × ℕ) → List ℕ
 time_symbols (Some t) = t.0 ∷ t.1 ∷ []
-time_symbols None = 88 ∷ 88 ∷ []
+time_symbols None = UNKNOWN_TIME ∷ UNKNOWN_TIME ∷ []
 
 -- identity, nature of distress, position, time and subsequent communications
 abbrev pub casualty_symbols : Casualty → List ℕ
@@ -64,11 +69,11 @@ eight_digits n = (n / 1000000) ∷ (n / 10000 % 100) ∷ (n / 100 % 100) ∷ (n 
 -- the character of no information, so many times
 abbrev pub blanks : ℕ → List ℕ
 blanks zero = []
-blanks (suc n) = 126 ∷ blanks n
+blanks (suc n) = NO_INFORMATION ∷ blanks n
 
 -- six digits, 3 and five digits, 90 and four digits, 4 and seven digits; three characters of no information where the field is absent
 abbrev pub field_symbols : FieldKind → List ℕ
-field_symbols Absent = 126 ∷ 126 ∷ 126 ∷ []
+field_symbols Absent = NO_INFORMATION ∷ NO_INFORMATION ∷ NO_INFORMATION ∷ []
 field_symbols (Hundreds n) = six_digits n
 field_symbols (Hf n) = six_digits (300000 + n)
 field_symbols (Vhf n) = six_digits (900000 + n)
@@ -77,26 +82,26 @@ field_symbols (Tens n) = eight_digits (40000000 + n)
 -- two fields, or 55 and a position
 abbrev pub message_symbols : Message → List ℕ
 message_symbols (Fields f1 f2) = field_symbols f1 ++ field_symbols f2
-message_symbols (At position) = 55 ∷ position_symbols position
+message_symbols (At position) = POSITION_FOLLOWS ∷ position_symbols position
 
 -- the categories routine, safety and urgency
 abbrev pub category_symbol : Category → ℕ
-category_symbol Routine = 100
-category_symbol Safety = 108
-category_symbol Urgency = 110
+category_symbol Routine = categories.ROUTINE
+category_symbol Safety = categories.SAFETY
+category_symbol Urgency = categories.URGENCY
 
 -- the ends of sequence: acknowledgement wanted, acknowledgement given, neither
 abbrev pub end_symbol : End → ℕ
-end_symbol Ask = 117
-end_symbol Reply = 122
-end_symbol Plain = 127
+end_symbol Ask = ends.ACKNOWLEDGE_RQ
+end_symbol Reply = ends.ACKNOWLEDGE_BQ
+end_symbol Plain = ends.EOS
 
 -- the format specifiers of calls to all ships, to an area, to a group and to one station
 abbrev pub format_to : To → ℕ
-format_to to.All = 116
-format_to (to.Area area) = 102
-format_to (to.Group mmsi) = 114
-format_to (to.One mmsi) = 120
+format_to to.All = formats.ALL_SHIPS
+format_to (to.Area area) = formats.AREA
+format_to (to.Group mmsi) = formats.GROUP
+format_to (to.One mmsi) = formats.INDIVIDUAL
 
 -- the address: none to all ships, an area, or an identity
 abbrev pub address_symbols : To → List ℕ
@@ -105,9 +110,9 @@ address_symbols (to.Area area) = area_symbols area
 address_symbols (to.Group mmsi) = identity_symbols mmsi
 address_symbols (to.One mmsi) = identity_symbols mmsi
 
--- the sign of distress, the sender, 110 of an acknowledgement or 112 of a relay, and the casualty
+-- the category distress, the sender, the telecommand of an acknowledgement or of a relay, and the casualty
 abbrev pub distress_symbols : ℕ → ℕ → Casualty → List ℕ
-distress_symbols from sign casualty = 112 ∷ (identity_symbols from ++ (sign ∷ casualty_symbols casualty))
+distress_symbols from telecommand casualty = categories.DISTRESS ∷ (identity_symbols from ++ (telecommand ∷ casualty_symbols casualty))
 
 -- category, sender, two telecommands, and a message
 abbrev pub request_symbols : Category → ℕ → ℕ → ℕ → Message → List ℕ
@@ -116,34 +121,35 @@ request_symbols category from first second message =
 
 -- a test and no information; a ship's position, asked for with no information, or told with a time
 abbrev pub kind_symbols : Kind → List ℕ
-kind_symbols (Test reply) = 118 ∷ blanks 7
-kind_symbols AskPosition = 121 ∷ 126 ∷ 126 ∷ blanks 5
-kind_symbols (Position position time) = 121 ∷ 126 ∷ 55 ∷ (position_symbols position ++ time_symbols time)
+kind_symbols (Test reply) = telecommands.TEST ∷ blanks 7
+kind_symbols AskPosition = telecommands.SHIP_POSITION ∷ NO_INFORMATION ∷ NO_INFORMATION ∷ blanks 5
+kind_symbols (Position position time) =
+    telecommands.SHIP_POSITION ∷ NO_INFORMATION ∷ POSITION_FOLLOWS ∷ (position_symbols position ++ time_symbols time)
 
 -- the end of sequence of a test, of the reply to one, and of a position asked for or told
 abbrev pub kind_end : Kind → ℕ
-kind_end (Test reply) = if reply then 122 else 117
-kind_end AskPosition = 117
-kind_end (Position position time) = 122
+kind_end (Test reply) = if reply then ends.ACKNOWLEDGE_BQ else ends.ACKNOWLEDGE_RQ
+kind_end AskPosition = ends.ACKNOWLEDGE_RQ
+kind_end (Position position time) = ends.ACKNOWLEDGE_BQ
 
 -- the format specifier
 abbrev pub format_of : Call → ℕ
-format_of (Alert casualty) = 112
-format_of (Ack from casualty) = 116
+format_of (Alert casualty) = formats.DISTRESS
+format_of (Ack from casualty) = formats.ALL_SHIPS
 format_of (Relay to from casualty ask) = format_to to
 format_of (RelayAck to from casualty) = format_to to
-format_of (AllShips category from first second f1 f2) = 116
-format_of (AreaCall area category from first second f1 f2) = 102
-format_of (GroupCall group category from first second f1 f2) = 114
-format_of (Individual to category from first second message end) = 120
-format_of (Service to category from kind) = 120
+format_of (AllShips category from first second f1 f2) = formats.ALL_SHIPS
+format_of (AreaCall area category from first second f1 f2) = formats.AREA
+format_of (GroupCall group category from first second f1 f2) = formats.GROUP
+format_of (Individual to category from first second message end) = formats.INDIVIDUAL
+format_of (Service to category from kind) = formats.INDIVIDUAL
 
 -- what stands between the format specifier and the end of sequence
 abbrev pub fields_of : Call → List ℕ
 fields_of (Alert casualty) = casualty_symbols casualty
-fields_of (Ack from casualty) = distress_symbols from 110 casualty
-fields_of (Relay to from casualty ask) = address_symbols to ++ distress_symbols from 112 casualty
-fields_of (RelayAck to from casualty) = address_symbols to ++ distress_symbols from 112 casualty
+fields_of (Ack from casualty) = distress_symbols from telecommands.DISTRESS_ACKNOWLEDGEMENT casualty
+fields_of (Relay to from casualty ask) = address_symbols to ++ distress_symbols from telecommands.DISTRESS_RELAY casualty
+fields_of (RelayAck to from casualty) = address_symbols to ++ distress_symbols from telecommands.DISTRESS_RELAY casualty
 fields_of (AllShips category from first second f1 f2) = request_symbols category from first second (Fields f1 f2)
 fields_of (AreaCall area category from first second f1 f2) = area_symbols area ++ request_symbols category from first second (Fields f1 f2)
 fields_of (GroupCall group category from first second f1 f2) = identity_symbols group ++ request_symbols category from first second (Fields f1 f2)
@@ -152,13 +158,13 @@ fields_of (Service to category from kind) = identity_symbols to ++ (category_sym
 
 -- the end of sequence
 abbrev pub end_of : Call → ℕ
-end_of (Alert casualty) = 127
-end_of (Ack from casualty) = 127
-end_of (Relay to from casualty ask) = if ask then 117 else 127
-end_of (RelayAck to from casualty) = 122
-end_of (AllShips category from first second f1 f2) = 127
-end_of (AreaCall area category from first second f1 f2) = 127
-end_of (GroupCall group category from first second f1 f2) = 127
+end_of (Alert casualty) = ends.EOS
+end_of (Ack from casualty) = ends.EOS
+end_of (Relay to from casualty ask) = if ask then ends.ACKNOWLEDGE_RQ else ends.EOS
+end_of (RelayAck to from casualty) = ends.ACKNOWLEDGE_BQ
+end_of (AllShips category from first second f1 f2) = ends.EOS
+end_of (AreaCall area category from first second f1 f2) = ends.EOS
+end_of (GroupCall group category from first second f1 f2) = ends.EOS
 end_of (Individual to category from first second message end) = end_symbol end
 end_of (Service to category from kind) = kind_end kind
 

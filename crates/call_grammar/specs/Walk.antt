@@ -1,14 +1,10 @@
 -- Walks through the lists of calls, symbol by symbol: this project's profile, over the lists of ITU-R M.493.
 use Rattle.std.specs.Prelude.{◌≡◌, ℕ, ◌⊎◌, List, [], ◌∷◌, ◌++◌, drop}
-use Rattle.call_values.specs.declared.alerts.Call.{Call}
+use Rattle.call_values.specs.declared.calls.Call.{Call}
 use Rattle.call_values.specs.Calls.{IsCall}
 use Rattle.call_grammar.specs.Spelling.{spell, front, up_to_end, end_of, check_of}
 use Rattle.call_grammar.specs.declared.walking.Step.{Step}
 use Rattle.call_grammar.specs.declared.walking.Step.TheVariants.{More, Done, Outside, Check}
-
--- the format specifiers that begin calls
-abbrev pub IsFormat : ℕ → Type 0
-IsFormat symbol = (symbol ≡ 112) ⊎ (symbol ≡ 116) ⊎ (symbol ≡ 102) ⊎ (symbol ≡ 114) ⊎ (symbol ≡ 120)
 
 -- the list begins some call's list
 pub record IsViable (l : List ℕ) : Type 0 where

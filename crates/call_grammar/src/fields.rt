@@ -1,11 +1,13 @@
 ghost use Rattle.std.specs.Prelude.{◌≡◌, ◌≤◌, ◌∷◌, []};
 ghost use Rattle.symbol_reader.specs.Reading.{Reads};
-ghost use Rattle.call_values.specs.Symbols.{IsNature, IsComm};
+ghost use Rattle.dsc_symbols.specs.Natures.{IsNature};
+ghost use Rattle.dsc_symbols.specs.Telecommands.{IsComm};
 ghost use Rattle.call_grammar.specs.Grammar as grammar;
 ghost use Rattle.symbol_reader.specs.Languages.{Spelled};
 
 use call_values::{Casualty, Comm, Fix, HourMinute, Mmsi, Nature, Position};
 use cursor::Cursor;
+use dsc_symbols::messages::{UNKNOWN_POSITION, UNKNOWN_TIME};
 use symbol_reader::{Letter, Stop, symbol};
 
 /// Reads nine digits and a 0, two to a character (ITU-R M.493, self-identification).
@@ -55,18 +57,18 @@ fn comm(list: &mut Cursor) -> Result<Comm, Stop>
 pub fn position(list: &mut Cursor) -> Result<Position, Stop>
     ensures { Reads grammar.Positions list.old result list.new }
 {
-    let lead = symbol(list, Letter::UpToOr(39, 99))?;
-    if lead == 99 {
+    let initial = symbol(list, Letter::UpToOr(39, UNKNOWN_POSITION))?;
+    if initial == UNKNOWN_POSITION {
         unknown_rest(list)
     } else {
-        known_rest(list, lead)
+        known_rest(list, initial)
     }
 }
 
 fn unknown_rest(list: &mut Cursor) -> Result<Position, Stop>
     ensures { Reads grammar.UnknownRest list.old result list.new }
 {
-    let nines = Letter::Exactly(99);
+    let nines = Letter::Exactly(UNKNOWN_POSITION);
     symbol(list, nines)?;
     symbol(list, nines)?;
     symbol(list, nines)?;
@@ -74,17 +76,17 @@ fn unknown_rest(list: &mut Cursor) -> Result<Position, Stop>
     Ok(Position::unknown())
 }
 
-fn known_rest(list: &mut Cursor, lead: u8) -> Result<Position, Stop>
-    requires { lead ≤ 39 }
-    ensures { Reads (grammar.KnownRest lead) list.old result list.new }
+fn known_rest(list: &mut Cursor, initial: u8) -> Result<Position, Stop>
+    requires { initial ≤ 39 }
+    ensures { Reads (grammar.KnownRest initial) list.old result list.new }
 {
-    let b = symbol(list, latitude_ones(lead))?;
-    let c = symbol(list, minutes_and_hundreds(lead))?;
+    let b = symbol(list, latitude_ones(initial))?;
+    let c = symbol(list, minutes_and_hundreds(initial))?;
     let d = symbol(list, longitude_ones(c))?;
     let e = symbol(list, longitude_minutes(c, d))?;
     let fix = Fix {
-        quadrant: lead / 10,
-        lat_deg: lead % 10 * 10 + b / 10,
+        quadrant: initial / 10,
+        lat_deg: initial % 10 * 10 + b / 10,
         lat_min: b % 10 * 10 + c / 10,
         lon_deg: c % 10 * 100 + d,
         lon_min: e,
@@ -92,20 +94,20 @@ fn known_rest(list: &mut Cursor, lead: u8) -> Result<Position, Stop>
     Ok(Position::new(fix).unwrap())
 }
 
-fn latitude_ones(lead: u8) -> Letter
-    ensures { result ≡ grammar.latitude_ones lead }
+fn latitude_ones(initial: u8) -> Letter
+    ensures { result ≡ grammar.latitude_ones initial }
 {
-    if lead % 10 == 9 {
+    if initial % 10 == 9 {
         Letter::Exactly(0)
     } else {
         Letter::Digits(9, 5)
     }
 }
 
-fn minutes_and_hundreds(lead: u8) -> Letter
-    ensures { result ≡ grammar.minutes_and_hundreds lead }
+fn minutes_and_hundreds(initial: u8) -> Letter
+    ensures { result ≡ grammar.minutes_and_hundreds initial }
 {
-    if lead % 10 == 9 {
+    if initial % 10 == 9 {
         Letter::UpTo(1)
     } else {
         Letter::Digits(9, 1)
@@ -136,9 +138,9 @@ fn longitude_minutes(hundreds: u8, ones: u8) -> Letter
 pub fn time(list: &mut Cursor) -> Result<HourMinute, Stop>
     ensures { Reads grammar.Times list.old result list.new }
 {
-    let hour = symbol(list, Letter::UpToOr(23, 88))?;
-    if hour == 88 {
-        symbol(list, Letter::Exactly(88))?;
+    let hour = symbol(list, Letter::UpToOr(23, UNKNOWN_TIME))?;
+    if hour == UNKNOWN_TIME {
+        symbol(list, Letter::Exactly(UNKNOWN_TIME))?;
         return Ok(HourMinute::unknown());
     }
     let minute = symbol(list, Letter::UpTo(59))?;

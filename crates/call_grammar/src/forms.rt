@@ -1,20 +1,20 @@
-ghost use Rattle.std.specs.Prelude.{◌↔◌, IsTrue, ◌≡◌};
+ghost use Rattle.std.specs.Prelude.{◌≡◌};
 ghost use Rattle.symbol_reader.specs.Reading.{Reads};
-ghost use Rattle.call_grammar.specs.Walk.{IsFormat};
-ghost use Rattle.call_grammar.specs.Grammar.{Opened};
+ghost use Rattle.call_grammar.specs.Grammar.{CheckedCharacters};
 ghost use Rattle.call_grammar.specs.Forms as forms;
 
 use crate::fields::{casualty, identity};
+use crate::individuals::individual;
 use crate::messages::{area, field};
-use crate::services::individual;
-use crate::signs::{Specifier, end, first, format, lead, second, sign};
+use crate::symbols::{Specifier, category, distress_telecommand, end, first, format, second};
 use call_values::{Call, Casualty, Category, End, Field, First, Message, Mmsi, Second, To};
 use cursor::Cursor;
+use dsc_symbols::ends::EOS;
 use symbol_reader::{Letter, Stop, symbol};
 
 /// Reads what the error check covers: the format specifier once, the fields and the end of sequence.
-pub fn opened(list: &mut Cursor) -> Result<Call, Stop>
-    ensures { Reads Opened list.old result list.new }
+pub fn checked_characters(list: &mut Cursor) -> Result<Call, Stop>
+    ensures { Reads CheckedCharacters list.old result list.new }
 {
     let format = format(list)?;
     after_format(list, format)
@@ -45,7 +45,7 @@ fn alert(list: &mut Cursor) -> Result<Call, Stop>
     ensures { Reads forms.Alerts list.old result list.new }
 {
     let casualty = casualty(list)?;
-    symbol(list, Letter::Exactly(127))?;
+    symbol(list, Letter::Exactly(EOS))?;
     Ok(Call::Alert(casualty))
 }
 
@@ -53,22 +53,26 @@ fn alert(list: &mut Cursor) -> Result<Call, Stop>
 fn addressed_to_one(list: &mut Cursor, to: Mmsi) -> Result<Call, Stop>
     ensures { Reads (forms.AddressedOne to) list.old result list.new }
 {
-    let lead = lead(list)?;
-    after_one_lead(list, to, lead)
+    let category = category(list)?;
+    after_category_to_one(list, to, category)
 }
 
-fn after_one_lead(list: &mut Cursor, to: Mmsi, lead: Option<Category>) -> Result<Call, Stop>
-    ensures { Reads (forms.AfterOneLead to lead) list.old result list.new }
+fn after_category_to_one(
+    list: &mut Cursor,
+    to: Mmsi,
+    category: Option<Category>,
+) -> Result<Call, Stop>
+    ensures { Reads (forms.AfterCategoryToOne to category) list.old result list.new }
 {
-    match lead {
+    match category {
         None => distress(list, &To::One(to)),
-        Some(category) => letter(list, to, category),
+        Some(category) => sender_and_individual(list, to, category),
     }
 }
 
 /// Reads what follows the category of a call to one station.
-fn letter(list: &mut Cursor, to: Mmsi, category: Category) -> Result<Call, Stop>
-    ensures { Reads (forms.Letters to category) list.old result list.new }
+fn sender_and_individual(list: &mut Cursor, to: Mmsi, category: Category) -> Result<Call, Stop>
+    ensures { Reads (forms.SenderAndIndividual to category) list.old result list.new }
 {
     let from = identity(list)?;
     individual(list, to, category, from)
@@ -78,20 +82,20 @@ fn letter(list: &mut Cursor, to: Mmsi, category: Category) -> Result<Call, Stop>
 fn addressed(list: &mut Cursor, to: &To) -> Result<Call, Stop>
     ensures { Reads (forms.Addressed to.now) list.old result list.new }
 {
-    let lead = lead(list)?;
-    after_lead(list, to, lead)
+    let category = category(list)?;
+    after_category(list, to, category)
 }
 
-fn after_lead(list: &mut Cursor, to: &To, lead: Option<Category>) -> Result<Call, Stop>
-    ensures { Reads (forms.AfterLead to.now lead) list.old result list.new }
+fn after_category(list: &mut Cursor, to: &To, category: Option<Category>) -> Result<Call, Stop>
+    ensures { Reads (forms.AfterCategory to.now category) list.old result list.new }
 {
-    match lead {
+    match category {
         None => distress(list, to),
-        Some(category) => request(list, to, category),
+        Some(category) => sender_and_request(list, to, category),
     }
 }
 
-/// Reads an acknowledgement, a relay or the acknowledgement of one, after its sign.
+/// Reads what follows the category distress: an acknowledgement, a relay or the acknowledgement of one.
 fn distress(list: &mut Cursor, to: &To) -> Result<Call, Stop>
     ensures { Reads (forms.Distress to.now) list.old result list.new }
 {
@@ -102,12 +106,17 @@ fn distress(list: &mut Cursor, to: &To) -> Result<Call, Stop>
 fn after_relayer(list: &mut Cursor, to: &To, from: Mmsi) -> Result<Call, Stop>
     ensures { Reads (forms.AfterRelayer to.now from) list.old result list.new }
 {
-    let is_ack = sign(list, to)?;
-    after_sign(list, to, from, is_ack)
+    let is_ack = distress_telecommand(list, to)?;
+    after_distress_telecommand(list, to, from, is_ack)
 }
 
-fn after_sign(list: &mut Cursor, to: &To, from: Mmsi, is_ack: bool) -> Result<Call, Stop>
-    ensures { Reads (forms.AfterSign to.now from is_ack) list.old result list.new }
+fn after_distress_telecommand(
+    list: &mut Cursor,
+    to: &To,
+    from: Mmsi,
+    is_ack: bool,
+) -> Result<Call, Stop>
+    ensures { Reads (forms.AfterDistressTelecommand to.now from is_ack) list.old result list.new }
 {
     if is_ack {
         ack(list, from)
@@ -120,7 +129,7 @@ fn ack(list: &mut Cursor, from: Mmsi) -> Result<Call, Stop>
     ensures { Reads (forms.Acks from) list.old result list.new }
 {
     let casualty = casualty(list)?;
-    symbol(list, Letter::Exactly(127))?;
+    symbol(list, Letter::Exactly(EOS))?;
     Ok(Call::Ack { from, casualty })
 }
 
@@ -155,8 +164,8 @@ fn relay_of(to: &To, from: Mmsi, casualty: Casualty, end: End) -> Call
 }
 
 /// Reads what follows the category of a call that is for more than one station.
-fn request(list: &mut Cursor, to: &To, category: Category) -> Result<Call, Stop>
-    ensures { Reads (forms.AfterCategory to.now category) list.old result list.new }
+fn sender_and_request(list: &mut Cursor, to: &To, category: Category) -> Result<Call, Stop>
+    ensures { Reads (forms.SenderAndRequest to.now category) list.old result list.new }
 {
     let from = identity(list)?;
     broadcast(list, to, category, from)
@@ -170,7 +179,7 @@ fn broadcast(list: &mut Cursor, to: &To, category: Category, from: Mmsi) -> Resu
     let second = second(list)?;
     let f1 = field(list)?;
     let f2 = field(list)?;
-    symbol(list, Letter::Exactly(127))?;
+    symbol(list, Letter::Exactly(EOS))?;
     Ok(request_of(to, category, from, first, second, f1, f2))
 }
 
@@ -223,11 +232,4 @@ fn request_of(
             end: End::Plain,
         },
     }
-}
-
-/// Whether calls begin with this symbol.
-pub fn is_format(symbol: u8) -> bool
-    ensures { IsTrue result ↔ IsFormat symbol }
-{
-    matches!(symbol, 112 | 116 | 102 | 114 | 120)
 }

@@ -3,7 +3,7 @@ ghost use Rattle.call_values.specs.Calls.{IsCall};
 ghost use Rattle.call_grammar.specs.Spelling.{covered, check_of};
 ghost use Rattle.call_grammar.specs.Judging.{Judges, IsCovered};
 
-use crate::forms::opened;
+use crate::forms::checked_characters;
 use crate::walking::Step;
 use call_values::Call;
 use cursor::Cursor;
@@ -27,7 +27,7 @@ pub fn judge(list: &[u8]) -> Step
 {
     let once = &list[1..];
     let mut cursor = Cursor::new(once);
-    let call = match opened(&mut cursor) {
+    let call = match checked_characters(&mut cursor) {
         Ok(call) => call,
         Err(Stop::Short) => return Step::More,
         Err(Stop::Outside) => return Step::Outside,
@@ -45,7 +45,7 @@ pub fn is_covered(list: &[u8]) -> bool
     ensures { IsTrue result ↔ IsCovered (drop 1 list.now) }
 {
     let mut cursor = Cursor::new(&list[1..]);
-    match opened(&mut cursor) {
+    match checked_characters(&mut cursor) {
         Ok(_) => cursor.rest().is_empty(),
         Err(_) => false,
     }

@@ -1,8 +1,9 @@
-ghost use Rattle.std.specs.Prelude.{◌≡◌, ℕ, ◌≤◌, ◌⊎◌, ◌↔◌, List, [], ◌∷◌, ◌++◌, length, Result, Ok};
-ghost use Rattle.call_values.specs.declared.alerts.Call.{Call};
+ghost use Rattle.std.specs.Prelude.{◌≡◌, ℕ, ◌<◌, ◌≤◌, All, ◌⊎◌, ◌↔◌, List, [], ◌∷◌, ◌++◌, length, Result, Ok};
+ghost use Rattle.call_values.specs.declared.calls.Call.{Call};
 ghost use Rattle.call_values.specs.Calls.{IsCall};
 ghost use Rattle.call_grammar.specs.Spelling.{spell, front};
-ghost use Rattle.call_grammar.specs.Walk.{IsFormat, IsViable, IsOpen, IsDone};
+ghost use Rattle.dsc_symbols.specs.Formats.{IsFormat};
+ghost use Rattle.call_grammar.specs.Walk.{IsViable, IsOpen, IsDone};
 ghost use Rattle.call_grammar.specs.Reading.{IsReading};
 ghost use Rattle.call_grammar.specs.declared.reading.ReadRefusal.{ReadRefusal};
 
@@ -36,4 +37,9 @@ pub fn formats_begin_calls()
 pub fn read_back()
     ensures { (c : Call) (rest : List ℕ) (answer : Result (Call × ℕ) ReadRefusal)
         → IsCall c → IsReading (spell c ++ rest) answer → answer ≡ Ok (c, length (spell c)) }
+{}
+
+/// The law that every symbol of a call's list is a character's, below 128. It does nothing.
+pub fn lists_are_characters()
+    ensures { (c : Call) → IsCall c → All (λ symbol. symbol < 128) (spell c) }
 {}

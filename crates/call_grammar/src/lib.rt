@@ -3,22 +3,21 @@
 
 mod fields;
 mod forms;
+mod individuals;
 mod judging;
 mod laws;
 mod messages;
 mod reading;
-mod services;
-mod signs;
 mod spelling;
 mod symbols;
 mod walking;
 
 pub use laws::{
-    formats_begin_calls, fronts_differ, lists_are_short, one_list, open_is_not_done, read_back,
+    formats_begin_calls, fronts_differ, lists_are_characters, lists_are_short, one_list,
+    open_is_not_done, read_back,
 };
 pub use reading::{ReadRefusal, read};
 pub use spelling::{area_digits, category_symbol, end_of, end_symbol, position_digits, spell};
-pub use symbols::lists_are_characters;
 pub use walking::{Step, Walk};
 
 #[cfg(test)]

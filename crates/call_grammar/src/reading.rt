@@ -1,14 +1,15 @@
 ghost use Rattle.std.specs.Prelude.{◌≡◌, ℕ, ◌≤◌, List, ◌∷◌, ◌++◌, length, MatchResult, IsTrue, ◌↔◌, Err};
 ghost use Rattle.call_values.specs.Calls.{IsCall};
 ghost use Rattle.call_grammar.specs.Spelling.{up_to_end};
-ghost use Rattle.call_grammar.specs.Walk.{IsFormat};
+ghost use Rattle.dsc_symbols.specs.Formats.{IsFormat};
 ghost use Rattle.call_grammar.specs.Reading.{IsReading, IsTwice, Shows, Misses};
 
-use crate::forms::{is_format, opened};
+use crate::forms::checked_characters;
 use crate::judging::check;
 use crate::spelling::end_of;
 use call_values::Call;
 use cursor::Cursor;
+use dsc_symbols::formats::is_format;
 use symbol_reader::Stop;
 
 /// Why a list isn't read as a call's.
@@ -29,7 +30,7 @@ pub fn read(list: &[u8]) -> Result<(Call, usize), ReadRefusal>
 {
     heading(list)?;
     let mut cursor = Cursor::new(&list[1..]);
-    match opened(&mut cursor) {
+    match checked_characters(&mut cursor) {
         Ok(call) => ending(list, list.len() - cursor.rest().len(), call),
         Err(Stop::Short) => Err(ReadRefusal::Short(list.len() as u8)),
         Err(Stop::Outside) => {

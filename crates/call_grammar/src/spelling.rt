@@ -9,6 +9,8 @@ use call_values::{
     Area, Call, Casualty, Category, End, Field, FieldKind, First, Fix, HourMinute, Kind, Message,
     Mmsi, Position, Second, To,
 };
+use dsc_symbols::messages::{NO_INFORMATION, POSITION_FOLLOWS, UNKNOWN_POSITION, UNKNOWN_TIME};
+use dsc_symbols::{categories, ends, formats, telecommands};
 
 /// A call's list: the format specifier twice, the fields, the end of sequence, the error check character, and the
 /// end of sequence twice more (ITU-R M.493, composition of call sequences).
@@ -40,12 +42,12 @@ pub fn format_of(call: &Call) -> u8
     ensures { result ≡ sequence.format_of call.now }
 {
     match call {
-        Call::Alert(_) => 112,
-        Call::Ack { .. } | Call::AllShips { .. } => 116,
+        Call::Alert(_) => formats::DISTRESS,
+        Call::Ack { .. } | Call::AllShips { .. } => formats::ALL_SHIPS,
         Call::Relay { to, .. } | Call::RelayAck { to, .. } => format_to(to),
-        Call::AreaCall { .. } => 102,
-        Call::GroupCall { .. } => 114,
-        Call::Individual { .. } | Call::Service { .. } => 120,
+        Call::AreaCall { .. } => formats::AREA,
+        Call::GroupCall { .. } => formats::GROUP,
+        Call::Individual { .. } | Call::Service { .. } => formats::INDIVIDUAL,
     }
 }
 
@@ -53,10 +55,10 @@ fn format_to(to: &To) -> u8
     ensures { result ≡ sequence.format_to to.now }
 {
     match to {
-        To::All => 116,
-        To::Area(_) => 102,
-        To::Group(_) => 114,
-        To::One(_) => 120,
+        To::All => formats::ALL_SHIPS,
+        To::Area(_) => formats::AREA,
+        To::Group(_) => formats::GROUP,
+        To::One(_) => formats::INDIVIDUAL,
     }
 }
 
@@ -65,11 +67,11 @@ pub fn end_of(call: &Call) -> u8
     ensures { result ≡ sequence.end_of call.now }
 {
     match call {
-        Call::Relay { ask: true, .. } => 117,
-        Call::RelayAck { .. } => 122,
+        Call::Relay { ask: true, .. } => ends::ACKNOWLEDGE_RQ,
+        Call::RelayAck { .. } => ends::ACKNOWLEDGE_BQ,
         Call::Individual { end, .. } => end_symbol(end),
         Call::Service { kind, .. } => kind_end(kind),
-        _ => 127,
+        _ => ends::EOS,
     }
 }
 
@@ -78,9 +80,9 @@ pub fn end_symbol(end: &End) -> u8
     ensures { result ≡ sequence.end_symbol end.now }
 {
     match end {
-        End::Ask => 117,
-        End::Reply => 122,
-        End::Plain => 127,
+        End::Ask => ends::ACKNOWLEDGE_RQ,
+        End::Reply => ends::ACKNOWLEDGE_BQ,
+        End::Plain => ends::EOS,
     }
 }
 
@@ -88,8 +90,8 @@ fn kind_end(kind: &Kind) -> u8
     ensures { result ≡ sequence.kind_end kind.now }
 {
     match kind {
-        Kind::Test { reply: false } | Kind::AskPosition => 117,
-        Kind::Test { reply: true } | Kind::Position(..) => 122,
+        Kind::Test { reply: false } | Kind::AskPosition => ends::ACKNOWLEDGE_RQ,
+        Kind::Test { reply: true } | Kind::Position(..) => ends::ACKNOWLEDGE_BQ,
     }
 }
 
@@ -107,7 +109,12 @@ fn append_fields(list: &mut ArrayVec<u8, 64>, call: &Call)
 {
     match call {
         Call::Alert(casualty) => append_casualty(list, casualty),
-        Call::Ack { from, casualty } => append_distress(list, from, 110, casualty),
+        Call::Ack { from, casualty } => append_distress(
+            list,
+            from,
+            telecommands::DISTRESS_ACKNOWLEDGEMENT,
+            casualty,
+        ),
         Call::Relay {
             to,
             from,
@@ -116,7 +123,7 @@ fn append_fields(list: &mut ArrayVec<u8, 64>, call: &Call)
         }
         | Call::RelayAck { to, from, casualty } => {
             append_address(list, to);
-            append_distress(list, from, 112, casualty);
+            append_distress(list, from, telecommands::DISTRESS_RELAY, casualty);
         }
         Call::AllShips {
             category,
@@ -213,10 +220,23 @@ fn append_kind(list: &mut ArrayVec<u8, 64>, kind: &Kind)
     ensures { list.new.items ≡ list.old.items ++ sequence.kind_symbols kind.now }
 {
     match kind {
-        Kind::Test { .. } => append(list, &[118, 126, 126, 126, 126, 126, 126, 126]),
-        Kind::AskPosition => append(list, &[121, 126, 126, 126, 126, 126, 126, 126]),
+        Kind::Test { .. } => {
+            append(list, &[telecommands::TEST]);
+            append(list, &[NO_INFORMATION; 7]);
+        }
+        Kind::AskPosition => {
+            append(list, &[telecommands::SHIP_POSITION]);
+            append(list, &[NO_INFORMATION; 7]);
+        }
         Kind::Position(position, time) => {
-            append(list, &[121, 126, 55]);
+            append(
+                list,
+                &[
+                    telecommands::SHIP_POSITION,
+                    NO_INFORMATION,
+                    POSITION_FOLLOWS,
+                ],
+            );
             append(list, &position_symbols(position));
             append(list, &time_symbols(time));
         }
@@ -235,13 +255,13 @@ fn append_address(list: &mut ArrayVec<u8, 64>, to: &To)
     }
 }
 
-fn append_distress(list: &mut ArrayVec<u8, 64>, from: &Mmsi, sign: u8, casualty: &Casualty)
+fn append_distress(list: &mut ArrayVec<u8, 64>, from: &Mmsi, telecommand: u8, casualty: &Casualty)
     requires { length list.old.items ≤ 7 }
-    ensures { list.new.items ≡ list.old.items ++ sequence.distress_symbols from.now sign casualty.now }
+    ensures { list.new.items ≡ list.old.items ++ sequence.distress_symbols from.now telecommand casualty.now }
 {
-    append(list, &[112]);
+    append(list, &[categories::DISTRESS]);
     append(list, &identity_symbols(from));
-    append(list, &[sign]);
+    append(list, &[telecommand]);
     append_casualty(list, casualty);
 }
 
@@ -272,7 +292,7 @@ fn append_message(list: &mut ArrayVec<u8, 64>, message: &Message)
             append_field(list, f2);
         }
         Message::At(position) => {
-            append(list, &[55]);
+            append(list, &[POSITION_FOLLOWS]);
             append(list, &position_symbols(position));
         }
     }
@@ -285,7 +305,7 @@ fn append_field(list: &mut ArrayVec<u8, 64>, field: &Field)
     ensures short { length list.new.items ≤ length list.old.items + 4 }
 {
     match field.kind() {
-        FieldKind::Absent => append(list, &[126; 3]),
+        FieldKind::Absent => append(list, &[NO_INFORMATION; 3]),
         FieldKind::Hundreds(number) => append(list, &six_digits(number)),
         FieldKind::Hf(number) => append(list, &six_digits(300_000 + number)),
         FieldKind::Vhf(number) => append(list, &six_digits(900_000 + u32::from(number))),
@@ -298,9 +318,9 @@ pub fn category_symbol(category: &Category) -> u8
     ensures { result ≡ sequence.category_symbol category.now }
 {
     match category {
-        Category::Routine => 100,
-        Category::Safety => 108,
-        Category::Urgency => 110,
+        Category::Routine => categories::ROUTINE,
+        Category::Safety => categories::SAFETY,
+        Category::Urgency => categories::URGENCY,
     }
 }
 
@@ -325,7 +345,7 @@ fn position_symbols(position: &Position) -> [u8; 5]
     ensures { result ≡ sequence.position_symbols position.now }
 {
     match position.known() {
-        None => [99; 5],
+        None => [UNKNOWN_POSITION; 5],
         Some(fix) => ten_digits(position_digits(&fix)),
     }
 }
@@ -334,7 +354,7 @@ fn time_symbols(time: &HourMinute) -> [u8; 2]
     ensures { result ≡ sequence.time_symbols time.now }
 {
     match time.known() {
-        None => [88; 2],
+        None => [UNKNOWN_TIME; 2],
         Some((hour, minute)) => [hour, minute],
     }
 }

@@ -1,9 +1,168 @@
-ghost use Rattle.std.specs.Prelude.{ℕ, ◌<◌, All};
-ghost use Rattle.call_values.specs.declared.alerts.Call.{Call};
-ghost use Rattle.call_values.specs.Calls.{IsCall};
-ghost use Rattle.call_grammar.specs.Spelling.{spell};
+ghost use Rattle.std.specs.Prelude.{◌≡◌, ◌∷◌, []};
+ghost use Rattle.symbol_reader.specs.Letters.{Allows};
+ghost use Rattle.symbol_reader.specs.Reading.{Reads};
+ghost use Rattle.call_grammar.specs.Spelling.{end_symbol};
+ghost use Rattle.call_grammar.specs.Grammar.{Firsts, Seconds, Blanks};
+ghost use Rattle.call_grammar.specs.Forms as forms;
 
-/// The law that every symbol of a call's list is a character's, below 128. It does nothing.
-pub fn lists_are_characters()
-    ensures { (c : Call) → IsCall c → All (λ symbol. symbol < 128) (spell c) }
-{}
+use call_values::{Category, End, First, Second, To};
+use cursor::Cursor;
+use dsc_symbols::messages::NO_INFORMATION;
+use dsc_symbols::{categories, ends, formats, telecommands};
+use symbol_reader::{Letter, Stop, symbol};
+
+/// The format specifiers by what follows them (ITU-R M.493, format specifier).
+#[derive(Clone, Copy, Debug, PartialEq, Eq)]
+pub enum Specifier {
+    Alert,
+    All,
+    Area,
+    Group,
+    One,
+}
+
+/// What the first telecommand of a call to one station says of the rest of the call.
+#[derive(Clone, Copy, Debug, PartialEq, Eq)]
+pub enum Telecommand {
+    Test,
+    Position,
+    Request(First),
+}
+
+/// Reads a format specifier.
+pub fn format(list: &mut Cursor) -> Result<Specifier, Stop>
+    ensures { Reads forms.Formats list.old result list.new }
+{
+    let symbol = symbol(list, Letter::Format)?;
+    Ok(format_told(symbol))
+}
+
+fn format_told(symbol: u8) -> Specifier
+    requires { Allows Letter.Format symbol }
+    ensures { forms.format_symbol result ≡ symbol }
+{
+    match symbol {
+        formats::DISTRESS => Specifier::Alert,
+        formats::ALL_SHIPS => Specifier::All,
+        formats::AREA => Specifier::Area,
+        formats::GROUP => Specifier::Group,
+        _ => Specifier::One,
+    }
+}
+
+/// Reads the category of a call, or `None` where the call is a distress call.
+pub fn category(list: &mut Cursor) -> Result<Option<Category>, Stop>
+    ensures { Reads forms.Categories list.old result list.new }
+{
+    let symbol = symbol(list, Letter::Category)?;
+    Ok(category_told(symbol))
+}
+
+fn category_told(symbol: u8) -> Option<Category>
+    requires { Allows Letter.Category symbol }
+    ensures { forms.category_or_distress result ≡ symbol }
+{
+    match symbol {
+        categories::DISTRESS => None,
+        categories::ROUTINE => Some(Category::Routine),
+        categories::SAFETY => Some(Category::Safety),
+        _ => Some(Category::Urgency),
+    }
+}
+
+/// Reads an end of sequence.
+pub fn end(list: &mut Cursor) -> Result<End, Stop>
+    ensures { Reads forms.Endings list.old result list.new }
+{
+    let symbol = symbol(list, Letter::End)?;
+    Ok(end_told(symbol))
+}
+
+fn end_told(symbol: u8) -> End
+    requires { Allows Letter.End symbol }
+    ensures { end_symbol result ≡ symbol }
+{
+    match symbol {
+        ends::ACKNOWLEDGE_RQ => End::Ask,
+        ends::ACKNOWLEDGE_BQ => End::Reply,
+        _ => End::Plain,
+    }
+}
+
+/// Reads one of two symbols, and answers whether it is the first.
+pub fn either(list: &mut Cursor, one: u8, other: u8) -> Result<bool, Stop>
+    requires { one ≡ other → ⊥ }
+    ensures { Reads (forms.Eithers one other) list.old result list.new }
+{
+    let symbol = symbol(list, Letter::Either(one, other))?;
+    Ok(symbol == one)
+}
+
+/// Reads what stands after the sender of a distress call, and answers whether the call is an acknowledgement.
+pub fn distress_telecommand(list: &mut Cursor, to: &To) -> Result<bool, Stop>
+    ensures { Reads (forms.DistressTelecommands to.now) list.old result list.new }
+{
+    let symbol = symbol(list, distress_telecommand_letter(to))?;
+    Ok(symbol == telecommands::DISTRESS_ACKNOWLEDGEMENT)
+}
+
+fn distress_telecommand_letter(to: &To) -> Letter
+    ensures { result ≡ forms.distress_telecommand_letter to.now }
+{
+    match to {
+        To::All => Letter::Either(
+            telecommands::DISTRESS_ACKNOWLEDGEMENT,
+            telecommands::DISTRESS_RELAY,
+        ),
+        _ => Letter::Exactly(telecommands::DISTRESS_RELAY),
+    }
+}
+
+/// Reads the first telecommand of a call to one station.
+pub fn first_to_one(list: &mut Cursor) -> Result<Telecommand, Stop>
+    ensures { Reads forms.Telecommands list.old result list.new }
+{
+    let symbol = symbol(list, Letter::FirstToOne)?;
+    Ok(telecommand_told(symbol))
+}
+
+fn telecommand_told(symbol: u8) -> Telecommand
+    requires { Allows Letter.FirstToOne symbol }
+    ensures lawful { forms.IsTelecommand result }
+    ensures symbol { forms.telecommand_symbol result ≡ symbol }
+{
+    match symbol {
+        telecommands::TEST => Telecommand::Test,
+        telecommands::SHIP_POSITION => Telecommand::Position,
+        _ => Telecommand::Request(First::new(symbol).unwrap()),
+    }
+}
+
+/// Reads the first telecommand of a call that is for more than one station.
+pub fn first(list: &mut Cursor) -> Result<First, Stop>
+    ensures { Reads Firsts list.old result list.new }
+{
+    let symbol = symbol(list, Letter::First)?;
+    Ok(First::new(symbol).unwrap())
+}
+
+/// Reads a second telecommand.
+pub fn second(list: &mut Cursor) -> Result<Second, Stop>
+    ensures { Reads Seconds list.old result list.new }
+{
+    let symbol = symbol(list, Letter::Second)?;
+    Ok(Second::new(symbol).unwrap())
+}
+
+/// Reads five characters of no information.
+pub fn blanks(list: &mut Cursor) -> Result<(), Stop>
+    ensures { Reads (Blanks 5) list.old result list.new }
+{
+    let blank = Letter::Exactly(NO_INFORMATION);
+    symbol(list, blank)?;
+    symbol(list, blank)?;
+    symbol(list, blank)?;
+    symbol(list, blank)?;
+    symbol(list, blank)?;
+    Ok(())
+}

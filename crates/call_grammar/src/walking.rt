@@ -6,6 +6,7 @@ use crate::judging::{is_covered, judge};
 use crate::spelling::append;
 use arrayvec::ArrayVec;
 use call_values::Call;
+use dsc_symbols::ends::{ACKNOWLEDGE_BQ, ACKNOWLEDGE_RQ, EOS};
 use std::marker::Model;
 
 /// What a walk answers to one more symbol.
@@ -84,13 +85,13 @@ impl Walk {
     pub fn wants_end(&self) -> bool
         ensures { IsTrue result ↔ IsAtEnd self.now }
     {
-        if self.ends_with(117) {
+        if self.ends_with(ACKNOWLEDGE_RQ) {
             return true;
         }
-        if self.ends_with(122) {
+        if self.ends_with(ACKNOWLEDGE_BQ) {
             return true;
         }
-        self.ends_with(127)
+        self.ends_with(EOS)
     }
 
     /// Whether the check of some call would follow this symbol.

@@ -1,7 +1,7 @@
 -- Each letter stands for some symbol.
 use Rattle.std.proofs.Common.{ℕ, refl, inl, inr, lit≤, arith}
 use Rattle.symbol_reader.specs.declared.letters.Letter.{Letter}
-use Rattle.symbol_reader.specs.declared.letters.Letter.TheVariants.{Exactly, UpTo, UpToOr, Digits, Nature, Comm, Either, Format, Lead, First, Opener, Second, Field, Message, End}
+use Rattle.symbol_reader.specs.declared.letters.Letter.TheVariants.{Exactly, UpTo, UpToOr, Digits, Nature, Comm, Either, Format, Category, First, FirstToOne, Second, Field, Message, End}
 use Rattle.symbol_reader.specs.Letters.{Allows}
 
 -- a symbol of the letter
@@ -14,9 +14,9 @@ example_of Nature = 100
 example_of Comm = 100
 example_of (Either one other) = one
 example_of Format = 112
-example_of Lead = 112
+example_of Category = 112
 example_of First = 100
-example_of Opener = 118
+example_of FirstToOne = 118
 example_of Second = 126
 example_of Field = 0
 example_of Message = 55
@@ -29,13 +29,13 @@ Allows-example (UpTo most) = omega arith
 Allows-example (UpToOr most other) = inr refl
 Allows-example (Digits tens ones) = omega arith
 Allows-example Nature = inl (lit≤ tt, lit≤ tt)
-Allows-example Comm = inl refl
+Allows-example Comm = inl (lit≤ tt, lit≤ tt)
 Allows-example (Either one other) = inl refl
 Allows-example Format = inl refl
-Allows-example Lead = inl refl
-Allows-example First = inl refl
-Allows-example Opener = inl refl
-Allows-example Second = inr refl
+Allows-example Category = inl refl
+Allows-example First = inl (lit≤ tt, lit≤ tt)
+Allows-example FirstToOne = inl refl
+Allows-example Second = inr (inl (lit≤ tt, lit≤ tt))
 Allows-example Field = inl (omega arith)
 Allows-example Message = inl refl
 Allows-example End = inl refl

@@ -1,7 +1,14 @@
 -- Sets of symbols: ITU-R M.493, digits two to a character, and its tables of symbols from 100 on.
 use Rattle.std.specs.Prelude.{◌≡◌, ℕ, ◌≤◌, ◌/◌, ◌%◌, ◌⊎◌}
+use Rattle.dsc_symbols.specs.declared.telecommands.TheConstants.{TEST, SHIP_POSITION}
+use Rattle.dsc_symbols.specs.declared.messages.TheConstants.{NO_INFORMATION, POSITION_FOLLOWS, VHF_CHANNEL}
+use Rattle.dsc_symbols.specs.Categories.{IsCategory}
+use Rattle.dsc_symbols.specs.Ends.{IsEnd}
+use Rattle.dsc_symbols.specs.Formats.{IsFormat}
+use Rattle.dsc_symbols.specs.Natures.{IsNature}
+use Rattle.dsc_symbols.specs.Telecommands.{IsFirst, IsSecond, IsComm}
 use Rattle.symbol_reader.specs.declared.letters.Letter.{Letter}
-use Rattle.symbol_reader.specs.declared.letters.Letter.TheVariants.{Exactly, UpTo, UpToOr, Digits, Nature, Comm, Either, Format, Lead, First, Opener, Second, Field, Message, End}
+use Rattle.symbol_reader.specs.declared.letters.Letter.TheVariants.{Exactly, UpTo, UpToOr, Digits, Nature, Comm, Either, Format, Category, First, FirstToOne, Second, Field, Message, End}
 
 -- the symbols that a letter stands for
 abbrev pub Allows : Letter → ℕ → Type 0
@@ -9,15 +16,14 @@ Allows (Exactly only) x = x ≡ only
 Allows (UpTo most) x = x ≤ most
 Allows (UpToOr most other) x = (x ≤ most) ⊎ (x ≡ other)
 Allows (Digits tens ones) x = (x / 10 ≤ tens) × (x % 10 ≤ ones)
-Allows Nature x = ((100 ≤ x) × (x ≤ 110)) ⊎ (x ≡ 112)
-Allows Comm x = (x ≡ 100) ⊎ (x ≡ 101) ⊎ (x ≡ 106) ⊎ (x ≡ 109) ⊎ (x ≡ 113) ⊎ (x ≡ 115) ⊎ (x ≡ 126)
+Allows Nature x = IsNature x
+Allows Comm x = IsComm x
 Allows (Either one other) x = (x ≡ one) ⊎ (x ≡ other)
-Allows Format x = (x ≡ 112) ⊎ (x ≡ 116) ⊎ (x ≡ 102) ⊎ (x ≡ 114) ⊎ (x ≡ 120)
-Allows Lead x = (x ≡ 112) ⊎ (x ≡ 100) ⊎ (x ≡ 108) ⊎ (x ≡ 110)
-Allows First x =
-    (x ≡ 100) ⊎ (x ≡ 101) ⊎ (x ≡ 103) ⊎ (x ≡ 104) ⊎ (x ≡ 106) ⊎ (x ≡ 109) ⊎ (x ≡ 113) ⊎ (x ≡ 115) ⊎ (x ≡ 126)
-Allows Opener x = (x ≡ 118) ⊎ (x ≡ 121) ⊎ (x ≡ 100) ⊎ (x ≡ 101) ⊎ (x ≡ 103) ⊎ (x ≡ 104) ⊎ (x ≡ 106) ⊎ (x ≡ 109) ⊎ (x ≡ 113) ⊎ (x ≡ 115) ⊎ (x ≡ 126)
-Allows Second x = ((100 ≤ x) × (x ≤ 113)) ⊎ (x ≡ 126)
-Allows Field x = (x ≤ 49) ⊎ (x ≡ 90) ⊎ (x ≡ 126)
-Allows Message x = (x ≡ 55) ⊎ (x ≤ 49) ⊎ (x ≡ 90) ⊎ (x ≡ 126)
-Allows End x = (x ≡ 117) ⊎ (x ≡ 122) ⊎ (x ≡ 127)
+Allows Format x = IsFormat x
+Allows Category x = IsCategory x
+Allows First x = IsFirst x
+Allows FirstToOne x = (x ≡ TEST) ⊎ (x ≡ SHIP_POSITION) ⊎ IsFirst x
+Allows Second x = IsSecond x
+Allows Field x = (x ≤ 49) ⊎ (x ≡ VHF_CHANNEL) ⊎ (x ≡ NO_INFORMATION)
+Allows Message x = (x ≡ POSITION_FOLLOWS) ⊎ (x ≤ 49) ⊎ (x ≡ VHF_CHANNEL) ⊎ (x ≡ NO_INFORMATION)
+Allows End x = IsEnd x

@@ -1,6 +1,14 @@
 ghost use Rattle.std.specs.Prelude.{◌↔◌, IsTrue};
 ghost use Rattle.symbol_reader.specs.Letters.{Allows};
 
+use dsc_symbols::categories::is_category;
+use dsc_symbols::ends::is_end;
+use dsc_symbols::formats::is_format;
+use dsc_symbols::messages::{NO_INFORMATION, POSITION_FOLLOWS, VHF_CHANNEL};
+use dsc_symbols::natures::is_nature;
+use dsc_symbols::notices::is_second;
+use dsc_symbols::telecommands::{SHIP_POSITION, TEST, is_comm, is_first};
+
 /// The symbols that may stand at a place (ITU-R M.493, composition of calls).
 #[derive(Clone, Copy, Debug, PartialEq, Eq)]
 pub enum Letter {
@@ -20,12 +28,12 @@ pub enum Letter {
     Either(u8, u8),
     /// The format specifiers.
     Format,
-    /// The sign of a distress call, or the category of another.
-    Lead,
-    /// The first telecommands of a call that is no test and tells no position.
+    /// The categories, distress among them.
+    Category,
+    /// The first telecommands of calls that have no form of their own.
     First,
     /// These, and those of a test and of a ship's position.
-    Opener,
+    FirstToOne,
     /// The second telecommands.
     Second,
     /// The first characters of a frequency or channel field.
@@ -46,29 +54,23 @@ impl Letter {
             Letter::UpTo(most) => symbol <= most,
             Letter::UpToOr(most, other) => symbol <= most || symbol == other,
             Letter::Digits(tens, ones) => symbol / 10 <= tens && symbol % 10 <= ones,
-            Letter::Nature => matches!(symbol, 100..=110 | 112),
-            Letter::Comm => matches!(symbol, 100 | 101 | 106 | 109 | 113 | 115 | 126),
+            Letter::Nature => is_nature(symbol),
+            Letter::Comm => is_comm(symbol),
             Letter::Either(one, other) => symbol == one || symbol == other,
-            Letter::Format => matches!(symbol, 112 | 116 | 102 | 114 | 120),
-            Letter::Lead => matches!(symbol, 112 | 100 | 108 | 110),
+            Letter::Format => is_format(symbol),
+            Letter::Category => is_category(symbol),
             Letter::First => is_first(symbol),
-            Letter::Opener => matches!(symbol, 118 | 121) || is_first(symbol),
-            Letter::Second => matches!(symbol, 100..=113 | 126),
+            Letter::FirstToOne => matches!(symbol, TEST | SHIP_POSITION) || is_first(symbol),
+            Letter::Second => is_second(symbol),
             Letter::Field => is_field(symbol),
-            Letter::Message => symbol == 55 || is_field(symbol),
-            Letter::End => matches!(symbol, 117 | 122 | 127),
+            Letter::Message => symbol == POSITION_FOLLOWS || is_field(symbol),
+            Letter::End => is_end(symbol),
         }
     }
-}
-
-fn is_first(symbol: u8) -> bool
-    ensures { IsTrue result ↔ Allows Letter.First symbol }
-{
-    matches!(symbol, 100 | 101 | 103 | 104 | 106 | 109 | 113 | 115 | 126)
 }
 
 fn is_field(symbol: u8) -> bool
     ensures { IsTrue result ↔ Allows Letter.Field symbol }
 {
-    symbol <= 49 || matches!(symbol, 90 | 126)
+    symbol <= 49 || matches!(symbol, VHF_CHANNEL | NO_INFORMATION)
 }

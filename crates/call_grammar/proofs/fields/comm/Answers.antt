@@ -1,6 +1,6 @@
 use Rattle.std.proofs.Common.{◌≡◌, arith}
 use Rattle.std.proofs.lemmas.Grind.{common_steps}
-use Rattle.call_values.specs.Symbols.{IsComm}
+use Rattle.dsc_symbols.specs.Telecommands.{IsComm}
 use Rattle.symbol_reader.proofs.Steps.{alike, fail}
 use Rattle.call_grammar.proofs.SymbolParts.{symbol_alike}
 use Rattle.call_grammar.proofs.fields.comm.Goals as goal

@@ -1,4 +1,4 @@
-use Rattle.call_values.specs.Symbols.{IsNature}
+use Rattle.dsc_symbols.specs.Natures.{IsNature}
 use Rattle.symbol_reader.proofs.Steps.{alike, fail}
 use Rattle.call_grammar.proofs.SymbolParts.{symbol_alike}
 use Rattle.call_grammar.proofs.fields.nature.Goals as goal

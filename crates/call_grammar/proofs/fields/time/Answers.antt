@@ -12,11 +12,11 @@ returns-in_err-hour c = fail c.from_residual.ensures.1 (alike time_alike
 pub returns-in_err-symbol : goal.returns-in_err-symbol
 returns-in_err-symbol c = fail c.from_residual-in_err-symbol.ensures.1 (alike time_alike
     (next (letter_good (UpToOr 23 88)) c.in_ok-hour.ensures.reads
-    (chosen (is_88 c.in_ok-hour.hour c.if-hour-eq88.true)
+    (chosen (is_88 c.in_ok-hour.hour c.if-hour-eq-UNKNOWN_TIME.true)
     (stop (letter_good (Exactly 88)) (λ _ _ _. only_good {V = Option (ℕ × ℕ)} None) c.in_err-symbol.ensures.reads))))
 
 pub returns-in_err-minute : goal.returns-in_err-minute
 returns-in_err-minute c = fail c.from_residual-in_err-minute.ensures.1 (alike time_alike
     (next (letter_good (UpToOr 23 88)) c.in_ok-hour.ensures.reads
-    (not_chosen (is_not_88 c.in_ok-hour.hour c.if-hour-eq88.false)
+    (not_chosen (is_not_88 c.in_ok-hour.hour c.if-hour-eq-UNKNOWN_TIME.false)
     (stop (letter_good (UpTo 59)) (λ minute _ _. only_good (let t : Option (ℕ × ℕ) = Some (c.in_ok-hour.hour, minute) in t)) c.in_err-minute.ensures.reads))))

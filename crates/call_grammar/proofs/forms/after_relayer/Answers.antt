@@ -1,13 +1,13 @@
 use Rattle.symbol_reader.proofs.Steps.{next, stop, fail}
-use Rattle.call_grammar.proofs.SignParts.{signs_good}
+use Rattle.call_grammar.proofs.CodedParts.{distress_telecommands_good}
 use Rattle.call_grammar.proofs.FormParts as good
 use Rattle.call_grammar.proofs.forms.after_relayer.Goals as goal
 
 pub returns-in_err-is_ack : goal.returns-in_err-is_ack
 returns-in_err-is_ack c = fail c.from_residual.ensures.1
-    (stop (signs_good c.args.to.now) (λ _ _ _. good.after_sign_good _ _ _) c.in_err-is_ack.ensures)
+    (stop (distress_telecommands_good c.args.to.now) (λ _ _ _. good.after_distress_telecommand_good _ _ _) c.in_err-is_ack.ensures)
 
 pub returns : goal.returns
 returns c =
-    (next (signs_good c.args.to.now) c.in_ok-is_ack.ensures
-    (c.after_sign.ensures))
+    (next (distress_telecommands_good c.args.to.now) c.in_ok-is_ack.ensures
+    (c.after_distress_telecommand.ensures))

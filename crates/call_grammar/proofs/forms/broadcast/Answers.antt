@@ -1,7 +1,7 @@
 use Rattle.symbol_reader.specs.declared.letters.Letter.TheVariants.{Exactly}
 use Rattle.symbol_reader.proofs.Laws.{then_good, only_good}
 use Rattle.symbol_reader.proofs.Steps.{letter_good, next, stop, fail, only_read}
-use Rattle.call_grammar.proofs.SignParts.{first_good, second_good}
+use Rattle.call_grammar.proofs.CodedParts.{first_good, second_good}
 use Rattle.call_grammar.proofs.FieldParts.{field_good}
 use Rattle.call_grammar.proofs.forms.broadcast.Goals as goal
 

@@ -1,7 +1,7 @@
 use Rattle.symbol_reader.proofs.Laws.{then_good, only_good}
 use Rattle.symbol_reader.proofs.Steps.{next, stop, fail, only_read}
 use Rattle.call_grammar.proofs.CasualtyParts.{casualty_good}
-use Rattle.call_grammar.proofs.SignParts.{endings_good}
+use Rattle.call_grammar.proofs.CodedParts.{endings_good}
 use Rattle.call_grammar.proofs.forms.relay.Goals as goal
 
 pub returns-in_err-casualty : goal.returns-in_err-casualty

@@ -1,6 +1,7 @@
 use Rattle.std.proofs.Common.{ℕ, List, [], ◌∷◌, ◌++◌, get_or, refl, ap, subst}
 use Rattle.call_grammar.specs.Spelling.{format_of, fields_of, end_of, check_of, covered}
-use Rattle.call_grammar.specs.Walk.{IsFormat, IsViable}
+use Rattle.dsc_symbols.specs.Formats.{IsFormat}
+use Rattle.call_grammar.specs.Walk.{IsViable}
 use Rattle.call_grammar.proofs.Readings.{format_lawful, format_call}
 use Rattle.call_grammar.proofs.laws.formats_begin_calls.Goals as goal
 

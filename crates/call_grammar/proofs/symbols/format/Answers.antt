@@ -1,0 +1,10 @@
+use Rattle.symbol_reader.specs.declared.letters.Letter.TheVariants.{Format}
+use Rattle.symbol_reader.proofs.Steps.{letter_good, coded_stop, coded_read, fail}
+use Rattle.call_grammar.proofs.CodedParts.{format_coded}
+use Rattle.call_grammar.proofs.symbols.format.Goals as goal
+
+pub returns-in_err-symbol : goal.returns-in_err-symbol
+returns-in_err-symbol c = fail c.from_residual.ensures.1 (coded_stop (letter_good Format) format_coded c.in_err-symbol.ensures.reads)
+
+pub returns : goal.returns
+returns c = coded_read tt c.format_told.ensures c.in_ok-symbol.ensures.reads
