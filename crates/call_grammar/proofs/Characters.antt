@@ -1,5 +1,5 @@
 -- Every symbol of a call's list is below 128.
-use Rattle.std.proofs.Common.{◌≡◌, ℕ, zero, suc, Bool, true, false, cond, ◌+◌, ◌*◌, ◌/◌, ◌%◌, ◌<◌, ◌≤◌, ◌^◌, List, [], ◌∷◌, ◌++◌, Option, Some, None, inl, inr, arith, bit_xor}
+use Rattle.std.proofs.Common.{ℕ, zero, suc, Bool, true, false, cond, ◌+◌, ◌*◌, ◌<◌, List, [], ◌∷◌, ◌++◌, Option, Some, None, arith}
 use Rattle.std.specs.List.{AllByRecursion}
 use Rattle.std.proofs.lemmas.Nat.{xor_lt}
 use Rattle.call_values.specs.declared.places.Fix.{Fix}
@@ -23,7 +23,6 @@ use Rattle.call_values.specs.Fields.{IsField}
 use Rattle.call_values.specs.Telecommands.{IsFirst, IsSecond}
 use Rattle.call_values.specs.Parts.{IsTo, IsMessage, IsKind}
 use Rattle.call_values.specs.Identity.{IsMmsi}
-use Rattle.call_values.specs.Symbols.{IsNature, IsComm}
 use Rattle.call_values.specs.Places.{IsPosition}
 use Rattle.call_values.specs.Clock.{IsHourMinute}
 use Rattle.call_values.specs.Calls.{IsCasualty, IsRequest, IsCall}

@@ -1,8 +1,8 @@
 -- Lists of different calls differ before their ends.
-use Rattle.std.proofs.Common.{◌≡◌, ℕ, ◌⊎◌, inl, inr, List, [], ◌∷◌, ◌++◌, refl, sym, ◌∙◌, ap, append_assoc}
+use Rattle.std.proofs.Common.{◌≡◌, ℕ, ◌⊎◌, inl, inr, List, [], ◌∷◌, ◌++◌, refl, sym, ◌∙◌, ap, append_assoc, append-nil}
 use Rattle.call_values.specs.declared.alerts.Call.{Call}
 use Rattle.call_values.specs.Calls.{IsCall}
-use Rattle.call_grammar.specs.Spelling.{format_of, end_of, covered, check_of, front, spell}
+use Rattle.call_grammar.specs.Spelling.{format_of, end_of, covered, check_of, up_to_end, front, spell}
 use Rattle.call_grammar.specs.Walk.{IsOpen, IsDone}
 use Rattle.call_grammar.proofs.CallParts.{opened_good}
 
@@ -20,6 +20,14 @@ front_same c d rest h k e =
     let ends : n ∷ [] ≡ m ∷ rest = same.1 in
     let none : rest ≡ [] = cc in
     (same.0, none)
+
+-- up to its first end of sequence no call's list begins another's
+pub end_same : (c d : Call) (rest : List ℕ) → IsCall c → IsCall d → up_to_end d ≡ up_to_end c ++ rest → (c ≡ d) × (rest ≡ [])
+end_same c d rest h k e =
+    let whole : format_of d ∷ covered d ≡ format_of c ∷ (covered c ++ rest) = e in
+    let tails : covered d ≡ covered c ++ rest = cc in
+    let same = same_covered c d [] rest h k (append-nil (covered d) ∙ tails) in
+    (same.0, sym same.1)
 
 pub spell_same : (c d : Call) → IsCall c → IsCall d → spell c ≡ spell d → c ≡ d
 spell_same c d h k e =

@@ -22,3 +22,4 @@ pub mod Endings
 pub mod ReadBack
 pub mod Characters
 pub mod Ends
+pub mod LastSymbols

@@ -1,14 +1,30 @@
 ghost use Rattle.std.specs.Prelude.{◌≡◌, ℕ, ◌≤◌, ◌⊎◌, ◌↔◌, List, [], ◌∷◌, ◌++◌, length, Result, Ok};
 ghost use Rattle.call_values.specs.declared.alerts.Call.{Call};
 ghost use Rattle.call_values.specs.Calls.{IsCall};
-ghost use Rattle.call_grammar.specs.Spelling.{spell, front};
-ghost use Rattle.call_grammar.specs.Walk.{IsFormat, IsViable, IsOpen, IsDone};
+ghost use Rattle.call_grammar.specs.Spelling.{spell, front, up_to_end, check_of};
+ghost use Rattle.call_grammar.specs.Walk.{IsFormat, IsViable, IsOpen, IsAtEnd, IsAtCheck, IsDone};
 ghost use Rattle.call_grammar.specs.Reading.{IsReading};
 ghost use Rattle.call_grammar.specs.declared.reading.ReadRefusal.{ReadRefusal};
 
 /// The law that no call's list up to its check begins another call's. It does nothing.
 pub fn fronts_differ()
     ensures { (c d : Call) (rest : List ℕ) → IsCall c → IsCall d → front d ≡ front c ++ rest → (c ≡ d) × (rest ≡ []) }
+{}
+
+/// The law that up to its first end of sequence no call's list begins another's. It does nothing.
+pub fn one_check_place()
+    ensures { (c d : Call) (rest : List ℕ) → IsCall c → IsCall d → up_to_end d ≡ up_to_end c ++ rest → (c ≡ d) × (rest ≡ []) }
+{}
+
+/// The law that where the first end of sequence of some call is next, each symbol with which a call goes on is one, and a
+/// check follows. It does nothing.
+pub fn one_end_place()
+    ensures { (l : List ℕ) (x : ℕ) → IsAtEnd l → IsViable (l ++ x ∷ []) → IsAtCheck (l ++ x ∷ []) }
+{}
+
+/// The law that lists which differ in their last symbol alone have different checks. It does nothing.
+pub fn checks_tell_ends()
+    ensures { (l : List ℕ) (a b : ℕ) → check_of (l ++ a ∷ []) ≡ check_of (l ++ b ∷ []) → a ≡ b }
 {}
 
 /// The law that no list belongs to two calls. It does nothing.

@@ -7,4 +7,10 @@ mod forms;
 #[cfg(test)]
 mod joins;
 #[cfg(test)]
+mod receptions;
+#[cfg(test)]
+mod sheets;
+#[cfg(test)]
 mod signals;
+#[cfg(test)]
+mod streams;

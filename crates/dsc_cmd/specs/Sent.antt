@@ -1,5 +1,6 @@
 -- What is written where all receptions are of one call: ITU-R M.493, the error-detecting code and time diversity; the rule is this project's profile.
 use Rattle.std.specs.Prelude.{◌≡◌, ◌≢◌, ℕ, ◌<◌, ◌⊎◌, List, [], ◌++◌, length, Option, All}
+use Rattle.ten_unit.specs.declared.character.Element.{Element}
 use Rattle.call_values.specs.declared.alerts.Call.{Call}
 use Rattle.call_values.specs.Calls.{IsCall}
 use Rattle.call_grammar.specs.Spelling.{spell, front}
@@ -7,6 +8,7 @@ use Rattle.slot_evidence.specs.Seen.{ShowsNone}
 use Rattle.slot_join.specs.declared.joined.Joined.TheVariants.{Reported, Missing}
 use Rattle.slot_join.specs.declared.joined.Extra.TheVariants.{Absent}
 use Rattle.slot_join.specs.Heard.{IsHeard}
+use Rattle.slot_join.specs.Intact.{CameNowhere, ArrivesInParts}
 use Rattle.join_lines.specs.Lines.{lines_of}
 use Rattle.join_lines.specs.Receptions.{receptions_of, facts_of_all}
 use Rattle.dsc_files.specs.Streams.{Loses, IsEnded}
@@ -20,15 +22,30 @@ pub record IsOfCall (input : List ℕ) (call : Call) (tail : List ℕ) : Type 0 
   pub some : receptions_of (lines_of input) ≢ []
   pub heard : All (λ reception. IsHeard reception (spell call ++ tail)) (receptions_of (lines_of input))
 
--- the line that reports the call, or the line of a place of it at which no reception showed a symbol
-abbrev pub IsSentText : List ℕ → Call → List ℕ → ℕ → Type 0
-IsSentText input call text status =
-    ((text ≡ answer_line (Reported call Absent)) × (status ≡ 0))
-    ⊎ ((n : ℕ) × (n < length (front call)) × ShowsNone (facts_of_all (receptions_of (lines_of input)) n) × (text ≡ answer_line (Missing n)) × (status ≡ 1))
+-- the line that reports the call
+pub record TellsCall (call : Call) (text : List ℕ) (status : ℕ) : Type 0 where
+  pub text_is : text ≡ answer_line (Reported call Absent)
+  pub status_is : status ≡ 0
 
--- 0 and 1: where the input, read to its end, has receptions of one call alone, its line or that of a missing place was written
+-- the line of a place of the call, up to its error check character, at which no reception showed a symbol and no copy came intact
+pub record TellsLostPlace (receptions : List (List Element)) (call : Call) (tail text : List ℕ) (status : ℕ) : Type 0 where
+  pub place : ℕ
+  pub inside : place < length (front call)
+  pub blank : ShowsNone (facts_of_all receptions place)
+  pub nowhere : CameNowhere receptions (spell call ++ tail) place
+  pub text_is : text ≡ answer_line (Missing place)
+  pub status_is : status ≡ 1
+
+-- what is written of the receptions of this call and what follows it
+abbrev pub IsSentText : List ℕ → Call → List ℕ → List ℕ → ℕ → Type 0
+IsSentText input call tail text status = TellsCall call text status ⊎ TellsLostPlace (receptions_of (lines_of input)) call tail text status
+
+-- 0 and 1: where the input, read to its end, has receptions of one call alone, its line was written or that of a place of it no copy of
+-- which came intact; and its line, where each of its places came intact at some receiver
 pub record ReportsSent (left_before left_after before after : Option (List ℕ)) (flushed status : ℕ) : Type 0 where
   pub input : List ℕ
   pub lost : Loses left_before left_after input
   pub ended : IsEnded left_after
-  pub sent : (call : Call) (tail : List ℕ) → IsOfCall input call tail → (text : List ℕ) × IsSentText input call text status × Writes before after flushed text
+  pub sent : (call : Call) (tail : List ℕ) → IsOfCall input call tail → (text : List ℕ) × IsSentText input call tail text status × Writes before after flushed text
+  pub whole : (call : Call) (tail : List ℕ) → IsOfCall input call tail → ArrivesInParts (receptions_of (lines_of input)) call tail
+      → (text : List ℕ) × TellsCall call text status × Writes before after flushed text

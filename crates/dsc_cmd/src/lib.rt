@@ -2,7 +2,6 @@
 #![tactic(auto)]
 
 mod faults;
-mod laws;
 mod running;
 mod words;
 
@@ -10,5 +9,5 @@ pub use dsc_files::{
     ByteSink, ByteSource, Failed, NoMemory, Sink, Source, Status, StdSink, StdSource, SureSink,
     SureSource,
 };
-pub use laws::sent_call_is_answered;
 pub use running::run;
+pub use slot_join::{intact_copies_report_the_call, sent_call_is_answered};

@@ -13,12 +13,13 @@ ghost use Rattle.dsc_cmd.specs.Endings.{IsFinished, IsFaulty, Writes, WritesFron
 ghost use Rattle.dsc_cmd.specs.Sent.{ReportsSent};
 
 use crate::faults::{self, put_fault};
-use crate::laws::sent_call_is_answered;
 use crate::words::is_join;
 use dsc_files::{Failed, ReadError, Sink, Source, Status, read_at_most, write_all};
 use dsc_texts::put_answer_line;
 use join_lines::{LinesError, early_fault, join_lines};
-use slot_join::{Gate, Joined, Sheet, report};
+use slot_join::{
+    Gate, Joined, Sheet, intact_copies_report_the_call, report, sent_call_is_answered,
+};
 use std::alloc::Global;
 use std::thread::Threads;
 
@@ -150,7 +151,8 @@ pub fn run<R: Threads + Sync, S: Source, K: Sink, G: Gate>(
     // Exactly the answer that the facts of the input's receptions determine, and the status of that answer.
     ensures answered { IsFinished result → Answers (S.left source.old) (S.left source.new) (K.written sink.old) (K.written sink.new) (K.flushed sink.new) result }
 
-    // Where all receptions are of one call, truly phased and wrong in one sense alone: this call, or a missing place.
+    // Where all receptions are of one call, truly phased and wrong in one sense alone: this call, or a place of it no copy
+    // of which came intact; and the call, where each of its places came intact at some receiver.
     ensures sent { IsFinished result → ReportsSent (S.left source.old) (S.left source.new) (K.written sink.old) (K.written sink.new) (K.flushed sink.new) result }
 
     // The cause of each status, and what it leaves.
@@ -179,6 +181,7 @@ pub fn run<R: Threads + Sync, S: Source, K: Sink, G: Gate>(
     }
     early_fault();
     sent_call_is_answered();
+    intact_copies_report_the_call();
     match read_at_most(alloc, source, MOST_BYTES) {
         Ok(input) => answer(alloc, &input, sink),
         Err(ReadError::Failed) => Status::new(4),

@@ -34,6 +34,7 @@ impl Calls {
         ensures cause { MatchResult result
             (λ _. self.new.faults ≡ self.old.faults)
             (λ _. Rises self.old.faults self.new.faults) }
+        ensures once { OnErr result (self.new.faults ≡ next self.old.faults) }
         ensures fail { self.new.fail ≡ self.old.fail }
     {
         self.count = after(self.count);
@@ -46,6 +47,7 @@ impl Calls {
     /// Counts a failure.
     fn fault(&mut self) -> Failed
         ensures rises { Rises self.old.faults self.new.faults }
+        ensures once { self.new.faults ≡ next self.old.faults }
         ensures count { self.new.count ≡ self.old.count }
         ensures fail { self.new.fail ≡ self.old.fail }
     {
@@ -98,6 +100,7 @@ impl Source for ByteSource {
         ensures cause { MatchResult result
             (λ _. self.new.faults ≡ self.old.faults)
             (λ _. Rises self.old.faults self.new.faults) }
+        ensures once { OnErr result (self.new.faults ≡ next self.old.faults) }
         ensures fails { IsErr result ↔ Contains self.old.fail (next self.old.calls) }
         ensures calls { self.new.calls ≡ next self.old.calls }
         ensures most { IfOk result (λ n. n ≤ self.old.piece) }
@@ -168,9 +171,11 @@ impl Sink for ByteSink {
         ensures cause { MatchResult result
             (λ _. self.new.faults ≡ self.old.faults)
             (λ _. Rises self.old.faults self.new.faults) }
+        ensures once { OnErr result (self.new.faults ≡ next self.old.faults) }
         ensures fails { IsErr result ↔ (Contains self.old.fail (next self.old.calls) ⊎ (self.old.room ≤ length self.old.kept)) }
         ensures calls { self.new.calls ≡ next self.old.calls }
         ensures most { IfOk result (λ n. n ≤ self.old.piece) }
+        ensures fits { IfOk result (λ _. length self.new.kept ≤ self.new.room) }
         ensures room { self.new.room ≡ self.old.room }
         ensures piece { self.new.piece ≡ self.old.piece }
         ensures fail { self.new.fail ≡ self.old.fail }
@@ -190,6 +195,7 @@ impl Sink for ByteSink {
         ensures cause { MatchResult result
             (λ _. self.new.faults ≡ self.old.faults)
             (λ _. Rises self.old.faults self.new.faults) }
+        ensures once { OnErr result (self.new.faults ≡ next self.old.faults) }
         ensures fails { IsErr result ↔ Contains self.old.fail (next self.old.calls) }
         ensures calls { self.new.calls ≡ next self.old.calls }
         ensures room { self.new.room ≡ self.old.room }

@@ -146,6 +146,7 @@ impl Sink for SureSink {
         ensures sure { IsOk result }
         ensures most { IfOk result (λ n. n ≤ self.old.piece) }
         ensures kept { IfOk result (λ n. self.new ≡ stored self.old (take n piece.now)) }
+        ensures fits { length self.new.kept ≤ self.new.room }
     {
         let n = piece.len().min(self.piece);
         self.keep(&piece[..n]);

@@ -2,9 +2,8 @@
 use Rattle.std.specs.Prelude.{◌≡◌, ◌≢◌, ℕ, ◌==◌, if◌then◌else◌, List, [], ◌∷◌, ◌++◌, map, Option, Some, None}
 use Rattle.ten_unit.specs.declared.character.Element.{Element}
 use Rattle.ten_unit.specs.declared.character.Element.TheVariants.{Y, B, Lost}
-use Rattle.std.specs.List.{list_any}
 use Rattle.slot_evidence.specs.declared.places.Seen.{Seen}
-use Rattle.slot_evidence.specs.Facts.{Facts, facts_of}
+unfoldable pub use Rattle.slot_evidence.specs.Facts.{facts_of_all}
 use Rattle.slot_evidence.specs.Sheet.{IsEnds}
 
 -- the element of a sign
@@ -21,10 +20,6 @@ receptions_in (b ∷ blank ∷ signs) = if b == 114 then map element_of signs �
 unfoldable pub receptions_of : List (List ℕ) → List (List Element)
 receptions_of [] = []
 receptions_of (text ∷ lines) = receptions_in text ++ receptions_of lines
-
--- the facts of several receptions: what any of them shows
-unfoldable pub facts_of_all : List (List Element) → Facts
-facts_of_all receptions p v = list_any (λ e. facts_of e p v) receptions
 
 -- what is kept of receptions: without one nothing, and else the sheet of the facts of all
 abbrev pub IsJoined : List (List Element) → Option (List Seen) → Type 0

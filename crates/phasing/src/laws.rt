@@ -1,7 +1,7 @@
-ghost use Rattle.std.specs.Prelude.{◌≡◌, ℕ, ◌+◌, ◌==◌, ◌<◌, ◌≤◌, Bool, true, false, List, length, take, Some, None, IsTrue};
+ghost use Rattle.std.specs.Prelude.{◌≡◌, ℕ, ◌+◌, ◌==◌, ◌<◌, ◌≤◌, Bool, true, false, List, length, take, Some, None, IsTrue, pos, ◌-ℤ◌};
 ghost use Rattle.std.specs.List.{list_any};
 ghost use Rattle.ten_unit.specs.declared.character.Element.{Element};
-ghost use Rattle.phasing.specs.Origin.{is_phased, lead_of};
+ghost use Rattle.phasing.specs.Origin.{is_phased, lead_of, origin_of};
 ghost use Rattle.phasing.specs.Start.{start_symbols, formats, IsIntactStart};
 
 /// No lead from 150 past the reception's length on is phased, so the origin's search loses none.
@@ -16,7 +16,9 @@ pub fn origin_is_least()
     ensures none { (e : List Element) (k : ℕ) → lead_of e ≡ None → is_phased e k ≡ false }
 {}
 
-/// The law that a call whose start is intact is found at its origin, however late the reception begins. It does nothing.
+/// The law that a call whose start is intact is found at its origin, however late the reception begins: the origin, which is what
+/// `origin` answers, is 150 below the lead. It does nothing.
 pub fn late_starts_are_found()
-    ensures { (e : List Element) (slots : List ℕ) (long : Bool) (lead : ℕ) (format : ℕ) → list_any (λ f. f == format) formats ≡ true → take 16 slots ≡ start_symbols format → IsIntactStart e slots long lead → lead_of e ≡ Some lead }
+    ensures lead { (e : List Element) (slots : List ℕ) (long : Bool) (lead : ℕ) (format : ℕ) → list_any (λ f. f == format) formats ≡ true → take 16 slots ≡ start_symbols format → IsIntactStart e slots long lead → lead_of e ≡ Some lead }
+    ensures origin { (e : List Element) (slots : List ℕ) (long : Bool) (lead : ℕ) (format : ℕ) → list_any (λ f. f == format) formats ≡ true → take 16 slots ≡ start_symbols format → IsIntactStart e slots long lead → origin_of e ≡ Some (pos lead -ℤ pos 150) }
 {}

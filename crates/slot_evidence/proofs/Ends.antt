@@ -5,8 +5,8 @@ use Rattle.std.proofs.lemmas.List.{ext_get_or, get_or-set_same, get_or-set_other
 use Rattle.slot_evidence.specs.declared.places.Seen.{Seen}
 use Rattle.slot_evidence.specs.declared.places.Seen.TheVariants as seen
 use Rattle.slot_evidence.specs.Facts.{Symbols, Facts, no_facts, one_fact, union, facts_at, facts_of}
-use Rattle.slot_evidence.specs.Seen.{IsSeen, IsLawful}
-use Rattle.slot_evidence.specs.Sheet.{IsSheet, IsEnds, seen_at}
+use Rattle.slot_evidence.specs.Seen.{IsSeen, IsLawful, symbols_in}
+use Rattle.slot_evidence.specs.Sheet.{IsSheet, IsEnds, seen_at, facts_in}
 use Rattle.slot_evidence.proofs.Sets.{IsSeen-same, one_seen, or_none}
 use Rattle.ten_unit.specs.declared.character.Element.{Element}
 use Rattle.time_diversity.specs.Slots.{dx_slot, rx_slot}
@@ -42,14 +42,8 @@ pub or_repeats : (a : Bool) → (a || a) ≡ a
 or_repeats true = refl
 or_repeats false = refl
 
--- the symbols that what is kept names
-shown_by : Seen → Symbols
-shown_by seen.None v = false
-shown_by (seen.One w) v = v == w
-shown_by (seen.Differ a b) v = v == a || v == b
-
-seen_by : (x : Seen) → IsLawful x → IsSeen (shown_by x) x
-unfolding shown_by
+-- what is kept is kept of the symbols that it names
+seen_by : (x : Seen) → IsLawful x → IsSeen (symbols_in x) x
 seen_by seen.None h = λ v. refl
 seen_by (seen.One w) h = (eq-eqb w w refl, λ v e. eqb-true v w e)
 seen_by (seen.Differ a b) h = record {
@@ -64,8 +58,8 @@ seen_by (seen.Differ a b) h = record {
       ];
 }
 
-pub facts_by : (s : List Seen) → IsSheet s → (F : Facts) × IsEnds F s
-facts_by s h = (λ p. shown_by (seen_at s p), record { places = h.places; each = λ p. seen_by (seen_at s p) (h.lawful p) })
+pub own_ends : (s : List Seen) → IsSheet s → IsEnds (facts_in s) s
+own_ends s h = record { places = h.places; each = λ p. seen_by (seen_at s p) (h.lawful p) }
 
 -- no facts have the blank sheet
 blank_at : (p : ℕ) → seen_at (replicate 64 seen.None) p ≡ seen.None

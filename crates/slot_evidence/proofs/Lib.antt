@@ -4,3 +4,4 @@ pub mod Kept
 pub mod Read
 pub mod Sets
 pub mod Window
+pub mod Alike

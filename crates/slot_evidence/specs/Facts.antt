@@ -1,5 +1,6 @@
 -- The facts of receptions: ITU-R M.493, section on time diversity. That a group's facts are united is this project's profile.
 use Rattle.std.specs.Prelude.{ℕ, Bool, false, ◌&&◌, ◌||◌, ◌==◌, nat_lt, List, Option, Some, None}
+use Rattle.std.specs.List.{list_any}
 use Rattle.ten_unit.specs.declared.character.Element.{Element}
 use Rattle.time_diversity.specs.Slots.{dx_slot, rx_slot}
 use Rattle.phasing.specs.Slot.{shows}
@@ -34,3 +35,7 @@ facts_at e (Some lead) p v =
 -- the facts of a reception; none where it has no origin
 unfoldable pub facts_of : List Element → Facts
 facts_of e = facts_at e (lead_of e)
+
+-- the facts of several receptions: what any of them shows
+unfoldable pub facts_of_all : List (List Element) → Facts
+facts_of_all receptions p v = list_any (λ e. facts_of e p v) receptions

@@ -1,3 +1,4 @@
+pub mod Alike
 pub mod Back
 pub mod Facts
 pub mod Kept

@@ -1,5 +1,5 @@
 -- What a set of facts keeps of a place: this project's profile.
-use Rattle.std.specs.Prelude.{◌≡◌, ℕ, ◌<◌, ◌≤◌, true, false}
+use Rattle.std.specs.Prelude.{◌≡◌, ℕ, ◌<◌, ◌≤◌, true, false, ◌||◌, ◌==◌}
 use Rattle.slot_evidence.specs.declared.places.Seen.{Seen}
 use Rattle.slot_evidence.specs.declared.places.Seen.TheVariants as seen
 use Rattle.slot_evidence.specs.Facts.{Symbols}
@@ -30,6 +30,12 @@ abbrev pub IsSeen : Symbols → Seen → Type 0
 IsSeen S seen.None = ShowsNone S
 IsSeen S (seen.One v) = ShowsOne S v
 IsSeen S (seen.Differ least greatest) = ShowsSeveral S least greatest
+
+-- the symbols that are kept: none, the one, or the least and the greatest
+abbrev pub symbols_in : Seen → Symbols
+symbols_in seen.None v = false
+symbols_in (seen.One w) v = v == w
+symbols_in (seen.Differ least greatest) v = v == least || v == greatest
 
 -- symbols are below 128, and of several the least is below the greatest
 abbrev pub IsLawful : Seen → Type 0

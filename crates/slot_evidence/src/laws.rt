@@ -1,8 +1,9 @@
-ghost use Rattle.std.specs.Prelude.{◌≡◌, ℕ, List};
+ghost use Rattle.std.specs.Prelude.{◌≡◌, ℕ, ◌||◌, List};
 ghost use Rattle.slot_evidence.specs.declared.places.Seen.{Seen};
 ghost use Rattle.slot_evidence.specs.Facts.{Facts, Symbols, union};
 ghost use Rattle.slot_evidence.specs.Seen.{IsSeen};
-ghost use Rattle.slot_evidence.specs.Sheet.{IsEnds};
+ghost use Rattle.slot_evidence.specs.Sheet.{IsSheet, IsEnds, IsMeet, facts_in};
+ghost use Rattle.slot_evidence.specs.Alike.{AreAlike};
 
 /// A set of symbols is kept in one way.
 pub fn one_seen()
@@ -15,9 +16,26 @@ pub fn one_sheet()
     ensures same { (F G : Facts) (s t : List Seen) → ((p v : ℕ) → F p v ≡ G p v) → IsEnds F s → IsEnds G t → s ≡ t }
 {}
 
-/// A sheet doesn't tell in which order, in which groups or how often sets of facts were taken in.
-pub fn meet_forgets_order()
+/// The sheet of united facts doesn't tell in which order, in which groups or how often they were united.
+pub fn unions_forget_order()
     ensures order { (F G : Facts) (s t : List Seen) → IsEnds (union F G) s → IsEnds (union G F) t → s ≡ t }
     ensures groups { (F G H : Facts) (s t : List Seen) → IsEnds (union (union F G) H) s → IsEnds (union F (union G H)) t → s ≡ t }
     ensures repeats { (F : Facts) (s t : List Seen) → IsEnds (union F F) s → IsEnds F t → s ≡ t }
+{}
+
+/// `Sheet::meet` doesn't tell in which order, in which groups or how often sheets were taken in: `IsMeet` is its contract.
+pub fn meet_forgets_order()
+    ensures order { (a b ab ba : List Seen) → IsSheet a → IsSheet b → IsMeet a b ab → IsMeet b a ba → ab ≡ ba }
+    ensures groups { (a b c ab bc left right : List Seen) → IsSheet a → IsSheet b → IsSheet c
+        → IsMeet a b ab → IsMeet ab c left → IsMeet b c bc → IsMeet a bc right → left ≡ right }
+    ensures repeats { (a aa : List Seen) → IsSheet a → IsMeet a a aa → aa ≡ a }
+{}
+
+/// Two sets of symbols are alike where each symbol of the one stands between two of the other. Alike sets are kept
+/// alike, unions of alike sets are alike, and the facts of a sheet are alike those of which it keeps the ends.
+pub fn ends_are_kept()
+    ensures kept { (S T : Symbols) (x : Seen) → AreAlike S T → IsSeen S x → IsSeen T x }
+    ensures itself { (S : Symbols) → AreAlike S S }
+    ensures unions { (S T U V : Symbols) → AreAlike S T → AreAlike U V → AreAlike (λ v. S v || U v) (λ v. T v || V v) }
+    ensures sheet { (F : Facts) (sheet : List Seen) (p : ℕ) → IsEnds F sheet → AreAlike (F p) (facts_in sheet p) }
 {}

@@ -7,7 +7,7 @@ mod reading;
 mod sheets;
 mod slots;
 
-pub use laws::{meet_forgets_order, one_seen, one_sheet};
+pub use laws::{ends_are_kept, meet_forgets_order, one_seen, one_sheet, unions_forget_order};
 pub use places::Seen;
 pub use reading::read_sheet;
 pub use sheets::{Sheet, sheet_has_facts};

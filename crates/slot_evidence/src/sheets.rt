@@ -2,7 +2,7 @@ ghost use Rattle.std.specs.Prelude.{◌≡◌, ℕ, ◌||◌, ◌<◌, ◌≤◌
 ghost use Rattle.slot_evidence.specs.Facts.{Facts, Symbols, no_facts, one_fact, union};
 ghost use Rattle.slot_evidence.specs.Kept.{AreKept, seen_of};
 ghost use Rattle.slot_evidence.specs.Seen.{IsSeen, IsLawful};
-ghost use Rattle.slot_evidence.specs.Sheet.{IsEnds, seen_at};
+ghost use Rattle.slot_evidence.specs.Sheet.{IsEnds, IsMeet, seen_at, facts_in};
 
 use crate::places::Seen;
 use std::marker::Model;
@@ -61,7 +61,7 @@ impl Sheet {
     /// Takes in all that another sheet keeps: the sheet becomes that of both sets of facts together. The compiler makes
     /// it sixteen places a step.
     pub fn meet(&mut self, other: &Sheet)
-        ensures { (F G : Facts) → IsEnds F self.old → IsEnds G other.now → IsEnds (union F G) self.new }
+        ensures { IsMeet self.old other.now self.new }
     {
         self.leasts = least(&self.leasts, &other.leasts);
         self.pasts = greatest(&self.pasts, &other.pasts);
@@ -104,9 +104,9 @@ fn greatest(ours: &[u8; 64], theirs: &[u8; 64]) -> [u8; 64]
     numbers
 }
 
-/// Every sheet keeps the ends of some facts, so what is said of all facts with a sheet speaks of some.
+/// Every sheet keeps the ends of its own facts, so what is said of all facts with a sheet speaks of some.
 pub fn sheet_has_facts(sheet: &Sheet)
-    ensures { (F : Facts) × IsEnds F sheet.now }
+    ensures { IsEnds (facts_in sheet.now) sheet.now }
 {
     let _places = &sheet.leasts;
 }

@@ -1,8 +1,9 @@
 -- Where the places of a call showed no other symbols than its own, the answer is the call or a missing place.
 use Rattle.std.proofs.Common.{◌≡◌, ℕ, zero, suc, ◌+◌, ◌<◌, ◌≤◌, Bool, true, false, ◌||◌, List, [], ◌∷◌, ◌++◌, length, get_or, take, drop, refl, sym, ap, subst, ◌∙◌, inl, inr, append_assoc, arith}
 use Rattle.std.specs.Prelude.{◌↔◌}
+use Rattle.std.proofs.Math.Seq.{take-length}
 use Rattle.std.proofs.lemmas.Bool.{cases_lt, or_cases}
-use Rattle.std.proofs.lemmas.List.{length-take-le, get_or-take, take-append-drop, ext_get_or, drop_more, length_push}
+use Rattle.std.proofs.lemmas.List.{take-append-drop, take_more_same, drop_more, length_push}
 use Rattle.call_values.specs.declared.alerts.Call.{Call}
 use Rattle.call_values.specs.Calls.{IsCall}
 use Rattle.call_grammar.specs.Spelling.{front, format_of}
@@ -14,7 +15,7 @@ use Rattle.slot_evidence.specs.Seen.{IsSeen, ShowsNone, ShowsOne}
 use Rattle.slot_join.specs.declared.joined.Joined.{Joined}
 use Rattle.slot_join.specs.declared.joined.Joined.TheVariants.{Reported}
 use Rattle.slot_join.specs.declared.joined.Extra.TheVariants.{Absent}
-use Rattle.slot_join.specs.Shown.{head_of, IsShown}
+use Rattle.slot_join.specs.Shown.{head_of, Gives, IsShown}
 use Rattle.slot_join.specs.Answer.{IsAnswer, IsReported, IsStopped, StopsWith, BehindFormat, BehindHead}
 use Rattle.slot_join.specs.OneCall.{ShowsNoOther, IsCallOrMissing}
 use Rattle.slot_join.proofs.ShownLists.{push_shown, viable_front, front_viable}
@@ -24,32 +25,47 @@ use Rattle.slot_join.proofs.Stops.{FrontsDiffer}
 abbrev pub FormatsBegin : Type 0
 FormatsBegin = (f : ℕ) → IsFormat f ↔ IsViable (f ∷ f ∷ [])
 
--- the longer one of two lists that agree begins with the shorter
-begins_with : (l m : List ℕ) → ((i : ℕ) → i < length l → get_or m i 0 ≡ get_or l i 0) → length l ≤ length m → m ≡ l ++ drop (length l) m
-begins_with l m same le =
-    let len : length (take (length l) m) ≡ length l = length-take-le (length l) m le in
-    let equal : take (length l) m ≡ l =
-    ext_get_or 0 (take (length l) m) l len (λ i h. let below : i < length l = omega (arith, len) in get_or-take (length l) m i 0 below ∙ same i below) in
-    sym (take-append-drop (length l) m) ∙ ap (λ (x : List ℕ). x ++ drop (length l) m) equal
-
 -- the two places of the format specifier showed that of the call alone
-head_is : (F : Facts) (c : Call) → ShowsNoOther F (front c) → (v : ℕ) → head_of F v ≡ true → v ≡ format_of c
+pub head_is : (F : Facts) (c : Call) → ShowsNoOther F (front c) → (v : ℕ) → head_of F v ≡ true → v ≡ format_of c
 head_is F c only v has = elim (or_cases (F 0 v) (F 1 v) has) [
   | inl here ↦ only 0 v (omega arith) here
   | inr here ↦ only 1 v (omega arith) here
 ]
 
--- a shown list agrees with the call's
-same_there : (F : Facts) (c : Call) (k : List ℕ) → ShowsNoOther F (front c) → IsShown F k → (i : ℕ) → i < length k → i < length (front c) → get_or k i 0 ≡ get_or (front c) i 0
-same_there F c k only a zero p q = ap (λ (x : List ℕ). get_or x 0 0) a.begins ∙ head_is F c only a.format a.head.0
-same_there F c k only a (suc zero) p q = ap (λ (x : List ℕ). get_or x 1 0) a.begins ∙ head_is F c only a.format a.head.0
-same_there F c k only a (suc (suc i)) p q = only (suc (suc i)) (get_or k (suc (suc i)) 0) q (a.places (suc (suc i)) (omega arith) p).0
+-- behind a front of the call's, a place gives the call's symbol
+given : (F : Facts) (c : Call) (p v : ℕ) → ShowsNoOther F (front c) → p < length (front c) → Gives F (take p (front c)) p v → v ≡ get_or (front c) p 0
+given F c p v only below gives = only p v below gives.0
+
+-- behind a front that it shares with the call, a shown list has the call's symbol
+symbol_is : (F : Facts) (c : Call) (k : List ℕ) → ShowsNoOther F (front c) → IsShown F k → (p : ℕ) → p < length k → p < length (front c)
+    → take p k ≡ take p (front c) → get_or k p 0 ≡ get_or (front c) p 0
+symbol_is F c k only a zero lk lf same = ap (λ (x : List ℕ). get_or x 0 0) a.begins ∙ head_is F c only a.format a.head.0
+symbol_is F c k only a (suc zero) lk lf same = ap (λ (x : List ℕ). get_or x 1 0) a.begins ∙ head_is F c only a.format a.head.0
+symbol_is F c k only a (suc (suc i)) lk lf same =
+    let v : ℕ = get_or k (suc (suc i)) 0 in
+    let gives : Gives F (take (suc (suc i)) (front c)) (suc (suc i)) v =
+    subst (λ (x : List ℕ). Gives F x (suc (suc i)) v) same (a.places (suc (suc i)) (omega arith) lk) in
+    given F c (suc (suc i)) v only lf gives
+
+-- so a shown list and the call share each front that both have
+shares : (F : Facts) (c : Call) (k : List ℕ) → ShowsNoOther F (front c) → IsShown F k → (p : ℕ) → p ≤ length k → p ≤ length (front c) → take p k ≡ take p (front c)
+shares F c k only a zero lk lf = refl
+shares F c k only a (suc p) lk lf =
+    let before : take p k ≡ take p (front c) = shares F c k only a p (omega arith) (omega arith) in
+    let next : take (p + 1) k ≡ take (p + 1) (front c) =
+    take_more_same k (front c) p 0 (omega arith) (omega arith) before (symbol_is F c k only a p (omega arith) (omega arith) before) in
+    let one : p + 1 ≡ suc p = omega arith in
+    subst (λ (n : ℕ). take n k ≡ take n (front c)) one next
 
 list_begins : (F : Facts) (c : Call) (k : List ℕ) → ShowsNoOther F (front c) → IsShown F k → length k ≤ length (front c) → front c ≡ k ++ drop (length k) (front c)
-list_begins F c k only a le = begins_with k (front c) (λ i below. sym (same_there F c k only a i below (omega arith))) le
+list_begins F c k only a le =
+    let whole : k ≡ take (length k) (front c) = sym (take-length k) ∙ shares F c k only a (length k) (omega arith) le in
+    sym (take-append-drop (length k) (front c)) ∙ ap (λ (x : List ℕ). x ++ drop (length k) (front c)) (sym whole)
 
 call_begins : (F : Facts) (c : Call) (k : List ℕ) → ShowsNoOther F (front c) → IsShown F k → length (front c) ≤ length k → k ≡ front c ++ drop (length (front c)) k
-call_begins F c k only a le = begins_with (front c) k (λ i below. same_there F c k only a i (omega arith) below) le
+call_begins F c k only a le =
+    let whole : take (length (front c)) k ≡ front c = shares F c k only a (length (front c)) le (omega arith) ∙ take-length (front c) in
+    sym (take-append-drop (length (front c)) k) ∙ ap (λ (x : List ℕ). x ++ drop (length (front c)) k) whole
 
 -- the call that is shown is this one
 this_call : FrontsDiffer → (F : Facts) (c d : Call) → IsCall c → IsCall d → ShowsNoOther F (front c) → IsShown F (front d) → d ≡ c
@@ -70,16 +86,20 @@ shown_within F c k only a le = record {
   begins = refl;
   head = subst (λ (f : ℕ). ShowsOne (head_of F) f) (head_is F c only a.format a.head.0) a.head;
   places = λ p least below.
-      subst (λ (x : ℕ). ShowsOne (F p) x) (same_there F c k only a p (omega arith) below) (a.places p least (omega arith));
+      let same : take p k ≡ take p (front c) = shares F c k only a p (omega arith) (omega arith) in
+      let symbol : get_or k p 0 ≡ get_or (front c) p 0 = symbol_is F c k only a p (omega arith) below same in
+      subst (λ (x : ℕ). Gives F (take p (front c)) p x) symbol
+      (subst (λ (x : List ℕ). Gives F x p (get_or k p 0)) same (a.places p least (omega arith)));
 }
 
 -- the symbol of the call behind a shown list makes a longer one that begins the call
 call_goes_on : (F : Facts) (c : Call) (k : List ℕ) (v : ℕ) → IsCall c → ShowsNoOther F (front c) → IsShown F k → length k < length (front c)
-    → ShowsOne (F (length k)) v → IsShown F (k ++ v ∷ []) × IsViable (k ++ v ∷ [])
+    → Gives F k (length k) v → IsShown F (k ++ v ∷ []) × IsViable (k ++ v ∷ [])
 call_goes_on F c k v lawful only a lt one =
     let n : ℕ = length k in
     let rest : List ℕ = drop (n + 1) (front c) in
-    let is : v ≡ get_or (front c) n 0 = only n v lt one.0 in
+    let shared : k ≡ take n (front c) = sym (take-length k) ∙ shares F c k only a n (omega arith) (omega arith) in
+    let is : v ≡ get_or (front c) n 0 = given F c n v only lt (subst (λ (x : List ℕ). Gives F x n v) shared one) in
     let more : drop n (front c) ≡ v ∷ rest = drop_more (front c) n 0 lt ∙ ap (λ (x : ℕ). x ∷ rest) (sym is) in
     let whole : front c ≡ (k ++ v ∷ []) ++ rest =
     list_begins F c k only a (omega arith) ∙ ap (λ (x : List ℕ). k ++ x) more ∙ sym (append_assoc k (v ∷ []) rest) in
@@ -87,8 +107,8 @@ call_goes_on F c k v lawful only a lt one =
 
 -- what stands behind the longest list, where it is shorter than the call's
 behind : (F : Facts) (c : Call) (answer : Joined) (s : IsStopped F answer) (here : Seen) → IsCall c → ShowsNoOther F (front c) → length s.list < length (front c)
-    → IsSeen (F (length s.list)) here → StopsWith s.list here answer → IsCallOrMissing F c answer
-behind F c answer s seen.None lawful only lt none is = inr (length s.list, is, lt, none)
+    → IsSeen (F (length s.list)) here → StopsWith F s.list here answer → IsCallOrMissing F c answer
+behind F c answer s seen.None lawful only lt none is = inr (record { place = length s.list; inside = lt; blank = none; answer_is = is })
 behind F c answer s (seen.Differ a b) lawful only lt several is =
     let low : a ≡ get_or (front c) (length s.list) 0 = only (length s.list) a lt several.has_least in
     let high : b ≡ get_or (front c) (length s.list) 0 = only (length s.list) b lt several.has_greatest in
@@ -109,8 +129,8 @@ behind_format : FrontsDiffer → FormatsBegin → (F : Facts) (c : Call) (f : �
 behind_format differ formats F c f answer lawful only is (inl outside) =
     let begins : IsViable (format_of c ∷ format_of c ∷ []) = viable_front (format_of c ∷ format_of c ∷ []) (drop 2 (front c)) (front_viable c lawful) in
     absurd (outside.0 ((formats f).1 (subst (λ (x : ℕ). IsViable (x ∷ x ∷ [])) (sym is) begins)))
-behind_format differ formats F c f answer lawful only is (inr (inl missing)) = inr (0, missing.3, omega arith, missing.2)
-behind_format differ formats F c f answer lawful only is (inr (inr (inl missing))) = inr (1, missing.4, omega arith, missing.3)
+behind_format differ formats F c f answer lawful only is (inr (inl missing)) = inr (record { place = 0; inside = omega arith; blank = missing.2; answer_is = missing.3 })
+behind_format differ formats F c f answer lawful only is (inr (inr (inl missing))) = inr (record { place = 1; inside = omega arith; blank = missing.3; answer_is = missing.4 })
 behind_format differ formats F c f answer lawful only is (inr (inr (inr (has, inl reported)))) = call_reported differ F c answer lawful only reported
 behind_format differ formats F c f answer lawful only is (inr (inr (inr (has, inr stopped)))) = call_stopped F c answer lawful only stopped
 
@@ -124,7 +144,7 @@ none_first F none v = or_false_left (F 0 v) (F 1 v) (none v)
 
 behind_head : FrontsDiffer → FormatsBegin → (F : Facts) (c : Call) (h : Seen) (answer : Joined) → IsCall c → ShowsNoOther F (front c) → IsSeen (head_of F) h
     → BehindHead F h answer → IsCallOrMissing F c answer
-behind_head differ formats F c seen.None answer lawful only none is = inr (0, is, omega arith, none_first F none)
+behind_head differ formats F c seen.None answer lawful only none is = inr (record { place = 0; inside = omega arith; blank = none_first F none; answer_is = is })
 behind_head differ formats F c (seen.Differ a b) answer lawful only several is =
     let low : a ≡ format_of c = head_is F c only a several.has_least in
     let high : b ≡ format_of c = head_is F c only b several.has_greatest in

@@ -6,3 +6,5 @@ pub mod Heads
 pub mod LateCalls
 pub mod OneWay
 pub mod CallOrMissing
+pub mod AnswerOfEnds
+pub mod Copies

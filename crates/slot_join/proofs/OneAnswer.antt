@@ -13,7 +13,7 @@ use Rattle.slot_join.specs.declared.joined.Joined.{Joined}
 use Rattle.slot_join.specs.declared.joined.Joined.TheVariants.{Reported}
 use Rattle.slot_join.specs.declared.joined.Extra.TheVariants.{Absent}
 use Rattle.slot_join.specs.Shown.{head_of, IsShown}
-use Rattle.slot_join.specs.Answer.{IsAnswer, IsReported, IsStopped, StopsWith, BehindFormat, BehindHead}
+use Rattle.slot_join.specs.Answer.{IsAnswer, IsReported, IsStopped, StopsAt, StopsWith, BehindFormat, BehindHead}
 use Rattle.slot_join.proofs.ShownLists.{agree}
 use Rattle.slot_join.proofs.Stops.{FrontsDiffer}
 
@@ -36,13 +36,16 @@ same_list : (F : Facts) (l m : List ℕ) → IsShown F l → IsShown F m → len
 same_list F l m a b le ge =
     sym (agree F l m a b le ∙ ap (λ (x : List ℕ). l ++ x) (drop_all (length l) m ge) ∙ append-nil l)
 
-same_stop : (l : List ℕ) (here : Seen) (a b : Joined) → StopsWith l here a → StopsWith l here b → a ≡ b
-same_stop l seen.None a b x y = x ∙ sym y
-same_stop l (seen.Differ u v) a b x y = x ∙ sym y
-same_stop l (seen.One v) a b (inl x) (inl y) = x.1 ∙ sym y.1
-same_stop l (seen.One v) a b (inl x) (inr y) = absurd (y.0 x.0)
-same_stop l (seen.One v) a b (inr x) (inl y) = absurd (x.0 y.0)
-same_stop l (seen.One v) a b (inr x) (inr y) = x.1 ∙ sym y.1
+same_stop_at : (F : Facts) (l : List ℕ) (v : ℕ) (a b : Joined) → StopsAt F l v a → StopsAt F l v b → a ≡ b
+same_stop_at F l v a b (inl x) (inl y) = x.1 ∙ sym y.1
+same_stop_at F l v a b (inl x) (inr y) = absurd (y.0 x.0)
+same_stop_at F l v a b (inr x) (inl y) = absurd (x.0 y.0)
+same_stop_at F l v a b (inr x) (inr y) = x.1 ∙ sym y.1
+
+same_stop : (F : Facts) (l : List ℕ) (here : Seen) (a b : Joined) → StopsWith F l here a → StopsWith F l here b → a ≡ b
+same_stop F l seen.None a b x y = x ∙ sym y
+same_stop F l (seen.Differ u v) a b x y = x ∙ sym y
+same_stop F l (seen.One v) a b x y = same_stop_at F l v a b x y
 
 both_stopped : OneSeen → (F : Facts) (a b : Joined) → IsStopped F a → IsStopped F b → a ≡ b
 both_stopped one F a b x y =
@@ -51,8 +54,8 @@ both_stopped one F a b x y =
     let same : y.list ≡ x.list = same_list F y.list x.list y.longest.shown x.longest.shown ge le in
     let seen_y : IsSeen (F (length x.list)) y.here = subst (λ (l : List ℕ). IsSeen (F (length l)) y.here) same y.seen in
     let here : y.here ≡ x.here = one (F (length x.list)) y.here x.here seen_y x.seen in
-    let stops_y : StopsWith x.list y.here b = subst (λ (l : List ℕ). StopsWith l y.here b) same y.stops in
-    same_stop x.list x.here a b x.stops (subst (λ (s : Seen). StopsWith x.list s b) here stops_y)
+    let stops_y : StopsWith F x.list y.here b = subst (λ (l : List ℕ). StopsWith F l y.here b) same y.stops in
+    same_stop F x.list x.here a b x.stops (subst (λ (s : Seen). StopsWith F x.list s b) here stops_y)
 
 same_end : OneSeen → FrontsDiffer → (F : Facts) (a b : Joined) → IsReported F a ⊎ IsStopped F a → IsReported F b ⊎ IsStopped F b → a ≡ b
 same_end one differ F a b (inl x) (inl y) = both_reported differ F a b x y

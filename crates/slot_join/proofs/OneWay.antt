@@ -1,8 +1,7 @@
 -- what a truly phased reception with one-way errors shows is what was sent
-use Rattle.std.proofs.Common.{◌≡◌, ℕ, ◌+◌, ◌*◌, ◌<◌, ◌≤◌, Bool, true, false, ◌&&◌, ◌||◌, ltb, List, ◌∷◌, [], ◌++◌, length, get_or, Option, Some, None, refl, sym, ap, subst, ◌∙◌, inl, inr, ◌⊎◌, arith, length-append, append_assoc, All}
+use Rattle.std.proofs.Common.{◌≡◌, ℕ, ◌+◌, ◌*◌, ◌<◌, ◌≤◌, true, ◌&&◌, ◌||◌, ltb, nat_le, List, ◌∷◌, [], ◌++◌, length, get_or, Option, Some, None, refl, sym, ap, subst, ◌∙◌, inl, inr, arith, length-append, append_assoc, All}
 use Rattle.std.specs.Prelude.{◌↔◌}
-use Rattle.std.specs.List.{range_with_len}
-use Rattle.std.proofs.lemmas.Bool.{ltb-true, and_parts, or_cases}
+use Rattle.std.proofs.lemmas.Bool.{ltb-true, and_parts, and_right, or_cases, lt-leb, cond-false}
 use Rattle.std.proofs.lemmas.List.{get_or_append_left}
 use Rattle.std.proofs.lemmas.List.Elements.{All-get_or}
 use Rattle.std.proofs.lemmas.List.FromFn.{length-map-range_with_len, get_or-map-range_with_len}
@@ -12,11 +11,10 @@ use Rattle.ten_unit.specs.Errors.{IsOneWay}
 use Rattle.time_diversity.specs.Slots.{dx_slot, rx_slot, IsSlotOf}
 use Rattle.time_diversity.specs.OnAir.{slot_symbol, on_air}
 use Rattle.phasing.specs.Slot.{slot, shows}
-use Rattle.phasing.specs.Origin.{lead_of}
 use Rattle.call_values.specs.declared.alerts.Call.{Call}
 use Rattle.call_values.specs.Calls.{IsCall}
 use Rattle.call_grammar.specs.Spelling.{spell, front, end_of}
-use Rattle.slot_evidence.specs.Facts.{Facts, facts_of, facts_at}
+use Rattle.slot_evidence.specs.Facts.{facts_of, facts_at}
 use Rattle.slot_join.specs.Heard.{IsOneWayAt, IsTrulyPhased, IsHeard}
 use Rattle.slot_join.specs.OneCall.{ShowsNoOther}
 
@@ -60,11 +58,22 @@ at_lead laws e list lead p v heard below small has =
 
 told : Laws → (e : List Element) (list : List ℕ) (p v : ℕ) → IsHeard e list → p + 2 < length list → get_or list p 0 < 128 → facts_of e p v ≡ true → v ≡ get_or list p 0
 unfolding facts_of
-told laws e list p v heard below small has =
-    elim heard.phased [
-      | inl found ↦ at_lead laws e list heard.lead p v heard.one_way below small (subst (λ (lead : Option ℕ). facts_at e lead p v ≡ true) found has)
-      | inr none ↦ (let never : facts_at e None p v ≡ true = subst (λ (lead : Option ℕ). facts_at e lead p v ≡ true) none has in absurd (cc))
-    ]
+told laws e list p v (inl none) below small has =
+    let never : facts_at e None p v ≡ true = subst (λ (lead : Option ℕ). facts_at e lead p v ≡ true) none has in
+    absurd (cc)
+told laws e list p v (inr found) below small has =
+    at_lead laws e list found.0 p v found.2 below small (subst (λ (lead : Option ℕ). facts_at e lead p v ≡ true) found.1 has)
+
+-- at a lead past the reception's end no slot is inside
+pub past_the_end : (e : List Element) (list : List ℕ) → IsOneWayAt e list (length e + 150)
+past_the_end e list s below ten =
+    let none : slot e (length e + 150) s ≡ [] =
+    cond-false _ _ _ (and_right (nat_le 150 (length e + 150 + 10 * s)) _ (lt-leb _ _ (omega arith))) in
+    absurd (omega (arith, sym ten ∙ ap length none))
+
+pub heard_at : (e : List Element) (list : List ℕ) (lead : ℕ) → IsOneWayAt e list lead → IsTrulyPhased e lead → IsHeard e list
+heard_at e list lead one_way (inl found) = inr (lead, found, one_way)
+heard_at e list lead one_way (inr none) = inl none
 
 -- the places of a call up to its check are those of what was sent
 in_call : (c : Call) (tail : List ℕ) (p : ℕ) → p < length (front c) → get_or (spell c ++ tail) p 0 ≡ get_or (front c) p 0

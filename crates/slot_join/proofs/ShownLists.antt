@@ -1,17 +1,22 @@
 -- Lists that one set of facts shows agree as far as both go.
 use Rattle.std.proofs.Common.{◌≡◌, ℕ, zero, suc, ◌+◌, ◌<◌, ◌≤◌, List, [], ◌∷◌, ◌++◌, length, get_or, take, drop, refl, sym, ap, subst, ◌∙◌, inl, inr, append_assoc, arith}
+use Rattle.std.proofs.Math.Seq.{take-append_seam}
 use Rattle.std.proofs.lemmas.Bool.{cases_lt}
-use Rattle.std.proofs.lemmas.List.{length-take-le, get_or-take, take-append-drop, ext_get_or, get_or_append_left, get_or_push, drop_more, length_push}
+use Rattle.std.proofs.lemmas.List.{take-append-le, length-take-le, get_or-take, take-append-drop, ext_get_or, get_or_append_left, get_or_push, drop_more, length_push}
 use Rattle.call_values.specs.declared.alerts.Call.{Call}
 use Rattle.call_values.specs.Calls.{IsCall}
 use Rattle.call_grammar.specs.Spelling.{front, end_of}
 use Rattle.call_grammar.specs.Walk.{IsViable, IsOpen, after}
 use Rattle.slot_evidence.specs.Facts.{Facts, Symbols}
 use Rattle.slot_evidence.specs.Seen.{ShowsOne}
-use Rattle.slot_join.specs.Shown.{head_of, IsShown, IsLongest}
+use Rattle.slot_join.specs.Shown.{head_of, Gives, IsShown, IsLongest}
 
 pub only_one : (S : Symbols) (u v : ℕ) → ShowsOne S u → ShowsOne S v → u ≡ v
 only_one S u v a b = b.1 u a.0
+
+-- a place gives one symbol, whatever stands before it
+one_given : (F : Facts) (a b : List ℕ) (p u v : ℕ) → Gives F a p u → Gives F b p v → u ≡ v
+one_given F a b p u v x y = only_one (F p) u v x y
 
 same_at : (F : Facts) (l m : List ℕ) → IsShown F l → IsShown F m → (k : ℕ) → k < length l → k < length m → get_or l k 0 ≡ get_or m k 0
 same_at F l m a b zero p q =
@@ -19,7 +24,7 @@ same_at F l m a b zero p q =
 same_at F l m a b (suc zero) p q =
     ap (λ (x : List ℕ). get_or x 1 0) a.begins ∙ only_one (head_of F) a.format b.format a.head b.head ∙ sym (ap (λ (x : List ℕ). get_or x 1 0) b.begins)
 same_at F l m a b (suc (suc k)) p q =
-    only_one (F (suc (suc k))) (get_or l (suc (suc k)) 0) (get_or m (suc (suc k)) 0) (a.places (suc (suc k)) (omega arith) p) (b.places (suc (suc k)) (omega arith) q)
+    one_given F (take (suc (suc k)) l) (take (suc (suc k)) m) (suc (suc k)) (get_or l (suc (suc k)) 0) (get_or m (suc (suc k)) 0) (a.places (suc (suc k)) (omega arith) p) (b.places (suc (suc k)) (omega arith) q)
 
 -- the longer one of two shown lists begins with the shorter
 pub agree : (F : Facts) (l m : List ℕ) → IsShown F l → IsShown F m → length l ≤ length m → m ≡ l ++ drop (length l) m
@@ -34,18 +39,24 @@ agree F l m a b le =
 pub two : (F : Facts) (l : List ℕ) → IsShown F l → 2 ≤ length l
 two F l a = let e : length l ≡ length (a.format ∷ a.format ∷ a.rest) = ap length a.begins in omega arith
 
--- a shown list goes on with the one symbol of the place behind it
-pub push_shown : (F : Facts) (l : List ℕ) (v : ℕ) → IsShown F l → ShowsOne (F (length l)) v → IsShown F (l ++ v ∷ [])
+-- a shown list goes on with the symbol that the place behind it gives
+pub push_shown : (F : Facts) (l : List ℕ) (v : ℕ) → IsShown F l → Gives F l (length l) v → IsShown F (l ++ v ∷ [])
 push_shown F l v a one = record {
   format = a.format;
   rest = a.rest ++ v ∷ [];
   begins = ap (λ (x : List ℕ). x ++ v ∷ []) a.begins;
   head = a.head;
   places = λ p least below. elim (cases_lt p (length l)) [
-    | inl lt ↦ subst (λ (x : ℕ). ShowsOne (F p) x) (sym (get_or_append_left l (v ∷ []) 0 p lt)) (a.places p least lt)
+    | inl lt ↦
+        let front : take p (l ++ v ∷ []) ≡ take p l = take-append-le p l (v ∷ []) (omega arith) in
+        subst (λ (x : List ℕ). Gives F x p (get_or (l ++ v ∷ []) p 0)) (sym front)
+        (subst (λ (x : ℕ). Gives F (take p l) p x) (sym (get_or_append_left l (v ∷ []) 0 p lt)) (a.places p least lt))
     | inr le ↦
         let same : length l ≡ p = omega (arith, length_push l v) in
-        subst (λ (q : ℕ). ShowsOne (F q) (get_or (l ++ v ∷ []) q 0)) same (subst (λ (x : ℕ). ShowsOne (F (length l)) x) (sym (get_or_push l v 0 (length l) refl)) one)
+        let front : take (length l) (l ++ v ∷ []) ≡ l = take-append_seam l (v ∷ []) in
+        subst (λ (q : ℕ). Gives F (take q (l ++ v ∷ [])) q (get_or (l ++ v ∷ []) q 0)) same
+        (subst (λ (x : List ℕ). Gives F x (length l) (get_or (l ++ v ∷ []) (length l) 0)) (sym front)
+        (subst (λ (x : ℕ). Gives F l (length l) x) (sym (get_or_push l v 0 (length l) refl)) one))
   ];
 }
 
@@ -64,7 +75,7 @@ open_viable l a =
     viable_front l (a.next ∷ a.rest) whole
 
 -- a shown list that no symbol behind it lets go on is the longest
-pub longest_from : (F : Facts) (l : List ℕ) → IsShown F l → IsViable l → ((v : ℕ) → ShowsOne (F (length l)) v → IsViable (l ++ v ∷ []) → ⊥) → IsLongest F l
+pub longest_from : (F : Facts) (l : List ℕ) → IsShown F l → IsViable l → ((v : ℕ) → Gives F l (length l) v → IsViable (l ++ v ∷ []) → ⊥) → IsLongest F l
 longest_from F l shown viable stops = record {
   shown = shown;
   viable = viable;
@@ -72,8 +83,11 @@ longest_from F l shown viable stops = record {
     | inr le ↦ le
     | inl lt ↦
         let v : ℕ = get_or m (length l) 0 in
+        let begins : m ≡ l ++ drop (length l) m = agree F l m shown ms (omega arith) in
         let more : drop (length l) m ≡ v ∷ drop (length l + 1) m = drop_more m (length l) 0 lt in
-        let whole : m ≡ (l ++ v ∷ []) ++ drop (length l + 1) m = agree F l m shown ms (omega arith) ∙ ap (λ (x : List ℕ). l ++ x) more ∙ sym (append_assoc l (v ∷ []) (drop (length l + 1) m)) in
-        absurd (stops v (ms.places (length l) (two F l shown) lt) (viable_front (l ++ v ∷ []) (drop (length l + 1) m) (subst IsViable whole mv)))
+        let whole : m ≡ (l ++ v ∷ []) ++ drop (length l + 1) m = begins ∙ ap (λ (x : List ℕ). l ++ x) more ∙ sym (append_assoc l (v ∷ []) (drop (length l + 1) m)) in
+        let front : take (length l) m ≡ l = ap (λ (x : List ℕ). take (length l) x) begins ∙ take-append_seam l (drop (length l) m) in
+        let gives : Gives F l (length l) v = subst (λ (x : List ℕ). Gives F x (length l) v) front (ms.places (length l) (two F l shown) lt) in
+        absurd (stops v gives (viable_front (l ++ v ∷ []) (drop (length l + 1) m) (subst IsViable whole mv)))
   ];
 }

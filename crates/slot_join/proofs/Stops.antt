@@ -12,7 +12,7 @@ use Rattle.slot_evidence.specs.Sheet.{IsEnds, seen_at}
 use Rattle.slot_join.specs.declared.joined.Joined.{Joined}
 use Rattle.slot_join.specs.declared.joined.Joined.TheVariants.{Reported, Missing, Differ, Outside, Check}
 use Rattle.slot_join.specs.declared.joined.Extra.TheVariants.{Absent}
-use Rattle.slot_join.specs.Shown.{IsShown, IsLongest}
+use Rattle.slot_join.specs.Shown.{Gives, IsShown, IsLongest}
 use Rattle.slot_join.specs.Answer.{IsReported, IsStopped, StopsWith}
 use Rattle.slot_join.proofs.ShownLists.{agree, push_shown, after_shown, open_viable, front_viable, longest_from, only_one}
 
@@ -33,7 +33,7 @@ unreported differ F l o longest c lawful shown =
 
 -- an open list behind which nothing goes on gives the answer
 pub stopped : FrontsDiffer → (F : Facts) (l : List ℕ) (here : Seen) (answer : Joined) → IsOpen l → IsShown F l → IsSeen (F (length l)) here
-    → ((v : ℕ) → ShowsOne (F (length l)) v → IsViable (l ++ v ∷ []) → ⊥) → StopsWith l here answer → IsStopped F answer
+    → ((v : ℕ) → Gives F l (length l) v → IsViable (l ++ v ∷ []) → ⊥) → StopsWith F l here answer → IsStopped F answer
 stopped differ F l here answer o shown seen stops with =
     let longest : IsLongest F l = longest_from F l shown (open_viable l o) stops in
     record { list = l; unreported = unreported differ F l o longest; longest = longest; here = here; seen = seen; stops = with }
@@ -49,7 +49,7 @@ stops_differ differ F l n a b len o shown several =
     stopped differ F l (seen.Differ a b) (Differ n a b) o shown here
     (λ v one viable. absurd (omega (arith, one.1 a here.has_least, one.1 b here.has_greatest, here.apart))) (ap (λ (k : ℕ). Differ k a b) (sym len))
 
-one_stops : (F : Facts) (l : List ℕ) (v : ℕ) → IsShown F l → ShowsOne (F (length l)) v → (IsViable (after l v) → ⊥) → (u : ℕ) → ShowsOne (F (length l)) u → IsViable (l ++ u ∷ []) → ⊥
+one_stops : (F : Facts) (l : List ℕ) (v : ℕ) → IsShown F l → ShowsOne (F (length l)) v → (IsViable (after l v) → ⊥) → (u : ℕ) → Gives F l (length l) u → IsViable (l ++ u ∷ []) → ⊥
 one_stops F l v shown here not u one viable =
     let same : u ≡ v = only_one (F (length l)) u v one here in
     not (subst IsViable (ap (λ (x : ℕ). l ++ x ∷ []) same ∙ sym (after_shown F l v shown)) viable)

@@ -20,13 +20,17 @@ pub record IsReported (F : Facts) (answer : Joined) : Type 0 where
   pub shown : IsShown F (front call)
   pub answer_is : answer ≡ Reported call Absent
 
--- what the place behind the longest list showed: nothing, several symbols, or one that doesn't go on
-abbrev pub StopsWith : List ℕ → Seen → Joined → Type 0
-StopsWith list seen.None answer = answer ≡ Missing (length list)
-StopsWith list (seen.Differ least greatest) answer = answer ≡ Differ (length list) least greatest
-StopsWith list (seen.One v) answer =
+-- the answer where no call goes on with the one symbol that the place behind the longest list showed
+abbrev pub StopsAt : Facts → List ℕ → ℕ → Joined → Type 0
+StopsAt F list v answer =
     (IsAtCheck list × (answer ≡ Check (length list) (check_of (drop 1 list)) v))
     ⊎ ((IsAtCheck list → ⊥) × (answer ≡ Outside (length list) v))
+
+-- the answer by what the place behind the longest list showed: nothing, several symbols, or one
+abbrev pub StopsWith : Facts → List ℕ → Seen → Joined → Type 0
+StopsWith F list seen.None answer = answer ≡ Missing (length list)
+StopsWith F list (seen.Differ least greatest) answer = answer ≡ Differ (length list) least greatest
+StopsWith F list (seen.One v) answer = StopsAt F list v answer
 
 -- no call is shown up to its error check character, and so the answer tells of the place behind the longest list
 pub record IsStopped (F : Facts) (answer : Joined) : Type 0 where
@@ -35,7 +39,7 @@ pub record IsStopped (F : Facts) (answer : Joined) : Type 0 where
   pub longest : IsLongest F list
   pub here : Seen
   pub seen : IsSeen (F (length list)) here
-  pub stops : StopsWith list here answer
+  pub stops : StopsWith F list here answer
 
 -- distress alerts and calls to all ships count only where both places of the format specifier showed it
 abbrev pub needs_both : ℕ → Bool

@@ -17,8 +17,8 @@ IsOneWayAt reception list lead =
 abbrev pub IsTrulyPhased : List Element → ℕ → Type 0
 IsTrulyPhased reception lead = (lead_of reception ≡ Some lead) ⊎ (lead_of reception ≡ None)
 
--- a truly phased reception of the list's transmission, wrong in one sense alone in each character
-pub record IsHeard (reception : List Element) (list : List ℕ) : Type 0 where
-  pub lead : ℕ
-  pub one_way : IsOneWayAt reception list lead
-  pub phased : IsTrulyPhased reception lead
+-- a truly phased reception of the list's transmission: none is found in it, whatever it holds; or the origin that is found is the
+-- true one, and each character went wrong in one sense alone
+abbrev pub IsHeard : List Element → List ℕ → Type 0
+IsHeard reception list =
+    (lead_of reception ≡ None) ⊎ ((lead : ℕ) × (lead_of reception ≡ Some lead) × IsOneWayAt reception list lead)

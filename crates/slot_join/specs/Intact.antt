@@ -1,12 +1,57 @@
--- A transmission that arrives whole: this project's profile, over the slots of ITU-R M.493.
-use Rattle.std.specs.Prelude.{◌≡◌, ℕ, ◌<◌, true, List, length, slice_index, Some}
+-- Characters that arrive intact: ITU-R M.493, time diversity; the definitions are this project's profile.
+use Rattle.std.specs.Prelude.{◌≡◌, ℕ, ◌+◌, ◌<◌, ◌≤◌, ◌⊎◌, true, List, ◌++◌, length, slice_index, Some, All}
+use Rattle.std.specs.List.{Any}
 use Rattle.ten_unit.specs.declared.character.Element.{Element}
+use Rattle.time_diversity.specs.Slots.{dx_slot, rx_slot}
 use Rattle.time_diversity.specs.OnAir.{on_air}
 use Rattle.phasing.specs.Slot.{shows}
 use Rattle.phasing.specs.Origin.{lead_of}
+use Rattle.call_values.specs.declared.alerts.Call.{Call}
+use Rattle.call_grammar.specs.Spelling.{format_of, front, spell}
+use Rattle.slot_evidence.specs.Facts.{facts_of_all}
+use Rattle.slot_evidence.specs.Seen.{ShowsNone}
+use Rattle.slot_join.specs.declared.joined.Joined.{Joined}
+use Rattle.slot_join.specs.declared.joined.Joined.TheVariants.{Reported, Missing}
+use Rattle.slot_join.specs.declared.joined.Extra.TheVariants.{Absent}
+use Rattle.slot_join.specs.Answer.{needs_both}
 
 -- at the reception's origin each slot of the list's transmission shows the symbol that was sent
 pub record ArrivesIntact (reception : List Element) (list : List ℕ) : Type 0 where
   pub lead : ℕ
   pub origin : lead_of reception ≡ Some lead
   pub slots : (slot : ℕ) → slot < length (on_air list) → shows reception lead slot (slice_index (on_air list) slot) ≡ true
+
+-- a copy of the list's character at this place came intact: at the lead of the reception's origin the place's DX slot shows
+-- the character, or its RX slot, which the transmission has but for the last two places
+pub record IsIntactAt (reception : List Element) (list : List ℕ) (lead place : ℕ) : Type 0 where
+  pub origin : lead_of reception ≡ Some lead
+  pub copy : (shows reception lead (dx_slot place) (slice_index list place) ≡ true)
+      ⊎ ((place + 2 < length list) × (shows reception lead (rx_slot place) (slice_index list place) ≡ true))
+
+-- no copy of the list's character at this place came intact at any receiver
+abbrev pub CameNowhere : List (List Element) → List ℕ → ℕ → Type 0
+CameNowhere receptions list place = All (λ reception. (lead : ℕ) → IsIntactAt reception list lead place → ⊥) receptions
+
+-- a copy of the list's character at this place came intact at some receiver
+abbrev pub CameSomewhere : List (List Element) → List ℕ → ℕ → Type 0
+CameSomewhere receptions list place = Any (λ reception. (lead : ℕ) × IsIntactAt reception list lead place) receptions
+
+-- the answer names as missing a place of the call, up to its error check character, that no reception showed and no copy of
+-- which came intact
+pub record NamesLostPlace (receptions : List (List Element)) (call : Call) (tail : List ℕ) (answer : Joined) : Type 0 where
+  pub place : ℕ
+  pub inside : place < length (front call)
+  pub blank : ShowsNone (facts_of_all receptions place)
+  pub nowhere : CameNowhere receptions (spell call ++ tail) place
+  pub answer_is : answer ≡ Missing place
+
+-- the call that was sent, with this tail, or a place of it no copy of which came intact
+abbrev pub IsSentOrLostPlace : List (List Element) → Call → List ℕ → Joined → Type 0
+IsSentOrLostPlace receptions call tail answer = (answer ≡ Reported call Absent) ⊎ NamesLostPlace receptions call tail answer
+
+-- each place of the call up to its error check character came intact at some receiver; of the two places of the format
+-- specifier one is enough, but in distress alerts and calls to all ships
+pub record ArrivesInParts (receptions : List (List Element)) (call : Call) (tail : List ℕ) : Type 0 where
+  pub format : CameSomewhere receptions (spell call ++ tail) 0 ⊎ CameSomewhere receptions (spell call ++ tail) 1
+  pub both : needs_both (format_of call) ≡ true → CameSomewhere receptions (spell call ++ tail) 0 × CameSomewhere receptions (spell call ++ tail) 1
+  pub places : (place : ℕ) → 2 ≤ place → place < length (front call) → CameSomewhere receptions (spell call ++ tail) place

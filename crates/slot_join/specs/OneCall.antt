@@ -12,7 +12,13 @@ use Rattle.slot_join.specs.declared.joined.Extra.TheVariants.{Absent}
 abbrev pub ShowsNoOther : Facts → List ℕ → Type 0
 ShowsNoOther F list = (p v : ℕ) → p < length list → F p v ≡ true → v ≡ slice_index list p
 
--- the call, or a place of it that showed nothing
+-- the answer names as missing a place of the list that showed nothing
+pub record IsMissing (F : Facts) (list : List ℕ) (answer : Joined) : Type 0 where
+  pub place : ℕ
+  pub inside : place < length list
+  pub blank : ShowsNone (F place)
+  pub answer_is : answer ≡ Missing place
+
+-- the call, or a place of it up to its error check character that showed nothing
 abbrev pub IsCallOrMissing : Facts → Call → Joined → Type 0
-IsCallOrMissing F call answer =
-    (answer ≡ Reported call Absent) ⊎ ((n : ℕ) × (answer ≡ Missing n) × (n < length (front call)) × ShowsNone (F n))
+IsCallOrMissing F call answer = (answer ≡ Reported call Absent) ⊎ IsMissing F (front call) answer

@@ -1,5 +1,5 @@
 -- What a set of facts shows of a list of characters: this project's profile, over the places of ITU-R M.493.
-use Rattle.std.specs.Prelude.{◌≡◌, ℕ, ◌<◌, ◌≤◌, ◌||◌, List, ◌∷◌, length, slice_index}
+use Rattle.std.specs.Prelude.{◌≡◌, ℕ, ◌<◌, ◌≤◌, ◌||◌, List, ◌∷◌, length, take, slice_index}
 use Rattle.call_grammar.specs.Walk.{IsViable}
 use Rattle.slot_evidence.specs.Facts.{Facts, Symbols}
 use Rattle.slot_evidence.specs.Seen.{ShowsOne}
@@ -8,14 +8,18 @@ use Rattle.slot_evidence.specs.Seen.{ShowsOne}
 abbrev pub head_of : Facts → Symbols
 head_of F v = F 0 v || F 1 v
 
+-- behind the front that stands before it, a place gives the one symbol that it showed
+abbrev pub Gives : Facts → List ℕ → ℕ → ℕ → Type 0
+Gives F front p v = ShowsOne (F p) v
+
 -- a list of two characters or more is shown: its first two are one format specifier, the only one that these two
--- places showed, and each further place showed the list's character and no other
+-- places showed, and each further place gives the list's character behind what stands before it
 pub record IsShown (F : Facts) (list : List ℕ) : Type 0 where
   pub format : ℕ
   pub rest : List ℕ
   pub begins : list ≡ format ∷ format ∷ rest
   pub head : ShowsOne (head_of F) format
-  pub places : (p : ℕ) → 2 ≤ p → p < length list → ShowsOne (F p) (slice_index list p)
+  pub places : (p : ℕ) → 2 ≤ p → p < length list → Gives F (take p list) p (slice_index list p)
 
 -- the longest shown list that begins a call
 pub record IsLongest (F : Facts) (list : List ℕ) : Type 0 where

@@ -1,23 +1,25 @@
-ghost use Rattle.std.specs.Prelude.{◌≡◌, ◌++◌, ℕ, Bool, List, Some};
+ghost use Rattle.std.specs.Prelude.{◌≡◌, ◌++◌, ◌↔◌, ℕ, Bool, List, Some, pos, ◌-ℤ◌};
 ghost use Rattle.ten_unit.specs.declared.character.Element.{Element};
 ghost use Rattle.call_values.specs.declared.alerts.Call.{Call};
 ghost use Rattle.call_values.specs.Calls.{IsCall};
 ghost use Rattle.call_grammar.specs.Spelling.{spell, front};
 ghost use Rattle.time_diversity.specs.OnAir.{on_air};
-ghost use Rattle.phasing.specs.Origin.{lead_of};
+ghost use Rattle.phasing.specs.Origin.{lead_of, origin_of};
 ghost use Rattle.phasing.specs.Start.{IsIntactStart};
-ghost use Rattle.slot_evidence.specs.Facts.{Facts, facts_of};
+ghost use Rattle.slot_evidence.specs.declared.places.Seen.{Seen};
+ghost use Rattle.slot_evidence.specs.Facts.{Facts, facts_of, union};
+ghost use Rattle.slot_evidence.specs.Sheet.{IsEnds, facts_in};
 ghost use Rattle.slot_join.specs.declared.joined.Joined.{Joined};
 ghost use Rattle.slot_join.specs.declared.joined.Joined.TheVariants.{Reported};
 ghost use Rattle.slot_join.specs.declared.joined.Extra.TheVariants.{Absent};
 ghost use Rattle.slot_join.specs.Answer.{IsAnswer};
-ghost use Rattle.slot_join.specs.Heard.{IsHeard};
+ghost use Rattle.slot_join.specs.Heard.{IsOneWayAt, IsTrulyPhased, IsHeard};
 ghost use Rattle.slot_join.specs.Intact.{ArrivesIntact};
 ghost use Rattle.slot_join.specs.OneCall.{ShowsNoOther, IsCallOrMissing};
 
 use call_grammar::{formats_begin_calls, fronts_differ, lists_are_characters, lists_are_short};
 use phasing::late_starts_are_found;
-use slot_evidence::one_seen;
+use slot_evidence::{ends_are_kept, one_seen};
 use ten_unit::{one_way_errors_are_seen, words_tell_symbols_apart};
 use time_diversity::both_slots_show_the_character;
 
@@ -27,6 +29,15 @@ pub fn one_answer()
 {
     one_seen();
     fronts_differ();
+}
+
+/// The law that the ends that a sheet keeps of facts give the answer that the facts give, whatever other facts are known
+/// beside them. It does nothing.
+pub fn ends_give_the_answer()
+    ensures { (F G : Facts) (sheet : List Seen) (answer : Joined) → IsEnds F sheet
+        → (IsAnswer (union F G) answer ↔ IsAnswer (union (facts_in sheet) G) answer) }
+{
+    ends_are_kept();
 }
 
 /// The law that a call whose slots all arrive intact at the origin is reported, and no other answer comes. It does
@@ -44,13 +55,23 @@ pub fn intact_call_is_reported()
 }
 
 /// The law that a call is found at its origin where its start is intact but for lost elements, however late the reception
-/// begins and whatever follows the call. It does nothing.
+/// begins and whatever follows the call: the origin, which is what `origin` answers, is 150 below the lead. It does nothing.
 pub fn late_calls_are_found()
-    ensures { (call : Call) (tail : List ℕ) (reception : List Element) (long : Bool) (lead : ℕ)
+    ensures lead { (call : Call) (tail : List ℕ) (reception : List Element) (long : Bool) (lead : ℕ)
         → IsIntactStart reception (on_air (spell call ++ tail)) long lead → lead_of reception ≡ Some lead }
+    ensures origin { (call : Call) (tail : List ℕ) (reception : List Element) (long : Bool) (lead : ℕ)
+        → IsIntactStart reception (on_air (spell call ++ tail)) long lead → origin_of reception ≡ Some (pos lead -ℤ pos 150) }
 {
     late_starts_are_found();
 }
+
+/// The law that a true origin can be named for every reception in which none is found: at one past the reception's end no slot is
+/// inside of it. So where each reception has an origin at which it is one-way, and which is the one that is found or none is
+/// found, each is heard. It does nothing.
+pub fn unphased_receptions_are_heard()
+    ensures named { (reception : List Element) (list : List ℕ) → (lead : ℕ) × IsOneWayAt reception list lead }
+    ensures heard { (reception : List Element) (list : List ℕ) (lead : ℕ) → IsOneWayAt reception list lead → IsTrulyPhased reception lead → IsHeard reception list }
+{}
 
 /// The law that the truly phased receptions of a call that went wrong in one sense alone, character by character, show of
 /// its places up to the error check character no other symbols than the call's. It does nothing.

@@ -1,7 +1,7 @@
 ghost use Rattle.std.specs.Prelude.{◌≡◌, ◌⊎◌, ◌<◌, ◌↔◌, IsTrue, true, length, [], ◌∷◌};
 ghost use Rattle.call_grammar.specs.Walk.{IsFormat, IsOpen};
 ghost use Rattle.slot_evidence.specs.Facts.{Facts};
-ghost use Rattle.slot_evidence.specs.Seen.{IsSeen, IsLawful, ShowsOne};
+ghost use Rattle.slot_evidence.specs.Seen.{IsSeen, IsLawful, ShowsNone, ShowsOne};
 ghost use Rattle.slot_evidence.specs.Sheet.{IsEnds, seen_at};
 ghost use Rattle.slot_join.specs.Shown.{head_of, IsShown};
 ghost use Rattle.slot_join.specs.Answer as answers;
@@ -83,6 +83,16 @@ fn is_blank(sheet: &Sheet, p: u8) -> bool
     matches!(sheet.at(p), Seen::None)
 }
 
+/// The answer where this place, behind the list that was taken, showed nothing.
+fn behind_blank(walk: &Walk, n: u8) -> Joined
+    requires taken { length walk.now ≡ n }
+    requires open { IsOpen walk.now }
+    ensures { (F : Facts) → ShowsNone (F n) → IsShown F walk.now → IsStopped F result }
+{
+    fronts_differ();
+    Joined::Missing(n)
+}
+
 /// The answer where the format specifier was taken: a call, or the first place where none goes on.
 fn follow(sheet: &Sheet, mut walk: Walk) -> Joined
     requires taken { length walk ≡ 2 }
@@ -94,7 +104,7 @@ fn follow(sheet: &Sheet, mut walk: Walk) -> Joined
     open_is_not_done();
     for n in 2..64 {
         match sheet.at(n) {
-            Seen::None => return Joined::Missing(n),
+            Seen::None => return behind_blank(&walk, n),
             Seen::Differ(least, greatest) => return Joined::Differ(n, least, greatest),
             Seen::One(symbol) => match walk.take(symbol) {
                 Step::More => {}

@@ -19,7 +19,7 @@ returns-in-Ok-clause-answered g c = λ is.
     }
 
 pub returns-in-Ok-clause-sent : goal.returns-in-Ok-clause-sent
-returns-in-Ok-clause-sent g c = λ is. reports_sent c.sent_call_is_answered.ensures _ _ _ _ _ _ (returns-in-Ok-clause-answered g c is)
+returns-in-Ok-clause-sent g c = λ is. reports_sent c.sent_call_is_answered.ensures c.intact_copies_report_the_call.ensures _ _ _ _ _ _ (returns-in-Ok-clause-answered g c is)
 
 pub returns-in-Ok-clause-faulty : goal.returns-in-Ok-clause-faulty
 returns-in-Ok-clause-faulty g c = λ is.

@@ -1,13 +1,13 @@
 use Rattle.std.proofs.Common.{◌+◌, ℕ, length, sym, ap, ◌∙◌, inl, inr, subst, arith}
 use Rattle.slot_evidence.specs.declared.places.Seen.TheVariants as seen
 use Rattle.slot_join.specs.Shown.{IsShown}
-use Rattle.slot_join.proofs.Stops.{seen_there, after_long, open_short, stops_missing, stops_differ, stops_outside, stops_check, reports, goes_on}
+use Rattle.slot_join.proofs.Stops.{seen_there, after_long, open_short, stops_differ, stops_outside, stops_check, reports, goes_on}
 use Rattle.slot_join.proofs.reading.follow.Goals as goal
 
 pub returns-in-None : goal.returns-in-None
 returns-in-None c = λ F ends shown.
     let i = c.loop-n.invariant in
-    inr (stops_missing c.fronts_differ.ensures F c.loop-n.walk c.loop-n.n i.taken i.open_ (i.shown F ends shown) (seen_there F c.args.sheet.now c.loop-n.n seen.None ends c.in-None.ensures.seen))
+    inr (c.behind_blank.ensures F (seen_there F c.args.sheet.now c.loop-n.n seen.None ends c.in-None.ensures.seen) (i.shown F ends shown))
 
 pub returns-in-Differ : goal.returns-in-Differ
 returns-in-Differ c = λ F ends shown.

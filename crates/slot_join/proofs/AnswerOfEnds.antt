@@ -1,0 +1,110 @@
+-- Facts that are alike at each place have the same answers.
+use Rattle.std.proofs.Common.{ℕ, ◌||◌, ◌⊎◌, List, length, take, get_or, inl, inr}
+use Rattle.std.specs.Prelude.{◌↔◌}
+use Rattle.call_grammar.specs.Spelling.{front}
+use Rattle.slot_evidence.specs.declared.places.Seen.{Seen}
+use Rattle.slot_evidence.specs.declared.places.Seen.TheVariants as seen
+use Rattle.slot_evidence.specs.Facts.{Facts, Symbols, union}
+use Rattle.slot_evidence.specs.Seen.{IsSeen, ShowsNone}
+use Rattle.slot_evidence.specs.Sheet.{IsEnds, facts_in}
+use Rattle.slot_evidence.specs.Alike.{AreAlike}
+use Rattle.slot_join.specs.declared.joined.Joined.{Joined}
+use Rattle.slot_join.specs.Shown.{head_of, Gives, IsShown}
+use Rattle.slot_join.specs.Answer.{HasFormat, IsAnswer, IsReported, IsStopped, StopsAt, StopsWith, BehindFormat, BehindHead}
+
+-- the laws of sets of symbols with the same ends
+pub record Laws : Type 0 where
+  pub kept : (S T : Symbols) (x : Seen) → AreAlike S T → IsSeen S x → IsSeen T x
+  pub itself : (S : Symbols) → AreAlike S S
+  pub unions : (S T U V : Symbols) → AreAlike S T → AreAlike U V → AreAlike (λ v. S v || U v) (λ v. T v || V v)
+  pub sheet : (F : Facts) (sheet : List Seen) (p : ℕ) → IsEnds F sheet → AreAlike (F p) (facts_in sheet p)
+
+-- alike at each place
+pub record Alike (F G : Facts) : Type 0 where
+  pub at : (p : ℕ) → AreAlike (F p) (G p)
+
+flip : (F G : Facts) → Alike F G → Alike G F
+flip F G alike = record { at = λ p. record { forth = (alike.at p).back; back = (alike.at p).forth } }
+
+none_too : Laws → (F G : Facts) (p : ℕ) → Alike F G → ShowsNone (F p) → ShowsNone (G p)
+none_too laws F G p alike none = laws.kept (F p) (G p) seen.None (alike.at p) none
+
+heads_alike : Laws → (F G : Facts) → Alike F G → AreAlike (head_of F) (head_of G)
+heads_alike laws F G alike = laws.unions (F 0) (G 0) (F 1) (G 1) (alike.at 0) (alike.at 1)
+
+gives_too : Laws → (F G : Facts) (front : List ℕ) (p v : ℕ) → Alike F G → Gives F front p v → Gives G front p v
+gives_too laws F G front p v alike one = laws.kept (F p) (G p) (seen.One v) (alike.at p) one
+
+shown_too : Laws → (F G : Facts) (l : List ℕ) → Alike F G → IsShown F l → IsShown G l
+shown_too laws F G l alike a = record {
+  format = a.format;
+  rest = a.rest;
+  begins = a.begins;
+  head = laws.kept (head_of F) (head_of G) (seen.One a.format) (heads_alike laws F G alike) a.head;
+  places = λ p least below. gives_too laws F G (take p l) p (get_or l p 0) alike (a.places p least below);
+}
+
+reported_too : Laws → (F G : Facts) (answer : Joined) → Alike F G → IsReported F answer → IsReported G answer
+reported_too laws F G answer alike r =
+    record { call = r.call; lawful = r.lawful; shown = shown_too laws F G (front r.call) alike r.shown; answer_is = r.answer_is }
+
+stops_at_too : (F G : Facts) (l : List ℕ) (v : ℕ) (answer : Joined) → StopsAt F l v answer → StopsAt G l v answer
+stops_at_too F G l v answer stops = stops
+
+stops_too : (F G : Facts) (l : List ℕ) (here : Seen) (answer : Joined) → StopsWith F l here answer → StopsWith G l here answer
+stops_too F G l seen.None answer stops = stops
+stops_too F G l (seen.Differ a b) answer stops = stops
+stops_too F G l (seen.One v) answer stops = stops_at_too F G l v answer stops
+
+stopped_too : Laws → (F G : Facts) (answer : Joined) → Alike F G → IsStopped F answer → IsStopped G answer
+stopped_too laws F G answer alike s = record {
+  list = s.list;
+  unreported = λ call lawful shown. s.unreported call lawful (shown_too laws G F (front call) (flip F G alike) shown);
+  longest = record {
+    shown = shown_too laws F G s.list alike s.longest.shown;
+    viable = s.longest.viable;
+    longest = λ other shown viable. s.longest.longest other (shown_too laws G F other (flip F G alike) shown) viable;
+  };
+  here = s.here;
+  seen = laws.kept (F (length s.list)) (G (length s.list)) s.here (alike.at (length s.list)) s.seen;
+  stops = stops_too F G s.list s.here answer s.stops;
+}
+
+has_format_too : Laws → (F G : Facts) (f : ℕ) → Alike F G → HasFormat F f → HasFormat G f
+has_format_too laws F G f alike has = record {
+  is_one = has.is_one;
+  first = λ both none. has.first both (none_too laws G F 0 (flip F G alike) none);
+  second = λ both none. has.second both (none_too laws G F 1 (flip F G alike) none);
+}
+
+end_too : Laws → (F G : Facts) (answer : Joined) → Alike F G → IsReported F answer ⊎ IsStopped F answer → IsReported G answer ⊎ IsStopped G answer
+end_too laws F G answer alike (inl reported) = inl (reported_too laws F G answer alike reported)
+end_too laws F G answer alike (inr stopped) = inr (stopped_too laws F G answer alike stopped)
+
+behind_format_too : Laws → (F G : Facts) (f : ℕ) (answer : Joined) → Alike F G → BehindFormat F f answer → BehindFormat G f answer
+behind_format_too laws F G f answer alike (inl outside) = inl outside
+behind_format_too laws F G f answer alike (inr (inl x)) = inr (inl (x.0, x.1, none_too laws F G 0 alike x.2, x.3))
+behind_format_too laws F G f answer alike (inr (inr (inl x))) =
+    inr (inr (inl (x.0, x.1, λ none. x.2 (none_too laws G F 0 (flip F G alike) none), none_too laws F G 1 alike x.3, x.4)))
+behind_format_too laws F G f answer alike (inr (inr (inr x))) = inr (inr (inr (has_format_too laws F G f alike x.0, end_too laws F G answer alike x.1)))
+
+behind_head_too : Laws → (F G : Facts) (h : Seen) (answer : Joined) → Alike F G → BehindHead F h answer → BehindHead G h answer
+behind_head_too laws F G seen.None answer alike is = is
+behind_head_too laws F G (seen.Differ a b) answer alike is = is
+behind_head_too laws F G (seen.One f) answer alike is = behind_format_too laws F G f answer alike is
+
+answer_too : Laws → (F G : Facts) (answer : Joined) → Alike F G → IsAnswer F answer → IsAnswer G answer
+answer_too laws F G answer alike a = record {
+  head = a.head;
+  seen = laws.kept (head_of F) (head_of G) a.head (heads_alike laws F G alike) a.seen;
+  answers = behind_head_too laws F G a.head answer alike a.answers;
+}
+
+pub answers_of_ends : Laws → (F G : Facts) (sheet : List Seen) (answer : Joined) → IsEnds F sheet
+    → (IsAnswer (union F G) answer ↔ IsAnswer (union (facts_in sheet) G) answer)
+answers_of_ends laws F G sheet answer ends =
+    let alike : Alike (union F G) (union (facts_in sheet) G) =
+    record { at = λ p. laws.unions (F p) (facts_in sheet p) (G p) (G p) (laws.sheet F sheet p ends) (laws.itself (G p)) } in (
+      answer_too laws (union F G) (union (facts_in sheet) G) answer alike,
+      answer_too laws (union (facts_in sheet) G) (union F G) answer (flip (union F G) (union (facts_in sheet) G) alike),
+    )

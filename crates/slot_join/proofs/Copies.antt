@@ -1,0 +1,164 @@
+-- What copies of a call's characters that came intact show, and the answers to receptions of one call.
+use Rattle.std.proofs.Common.{◌≡◌, ℕ, zero, suc, ◌<◌, ◌≤◌, Bool, true, false, ◌&&◌, ◌||◌, ltb, List, [], ◌∷◌, ◌++◌, length, get_or, drop, Option, Some, refl, sym, ap, subst, ◌∙◌, inl, inr, ◌⊎◌, arith, length-append, All}
+use Rattle.std.specs.List.{list_any}
+use Rattle.std.proofs.lemmas.Bool.{or_left, or_right, or_cases, and_from, lt-ltb}
+use Rattle.std.proofs.lemmas.List.{get_or_append_left, get_or_default}
+use Rattle.std.proofs.lemmas.List.Elements.{All-get_or}
+use Rattle.ten_unit.specs.declared.character.Element.{Element}
+use Rattle.time_diversity.specs.Slots.{dx_slot, rx_slot}
+use Rattle.phasing.specs.Slot.{shows}
+use Rattle.call_values.specs.declared.alerts.Call.{Call}
+use Rattle.call_values.specs.Calls.{IsCall}
+use Rattle.call_grammar.specs.Spelling.{spell, front, end_of, format_of}
+use Rattle.call_grammar.specs.Walk.{IsViable}
+use Rattle.slot_evidence.specs.declared.places.Seen.TheVariants as seen
+use Rattle.slot_evidence.specs.Facts.{facts_of, facts_at, facts_of_all}
+use Rattle.slot_evidence.specs.Seen.{ShowsNone, ShowsOne}
+use Rattle.slot_join.specs.declared.joined.Joined.{Joined}
+use Rattle.slot_join.specs.declared.joined.Joined.TheVariants.{Reported}
+use Rattle.slot_join.specs.declared.joined.Extra.TheVariants.{Absent}
+use Rattle.slot_join.specs.Shown.{head_of, IsShown}
+use Rattle.slot_join.specs.Answer.{IsAnswer}
+use Rattle.slot_join.specs.Heard.{IsHeard}
+use Rattle.slot_join.specs.OneCall.{ShowsNoOther, IsCallOrMissing}
+use Rattle.slot_join.specs.Intact.{IsIntactAt, CameNowhere, CameSomewhere, IsSentOrLostPlace, ArrivesInParts}
+use Rattle.slot_join.proofs.ShownLists.{viable_front, front_viable}
+use Rattle.slot_join.proofs.CallOrMissing.{FormatsBegin, head_is}
+
+abbrev pub HeardLaw : Type 0
+HeardLaw = (call : Call) (tail : List ℕ) (reception : List Element) → IsCall call → IsHeard reception (spell call ++ tail) → ShowsNoOther (facts_of reception) (front call)
+
+-- lists of calls are short, and their symbols are characters
+pub record Lists : Type 0 where
+  pub short : (c : Call) → IsCall c → (4 ≤ length (spell c)) × (length (spell c) ≤ 32)
+  pub characters : (c : Call) → IsCall c → All (λ v. v < 128) (spell c)
+
+-- receptions that are heard show no other symbols together
+any_told : HeardLaw → (receptions : List (List Element)) (call : Call) (tail : List ℕ) (p v : ℕ) → IsCall call → All (λ reception. IsHeard reception (spell call ++ tail)) receptions
+    → p < length (front call) → list_any (λ e. facts_of e p v) receptions ≡ true → v ≡ get_or (front call) p 0
+any_told law [] call tail p v lawful heard below has = absurd (cc)
+any_told law (e ∷ receptions) call tail p v lawful heard below has =
+    elim (or_cases (facts_of e p v) (list_any (λ x. facts_of x p v) receptions) has) [
+      | inl here ↦ law call tail e lawful (heard 0 e (omega arith)) p v below here
+      | inr there ↦ any_told law receptions call tail p v lawful (λ k d inside. heard (suc k) d (omega (arith, inside))) below there
+    ]
+
+pub all_told : HeardLaw → (receptions : List (List Element)) (call : Call) (tail : List ℕ) → IsCall call → All (λ reception. IsHeard reception (spell call ++ tail)) receptions
+    → ShowsNoOther (facts_of_all receptions) (front call)
+unfolding facts_of_all
+all_told law receptions call tail lawful heard p v below has = any_told law receptions call tail p v lawful heard below has
+
+-- what one of several shows, they show together
+any_shows : (f : List Element → Bool) (receptions : List (List Element)) (k : ℕ) (e : List Element) → k < length receptions → get_or receptions k e ≡ e → f e ≡ true
+    → list_any f receptions ≡ true
+any_shows f [] k e below is has = absurd (omega arith)
+any_shows f (x ∷ receptions) zero e below is has = or_left (f x) (list_any f receptions) (ap f is ∙ has)
+any_shows f (x ∷ receptions) (suc k) e below is has = or_right (f x) (list_any f receptions) (any_shows f receptions k e (omega arith) is has)
+
+-- a copy that came intact shows the character
+in_slots : (inside small dx rx : Bool) → inside ≡ true → small ≡ true → (dx ≡ true) ⊎ (rx ≡ true) → (inside && (small && (dx || rx))) ≡ true
+in_slots inside small dx rx a b (inl c) = and_from inside (small && (dx || rx)) a (and_from small (dx || rx) b (or_left dx rx c))
+in_slots inside small dx rx a b (inr c) = and_from inside (small && (dx || rx)) a (and_from small (dx || rx) b (or_right dx rx c))
+
+copy_shows : (e : List Element) (list : List ℕ) (lead p : ℕ) → p < 64 → get_or list p 0 < 128 → IsIntactAt e list lead p → facts_of e p (get_or list p 0) ≡ true
+unfolding facts_of
+copy_shows e list lead p inside small intact =
+    let v : ℕ = get_or list p 0 in
+    let either : (shows e lead (dx_slot p) v ≡ true) ⊎ (shows e lead (rx_slot p) v ≡ true) = elim intact.copy [ inl dx ↦ inl dx | inr rx ↦ inr rx.1 ] in
+    let here : facts_at e (Some lead) p v ≡ true =
+    in_slots (ltb p 64) (ltb v 128) (shows e lead (dx_slot p) v) (shows e lead (rx_slot p) v) (lt-ltb p 64 inside) (lt-ltb v 128 small) either in
+    subst (λ (o : Option ℕ). facts_at e o p v ≡ true) (sym intact.origin) here
+
+-- the character of a place of the call up to its check
+in_call : (c : Call) (tail : List ℕ) (p : ℕ) → p < length (front c) → get_or (spell c ++ tail) p 0 ≡ get_or (front c) p 0
+in_call c tail p below =
+    let ends : List ℕ = end_of c ∷ end_of c ∷ [] in
+    get_or_append_left (spell c) tail 0 p (omega (arith, length-append (front c) ends)) ∙ get_or_append_left (front c) ends 0 p below
+
+character : Lists → (c : Call) (tail : List ℕ) (p : ℕ) → IsCall c → p < length (front c) → get_or (spell c ++ tail) p 0 < 128
+character lists c tail p lawful below =
+    let ends : List ℕ = end_of c ∷ end_of c ∷ [] in
+    let inside : p < length (spell c) = omega (arith, length-append (front c) ends) in
+    let small : get_or (spell c) p 0 < 128 = All-get_or (λ v. v < 128) (spell c) p 0 inside (lists.characters c lawful) in
+    omega (arith, get_or_append_left (spell c) tail 0 p inside, small)
+
+within : Lists → (c : Call) (p : ℕ) → IsCall c → p < length (front c) → p < 64
+within lists c p lawful below =
+    let ends : List ℕ = end_of c ∷ end_of c ∷ [] in
+    omega (arith, length-append (front c) ends, (lists.short c lawful).1)
+
+-- a place that came intact somewhere is shown
+somewhere_shown : Lists → (receptions : List (List Element)) (c : Call) (tail : List ℕ) (p : ℕ) → IsCall c → p < length (front c)
+    → CameSomewhere receptions (spell c ++ tail) p → facts_of_all receptions p (get_or (front c) p 0) ≡ true
+unfolding facts_of_all
+somewhere_shown lists receptions c tail p lawful below came =
+    let v : ℕ = get_or (spell c ++ tail) p 0 in
+    let shown : facts_of came.1 p v ≡ true = copy_shows came.1 (spell c ++ tail) came.4.0 p (within lists c p lawful below) (character lists c tail p lawful below) came.4.1 in
+    let any : list_any (λ e. facts_of e p v) receptions ≡ true = any_shows (λ e. facts_of e p v) receptions came.0 came.1 came.2 came.3 shown in
+    subst (λ (u : ℕ). list_any (λ e. facts_of e p u) receptions ≡ true) (in_call c tail p below) any
+
+-- a place that no reception showed came intact nowhere
+blank_nowhere : Lists → (receptions : List (List Element)) (c : Call) (tail : List ℕ) (p : ℕ) → IsCall c → p < length (front c)
+    → ShowsNone (facts_of_all receptions p) → CameNowhere receptions (spell c ++ tail) p
+blank_nowhere lists receptions c tail p lawful below none k d inside = λ lead intact.
+    let e : List Element = get_or receptions k d in
+    let same : get_or receptions k e ≡ e = sym (get_or_default receptions k d e inside) in
+    let yes : facts_of_all receptions p (get_or (front c) p 0) ≡ true = somewhere_shown lists receptions c tail p lawful below (k, e, inside, same, (lead, intact)) in
+    let no : facts_of_all receptions p (get_or (front c) p 0) ≡ false = none (get_or (front c) p 0) in
+    cc
+
+-- the call that was sent, or a place of it no copy of which came intact
+pub sent_or_lost : Lists → (receptions : List (List Element)) (c : Call) (tail : List ℕ) (answer : Joined) → IsCall c
+    → IsCallOrMissing (facts_of_all receptions) c answer → IsSentOrLostPlace receptions c tail answer
+sent_or_lost lists receptions c tail answer lawful (inl is) = inl is
+sent_or_lost lists receptions c tail answer lawful (inr missing) = inr (record {
+  place = missing.place;
+  inside = missing.inside;
+  blank = missing.blank;
+  nowhere = blank_nowhere lists receptions c tail missing.place lawful missing.inside missing.blank;
+  answer_is = missing.answer_is;
+})
+
+-- a call whose places came intact, each at some receiver, is an answer
+module _ (law : HeardLaw) (lists : Lists) (formats : FormatsBegin) (receptions : List (List Element)) (c : Call) (tail : List ℕ)
+    (lawful : IsCall c) (heard : All (λ reception. IsHeard reception (spell c ++ tail)) receptions) (arrives : ArrivesInParts receptions c tail) where
+  only : ShowsNoOther (facts_of_all receptions) (front c)
+  only = all_told law receptions c tail lawful heard
+
+  came : (p : ℕ) → p < length (front c) → CameSomewhere receptions (spell c ++ tail) p → facts_of_all receptions p (get_or (front c) p 0) ≡ true
+  came p below somewhere = somewhere_shown lists receptions c tail p lawful below somewhere
+
+  format_one : ShowsOne (head_of (facts_of_all receptions)) (format_of c)
+  format_one = (
+    elim arrives.format [
+      | inl first ↦ or_left (facts_of_all receptions 0 (format_of c)) (facts_of_all receptions 1 (format_of c)) (came 0 (omega arith) first)
+      | inr second ↦ or_right (facts_of_all receptions 0 (format_of c)) (facts_of_all receptions 1 (format_of c)) (came 1 (omega arith) second)
+    ],
+    λ v has. head_is (facts_of_all receptions) c only v has,
+  )
+
+  shown : IsShown (facts_of_all receptions) (front c)
+  shown = record {
+    format = format_of c;
+    rest = drop 2 (front c);
+    begins = refl;
+    head = format_one;
+    places = λ p least below. (came p below (arrives.places p least below), λ v has. only p v below has);
+  }
+
+  pub answered : IsAnswer (facts_of_all receptions) (Reported c Absent)
+  answered =
+      let f : ℕ = format_of c in
+      let begins : IsViable (f ∷ f ∷ []) = viable_front (f ∷ f ∷ []) (drop 2 (front c)) (front_viable c lawful) in
+      record {
+        head = seen.One f;
+        seen = format_one;
+        answers = inr (inr (inr (
+          record {
+            is_one = (formats f).1 begins;
+            first = λ both none. absurd (cc (none f, came 0 (omega arith) (arrives.both both).0));
+            second = λ both none. absurd (cc (none f, came 1 (omega arith) (arrives.both both).1));
+          },
+          inl (record { call = c; lawful = lawful; shown = shown; answer_is = refl }),
+        )));
+      }
