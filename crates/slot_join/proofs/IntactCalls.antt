@@ -8,12 +8,13 @@ use Rattle.std.proofs.lemmas.List.FromFn.{length-map-range_with_len, get_or-map-
 use Rattle.ten_unit.specs.declared.character.Element.{Element}
 use Rattle.ten_unit.specs.Word.{word_of, is_word}
 use Rattle.time_diversity.specs.Slots.{dx_slot, rx_slot, IsSlotOf}
-use Rattle.time_diversity.specs.OnAir.{slot_symbol, on_air}
+use Rattle.time_diversity.specs.OnAir.{sent_symbol, on_air}
 use Rattle.phasing.specs.Slot.{slot, shows}
-use Rattle.call_values.specs.declared.alerts.Call.{Call}
+use Rattle.call_values.specs.declared.calls.Call.{Call}
 use Rattle.call_values.specs.Calls.{IsCall}
 use Rattle.call_grammar.specs.Spelling.{spell, front, format_of, fields_of, end_of, covered, check_of}
-use Rattle.call_grammar.specs.Walk.{IsFormat, IsViable}
+use Rattle.call_grammar.specs.Walk.{IsViable}
+use Rattle.dsc_symbols.specs.Formats.{IsFormat}
 use Rattle.slot_evidence.specs.declared.places.Seen.TheVariants as seen
 use Rattle.slot_evidence.specs.Facts.{Facts, facts_of, facts_at}
 use Rattle.slot_evidence.specs.Seen.{ShowsOne}
@@ -31,16 +32,16 @@ abbrev pub WordsApart : Type 0
 WordsApart = (u v : ℕ) → u < 128 → v < 128 → word_of u ≡ word_of v → u ≡ v
 
 abbrev pub BothSlots : Type 0
-BothSlots = (list : List ℕ) (slot p : ℕ) → IsSlotOf slot p → slot_symbol list slot ≡ get_or list p 0
+BothSlots = (list : List ℕ) (slot p : ℕ) → IsSlotOf slot p → sent_symbol list slot ≡ get_or list p 0
 
 -- what a slot of the transmission is sent with
 length-on_air : (list : List ℕ) → length (on_air list) ≡ 2 * length list + 12
 unfolding on_air
-length-on_air list = length-map-range_with_len (slot_symbol list) 0 (2 * length list + 12)
+length-on_air list = length-map-range_with_len (sent_symbol list) 0 (2 * length list + 12)
 
-sent_at : (list : List ℕ) (s : ℕ) → s < 2 * length list + 12 → get_or (on_air list) s 0 ≡ slot_symbol list s
+sent_at : (list : List ℕ) (s : ℕ) → s < 2 * length list + 12 → get_or (on_air list) s 0 ≡ sent_symbol list s
 unfolding on_air
-sent_at list s below = get_or-map-range_with_len (slot_symbol list) 0 (2 * length list + 12) s s 0 below (omega arith)
+sent_at list s below = get_or-map-range_with_len (sent_symbol list) 0 (2 * length list + 12) s s 0 below (omega arith)
 
 and_both : (x y : Bool) → (x && y) ≡ true → (x ≡ true) × (y ≡ true)
 and_both true y e = (refl, e)
