@@ -3,12 +3,12 @@ use Rattle.std.proofs.Common.{◌≡◌, ℕ, ◌+◌, ◌*◌, ◌/◌, ◌%◌
 use Rattle.std.proofs.lemmas.Bool.Decides.{nat_tests}
 use Rattle.symbol_reader.specs.declared.letters.Letter.TheVariants.{UpTo, Digits}
 use Rattle.symbol_reader.specs.Letters.{Allows}
-use Rattle.symbol_reader.specs.Languages.{Only, Then}
+use Rattle.symbol_reader.specs.inside.Languages.{Only, Then}
 use Rattle.symbol_reader.proofs.Laws.{Good, Alike, then_good, only_good, alike_good}
 use Rattle.symbol_reader.proofs.Steps.{letter_good, one_then, joined}
 use Rattle.call_values.specs.Areas.{Rectangle, IsArea}
 use Rattle.call_grammar.specs.Spelling.{area_digits, area_symbols}
-use Rattle.call_grammar.specs.Grammar.{Symbol, Areas, area_latitude, longitude_ones, area_of}
+use Rattle.call_grammar.specs.inside.Grammar.{Symbol, Areas, area_latitude, longitude_ones, area_of}
 use Rattle.call_grammar.proofs.Digits.{ten_digits-of}
 
 abbrev pub AreaLast : ℕ → ℕ → ℕ → ℕ → Rectangle → List ℕ → Type 0

@@ -1,9 +1,9 @@
 -- Calls by their parts.
 use Rattle.std.proofs.Common.{sym, subst}
-use Rattle.symbol_reader.specs.Languages.{Then}
+use Rattle.symbol_reader.specs.inside.Languages.{Then}
 use Rattle.symbol_reader.proofs.Laws.{Good, Alike, then_good, alike_good}
-use Rattle.call_grammar.specs.Grammar.{CheckedCharacters}
-use Rattle.call_grammar.specs.Forms.{Formats, AfterFormat}
+use Rattle.call_grammar.specs.inside.Grammar.{CheckedCharacters}
+use Rattle.call_grammar.specs.inside.Forms.{Formats, AfterFormat}
 use Rattle.call_grammar.proofs.CodedParts.{formats_good}
 use Rattle.call_grammar.proofs.FormParts.{after_format_good}
 use Rattle.call_grammar.proofs.ToForms.{to_call}

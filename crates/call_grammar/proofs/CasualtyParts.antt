@@ -1,6 +1,6 @@
 -- Casualties by their parts.
 use Rattle.std.proofs.Common.{◌≡◌, ℕ, List, [], ◌∷◌, ◌++◌, Option, refl, sym, subst}
-use Rattle.symbol_reader.specs.Languages.{Only, Then, Spelled}
+use Rattle.symbol_reader.specs.inside.Languages.{Only, Then, Spelled}
 use Rattle.symbol_reader.proofs.Laws.{Good, Alike, then_good, only_good, alike_good}
 use Rattle.symbol_reader.proofs.Steps.{spelled_then}
 use Rattle.call_values.specs.declared.places.Fix.{Fix}
@@ -8,7 +8,7 @@ use Rattle.call_values.specs.declared.calls.Casualty.{Casualty}
 use Rattle.dsc_symbols.specs.Natures.{IsNature}
 use Rattle.dsc_symbols.specs.Telecommands.{IsComm}
 use Rattle.call_grammar.specs.Spelling.{identity_symbols, position_symbols, time_symbols, casualty_symbols}
-use Rattle.call_grammar.specs.Grammar.{Identities, Positions, Times, Casualties}
+use Rattle.call_grammar.specs.inside.Grammar.{Identities, Positions, Times, Casualties}
 use Rattle.call_grammar.proofs.IdentityParts.{identity_good}
 use Rattle.call_grammar.proofs.SymbolParts.{nature_good, comm_good}
 use Rattle.call_grammar.proofs.PositionParts.{position_good}

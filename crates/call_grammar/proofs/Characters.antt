@@ -28,6 +28,7 @@ use Rattle.dsc_symbols.specs.Telecommands.{IsComm}
 use Rattle.call_values.specs.Places.{IsPosition}
 use Rattle.call_values.specs.Clock.{IsHourMinute}
 use Rattle.call_values.specs.Calls.{IsCasualty, IsRequest, IsCall}
+use Rattle.call_values.specs.Views.{address_of}
 use Rattle.call_grammar.specs.Spelling.{ten_digits, position_digits, identity_symbols, position_symbols, time_symbols, casualty_symbols, area_digits, area_symbols, six_digits, eight_digits, blanks, field_symbols, message_symbols, category_symbol, end_symbol, format_to, address_symbols, distress_symbols, request_symbols, kind_symbols, kind_end, format_of, end_of, fields_of, covered, check_of, spell}
 
 abbrev pub AreCharacters : List ℕ → Type 0
@@ -144,14 +145,7 @@ of_to (to.One m) = omega arith
 
 of_format : (c : Call) → format_of c < 128
 of_format (Alert casualty) = omega arith
-of_format (Ack from k) = omega arith
-of_format (Relay t from k ask) = of_to t
-of_format (RelayAck t from k) = of_to t
-of_format (AllShips g from x y f1 f2) = omega arith
-of_format (AreaCall a g from x y f1 f2) = omega arith
-of_format (GroupCall m g from x y f1 f2) = omega arith
-of_format (Individual m g from x y told e) = omega arith
-of_format (Service m g from k) = omega arith
+of_format c = of_to (address_of c)
 
 of_end_symbol : (e : End) → end_symbol e < 128
 of_end_symbol Ask = omega arith

@@ -17,8 +17,8 @@ use Rattle.call_grammar.specs.declared.symbols.Specifier.TheVariants as format
 use Rattle.call_grammar.specs.declared.symbols.Telecommand.{Telecommand}
 use Rattle.call_grammar.specs.declared.symbols.Telecommand.TheVariants as telecommand
 use Rattle.call_grammar.specs.Spelling.{end_symbol, blanks}
-use Rattle.call_grammar.specs.Grammar.{Firsts, Seconds, Blanks}
-use Rattle.call_grammar.specs.Forms.{format_symbol, Formats, category_or_distress, Categories, Endings, Eithers, distress_telecommand_letter, IsDistressTelecommand, distress_telecommand_symbol, DistressTelecommands, telecommand_symbol, IsTelecommand, Telecommands}
+use Rattle.call_grammar.specs.inside.Grammar.{Firsts, Seconds, Blanks}
+use Rattle.call_grammar.specs.inside.Forms.{format_symbol, Formats, category_or_distress, Categories, Endings, Eithers, distress_telecommand_letter, IsDistressTelecommand, distress_telecommand_symbol, DistressTelecommands, telecommand_symbol, IsTelecommand, Telecommands}
 use Rattle.call_grammar.proofs.SymbolParts.{symbol_alike}
 
 abbrev pub format_told : ℕ → Specifier

@@ -2,16 +2,16 @@
 use Rattle.std.proofs.Common.{◌≡◌, ℕ, ◌≤◌, ◌⊎◌, inl, inr, true, false, List, [], ◌∷◌, ◌++◌, length, drop, Err, refl, sym, ◌∙◌, ap, subst, append-nil, append_assoc, length-append, arith}
 use Rattle.symbol_reader.specs.declared.reading.Stop.{Stop}
 use Rattle.symbol_reader.specs.declared.reading.Stop.TheVariants.{Short, Outside}
-use Rattle.symbol_reader.specs.Reading.{Took, Outcome}
+use Rattle.symbol_reader.specs.inside.Reading.{Took, Outcome}
 use Rattle.symbol_reader.proofs.Laws.{no_word_goes_on}
 use Rattle.call_values.specs.declared.calls.Call.{Call}
 use Rattle.call_values.specs.declared.calls.Call.TheVariants.{Alert, Ack, Relay, RelayAck, AllShips, AreaCall, GroupCall, Individual, Service}
 use Rattle.call_values.specs.declared.choices.End.TheVariants.{Ask, Reply, Plain}
 use Rattle.call_values.specs.declared.parts.Kind.TheVariants.{Test, AskPosition, Position}
 use Rattle.call_grammar.specs.Spelling.{format_of, fields_of, end_of, covered, check_of, front}
-use Rattle.call_grammar.specs.Grammar.{CheckedCharacters}
+use Rattle.call_grammar.specs.inside.Grammar.{CheckedCharacters}
 use Rattle.call_grammar.specs.Walk.{IsDone, IsAtEnd}
-use Rattle.call_grammar.specs.Judging.{IsWalking, IsCovered}
+use Rattle.call_grammar.specs.inside.Judging.{IsWalking, IsCovered}
 use Rattle.call_grammar.proofs.CallParts.{checked_characters_good}
 use Rattle.call_grammar.proofs.Lengths.{walking_short, length-front}
 use Rattle.call_grammar.proofs.Steps.{heads, spelled, no_cover}

@@ -4,14 +4,14 @@ use Rattle.std.proofs.lemmas.Bool.Decides.{nat_tests}
 use Rattle.symbol_reader.specs.declared.letters.Letter.TheVariants.{Exactly, UpTo}
 use Rattle.symbol_reader.specs.declared.letters.Letter.TheVariants as letter
 use Rattle.symbol_reader.specs.Letters.{Allows}
-use Rattle.symbol_reader.specs.Languages.{Only, Then, Choice, Spelled}
+use Rattle.symbol_reader.specs.inside.Languages.{Only, Then, Choice, Spelled}
 use Rattle.symbol_reader.proofs.Laws.{Good, Alike, then_good, only_good, choice_good, alike_good}
 use Rattle.symbol_reader.proofs.Steps.{letter_good, one_then, joined}
 use Rattle.call_values.specs.declared.fields.FieldKind.{FieldKind}
 use Rattle.call_values.specs.declared.fields.FieldKind.TheVariants.{Absent, Hundreds, Hf, Vhf, Tens}
 use Rattle.call_values.specs.Fields.{IsField}
 use Rattle.call_grammar.specs.Spelling.{six_digits, eight_digits, field_symbols}
-use Rattle.call_grammar.specs.Grammar.{Symbol, FieldWords, FieldRest, field_letter, short_field, long_field}
+use Rattle.call_grammar.specs.inside.Grammar.{Symbol, FieldWords, FieldRest, field_letter, short_field, long_field}
 use Rattle.call_grammar.proofs.CodedParts.{is_same, is_other}
 
 abbrev pub FieldEnd : ℕ → ℕ → ℕ → FieldKind → List ℕ → Type 0

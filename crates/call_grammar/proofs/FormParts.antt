@@ -10,7 +10,7 @@ use Rattle.call_grammar.specs.declared.symbols.Specifier.{Specifier}
 use Rattle.call_grammar.specs.declared.symbols.Specifier.TheVariants as format
 use Rattle.call_grammar.specs.declared.symbols.Telecommand.{Telecommand}
 use Rattle.call_grammar.specs.declared.symbols.Telecommand.TheVariants as telecommand
-use Rattle.call_grammar.specs.Forms.{Relays, Acks, AfterDistressTelecommand, AfterRelayer, Distress, Requests, Tests, Answers, Questions, AfterTold, Places, Others, AfterTelecommand, Individuals, SenderAndRequest, AfterCategory, Addressed, SenderAndIndividual, AfterCategoryToOne, AddressedOne, Alerts, AfterFormat}
+use Rattle.call_grammar.specs.inside.Forms.{Relays, Acks, AfterDistressTelecommand, AfterRelayer, Distress, Requests, Tests, Answers, Questions, AfterTold, Places, Others, AfterTelecommand, Individuals, SenderAndRequest, AfterCategory, Addressed, SenderAndIndividual, AfterCategoryToOne, AddressedOne, Alerts, AfterFormat}
 use Rattle.call_grammar.proofs.IdentityParts.{identity_good}
 use Rattle.call_grammar.proofs.PositionParts.{position_good}
 use Rattle.call_grammar.proofs.TimeParts.{time_good}

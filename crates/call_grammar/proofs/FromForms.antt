@@ -1,6 +1,6 @@
 -- A call's list is spelled by the grammar.
 use Rattle.std.proofs.Common.{◌≡◌, ℕ, List, [], ◌∷◌, ◌++◌, true, false, Some, None, refl, sym, ap, subst, append_assoc}
-use Rattle.symbol_reader.specs.Languages.{Only, Then}
+use Rattle.symbol_reader.specs.inside.Languages.{Only, Then}
 use Rattle.symbol_reader.proofs.Steps.{one_then, spelled_then}
 use Rattle.call_values.specs.declared.calls.Casualty.{Casualty}
 use Rattle.call_values.specs.declared.calls.Call.{Call}
@@ -20,7 +20,7 @@ use Rattle.call_values.specs.Calls.{IsCasualty, IsCall, IsRequest}
 use Rattle.call_grammar.specs.declared.symbols.Specifier.TheVariants as format
 use Rattle.call_grammar.specs.declared.symbols.Telecommand.TheVariants as telecommand
 use Rattle.call_grammar.specs.Spelling.{identity_symbols, casualty_symbols, position_symbols, time_symbols, area_symbols, category_symbol, field_symbols, end_symbol, format_to, address_symbols, blanks, kind_symbols, kind_end, covered}
-use Rattle.call_grammar.specs.Forms.{relay, request, IsDistressTelecommand, Distress, SenderAndRequest, SenderAndIndividual, AfterFormat, Formats}
+use Rattle.call_grammar.specs.inside.Forms.{relay, request, IsDistressTelecommand, Distress, SenderAndRequest, SenderAndIndividual, AfterFormat, Formats}
 use Rattle.call_grammar.proofs.CodedParts.{blanks_word}
 use Rattle.call_grammar.proofs.FormLists.{distress-list, relay-list, letter-list, request-list, service-list}
 

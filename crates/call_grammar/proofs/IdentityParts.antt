@@ -1,12 +1,12 @@
 -- Identities by their letters: four characters of two digits, and one whose second digit is 0.
 use Rattle.std.proofs.Common.{◌≡◌, ℕ, ◌*◌, ◌/◌, ◌%◌, ◌≤◌, List, [], ◌∷◌, refl, sym, ◌∙◌, ap, subst, arith}
 use Rattle.symbol_reader.specs.declared.letters.Letter.TheVariants.{UpTo, Digits}
-use Rattle.symbol_reader.specs.Languages.{Only, Then}
+use Rattle.symbol_reader.specs.inside.Languages.{Only, Then}
 use Rattle.symbol_reader.proofs.Laws.{Good, Alike, then_good, only_good, alike_good}
 use Rattle.symbol_reader.proofs.Steps.{letter_good, one_then, joined}
 use Rattle.call_values.specs.Identity.{IsMmsi}
 use Rattle.call_grammar.specs.Spelling.{identity_symbols}
-use Rattle.call_grammar.specs.Grammar.{Symbol, Identities, identity_of}
+use Rattle.call_grammar.specs.inside.Grammar.{Symbol, Identities, identity_of}
 use Rattle.call_grammar.proofs.Digits.{ten_digits-of}
 
 abbrev pub Last : ℕ → ℕ → ℕ → ℕ → ℕ → List ℕ → Type 0

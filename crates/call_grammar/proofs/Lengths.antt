@@ -3,7 +3,8 @@ use Rattle.std.proofs.Common.{◌≡◌, ℕ, ◌+◌, ◌*◌, ◌≤◌, ◌�
 use Rattle.call_values.specs.declared.places.Fix.{Fix}
 use Rattle.call_values.specs.declared.calls.Casualty.{Casualty}
 use Rattle.call_values.specs.declared.calls.Call.{Call}
-use Rattle.call_values.specs.declared.calls.Call.TheVariants.{Alert, Ack, Relay, RelayAck, AllShips, AreaCall, GroupCall, Individual, Service}
+use Rattle.call_values.specs.declared.bodies.Body.{Body}
+use Rattle.call_values.specs.declared.bodies.Body.TheVariants as body
 use Rattle.call_values.specs.declared.choices.Category.{Category}
 use Rattle.call_values.specs.declared.fields.FieldKind.{FieldKind}
 use Rattle.call_values.specs.declared.fields.FieldKind.TheVariants.{Absent, Hundreds, Hf, Vhf, Tens}
@@ -13,8 +14,9 @@ use Rattle.call_values.specs.declared.parts.Message.{Message}
 use Rattle.call_values.specs.declared.parts.Message.TheVariants.{Fields, At}
 use Rattle.call_values.specs.declared.parts.Kind.{Kind}
 use Rattle.call_values.specs.declared.parts.Kind.TheVariants.{Test, AskPosition, Position}
-use Rattle.call_grammar.specs.Spelling.{ten_digits, position_digits, position_symbols, time_symbols, identity_symbols, casualty_symbols, six_digits, eight_digits, area_digits, field_symbols, message_symbols, address_symbols, distress_symbols, request_symbols, category_symbol, kind_symbols, fields_of, end_of, covered, check_of, front, spell}
-use Rattle.call_grammar.specs.Judging.{IsWalking}
+use Rattle.call_values.specs.Views.{address_of, body_of}
+use Rattle.call_grammar.specs.Spelling.{ten_digits, position_digits, position_symbols, time_symbols, identity_symbols, casualty_symbols, six_digits, eight_digits, area_digits, field_symbols, message_symbols, address_symbols, distress_symbols, request_symbols, distress_telecommand, kind_symbols, body_symbols, fields_of, end_of, covered, check_of, front, spell}
+use Rattle.call_grammar.specs.inside.Judging.{IsWalking}
 
 length-ten_digits : (n : ℕ) → length (ten_digits n) ≡ 5
 unfolding ten_digits
@@ -78,39 +80,21 @@ length-kind (Test reply) = omega arith
 length-kind AskPosition = omega arith
 length-kind (Position p t) = omega (arith, length-append (position_symbols p) (time_symbols t), length-position p, length-time t)
 
+length-body : (b : Body) → length (body_symbols b) ≤ 21
+length-body (body.Alert k) = omega (arith, length-casualty k)
+length-body (body.Distress from acknowledges k) = omega (arith, length-distress from (distress_telecommand acknowledges) k)
+length-body (body.Request g from s k m) = omega (arith, length-request g from s k m)
+length-body (body.Service g from k) =
+    omega (arith, length-ten_digits (10 * from), length-kind k, length-append (identity_symbols from) (kind_symbols k))
+
 -- the fields of a call take at most 26 characters
 pub length-fields : (c : Call) → length (fields_of c) ≤ 26
-length-fields (Alert c) = omega (arith, length-casualty c)
-length-fields (Ack from k) = omega (arith, length-distress from 110 k)
-length-fields (Relay t from k ask) =
-    omega (arith, length-address t, length-distress from 112 k, length-append (address_symbols t) (distress_symbols from 112 k))
-length-fields (RelayAck t from k) =
-    omega (arith, length-address t, length-distress from 112 k, length-append (address_symbols t) (distress_symbols from 112 k))
-length-fields (AllShips g from s k f1 f2) = omega (arith, length-request g from s k (Fields f1 f2))
-length-fields (AreaCall a g from s k f1 f2) =
+length-fields c =
     omega (
       arith,
-      length-ten_digits (area_digits a),
-      length-request g from s k (Fields f1 f2),
-      length-append (ten_digits (area_digits a)) (request_symbols g from s k (Fields f1 f2)),
-    )
-length-fields (GroupCall m g from s k f1 f2) =
-    omega (
-      arith,
-      length-ten_digits (10 * m),
-      length-request g from s k (Fields f1 f2),
-      length-append (identity_symbols m) (request_symbols g from s k (Fields f1 f2)),
-    )
-length-fields (Individual m g from s k x e) =
-    omega (arith, length-ten_digits (10 * m), length-request g from s k x, length-append (identity_symbols m) (request_symbols g from s k x))
-length-fields (Service m g from k) =
-    omega (
-      arith,
-      length-ten_digits (10 * m),
-      length-ten_digits (10 * from),
-      length-kind k,
-      length-append (identity_symbols m) (category_symbol g ∷ (identity_symbols from ++ kind_symbols k)),
-      length-append (identity_symbols from) (kind_symbols k),
+      length-address (address_of c),
+      length-body (body_of c),
+      length-append (address_symbols (address_of c)) (body_symbols (body_of c)),
     )
 
 pub length-covered : (c : Call) → length (covered c) ≤ 28

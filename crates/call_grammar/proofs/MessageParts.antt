@@ -3,7 +3,7 @@ use Rattle.std.proofs.Common.{◌≡◌, ℕ, inl, inr, ◌==◌, Bool, true, fa
 use Rattle.std.proofs.lemmas.Bool.Decides.{nat_tests}
 use Rattle.symbol_reader.specs.declared.letters.Letter.TheVariants as letter
 use Rattle.symbol_reader.specs.Letters.{Allows}
-use Rattle.symbol_reader.specs.Languages.{Only, Then, Choice}
+use Rattle.symbol_reader.specs.inside.Languages.{Only, Then, Choice}
 use Rattle.symbol_reader.proofs.Laws.{Good, Alike, then_good, only_good, choice_good, alike_good}
 use Rattle.symbol_reader.proofs.Steps.{letter_good, one_then, joined, spelled_then, spelt}
 use Rattle.call_values.specs.declared.places.Fix.{Fix}
@@ -11,7 +11,7 @@ use Rattle.call_values.specs.declared.fields.FieldKind.{FieldKind}
 use Rattle.call_values.specs.declared.parts.Message.{Message}
 use Rattle.call_values.specs.declared.parts.Message.TheVariants.{Fields, At}
 use Rattle.call_grammar.specs.Spelling.{field_symbols, position_symbols}
-use Rattle.call_grammar.specs.Grammar.{Symbol, Positions, FieldWords, FieldRest, Messages}
+use Rattle.call_grammar.specs.inside.Grammar.{Symbol, Positions, FieldWords, FieldRest, Messages}
 use Rattle.call_grammar.proofs.PositionParts.{position_good}
 use Rattle.call_grammar.proofs.FieldParts.{field_rest_good, field_good, to_rest, split_field}
 

@@ -1,18 +1,19 @@
 -- From what is read of a list to the answers of `read`.
 use Rattle.std.proofs.Common.{◌≡◌, ℕ, ◌-◌, ◌<◌, ◌≤◌, inl, inr, List, [], ◌∷◌, ◌++◌, length, drop, get_or, refl, sym, ◌∙◌, ap, subst, append_assoc, length-append, arith}
-use Rattle.symbol_reader.specs.Reading.{Begins, Wants, Leaves}
+use Rattle.symbol_reader.specs.inside.Reading.{Begins, Wants, Leaves}
 use Rattle.symbol_reader.proofs.Laws.{no_word_goes_on}
 use Rattle.call_values.specs.declared.calls.Call.{Call}
-use Rattle.call_values.specs.declared.calls.Call.TheVariants.{Alert, Ack, Relay, RelayAck, AllShips, AreaCall, GroupCall, Individual, Service}
+use Rattle.call_values.specs.declared.calls.Call.TheVariants.{Alert}
 use Rattle.call_values.specs.declared.parts.To.{To}
 use Rattle.call_values.specs.declared.parts.To.TheVariants as to
 use Rattle.call_values.specs.Calls.{IsCall}
+use Rattle.call_values.specs.Views.{address_of}
 use Rattle.call_grammar.specs.Spelling.{format_to, format_of, fields_of, end_of, covered, check_of, up_to_end, spell}
-use Rattle.call_grammar.specs.Grammar.{CheckedCharacters}
+use Rattle.call_grammar.specs.inside.Grammar.{CheckedCharacters}
 use Rattle.dsc_symbols.specs.Formats.{IsFormat}
 use Rattle.call_grammar.specs.Walk.{IsViable, IsOpen}
 use Rattle.call_grammar.specs.Reading.{IsPart, EndsShort, EndsOutside, IsTwice}
-use Rattle.call_grammar.specs.Forms.{format_symbol}
+use Rattle.call_grammar.specs.inside.Forms.{format_symbol}
 use Rattle.call_grammar.proofs.CodedParts.{format_told, format_there}
 use Rattle.call_grammar.proofs.FormParts.{after_format_good}
 use Rattle.call_grammar.proofs.ToForms.{to_format}
@@ -36,14 +37,7 @@ format_to_lawful (to.One m) = inr (inr (inr (inr refl)))
 -- calls begin with format specifiers
 pub format_lawful : (c : Call) → IsFormat (format_of c)
 format_lawful (Alert k) = inl refl
-format_lawful (Ack from k) = inr (inl refl)
-format_lawful (Relay t from k ask) = format_to_lawful t
-format_lawful (RelayAck t from k) = format_to_lawful t
-format_lawful (AllShips g from s k f1 f2) = inr (inl refl)
-format_lawful (AreaCall a g from s k f1 f2) = inr (inr (inl refl))
-format_lawful (GroupCall m g from s k f1 f2) = inr (inr (inr (inl refl)))
-format_lawful (Individual m g from s k x e) = inr (inr (inr (inr refl)))
-format_lawful (Service m g from k) = inr (inr (inr (inr refl)))
+format_lawful c = format_to_lawful (address_of c)
 
 -- each format specifier begins a call
 pub format_call : (f : ℕ) → IsFormat f → (c : Call) × IsCall c × (format_of c ≡ f)

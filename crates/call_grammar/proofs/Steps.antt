@@ -1,15 +1,15 @@
 -- From what is read of a list to the steps of a walk.
 use Rattle.std.proofs.Common.{◌≡◌, ℕ, ◌<◌, ◌≢◌, ◌⊎◌, inl, inr, true, false, List, [], ◌∷◌, ◌++◌, length, take, drop, get_or, refl, sym, ◌∙◌, ap, subst, append-nil, append_assoc, length-append, arith}
 use Rattle.std.proofs.lemmas.List.{take-append-le}
-use Rattle.symbol_reader.specs.Reading.{Begins, Wants, Took}
+use Rattle.symbol_reader.specs.inside.Reading.{Begins, Wants, Took}
 use Rattle.symbol_reader.proofs.Laws.{no_word_goes_on}
 use Rattle.symbol_reader.proofs.Steps.{split, shorter}
 use Rattle.call_values.specs.declared.calls.Call.{Call}
 use Rattle.call_values.specs.Calls.{IsCall}
 use Rattle.call_grammar.specs.Spelling.{format_of, fields_of, end_of, covered, check_of, front}
-use Rattle.call_grammar.specs.Grammar.{CheckedCharacters}
+use Rattle.call_grammar.specs.inside.Grammar.{CheckedCharacters}
 use Rattle.call_grammar.specs.Walk.{IsViable, IsOpen, IsAtCheck, IsDone, after, FailsCheck, IsStep}
-use Rattle.call_grammar.specs.Judging.{IsCovered, IsRight, Judges, IsWalking, is_taken}
+use Rattle.call_grammar.specs.inside.Judging.{IsCovered, IsRight, Judges, IsWalking, is_taken}
 use Rattle.call_grammar.specs.declared.walking.Step.{Step}
 use Rattle.call_grammar.specs.declared.walking.Step.TheVariants.{More, Done, Outside, Check}
 use Rattle.call_grammar.proofs.CallParts.{checked_characters_good}

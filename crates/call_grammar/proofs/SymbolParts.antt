@@ -1,7 +1,7 @@
 -- Natures of distress and subsequent communications, a symbol each.
 use Rattle.std.proofs.Common.{ℕ, [], ◌∷◌}
 use Rattle.symbol_reader.specs.declared.letters.Letter.TheVariants.{Nature, Comm}
-use Rattle.symbol_reader.specs.Languages.{One, Spelled}
+use Rattle.symbol_reader.specs.inside.Languages.{One, Spelled}
 use Rattle.symbol_reader.proofs.Laws.{Good, Alike, alike_good}
 use Rattle.symbol_reader.proofs.Steps.{letter_good}
 use Rattle.dsc_symbols.specs.Natures.{IsNature}

@@ -2,10 +2,10 @@
 use Rattle.std.proofs.Common.{◌≡◌, ℕ, ◌≤◌, ◌<◌, ◌⊎◌, inl, inr, ◌==◌, Bool, true, false, List, [], ◌∷◌, Option, Some, None, refl, sym, subst, arith}
 use Rattle.std.proofs.lemmas.Bool.Decides.{nat_tests}
 use Rattle.symbol_reader.specs.declared.letters.Letter.TheVariants.{Exactly, UpTo, UpToOr}
-use Rattle.symbol_reader.specs.Languages.{Only, Then, Choice}
+use Rattle.symbol_reader.specs.inside.Languages.{Only, Then, Choice}
 use Rattle.symbol_reader.proofs.Laws.{Good, Alike, then_good, only_good, choice_good, alike_good}
 use Rattle.symbol_reader.proofs.Steps.{letter_good, one_then, joined}
-use Rattle.call_grammar.specs.Grammar.{Symbol, Times}
+use Rattle.call_grammar.specs.inside.Grammar.{Symbol, Times}
 
 pub unknown_good : Good (Then {V = Option (ℕ × ℕ)} (Symbol (Exactly 88)) (λ _. Only None))
 unknown_good = then_good _ _ (letter_good (Exactly 88)) (λ _ _ _. only_good None)

@@ -1,6 +1,6 @@
 -- What the grammar spells is a call's list.
 use Rattle.std.proofs.Common.{◌≡◌, ℕ, List, [], ◌∷◌, ◌++◌, if◌then◌else◌, Bool, true, false, Option, Some, None, refl, sym, ◌∙◌, ap, subst, append_assoc}
-use Rattle.symbol_reader.specs.Languages.{Then}
+use Rattle.symbol_reader.specs.inside.Languages.{Then}
 use Rattle.symbol_reader.proofs.Steps.{joined, spelt}
 use Rattle.call_values.specs.declared.calls.Casualty.{Casualty}
 use Rattle.call_values.specs.declared.calls.Call.{Call}
@@ -23,8 +23,8 @@ use Rattle.call_grammar.specs.declared.symbols.Specifier.TheVariants as format
 use Rattle.call_grammar.specs.declared.symbols.Telecommand.{Telecommand}
 use Rattle.call_grammar.specs.declared.symbols.Telecommand.TheVariants as telecommand
 use Rattle.call_grammar.specs.Spelling.{identity_symbols, casualty_symbols, position_symbols, time_symbols, area_symbols, category_symbol, field_symbols, message_symbols, end_symbol, format_to, address_symbols, blanks, kind_symbols, kind_end}
-use Rattle.call_grammar.specs.Grammar.{CheckedCharacters}
-use Rattle.call_grammar.specs.Forms.{format_symbol, category_or_distress, distress_telecommand_symbol, IsDistressTelecommand, telecommand_symbol, IsTelecommand, relay, request, Relays, Acks, AfterDistressTelecommand, Distress, Requests, Tests, Answers, Questions, AfterTold, Places, Others, AfterTelecommand, SenderAndRequest, AfterCategory, Addressed, SenderAndIndividual, AfterCategoryToOne, AddressedOne, Alerts, AfterFormat, Formats}
+use Rattle.call_grammar.specs.inside.Grammar.{CheckedCharacters}
+use Rattle.call_grammar.specs.inside.Forms.{format_symbol, category_or_distress, distress_telecommand_symbol, IsDistressTelecommand, telecommand_symbol, IsTelecommand, relay, request, Relays, Acks, AfterDistressTelecommand, Distress, Requests, Tests, Answers, Questions, AfterTold, Places, Others, AfterTelecommand, SenderAndRequest, AfterCategory, Addressed, SenderAndIndividual, AfterCategoryToOne, AddressedOne, Alerts, AfterFormat, Formats}
 use Rattle.call_grammar.proofs.CodedParts.{blanks_list}
 use Rattle.call_grammar.proofs.FormLists.{distress-list, relay-list, letter-list, request-list, service-list}
 

@@ -1,5 +1,5 @@
 -- The lists of calls: ITU-R M.493, composition of call sequences and their fields.
-use Rattle.std.specs.Prelude.{ℕ, zero, suc, ◌+◌, ◌*◌, ◌/◌, ◌%◌, if◌then◌else◌, List, [], ◌∷◌, ◌++◌, Option, Some, None, bit_xor}
+use Rattle.std.specs.Prelude.{ℕ, zero, suc, ◌+◌, ◌*◌, ◌/◌, ◌%◌, Bool, if◌then◌else◌, List, [], ◌∷◌, ◌++◌, Option, Some, None, bit_xor}
 use Rattle.dsc_symbols.specs.declared.formats.TheConstants as formats
 use Rattle.dsc_symbols.specs.declared.categories.TheConstants as categories
 use Rattle.dsc_symbols.specs.declared.telecommands.TheConstants as telecommands
@@ -9,6 +9,8 @@ use Rattle.call_values.specs.declared.places.Fix.{Fix}
 use Rattle.call_values.specs.declared.calls.Casualty.{Casualty}
 use Rattle.call_values.specs.declared.calls.Call.{Call}
 use Rattle.call_values.specs.declared.calls.Call.TheVariants.{Alert, Ack, Relay, RelayAck, AllShips, AreaCall, GroupCall, Individual, Service}
+use Rattle.call_values.specs.declared.bodies.Body.{Body}
+use Rattle.call_values.specs.declared.bodies.Body.TheVariants as body
 use Rattle.call_values.specs.declared.choices.Category.{Category}
 use Rattle.call_values.specs.declared.choices.Category.TheVariants.{Routine, Safety, Urgency}
 use Rattle.call_values.specs.declared.choices.End.{End}
@@ -22,6 +24,7 @@ use Rattle.call_values.specs.declared.parts.Message.TheVariants.{Fields, At}
 use Rattle.call_values.specs.declared.parts.Kind.{Kind}
 use Rattle.call_values.specs.declared.parts.Kind.TheVariants.{Test, AskPosition, Position}
 use Rattle.call_values.specs.Areas.{Rectangle}
+use Rattle.call_values.specs.Views.{address_of, body_of}
 
 -- ten digits in five characters of two digits each
 unfoldable pub ten_digits : ℕ → List ℕ
@@ -132,29 +135,25 @@ kind_end (Test reply) = if reply then ends.ACKNOWLEDGE_BQ else ends.ACKNOWLEDGE_
 kind_end AskPosition = ends.ACKNOWLEDGE_RQ
 kind_end (Position position time) = ends.ACKNOWLEDGE_BQ
 
--- the format specifier
+-- the format specifier: distress alerts have their own, and the others that of their address
 abbrev pub format_of : Call → ℕ
 format_of (Alert casualty) = formats.DISTRESS
-format_of (Ack from casualty) = formats.ALL_SHIPS
-format_of (Relay to from casualty ask) = format_to to
-format_of (RelayAck to from casualty) = format_to to
-format_of (AllShips category from first second f1 f2) = formats.ALL_SHIPS
-format_of (AreaCall area category from first second f1 f2) = formats.AREA
-format_of (GroupCall group category from first second f1 f2) = formats.GROUP
-format_of (Individual to category from first second message end) = formats.INDIVIDUAL
-format_of (Service to category from kind) = formats.INDIVIDUAL
+format_of call = format_to (address_of call)
+
+-- the telecommand of a distress call: that of the acknowledgement of an alert, or of a relay
+abbrev pub distress_telecommand : Bool → ℕ
+distress_telecommand acknowledges = if acknowledges then telecommands.DISTRESS_ACKNOWLEDGEMENT else telecommands.DISTRESS_RELAY
+
+-- what a call says, without whom it is for
+abbrev pub body_symbols : Body → List ℕ
+body_symbols (body.Alert casualty) = casualty_symbols casualty
+body_symbols (body.Distress from acknowledges casualty) = distress_symbols from (distress_telecommand acknowledges) casualty
+body_symbols (body.Request category from first second message) = request_symbols category from first second message
+body_symbols (body.Service category from kind) = category_symbol category ∷ (identity_symbols from ++ kind_symbols kind)
 
 -- what stands between the format specifier and the end of sequence
 abbrev pub fields_of : Call → List ℕ
-fields_of (Alert casualty) = casualty_symbols casualty
-fields_of (Ack from casualty) = distress_symbols from telecommands.DISTRESS_ACKNOWLEDGEMENT casualty
-fields_of (Relay to from casualty ask) = address_symbols to ++ distress_symbols from telecommands.DISTRESS_RELAY casualty
-fields_of (RelayAck to from casualty) = address_symbols to ++ distress_symbols from telecommands.DISTRESS_RELAY casualty
-fields_of (AllShips category from first second f1 f2) = request_symbols category from first second (Fields f1 f2)
-fields_of (AreaCall area category from first second f1 f2) = area_symbols area ++ request_symbols category from first second (Fields f1 f2)
-fields_of (GroupCall group category from first second f1 f2) = identity_symbols group ++ request_symbols category from first second (Fields f1 f2)
-fields_of (Individual to category from first second message end) = identity_symbols to ++ request_symbols category from first second message
-fields_of (Service to category from kind) = identity_symbols to ++ (category_symbol category ∷ (identity_symbols from ++ kind_symbols kind))
+fields_of call = address_symbols (address_of call) ++ body_symbols (body_of call)
 
 -- the end of sequence
 abbrev pub end_of : Call → ℕ

@@ -1,9 +1,9 @@
 ghost use Rattle.std.specs.Prelude.{◌≡◌, ◌≤◌, ◌∷◌, []};
-ghost use Rattle.symbol_reader.specs.Reading.{Reads};
+ghost use Rattle.symbol_reader.specs.inside.Reading.{Reads};
 ghost use Rattle.dsc_symbols.specs.Natures.{IsNature};
 ghost use Rattle.dsc_symbols.specs.Telecommands.{IsComm};
-ghost use Rattle.call_grammar.specs.Grammar as grammar;
-ghost use Rattle.symbol_reader.specs.Languages.{Spelled};
+ghost use Rattle.call_grammar.specs.inside.Grammar as grammar;
+ghost use Rattle.symbol_reader.specs.inside.Languages.{Spelled};
 
 use call_values::{Casualty, Comm, Fix, HourMinute, Mmsi, Nature, Position};
 use cursor::Cursor;

@@ -1,7 +1,7 @@
 ghost use Rattle.std.specs.Prelude.{◌≡◌};
-ghost use Rattle.symbol_reader.specs.Reading.{Reads};
-ghost use Rattle.call_grammar.specs.Grammar.{CheckedCharacters};
-ghost use Rattle.call_grammar.specs.Forms as forms;
+ghost use Rattle.symbol_reader.specs.inside.Reading.{Reads};
+ghost use Rattle.call_grammar.specs.inside.Grammar.{CheckedCharacters};
+ghost use Rattle.call_grammar.specs.inside.Forms as forms;
 
 use crate::fields::{casualty, identity};
 use crate::individuals::individual;

@@ -1,5 +1,5 @@
-ghost use Rattle.symbol_reader.specs.Reading.{Reads};
-ghost use Rattle.call_grammar.specs.Forms as forms;
+ghost use Rattle.symbol_reader.specs.inside.Reading.{Reads};
+ghost use Rattle.call_grammar.specs.inside.Forms as forms;
 
 use crate::fields::{position, time};
 use crate::messages::message;

@@ -1,7 +1,7 @@
 ghost use Rattle.std.specs.Prelude.{◌≡◌, ◌↔◌, IsTrue, ℕ, ◌<◌, List, ◌∷◌, ◌++◌, length, drop};
 ghost use Rattle.call_values.specs.Calls.{IsCall};
 ghost use Rattle.call_grammar.specs.Spelling.{covered, check_of};
-ghost use Rattle.call_grammar.specs.Judging.{Judges, IsCovered};
+ghost use Rattle.call_grammar.specs.inside.Judging.{Judges, IsCovered};
 
 use crate::forms::checked_characters;
 use crate::walking::Step;

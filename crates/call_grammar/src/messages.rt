@@ -1,7 +1,7 @@
 ghost use Rattle.std.specs.Prelude.{◌≡◌, ◌≤◌, ◌/◌};
 ghost use Rattle.symbol_reader.specs.Letters.{Allows};
-ghost use Rattle.symbol_reader.specs.Reading.{Reads};
-ghost use Rattle.call_grammar.specs.Grammar as grammar;
+ghost use Rattle.symbol_reader.specs.inside.Reading.{Reads};
+ghost use Rattle.call_grammar.specs.inside.Grammar as grammar;
 
 use crate::fields::{longitude_ones, position};
 use call_values::{Area, Field, Message};

@@ -6,8 +6,8 @@ ghost use Rattle.call_grammar.specs.Spelling as sequence;
 use crate::judging::check;
 use arrayvec::ArrayVec;
 use call_values::{
-    Area, Call, Casualty, Category, End, Field, FieldKind, First, Fix, HourMinute, Kind, Message,
-    Mmsi, Position, Second, To,
+    Area, Body, Call, Casualty, Category, End, Field, FieldKind, First, Fix, HourMinute, Kind,
+    Message, Mmsi, Position, Second, To,
 };
 use dsc_symbols::messages::{NO_INFORMATION, POSITION_FOLLOWS, UNKNOWN_POSITION, UNKNOWN_TIME};
 use dsc_symbols::{categories, ends, formats, telecommands};
@@ -43,11 +43,7 @@ pub fn format_of(call: &Call) -> u8
 {
     match call {
         Call::Alert(_) => formats::DISTRESS,
-        Call::Ack { .. } | Call::AllShips { .. } => formats::ALL_SHIPS,
-        Call::Relay { to, .. } | Call::RelayAck { to, .. } => format_to(to),
-        Call::AreaCall { .. } => formats::AREA,
-        Call::GroupCall { .. } => formats::GROUP,
-        Call::Individual { .. } | Call::Service { .. } => formats::INDIVIDUAL,
+        _ => format_to(&call.address()),
     }
 }
 
@@ -107,109 +103,50 @@ fn append_fields(list: &mut ArrayVec<u8, 64>, call: &Call)
     requires { length list.old.items ≤ 2 }
     ensures { list.new.items ≡ list.old.items ++ sequence.fields_of call.now }
 {
-    match call {
-        Call::Alert(casualty) => append_casualty(list, casualty),
-        Call::Ack { from, casualty } => append_distress(
-            list,
+    append_address(list, &call.address());
+    append_body(list, &call.body());
+}
+
+fn append_body(list: &mut ArrayVec<u8, 64>, body: &Body)
+    requires { length list.old.items ≤ 7 }
+    ensures { list.new.items ≡ list.old.items ++ sequence.body_symbols body.now }
+{
+    match body {
+        Body::Alert(casualty) => append_casualty(list, casualty),
+        Body::Distress {
             from,
-            telecommands::DISTRESS_ACKNOWLEDGEMENT,
+            acknowledges,
             casualty,
-        ),
-        Call::Relay {
-            to,
-            from,
-            casualty,
-            ..
-        }
-        | Call::RelayAck { to, from, casualty } => {
-            append_address(list, to);
-            append_distress(list, from, telecommands::DISTRESS_RELAY, casualty);
-        }
-        Call::AllShips {
-            category,
-            from,
-            first,
-            second,
-            f1,
-            f2,
-        } => append_request(
-            list,
-            category,
-            from,
-            first,
-            second,
-            &Message::Fields(*f1, *f2),
-        ),
-        Call::AreaCall {
-            area,
-            category,
-            from,
-            first,
-            second,
-            f1,
-            f2,
-        } => {
-            append(list, &area_symbols(area));
-            append_request(
-                list,
-                category,
-                from,
-                first,
-                second,
-                &Message::Fields(*f1, *f2),
-            );
-        }
-        Call::GroupCall {
-            group,
-            category,
-            from,
-            first,
-            second,
-            f1,
-            f2,
-        } => {
-            append(list, &identity_symbols(group));
-            append_request(
-                list,
-                category,
-                from,
-                first,
-                second,
-                &Message::Fields(*f1, *f2),
-            );
-        }
-        Call::Individual {
-            to,
+        } => append_distress(list, from, distress_telecommand(*acknowledges), casualty),
+        Body::Request {
             category,
             from,
             first,
             second,
             message,
-            ..
-        } => {
-            append(list, &identity_symbols(to));
-            append_request(list, category, from, first, second, message);
-        }
-        Call::Service {
-            to,
+        } => append_request(list, category, from, first, second, message),
+        Body::Service {
             category,
             from,
             kind,
-        } => append_service(list, to, category, from, kind),
+        } => append_service(list, category, from, kind),
     }
 }
 
-fn append_service(
-    list: &mut ArrayVec<u8, 64>,
-    to: &Mmsi,
-    category: &Category,
-    from: &Mmsi,
-    kind: &Kind,
-)
-    requires { length list.old.items ≤ 2 }
-    ensures { list.new.items ≡ list.old.items ++ (sequence.identity_symbols to.now ++ (sequence.category_symbol category.now ∷ (sequence.identity_symbols from.now ++ sequence.kind_symbols kind.now))) }
+fn distress_telecommand(acknowledges: bool) -> u8
+    ensures { result ≡ sequence.distress_telecommand acknowledges }
 {
-    append(list, &identity_symbols(to));
+    if acknowledges {
+        telecommands::DISTRESS_ACKNOWLEDGEMENT
+    } else {
+        telecommands::DISTRESS_RELAY
+    }
+}
+
+fn append_service(list: &mut ArrayVec<u8, 64>, category: &Category, from: &Mmsi, kind: &Kind)
+    requires { length list.old.items ≤ 7 }
+    ensures { list.new.items ≡ list.old.items ++ (sequence.category_symbol category.now ∷ (sequence.identity_symbols from.now ++ sequence.kind_symbols kind.now)) }
+{
     append(list, &[category_symbol(category)]);
     append(list, &identity_symbols(from));
     append_kind(list, kind);

@@ -1,9 +1,9 @@
 ghost use Rattle.std.specs.Prelude.{◌≡◌, ◌∷◌, []};
 ghost use Rattle.symbol_reader.specs.Letters.{Allows};
-ghost use Rattle.symbol_reader.specs.Reading.{Reads};
+ghost use Rattle.symbol_reader.specs.inside.Reading.{Reads};
 ghost use Rattle.call_grammar.specs.Spelling.{end_symbol};
-ghost use Rattle.call_grammar.specs.Grammar.{Firsts, Seconds, Blanks};
-ghost use Rattle.call_grammar.specs.Forms as forms;
+ghost use Rattle.call_grammar.specs.inside.Grammar.{Firsts, Seconds, Blanks};
+ghost use Rattle.call_grammar.specs.inside.Forms as forms;
 
 use call_values::{Category, End, First, Second, To};
 use cursor::Cursor;

@@ -1,9 +1,6 @@
 use super::*;
 use call_values::{Call, End};
-
-const ALERT: [u8; 20] = [
-    112, 112, 33, 80, 40, 7, 90, 106, 14, 23, 10, 83, 12, 20, 19, 100, 127, 78, 127, 127,
-];
+use dsc_symbols::worked::ALERT;
 
 /// How many symbols, the second format specifier aside, a walk takes, and where it ends.
 fn walk_through(list: &[u8]) -> (usize, Step) {

@@ -1,6 +1,6 @@
 ghost use Rattle.std.specs.Prelude.{◌≡◌, ◌<◌, ◌≤◌, ◌↔◌, ◌++◌, ◌∷◌, IsTrue, [], drop, length};
 ghost use Rattle.call_grammar.specs.Walk.{IsStep, IsDone, IsAtEnd};
-ghost use Rattle.call_grammar.specs.Judging.{is_taken, IsCovered};
+ghost use Rattle.call_grammar.specs.inside.Judging.{is_taken, IsCovered};
 
 use crate::judging::{is_covered, judge};
 use crate::spelling::append;
@@ -43,7 +43,7 @@ pub struct Walk {
 impl Model for Walk {
     ghost use Rattle.std.specs.Prelude.{List, ℕ, [], ◌≡◌, ◌⊎◌};
     ghost use Rattle.call_grammar.specs.Walk.{IsDone};
-    ghost use Rattle.call_grammar.specs.Judging.{IsWalking};
+    ghost use Rattle.call_grammar.specs.inside.Judging.{IsWalking};
 
     ghost Value = { List ℕ };
 

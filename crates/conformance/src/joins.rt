@@ -1,119 +1,81 @@
-use crate::receptions::{REPORTED, Row, SLOTS, joined, line};
+use crate::receptions::{DX_AND_PLACE_7, REPORTED, Row, WHOLE, joined, line};
+use dsc_symbols::worked::ALERT_SLOTS;
 use std::test::Fail;
 use time_diversity::on_air;
 
 const ROWS: [Row; 11] = [
     Row {
-        name: "clean",
+        name: "without dots",
         dots: 0,
-        first: 0,
-        last: 52,
-        lost: &[],
-        other: &[],
-        want: REPORTED,
-        status: 0,
+        ..WHOLE
     },
     Row {
         name: "after seven dots",
         dots: 7,
-        first: 0,
-        last: 52,
-        lost: &[],
-        other: &[],
-        want: REPORTED,
-        status: 0,
+        ..WHOLE
     },
     Row {
         name: "from slot 9 on",
         dots: 0,
         first: 9,
-        last: 52,
-        lost: &[],
-        other: &[],
-        want: REPORTED,
-        status: 0,
+        ..WHOLE
     },
     Row {
         name: "three DX phasing symbols alone",
-        dots: 20,
-        first: 0,
         last: 16,
         lost: &[1, 3, 5, 6, 7, 8, 9, 10, 11, 12, 13, 14, 15],
-        other: &[],
         want: "g0 missing 0\n",
         status: 1,
+        ..WHOLE
     },
     Row {
         name: "RX copies but that of place 7",
-        dots: 20,
-        first: 0,
-        last: 52,
-        lost: &[
-            12, 14, 16, 18, 20, 22, 24, 26, 28, 30, 31, 32, 34, 36, 38, 40, 42, 44, 46, 48, 50,
-        ],
-        other: &[],
+        lost: DX_AND_PLACE_7,
         want: "g0 missing 7\n",
         status: 1,
+        ..WHOLE
     },
     Row {
         name: "second format lost",
-        dots: 20,
-        first: 0,
-        last: 52,
         lost: &[14, 19],
-        other: &[],
         want: "g0 missing 1\n",
         status: 1,
+        ..WHOLE
     },
     Row {
         name: "two-way error in one copy",
-        dots: 20,
-        first: 0,
-        last: 52,
-        lost: &[],
         other: &[(28, 22)],
         want: "g0 differ 8 14 22\n",
         status: 1,
+        ..WHOLE
     },
     Row {
         name: "wrong check",
-        dots: 20,
-        first: 0,
-        last: 52,
-        lost: &[],
         other: &[(46, 79), (51, 79)],
         want: "g0 check 17 78 79\n",
         status: 1,
+        ..WHOLE
     },
     Row {
         name: "tenth identity digit",
-        dots: 20,
-        first: 0,
-        last: 52,
-        lost: &[],
         other: &[(24, 91), (29, 91)],
         want: "g0 outside 6 91\n",
         status: 1,
+        ..WHOLE
     },
     Row {
         name: "first end lost",
-        dots: 20,
-        first: 0,
-        last: 52,
         lost: &[44, 49],
-        other: &[],
         want: "g0 missing 16\n",
         status: 1,
+        ..WHOLE
     },
     Row {
         name: "a test call's format",
-        dots: 20,
-        first: 0,
-        last: 52,
-        lost: &[],
         other: &[(12, 120), (14, 120), (17, 120), (19, 120)],
         want: "g0 outside 7 106\n",
         status: 1,
+        ..WHOLE
     },
 ];
 
@@ -123,38 +85,24 @@ const TEST_CALL: [u8; 25] = [
     117, 68, 117, 117,
 ];
 
-const TEST_CALL_REPORTED: &str = "g0 reported test to=002241022 cat=108 from=338040079 end=117\n";
+// A whole reception of it.
+const WHOLE_TEST_CALL: Row = Row {
+    last: 62,
+    want: "g0 reported test to=002241022 cat=108 from=338040079 end=117\n",
+    ..WHOLE
+};
 
 const TEST_CALL_ROWS: [Row; 3] = [
-    Row {
-        name: "clean",
-        dots: 20,
-        first: 0,
-        last: 62,
-        lost: &[],
-        other: &[],
-        want: TEST_CALL_REPORTED,
-        status: 0,
-    },
+    WHOLE_TEST_CALL,
     Row {
         name: "second format lost",
-        dots: 20,
-        first: 0,
-        last: 62,
         lost: &[14, 19],
-        other: &[],
-        want: TEST_CALL_REPORTED,
-        status: 0,
+        ..WHOLE_TEST_CALL
     },
     Row {
         name: "first format lost",
-        dots: 20,
-        first: 0,
-        last: 62,
         lost: &[12, 17],
-        other: &[],
-        want: TEST_CALL_REPORTED,
-        status: 0,
+        ..WHOLE_TEST_CALL
     },
 ];
 
@@ -162,7 +110,7 @@ const TEST_CALL_ROWS: [Row; 3] = [
 fn receptions_of_one_alert(rt: HostRuntime) -> Result<(), Fail> {
     let alloc = rt.alloc();
     for row in &ROWS {
-        let (written, status) = joined(&rt, alloc, "dsc join", line(alloc, &SLOTS, row)?)?;
+        let (written, status) = joined(&rt, alloc, "dsc join", line(alloc, &ALERT_SLOTS, row)?)?;
         let name = row.name;
         assert_eq!(rt; written.as_slice(), row.want.as_bytes(), "{name}");
         assert_eq!(rt; status, row.status, "{name}");
@@ -174,23 +122,15 @@ fn receptions_of_one_alert(rt: HostRuntime) -> Result<(), Fail> {
 fn two_receptions_of_one_alert(rt: HostRuntime) -> Result<(), Fail> {
     let alloc = rt.alloc();
     let mut late = Row {
-        name: "RX copies but that of place 7",
-        dots: 20,
-        first: 0,
-        last: 52,
-        lost: &[
-            12, 14, 16, 18, 20, 22, 24, 26, 28, 30, 31, 32, 34, 36, 38, 40, 42, 44, 46, 48, 50,
-        ],
-        other: &[],
-        want: REPORTED,
-        status: 0,
+        lost: DX_AND_PLACE_7,
+        ..WHOLE
     };
-    let mut input = line(alloc, &SLOTS, &late)?;
+    let mut input = line(alloc, &ALERT_SLOTS, &late)?;
     late.lost = &[
         16, 17, 18, 19, 20, 21, 22, 23, 24, 25, 27, 28, 29, 30, 31, 32, 33, 34, 35, 36, 37, 38, 39,
         40, 41, 42, 43, 44, 45, 46, 47, 48, 49, 50, 51,
     ];
-    input.extend_from_slice(&line(alloc, &SLOTS, &late)?)?;
+    input.extend_from_slice(&line(alloc, &ALERT_SLOTS, &late)?)?;
     let (written, status) = joined(&rt, alloc, "dsc join", input)?;
     assert_eq!(rt; written.as_slice(), REPORTED.as_bytes());
     assert_eq!(rt; status, 0);
@@ -200,8 +140,8 @@ fn two_receptions_of_one_alert(rt: HostRuntime) -> Result<(), Fail> {
 #[test]
 fn a_clean_and_a_damaged_reception_in_both_orders(rt: HostRuntime) -> Result<(), Fail> {
     let alloc = rt.alloc();
-    let clean = line(alloc, &SLOTS, &ROWS[0])?;
-    let damaged = line(alloc, &SLOTS, &ROWS[6])?;
+    let clean = line(alloc, &ALERT_SLOTS, &ROWS[0])?;
+    let damaged = line(alloc, &ALERT_SLOTS, &ROWS[6])?;
     for (first, second) in [(&clean, &damaged), (&damaged, &clean)] {
         let mut input = first.as_slice().to_vec(alloc)?;
         input.extend_from_slice(second)?;

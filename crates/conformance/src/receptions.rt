@@ -6,13 +6,6 @@ use std::alloc::{AllocError, Global};
 use std::thread::Threads;
 use ten_unit::{Element, word};
 
-// The symbols of the 52 slots of a distress alert from 338040079.
-pub(crate) const SLOTS: [u8; 52] = [
-    125, 111, 125, 110, 125, 109, 125, 108, 125, 107, 125, 106, 112, 105, 112, 104, 33, 112, 80,
-    112, 40, 33, 7, 80, 90, 40, 106, 7, 14, 90, 23, 106, 10, 14, 83, 23, 12, 10, 20, 83, 19, 12,
-    100, 20, 127, 19, 78, 100, 127, 127, 127, 78,
-];
-
 pub(crate) const REPORTED: &str =
     "g0 reported alert from=338040079 nature=106 pos=1423108312 time=2019 then=100\n";
 
@@ -29,6 +22,23 @@ pub(crate) struct Row {
     pub(crate) want: &'static str,
     pub(crate) status: u8,
 }
+
+// A whole reception of an alert, behind 20 dots: rows say what differs.
+pub(crate) const WHOLE: Row = Row {
+    name: "whole",
+    dots: 20,
+    first: 0,
+    last: 52,
+    lost: &[],
+    other: &[],
+    want: REPORTED,
+    status: 0,
+};
+
+// The slots that are lost where the RX copies alone are left, but for that of place 7.
+pub(crate) const DX_AND_PLACE_7: &[usize] = &[
+    12, 14, 16, 18, 20, 22, 24, 26, 28, 30, 31, 32, 34, 36, 38, 40, 42, 44, 46, 48, 50,
+];
 
 fn sign(element: Element) -> u8 {
     match element {

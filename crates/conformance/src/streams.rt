@@ -1,5 +1,6 @@
-use crate::receptions::{REPORTED, Row, SLOTS, line, words_of};
+use crate::receptions::{WHOLE, line, words_of};
 use dsc_cmd::{ByteSink, ByteSource, Failed, Source, SureSink, SureSource, run};
+use dsc_symbols::worked::ALERT_SLOTS;
 use slot_join::{Gate, Open};
 use std::alloc::{AllocError, Global};
 use std::sync::atomic::{AtomicU32, Ordering};
@@ -45,23 +46,11 @@ fn each_call_of_a_stream_failing(rt: HostRuntime) -> Result<(), Fail> {
     Ok(())
 }
 
-// The line of a clean alert.
-const CLEAN: Row = Row {
-    name: "clean",
-    dots: 0,
-    first: 0,
-    last: 52,
-    lost: &[],
-    other: &[],
-    want: REPORTED,
-    status: 0,
-};
-
 #[test]
 fn a_cut_input_is_not_joined(rt: HostRuntime) -> Result<(), Fail> {
     let alloc = rt.alloc();
     let words = words_of(alloc, "dsc join")?;
-    let input = line(alloc, &SLOTS, &CLEAN)?;
+    let input = line(alloc, &ALERT_SLOTS, &WHOLE)?;
     let mut source = ByteSource::new(input, 1, vec![in alloc; 3]?);
     let mut sink = SureSink::new(alloc, 4096, 4096)?;
     let status = run(&rt, alloc, &words, &mut source, &mut sink, &Open);
@@ -151,7 +140,7 @@ fn no_gate_is_entered_without_workers(rt: HostRuntime) -> Result<(), Fail> {
     let gate = Counted {
         entered: AtomicU32::new(0),
     };
-    let mut source = SureSource::new(line(alloc, &SLOTS, &CLEAN)?, 4096);
+    let mut source = SureSource::new(line(alloc, &ALERT_SLOTS, &WHOLE)?, 4096);
     let mut sink = SureSink::new(alloc, 4096, 4096)?;
     let status = run(&rt, alloc, &words, &mut source, &mut sink, &gate);
     assert_eq!(rt; status.number(), 0);

@@ -1,23 +1,23 @@
 -- What a source loses and a sink gains: this project's profile.
 use Rattle.std.specs.Prelude.{◌≡◌, ℕ, ◌+◌, ◌-◌, ◌^◌, ◌<◌, min, List, [], ◌++◌, length, Option, Some, None, ◌⊎◌}
 
--- what is left now was left behind these bytes, where it is told; and it was told before
+-- the source lost these bytes from the front of what was left, where it tells its bytes; it can't start to tell them
 abbrev pub Loses : Option (List ℕ) → Option (List ℕ) → List ℕ → Type 0
 Loses (Some all) (Some rest) bytes = all ≡ bytes ++ rest
 Loses None (Some _) _ = ⊥
 Loses _ None _ = Unit {0}
 
--- these bytes were appended to what was written, where it is told; and it was told before
+-- the sink gained these bytes behind what was written, where it tells its bytes; it can't start to tell them
 abbrev pub Gains : Option (List ℕ) → Option (List ℕ) → List ℕ → Type 0
 Gains (Some old) (Some new) bytes = new ≡ old ++ bytes
 Gains None (Some _) _ = ⊥
 Gains _ None _ = Unit {0}
 
--- no byte is left, where it is told
+-- no byte is left, where the source tells them
 abbrev pub IsEnded : Option (List ℕ) → Type 0
 IsEnded left = (rest : List ℕ) → left ≡ Some rest → rest ≡ []
 
--- every byte that was written is flushed, where they are told
+-- every byte that was written is flushed, where the sink tells them
 abbrev pub IsFlushed : Option (List ℕ) → ℕ → Type 0
 IsFlushed written flushed = (bytes : List ℕ) → written ≡ Some bytes → flushed ≡ length bytes
 

@@ -9,3 +9,4 @@ pub mod natures;
 pub mod notices;
 pub mod phasing;
 pub mod telecommands;
+pub mod worked;

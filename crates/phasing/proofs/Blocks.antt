@@ -3,7 +3,7 @@ use Rattle.std.proofs.Common.{◌≡◌, ℕ, ◌+◌, ◌-◌, ◌<◌, ◌≤�
 use Rattle.std.specs.Int.{trailing_zeros, w64}
 use Rattle.std.proofs.lemmas.Bool.{cases_lt, both_ways}
 use Rattle.ten_unit.specs.declared.character.Element.{Element}
-use Rattle.ten_unit.specs.Marks.{IsMarks}
+use Rattle.ten_unit.specs.inside.Marks.{IsMarks}
 use Rattle.phasing.specs.Origin.{is_phased, lead_of}
 use Rattle.phasing.proofs.Leads.{least_found, is_phased-early, is_phased-past}
 use Rattle.phasing.proofs.BitTests.{none_marked, first_marked}

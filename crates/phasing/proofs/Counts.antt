@@ -1,10 +1,10 @@
 -- equal numbers, and marks from equal places on
 use Rattle.std.proofs.Common.{◌≡◌, ℕ, nat_le, ap, subst}
-use Rattle.ten_unit.specs.Marks.{IsPlanes}
+use Rattle.ten_unit.specs.inside.Marks.{IsPlanes}
 use Rattle.ten_unit.specs.declared.character.Element.{Element}
 use Rattle.phasing.specs.declared.counting.Count.{Count}
 use Rattle.phasing.specs.declared.marking.Phasing.{Phasing}
-use Rattle.phasing.specs.Marked.{ArePhasing, IsCount}
+use Rattle.phasing.specs.inside.Marked.{ArePhasing, IsCount}
 use Rattle.phasing.proofs.BitTests.{same_marks}
 
 pub same_count : (count : Count) (base : ℕ) (m n : ℕ → ℕ) → ((p : ℕ) → m p ≡ n p) → IsCount count base m → IsCount count base n

@@ -4,10 +4,10 @@ use Rattle.std.proofs.lemmas.Bool.{cases_lt, and_parts, and_from, cond-true, con
 use Rattle.std.proofs.lemmas.List.{get_or_past, length-take-le, length-drop, ext_get_or}
 use Rattle.ten_unit.specs.declared.character.Element.{Element}
 use Rattle.ten_unit.specs.declared.character.Element.TheVariants.{Y, B, Lost}
-use Rattle.ten_unit.specs.Marks.{IsMarks}
+use Rattle.ten_unit.specs.inside.Marks.{IsMarks}
 use Rattle.ten_unit.specs.Word.{element_eq, word_of}
 use Rattle.ten_unit.proofs.Reading.{elements_same}
-use Rattle.phasing.specs.Places.{element_at, is_at}
+use Rattle.phasing.specs.inside.Places.{element_at, is_at}
 use Rattle.phasing.specs.Slot.{shows}
 use Rattle.phasing.proofs.Kept.{IsWordAt, word-sent, length-word, word_at, shown, get_or-part}
 use Rattle.phasing.proofs.BitTests.{moved_marks, same_marks}

@@ -2,5 +2,4 @@ pub mod Slot
 pub mod Origin
 pub mod Sent
 pub mod Start
-pub mod Places
-pub mod Marked
+pub mod inside

@@ -1,7 +1,7 @@
 -- The origin of a reception: ITU-R M.493, section on the phasing sequence. That no origin stands before -150 is this project's profile.
 use Rattle.std.specs.Prelude.{◌≡◌, ℕ, ◌+◌, ◌-◌, ◌/◌, Bool, ◌&&◌, ◌||◌, nat_le, List, [], ◌∷◌, length, count_by, map, find, Option, option_map, ℤ, pos, ◌-ℤ◌}
 use Rattle.std.specs.List.{range_with_len}
-use Rattle.dsc_symbols.specs.declared.phasing.TheConstants.{DX, RX_7, RX_6, RX_5, RX_4, RX_3, RX_2, RX_1, RX_0}
+use Rattle.dsc_symbols.specs.declared.phasing.TheConstants.{DX, RX_7}
 use Rattle.ten_unit.specs.declared.character.Element.{Element}
 use Rattle.ten_unit.specs.Word.{word_of}
 use Rattle.phasing.specs.Slot.{shows}
@@ -30,7 +30,3 @@ lead_of e = find (is_phased e) (range_with_len 0 (length e + 150))
 -- the origin: where the transmission's slot 0 begins, as an index into the reception
 abbrev pub origin_of : List Element → Option ℤ
 origin_of e = option_map (λ lead. pos lead -ℤ pos 150) (lead_of e)
-
--- the words of the symbols RX 7 down to RX 0
-abbrev pub AreRxWords : List (List Element) → Type 0
-AreRxWords words = words ≡ map word_of (RX_7 ∷ RX_6 ∷ RX_5 ∷ RX_4 ∷ RX_3 ∷ RX_2 ∷ RX_1 ∷ RX_0 ∷ [])

@@ -15,6 +15,7 @@ pub use laws::{late_starts_are_found, limits, none_past_the_end, origin_is_least
 pub use phase::{lead, origin};
 pub use reception::{LAST_LEAD, LONGEST, slot_symbol};
 pub use sending::transmission;
+pub use window::planes_from;
 
 #[cfg(test)]
 mod tests;

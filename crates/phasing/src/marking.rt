@@ -1,9 +1,9 @@
 ghost use Rattle.std.specs.Prelude.{◌≡◌, ℕ, ◌+◌, ◌<◌, ◌≤◌, Bool, List};
-ghost use Rattle.ten_unit.specs.Marks.{IsMarks, IsPlanes};
+ghost use Rattle.ten_unit.specs.inside.Marks.{IsMarks, IsPlanes};
 ghost use Rattle.ten_unit.specs.Word.{element_eq, word_of};
 ghost use Rattle.ten_unit.specs.declared.character.Element.{Element};
-ghost use Rattle.phasing.specs.Places.{element_at, is_at};
-ghost use Rattle.phasing.specs.Marked.{ArePhasing};
+ghost use Rattle.phasing.specs.inside.Places.{element_at, is_at};
+ghost use Rattle.phasing.specs.inside.Marked.{ArePhasing};
 
 use dsc_symbols::phasing::{DX, RX_0, RX_1, RX_2, RX_3, RX_4, RX_5, RX_6, RX_7};
 use ten_unit::{Element, Planes, word};

@@ -1,9 +1,9 @@
 ghost use Rattle.std.specs.Prelude.{◌≡◌, ℕ, ◌+◌, ◌<◌, ◌≤◌, List, length, IfSome};
 ghost use Rattle.ten_unit.specs.declared.character.Element.{Element};
-ghost use Rattle.ten_unit.specs.Marks.{IsMarks};
-ghost use Rattle.phasing.specs.Marked.{ArePhasing, IsCount};
+ghost use Rattle.ten_unit.specs.inside.Marks.{IsMarks};
+ghost use Rattle.phasing.specs.inside.Marked.{ArePhasing, IsCount};
 ghost use Rattle.phasing.specs.Origin as sequence;
-ghost use Rattle.phasing.specs.Places.{element_at};
+ghost use Rattle.phasing.specs.inside.Places.{element_at};
 
 use crate::counting::Count;
 use crate::marking::{Phasing, phasing_marked, shifted};

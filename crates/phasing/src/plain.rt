@@ -2,7 +2,7 @@
 ghost use Rattle.std.specs.Prelude.{◌≡◌, ℕ, ◌+◌, ◌<◌, ◌≤◌, length, IfSome};
 ghost use Rattle.ten_unit.specs.Word.{word_of};
 ghost use Rattle.phasing.specs.Origin as sequence;
-ghost use Rattle.phasing.specs.Origin.{AreRxWords};
+ghost use Rattle.phasing.specs.inside.Marked.{AreRxWords};
 ghost use Rattle.phasing.specs.Slot as diversity;
 
 use crate::reception::{LAST_LEAD, LONGEST, elements};

@@ -1,14 +1,8 @@
 use crate::{LONGEST, lead, origin, plain, slot_symbol, transmission};
+use dsc_symbols::worked::ALERT_SLOTS;
 use std::alloc::{AllocError, Global};
 use std::test::Fail;
 use ten_unit::{Element, word};
-
-/// The symbols of the 52 slots of a distress alert.
-const ALERT: [u8; 52] = [
-    125, 111, 125, 110, 125, 109, 125, 108, 125, 107, 125, 106, 112, 105, 112, 104, 33, 112, 80,
-    112, 40, 33, 7, 80, 90, 40, 106, 7, 14, 90, 23, 106, 10, 14, 83, 23, 12, 10, 20, 83, 19, 12,
-    100, 20, 127, 19, 78, 100, 127, 127, 127, 78,
-];
 
 /// So many elements of the dot pattern's end, and then these slots, of which some are lost.
 fn received(
@@ -37,11 +31,11 @@ fn received(
 
 #[test]
 fn an_alert_behind_dots(rt: HostRuntime) -> Result<(), Fail> {
-    let elements = received(rt.alloc(), 7, &ALERT, &[])?;
+    let elements = received(rt.alloc(), 7, &ALERT_SLOTS, &[])?;
     assert_eq!(rt; elements.len(), 527);
     assert_eq!(rt; origin(&elements), Some(7));
     assert_eq!(rt; lead(&elements), Some(157));
-    for (slot, symbol) in ALERT.iter().enumerate() {
+    for (slot, symbol) in ALERT_SLOTS.iter().enumerate() {
         assert_eq!(rt;
             slot_symbol(&elements, 157, slot as u16),
             Some(*symbol),
@@ -54,7 +48,7 @@ fn an_alert_behind_dots(rt: HostRuntime) -> Result<(), Fail> {
 
 #[test]
 fn an_alert_from_slot_9_on(rt: HostRuntime) -> Result<(), Fail> {
-    let elements = received(rt.alloc(), 0, &ALERT[9..], &[])?;
+    let elements = received(rt.alloc(), 0, &ALERT_SLOTS[9..], &[])?;
     assert_eq!(rt; elements.len(), 430);
     assert_eq!(rt; origin(&elements), Some(-90));
     assert_eq!(rt; slot_symbol(&elements, 60, 8), None);
@@ -65,7 +59,7 @@ fn an_alert_from_slot_9_on(rt: HostRuntime) -> Result<(), Fail> {
 #[test]
 fn three_dx_alone_are_unphased(rt: HostRuntime) -> Result<(), Fail> {
     let lost = [1, 3, 5, 6, 7, 8, 9, 10, 11, 12, 13, 14, 15];
-    let elements = received(rt.alloc(), 20, &ALERT[..16], &lost)?;
+    let elements = received(rt.alloc(), 20, &ALERT_SLOTS[..16], &lost)?;
     assert_eq!(rt; elements.len(), 180);
     assert_eq!(rt; origin(&elements), None);
     Ok(())
@@ -99,7 +93,7 @@ fn is_found_alike(e: &[Element]) -> bool {
 /// block. Then one that ends earlier and earlier, from 720 elements down to none.
 #[test]
 fn each_lead_and_each_length(rt: HostRuntime) -> Result<(), Fail> {
-    let elements = received(rt.alloc(), 200, &ALERT, &[])?;
+    let elements = received(rt.alloc(), 200, &ALERT_SLOTS, &[])?;
     for begin in 0..=350 {
         let late = elements.get(begin..).ok_or("short")?;
         assert!(rt; is_found_alike(late), "from {begin} on");
@@ -136,8 +130,8 @@ fn two_alerts_in_noise(rt: HostRuntime) -> Result<(), Fail> {
             }
         }
         let mut elements = noise(rt.alloc(), seed / 65536 % 256, seed)?;
-        elements.extend_from_slice(&received(rt.alloc(), 20, &ALERT[..16], &lost)?)?;
-        elements.extend_from_slice(&received(rt.alloc(), 7, &ALERT, &[0, 3])?)?;
+        elements.extend_from_slice(&received(rt.alloc(), 20, &ALERT_SLOTS[..16], &lost)?)?;
+        elements.extend_from_slice(&received(rt.alloc(), 7, &ALERT_SLOTS, &[0, 3])?)?;
         assert!(rt; is_found_alike(&elements), "turn {turn}");
     }
     assert!(rt; is_found_alike(&noise(rt.alloc(), 4198, 1)?));

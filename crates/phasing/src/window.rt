@@ -1,6 +1,6 @@
 ghost use Rattle.std.specs.Prelude.{◌≡◌, ℕ, ◌+◌, ◌<◌, length, slice_index_or};
-ghost use Rattle.ten_unit.specs.Marks.{IsPlanes};
-ghost use Rattle.phasing.specs.Places.{element_at};
+ghost use Rattle.ten_unit.specs.inside.Marks.{IsPlanes};
+ghost use Rattle.phasing.specs.inside.Places.{element_at};
 
 use ten_unit::{Element, Planes, packed};
 
@@ -14,8 +14,9 @@ fn padded(e: &[Element]) -> [Element; 64]
     block
 }
 
-/// The 64 elements of a reception from one on, of which those past its end are lost. Element 0 stands at place 150.
-pub(crate) fn planes_from(e: &[Element], begin: usize) -> Planes
+/// The 64 elements of a reception from one on as bits, of which those past its end are lost. Places count, as leads do, from
+/// 150 elements before the reception's first one.
+pub fn planes_from(e: &[Element], begin: usize) -> Planes
     ensures { IsPlanes result.y result.b (begin + 150) (element_at e.now) }
 {
     let rest = &e[begin.min(e.len())..];

@@ -6,8 +6,8 @@ use Rattle.slot_evidence.specs.declared.places.Seen.{Seen}
 use Rattle.slot_evidence.specs.declared.places.Seen.TheVariants as seen
 use Rattle.slot_evidence.specs.Seen.{IsLawful}
 use Rattle.slot_evidence.specs.Sheet.{seen_at, IsSheet}
-use Rattle.slot_evidence.specs.Back.{leasts_back, pasts_back}
-use Rattle.slot_evidence.specs.Kept.{span_seen, seen_between, seen_of, least_of, past_of, AreInOrder, AreOrdered, AreKept}
+use Rattle.slot_evidence.specs.inside.Back.{leasts_back, pasts_back}
+use Rattle.slot_evidence.specs.inside.Kept.{span_seen, seen_between, seen_of, least_of, past_of, AreInOrder, AreOrdered, AreKept}
 
 -- what the numbers of a place say: the one symbol, or two that differ
 pub one_or_differ : (least greatest : ℕ) (P : Seen → Type 0) → (least ≡ greatest → P (seen.One least)) → ((least ≡ greatest → ⊥) → P (seen.Differ least greatest)) → P (seen_between least (suc greatest))

@@ -3,13 +3,13 @@ use Rattle.std.proofs.Common.{◌≡◌, ℕ, ◌+◌, ◌*◌, ◌<◌, min, ma
 use Rattle.std.proofs.lemmas.Bool.{lt-ltb, le-ltb}
 use Rattle.ten_unit.specs.declared.character.Element.{Element}
 use Rattle.ten_unit.specs.Word.{is_word}
-use Rattle.ten_unit.specs.Symbol.{IsSymbol}
+use Rattle.ten_unit.specs.inside.Symbol.{IsSymbol}
 use Rattle.time_diversity.specs.Slots.{dx_slot, rx_slot}
 use Rattle.phasing.specs.Slot.{slot, shows}
 use Rattle.phasing.specs.Origin.{lead_of}
 use Rattle.slot_evidence.specs.Facts.{Symbols, facts_at, facts_of}
 use Rattle.slot_evidence.specs.Sheet.{IsEnds}
-use Rattle.slot_evidence.specs.Kept.{seen_of, past_symbol, AreInOrder, AreKept}
+use Rattle.slot_evidence.specs.inside.Kept.{seen_of, past_symbol, AreInOrder, AreKept}
 use Rattle.slot_evidence.proofs.Ends.{place_facts, no_place}
 use Rattle.slot_evidence.proofs.Edges.{IsEdges, edges_met, edges_symbol, order_met, order_symbol, kept_from, ends_from}
 

@@ -4,7 +4,8 @@ use Rattle.std.proofs.lemmas.Bool.{or_cases, or_left, or_right, cases_lt}
 use Rattle.slot_evidence.specs.declared.places.Seen.{Seen}
 use Rattle.slot_evidence.specs.declared.places.Seen.TheVariants as seen
 use Rattle.slot_evidence.specs.Facts.{Symbols}
-use Rattle.slot_evidence.specs.Seen.{ShowsNone, ShowsOne, ShowsSeveral, IsSpan, IsSeen}
+use Rattle.slot_evidence.specs.Seen.{ShowsNone, ShowsOne, ShowsSeveral, IsSeen}
+use Rattle.slot_evidence.specs.inside.Span.{IsSpan}
 
 -- the same set is kept in the same way
 pub IsSeen-same : (S T : Symbols) (x : Seen) → ((v : ℕ) → S v ≡ T v) → IsSeen S x → IsSeen T x

@@ -1,47 +1,24 @@
 -- A reception through a window: elements at places, and what ten of them in a row show.
-use Rattle.std.proofs.Common.{◌≡◌, ℕ, zero, suc, ◌+◌, ◌-◌, ◌*◌, ◌<◌, ◌≤◌, ◌==◌, nat_le, Bool, true, false, cond, ◌&&◌, List, [], ◌∷◌, length, take, drop, replicate, set, slice_index, slice_index_or, slice_range, refl, ap, sym, ◌∙◌, arith, subst, inl, inr}
+use Rattle.std.proofs.Common.{◌≡◌, ℕ, zero, suc, ◌+◌, ◌-◌, ◌*◌, ◌<◌, ◌≤◌, ◌==◌, nat_le, Bool, true, false, cond, ◌&&◌, List, [], ◌∷◌, length, take, drop, replicate, set, slice_index, slice_index_or, refl, ap, sym, ◌∙◌, arith, subst, inl, inr}
 use Rattle.std.proofs.lemmas.Bool.{cases_lt, cases_eq, cases_Bool, le-leb, leb-true, lt-leb, and_parts, and_from, ne_eqb}
-use Rattle.std.proofs.lemmas.List.{get_or-take, get_or-drop, get_or_past, get_or-replicate, length-set, get_or-set_same, get_or-set_other}
+use Rattle.std.proofs.lemmas.List.{get_or_past, get_or-replicate, length-set, get_or-set_same, get_or-set_other}
 use Rattle.std.proofs.Math.Seq.{drop-cons}
 use Rattle.ten_unit.specs.declared.character.Element.{Element}
 use Rattle.ten_unit.specs.declared.character.Element.TheVariants.{Y, B, Lost}
 use Rattle.ten_unit.specs.Word.{word_of, is_word, element, element_eq, elements_eq}
-use Rattle.ten_unit.specs.Symbol.{IsSymbol, stretch}
+use Rattle.ten_unit.specs.inside.Symbol.{IsSymbol, stretch}
 use Rattle.phasing.specs.Slot.{slot}
-use Rattle.slot_evidence.specs.Window.{element_at}
+use Rattle.phasing.specs.inside.Places.{element_at}
 
 -- the element at a place inside the reception, and that outside all are lost
-pub inside_at : (e : List Element) (place : ℕ) → 150 ≤ place → element_at e place ≡ slice_index_or e (place - 150) Lost
-unfolding element_at
+inside_at : (e : List Element) (place : ℕ) → 150 ≤ place → element_at e place ≡ slice_index_or e (place - 150) Lost
 inside_at e place inside = ap (λ (b : Bool). cond b (slice_index_or e (place - 150) Lost) Lost) (le-leb 150 place inside)
 
-pub before_at : (e : List Element) (place : ℕ) → place < 150 → element_at e place ≡ Lost
-unfolding element_at
+before_at : (e : List Element) (place : ℕ) → place < 150 → element_at e place ≡ Lost
 before_at e place before = ap (λ (b : Bool). cond b (slice_index_or e (place - 150) Lost) Lost) (lt-leb 150 place before)
 
-pub past_at : (e : List Element) (place : ℕ) → length e + 150 ≤ place → element_at e place ≡ Lost
+past_at : (e : List Element) (place : ℕ) → length e + 150 ≤ place → element_at e place ≡ Lost
 past_at e place past = inside_at e place (omega arith) ∙ get_or_past e (place - 150) Lost (omega arith)
-
--- a block inside the reception
-pub whole_at : (e rest block : List Element) (place begin i : ℕ) → 150 ≤ place → begin ≡ place - 150 → rest ≡ slice_range e begin (length e) → length rest + begin ≡ length e → 64 ≤ length rest → block ≡ take 64 rest → i < 64
-    → element_at e (place + i) ≡ slice_index_or block i Lost
-whole_at e rest block place begin i inside is_begin is_rest long enough is_block below =
-    let index : place + i - 150 ≡ begin + i = omega arith in
-    let within : i < length e - begin = omega arith in
-    inside_at e (place + i) (omega arith)
-    ∙ ap (λ (k : ℕ). slice_index_or e k Lost) index
-    ∙ sym (get_or-drop begin e i Lost)
-    ∙ sym (get_or-take (length e - begin) (drop begin e) i Lost within)
-    ∙ ap (λ (l : List Element). slice_index_or l i Lost) (sym is_rest)
-    ∙ sym (get_or-take 64 rest i Lost below)
-    ∙ ap (λ (l : List Element). slice_index_or l i Lost) (sym is_block)
-
-pub all_lost : (k : ℕ) → slice_index_or (replicate 64 Lost) k Lost ≡ Lost
-all_lost k =
-    elim (cases_lt k 64) [
-      | inl below ↦ get_or-replicate 64 k Lost Lost below
-      | inr past ↦ get_or_past (replicate 64 Lost) k Lost past
-    ]
 
 -- an element of a stretch
 stretch_at : (e : ℕ → Element) (n p i : ℕ) → i < n → slice_index_or (stretch e n p) i Lost ≡ e (p + i)

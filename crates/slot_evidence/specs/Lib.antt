@@ -1,7 +1,5 @@
-pub mod Back
 pub mod Facts
-pub mod Kept
 pub mod Seen
 pub mod Sheet
-pub mod Window
 pub mod Alike
+pub mod inside

@@ -19,12 +19,6 @@ pub record ShowsSeveral (S : Symbols) (least greatest : ℕ) : Type 0 where
   pub apart : least < greatest
   pub between : (w : ℕ) → S w ≡ true → (least ≤ w) × (w ≤ greatest)
 
--- the least and the greatest of the symbols that were shown, which may be one
-pub record IsSpan (S : Symbols) (least greatest : ℕ) : Type 0 where
-  pub has_least : S least ≡ true
-  pub has_greatest : S greatest ≡ true
-  pub between : (w : ℕ) → S w ≡ true → (least ≤ w) × (w ≤ greatest)
-
 -- what is kept of a set of symbols: none, the one, or the least and the greatest of several
 abbrev pub IsSeen : Symbols → Seen → Type 0
 IsSeen S seen.None = ShowsNone S
@@ -42,7 +36,3 @@ abbrev pub IsLawful : Seen → Type 0
 IsLawful seen.None = Unit {0}
 IsLawful (seen.One v) = v < 128
 IsLawful (seen.Differ least greatest) = (least < greatest) × (greatest < 128)
-
--- the least and the greatest symbol are in order and below 128
-abbrev pub IsLawfulSpan : ℕ × ℕ → Type 0
-IsLawfulSpan (least, greatest) = (least ≤ greatest) × (greatest < 128)

@@ -1,7 +1,8 @@
 ghost use Rattle.std.specs.Prelude.{◌≡◌, ◌||◌, ◌<◌, ◌≤◌, MatchOption};
-ghost use Rattle.slot_evidence.specs.Kept.{AreInOrder, seen_between, span_seen};
+ghost use Rattle.slot_evidence.specs.inside.Kept.{AreInOrder, seen_between, span_seen};
 ghost use Rattle.slot_evidence.specs.Facts.{Symbols};
-ghost use Rattle.slot_evidence.specs.Seen.{ShowsNone, IsSpan, IsSeen, IsLawful, IsLawfulSpan};
+ghost use Rattle.slot_evidence.specs.Seen.{ShowsNone, IsSeen, IsLawful};
+ghost use Rattle.slot_evidence.specs.inside.Span.{IsSpan, IsLawfulSpan};
 
 /// What is known of a place: no symbol was shown, one and no other, or several, of which the least and the
 /// greatest are kept.
@@ -51,7 +52,7 @@ impl Seen {
         }
     }
 
-    /// What is kept of symbols of which these are the least and the greatest.
+    /// What is kept of several symbols, by the least and the greatest of them.
     fn of_span(least: u8, greatest: u8) -> Seen
         ensures value { result ≡ span_seen least greatest }
         ensures ends { (S : Symbols) → IsSpan S least greatest → IsSeen S result }

@@ -1,7 +1,7 @@
 ghost use Rattle.std.specs.Prelude.{◌≡◌, ℕ, ◌+◌, ◌<◌, ◌≤◌, ◌↔◌, min, max, length, Some, IfSome, IsNone, slice_index};
 ghost use Rattle.phasing.specs.Origin.{lead_of};
 ghost use Rattle.slot_evidence.specs.Facts.{facts_of};
-ghost use Rattle.slot_evidence.specs.Kept.{past_symbol};
+ghost use Rattle.slot_evidence.specs.inside.Kept.{past_symbol};
 ghost use Rattle.slot_evidence.specs.Sheet.{IsEnds};
 
 use crate::sheets::Sheet;

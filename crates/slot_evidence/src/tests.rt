@@ -1,20 +1,9 @@
 use crate::{Seen, Sheet, plain, read_sheet};
+use dsc_symbols::worked::{ALERT, ALERT_SLOTS};
 use std::alloc::{AllocError, Global};
 use std::process::Abort;
 use std::test::Fail;
 use ten_unit::{Element, word};
-
-/// The symbols of the 52 slots of a distress alert.
-const ALERT: [u8; 52] = [
-    125, 111, 125, 110, 125, 109, 125, 108, 125, 107, 125, 106, 112, 105, 112, 104, 33, 112, 80,
-    112, 40, 33, 7, 80, 90, 40, 106, 7, 14, 90, 23, 106, 10, 14, 83, 23, 12, 10, 20, 83, 19, 12,
-    100, 20, 127, 19, 78, 100, 127, 127, 127, 78,
-];
-
-/// Its characters, by their places.
-const CHARACTERS: [u8; 20] = [
-    112, 112, 33, 80, 40, 7, 90, 106, 14, 23, 10, 83, 12, 20, 19, 100, 127, 78, 127, 127,
-];
 
 /// The slots from slot 0 on, of which some are lost.
 fn received(alloc: Global, slots: &[u8; 52], lost: &[usize]) -> Result<Vec<Element>, AllocError> {
@@ -38,8 +27,8 @@ fn sheet(rt: &impl Abort, alloc: Global, slots: &[u8; 52], lost: &[usize]) -> Re
 
 #[test]
 fn every_place_of_an_alert(rt: HostRuntime) -> Result<(), Fail> {
-    let sheet = sheet(&rt, rt.alloc(), &ALERT, &[])?;
-    for (p, character) in CHARACTERS.iter().enumerate() {
+    let sheet = sheet(&rt, rt.alloc(), &ALERT_SLOTS, &[])?;
+    for (p, character) in ALERT.iter().enumerate() {
         assert_eq!(rt; sheet.at(p as u8), Seen::One(*character), "place {p}");
     }
     assert_eq!(rt; sheet.at(20), Seen::None);
@@ -51,10 +40,10 @@ fn two_receptions_together(rt: HostRuntime) -> Result<(), Fail> {
     let lost = [
         12, 14, 16, 18, 20, 22, 24, 26, 28, 30, 31, 32, 34, 36, 38, 40, 42, 44, 46, 48, 50,
     ];
-    let mut group = sheet(&rt, rt.alloc(), &ALERT, &lost)?;
+    let mut group = sheet(&rt, rt.alloc(), &ALERT_SLOTS, &lost)?;
     assert_eq!(rt; group.at(6), Seen::One(90));
     assert_eq!(rt; group.at(7), Seen::None);
-    let mut changed = ALERT;
+    let mut changed = ALERT_SLOTS;
     changed[28] = 22;
     group.meet(&sheet(&rt, rt.alloc(), &changed, &[])?);
     assert_eq!(rt; group.at(7), Seen::One(106));
@@ -75,7 +64,7 @@ fn nothing_from_noise(rt: HostRuntime) -> Result<(), Fail> {
 /// An alert twice, with a few elements lost and a few received as Y.
 fn noisy(alloc: Global, mut noise: u32) -> Result<Vec<Element>, AllocError> {
     let mut elements = Vec::new(alloc);
-    for symbol in ALERT.iter().chain(&ALERT) {
+    for symbol in ALERT_SLOTS.iter().chain(&ALERT_SLOTS) {
         for element in &word(*symbol % 128) {
             noise = noise.wrapping_mul(1664525).wrapping_add(1013904223);
             elements.push(match noise >> 26 {

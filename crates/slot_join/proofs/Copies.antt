@@ -24,6 +24,7 @@ use Rattle.slot_join.specs.OneCall.{ShowsNoOther, IsCallOrMissing}
 use Rattle.slot_join.specs.Intact.{IsIntactAt, CameNowhere, CameSomewhere, IsSentOrLostPlace, ArrivesInParts}
 use Rattle.slot_join.proofs.ShownLists.{viable_front, front_viable}
 use Rattle.slot_join.proofs.CallOrMissing.{FormatsBegin, head_is}
+use Rattle.slot_join.proofs.OneWay.{in_call}
 
 abbrev pub HeardLaw : Type 0
 HeardLaw = (call : Call) (tail : List ℕ) (reception : List Element) → IsCall call → IsHeard reception (spell call ++ tail) → ShowsNoOther (facts_of reception) (front call)
@@ -69,12 +70,7 @@ copy_shows e list lead p inside small intact =
     in_slots (ltb p 64) (ltb v 128) (shows e lead (dx_slot p) v) (shows e lead (rx_slot p) v) (lt-ltb p 64 inside) (lt-ltb v 128 small) either in
     subst (λ (o : Option ℕ). facts_at e o p v ≡ true) (sym intact.origin) here
 
--- the character of a place of the call up to its check
-in_call : (c : Call) (tail : List ℕ) (p : ℕ) → p < length (front c) → get_or (spell c ++ tail) p 0 ≡ get_or (front c) p 0
-in_call c tail p below =
-    let ends : List ℕ = end_of c ∷ end_of c ∷ [] in
-    get_or_append_left (spell c) tail 0 p (omega (arith, length-append (front c) ends)) ∙ get_or_append_left (front c) ends 0 p below
-
+-- the characters of a call's places up to its check, and where they stand
 character : Lists → (c : Call) (tail : List ℕ) (p : ℕ) → IsCall c → p < length (front c) → get_or (spell c ++ tail) p 0 < 128
 character lists c tail p lawful below =
     let ends : List ℕ = end_of c ∷ end_of c ∷ [] in

@@ -4,11 +4,10 @@ use Rattle.std.specs.Prelude.{◌↔◌}
 use Rattle.std.proofs.lemmas.Bool.{lt-ltb, ltb-true}
 use Rattle.std.proofs.lemmas.List.{get_or_append_left}
 use Rattle.std.proofs.lemmas.List.Elements.{All-get_or}
-use Rattle.std.proofs.lemmas.List.FromFn.{length-map-range_with_len, get_or-map-range_with_len}
 use Rattle.ten_unit.specs.declared.character.Element.{Element}
 use Rattle.ten_unit.specs.Word.{word_of, is_word}
 use Rattle.time_diversity.specs.Slots.{dx_slot, rx_slot, IsSlotOf}
-use Rattle.time_diversity.specs.OnAir.{sent_symbol, on_air}
+use Rattle.time_diversity.specs.OnAir.{sent_symbol}
 use Rattle.phasing.specs.Slot.{slot, shows}
 use Rattle.call_values.specs.declared.calls.Call.{Call}
 use Rattle.call_values.specs.Calls.{IsCall}
@@ -24,6 +23,7 @@ use Rattle.slot_join.specs.Shown.{head_of, IsShown}
 use Rattle.slot_join.specs.Answer.{IsAnswer}
 use Rattle.slot_join.specs.Intact.{ArrivesIntact}
 use Rattle.slot_join.proofs.ShownLists.{viable_front, front_viable}
+use Rattle.slot_join.proofs.OneWay.{length-on_air, sent_at}
 
 abbrev pub WordsEqual : Type 0
 WordsEqual = (w : List Element) (v : ℕ) → (is_word w v ≡ true) ↔ (w ≡ word_of v)
@@ -33,15 +33,6 @@ WordsApart = (u v : ℕ) → u < 128 → v < 128 → word_of u ≡ word_of v →
 
 abbrev pub BothSlots : Type 0
 BothSlots = (list : List ℕ) (slot p : ℕ) → IsSlotOf slot p → sent_symbol list slot ≡ get_or list p 0
-
--- what a slot of the transmission is sent with
-length-on_air : (list : List ℕ) → length (on_air list) ≡ 2 * length list + 12
-unfolding on_air
-length-on_air list = length-map-range_with_len (sent_symbol list) 0 (2 * length list + 12)
-
-sent_at : (list : List ℕ) (s : ℕ) → s < 2 * length list + 12 → get_or (on_air list) s 0 ≡ sent_symbol list s
-unfolding on_air
-sent_at list s below = get_or-map-range_with_len (sent_symbol list) 0 (2 * length list + 12) s s 0 below (omega arith)
 
 and_both : (x y : Bool) → (x && y) ≡ true → (x ≡ true) × (y ≡ true)
 and_both true y e = (refl, e)

@@ -25,11 +25,11 @@ pub record Laws : Type 0 where
   pub slots : (list : List ℕ) (s p : ℕ) → IsSlotOf s p → sent_symbol list s ≡ get_or list p 0
   pub characters : (c : Call) → IsCall c → All (λ v. v < 128) (spell c)
 
-length-on_air : (list : List ℕ) → length (on_air list) ≡ 2 * length list + 12
+pub length-on_air : (list : List ℕ) → length (on_air list) ≡ 2 * length list + 12
 unfolding on_air
 length-on_air list = length-map-range_with_len (sent_symbol list) 0 (2 * length list + 12)
 
-sent_at : (list : List ℕ) (s : ℕ) → s < 2 * length list + 12 → get_or (on_air list) s 0 ≡ sent_symbol list s
+pub sent_at : (list : List ℕ) (s : ℕ) → s < 2 * length list + 12 → get_or (on_air list) s 0 ≡ sent_symbol list s
 unfolding on_air
 sent_at list s below = get_or-map-range_with_len (sent_symbol list) 0 (2 * length list + 12) s s 0 below (omega arith)
 
@@ -76,7 +76,7 @@ heard_at e list lead one_way (inl found) = inr (lead, found, one_way)
 heard_at e list lead one_way (inr none) = inl none
 
 -- the places of a call up to its check are those of what was sent
-in_call : (c : Call) (tail : List ℕ) (p : ℕ) → p < length (front c) → get_or (spell c ++ tail) p 0 ≡ get_or (front c) p 0
+pub in_call : (c : Call) (tail : List ℕ) (p : ℕ) → p < length (front c) → get_or (spell c ++ tail) p 0 ≡ get_or (front c) p 0
 in_call c tail p below =
     let ends = end_of c ∷ end_of c ∷ [] in
     ap (λ (l : List ℕ). get_or l p 0) (append_assoc (front c) ends tail) ∙ get_or_append_left (front c) (ends ++ tail) 0 p below

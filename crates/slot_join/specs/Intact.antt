@@ -50,7 +50,7 @@ abbrev pub IsSentOrLostPlace : List (List Element) → Call → List ℕ → Joi
 IsSentOrLostPlace receptions call tail answer = (answer ≡ Reported call Absent) ⊎ NamesLostPlace receptions call tail answer
 
 -- each place of the call up to its error check character came intact at some receiver; of the two places of the format
--- specifier one is enough, but in distress alerts and calls to all ships
+-- specifier one is enough, except in distress alerts and calls to all ships, which need both
 pub record ArrivesInParts (receptions : List (List Element)) (call : Call) (tail : List ℕ) : Type 0 where
   pub format : CameSomewhere receptions (spell call ++ tail) 0 ⊎ CameSomewhere receptions (spell call ++ tail) 1
   pub both : needs_both (format_of call) ≡ true → CameSomewhere receptions (spell call ++ tail) 0 × CameSomewhere receptions (spell call ++ tail) 1

@@ -1,6 +1,6 @@
 -- The laws of languages whose words can be told apart while they are read.
 use Rattle.std.proofs.Common.{◌≡◌, ℕ, Bool, true, false, List, [], ◌∷◌, ◌++◌, refl, sym, ◌∙◌, ap, subst, append_assoc, append-nil}
-use Rattle.symbol_reader.specs.Languages.{One, Only, Then, Choice}
+use Rattle.symbol_reader.specs.inside.Languages.{One, Only, Then, Choice}
 
 -- the language has a word, and two words that begin one list are the same word of the same value
 pub record Good {V : Type 0} (language : V → List ℕ → Type 0) : Type 0 where

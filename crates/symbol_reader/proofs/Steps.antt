@@ -5,8 +5,8 @@ use Rattle.symbol_reader.specs.declared.letters.Letter.{Letter}
 use Rattle.symbol_reader.specs.declared.reading.Stop.{Stop}
 use Rattle.symbol_reader.specs.declared.reading.Stop.TheVariants.{Short, Outside}
 use Rattle.symbol_reader.specs.Letters.{Allows}
-use Rattle.symbol_reader.specs.Languages.{One, Only, Then, Choice, Spelled}
-use Rattle.symbol_reader.specs.Reading.{Begins, Wants, Took, Outcome, Reads}
+use Rattle.symbol_reader.specs.inside.Languages.{One, Only, Then, Choice, Spelled}
+use Rattle.symbol_reader.specs.inside.Reading.{Begins, Wants, Took, Outcome, Reads}
 use Rattle.symbol_reader.proofs.Examples.{example_of, Allows-example}
 use Rattle.symbol_reader.proofs.Laws.{Good, Alike, no_word_goes_on, one_good, only_good, then_good, alike_good}
 

@@ -1,3 +1,2 @@
 pub mod Letters
-pub mod Languages
-pub mod Reading
+pub mod inside

@@ -1,7 +1,7 @@
 ghost use Rattle.std.specs.Prelude.{◌≡◌, ◌↔◌, IfOk, IsTrue, []};
 ghost use Rattle.symbol_reader.specs.Letters.{Allows};
-ghost use Rattle.symbol_reader.specs.Languages.{One};
-ghost use Rattle.symbol_reader.specs.Reading.{Reads};
+ghost use Rattle.symbol_reader.specs.inside.Languages.{One};
+ghost use Rattle.symbol_reader.specs.inside.Reading.{Reads};
 
 use crate::letters::Letter;
 use cursor::Cursor;

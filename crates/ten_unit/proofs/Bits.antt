@@ -7,9 +7,9 @@ use Rattle.std.proofs.lemmas.Nat.Bits.{bit_at-suc, bit_at_lowest, bit_at_or, bit
 use Rattle.ten_unit.specs.declared.character.Element.{Element}
 use Rattle.ten_unit.specs.declared.character.Element.TheVariants.{Y, B, Lost}
 use Rattle.ten_unit.specs.Word.{element_eq}
-use Rattle.ten_unit.specs.Marks.{IsPlanes}
-use Rattle.ten_unit.specs.Number.{weight, number_of}
-use Rattle.ten_unit.specs.Symbol.{stretch}
+use Rattle.ten_unit.specs.inside.Marks.{IsPlanes}
+use Rattle.ten_unit.specs.inside.Number.{weight, number_of}
+use Rattle.ten_unit.specs.inside.Symbol.{stretch}
 
 pub long_stretch : (e : ℕ → Element) (n p : ℕ) → length (stretch e n p) ≡ n
 unfolding stretch

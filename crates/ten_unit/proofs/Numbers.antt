@@ -3,7 +3,7 @@ use Rattle.std.proofs.Common.{◌≡◌, ℕ, zero, suc, ◌+◌, ◌*◌, ◌/�
 use Rattle.ten_unit.specs.declared.character.Element.{Element}
 use Rattle.ten_unit.specs.declared.character.Element.TheVariants.{Y, B, Lost}
 use Rattle.ten_unit.specs.Word.{element}
-use Rattle.ten_unit.specs.Number.{number_of}
+use Rattle.ten_unit.specs.inside.Number.{number_of}
 
 -- the last so many binary digits of a number, as elements
 elements_of : ℕ → ℕ → List Element

@@ -3,7 +3,7 @@ use Rattle.std.proofs.Common.{◌≡◌, ℕ, zero, suc, ◌/◌, ◌%◌, ◌<�
 use Rattle.std.proofs.lemmas.Bool.Decides.{Decides-below_and, Decides-eqb}
 use Rattle.ten_unit.specs.declared.character.Element.{Element}
 use Rattle.ten_unit.specs.declared.character.Element.TheVariants.{Y, B, Lost}
-use Rattle.ten_unit.specs.Carried.{value_of}
+use Rattle.ten_unit.specs.inside.Carried.{value_of}
 use Rattle.ten_unit.specs.Word.{word_of, element, information, number, count_of_b, element_eq, elements_eq, is_word}
 
 element_same : (a b : Element) → element_eq a b ≡ true → a ≡ b

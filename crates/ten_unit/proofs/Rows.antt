@@ -6,8 +6,8 @@ use Rattle.std.proofs.lemmas.Bool.Decides.{same_from_decides, Decides-eqb, Decid
 use Rattle.ten_unit.specs.declared.character.Element.{Element}
 use Rattle.ten_unit.specs.declared.table.TheConstants.{SYMBOLS}
 use Rattle.ten_unit.specs.Word.{word_of, is_word, elements_eq}
-use Rattle.ten_unit.specs.Number.{number_of}
-use Rattle.ten_unit.specs.Symbol.{IsSymbol}
+use Rattle.ten_unit.specs.inside.Number.{number_of}
+use Rattle.ten_unit.specs.inside.Symbol.{IsSymbol}
 use Rattle.ten_unit.proofs.Reading.{elements_same, elements_own}
 use Rattle.ten_unit.proofs.Numbers.{same_number}
 

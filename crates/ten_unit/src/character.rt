@@ -3,11 +3,11 @@ ghost use Rattle.ten_unit.specs.Word.{word_of, element, count_of_b};
 ghost use Rattle.ten_unit.specs.Word as characters;
 ghost use Rattle.ten_unit.specs.declared.character.Element.{Element};
 ghost use Rattle.ten_unit.specs.Errors.{IsOneWay};
-ghost use Rattle.ten_unit.specs.Number.{weight as weight_of, number_of};
+ghost use Rattle.ten_unit.specs.inside.Number.{weight as weight_of, number_of};
 
 use crate::table::symbol_of;
 
-/// An element on air: Y and B are the two tones, and a received one may be lost, as one is of which nothing is known.
+/// An element on air: Y and B are the two tones. A received element may also be lost.
 #[derive(Clone, Copy, Debug, Default, PartialEq, Eq)]
 pub enum Element {
     Y,

@@ -1,9 +1,9 @@
 ghost use Rattle.std.specs.Prelude.{◌≡◌, ℕ, ◌+◌, ◌<◌, ◌≤◌, cond, slice_index_or, slice_index, ◌==◌};
 ghost use Rattle.std.specs.Int.{bit_at};
 ghost use Rattle.ten_unit.specs.declared.character.Element.{Element};
-ghost use Rattle.ten_unit.specs.Codes.{code_of};
-ghost use Rattle.ten_unit.specs.Marks.{IsPlanes};
-ghost use Rattle.ten_unit.specs.Symbol.{IsSymbol, stretch};
+ghost use Rattle.ten_unit.specs.inside.Codes.{code_of};
+ghost use Rattle.ten_unit.specs.inside.Marks.{IsPlanes};
+ghost use Rattle.ten_unit.specs.inside.Symbol.{IsSymbol, stretch};
 
 use crate::character::Element;
 use crate::table::symbol_of;

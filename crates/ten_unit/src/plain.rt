@@ -1,7 +1,7 @@
 //! The definitions' own programs, with which tests compare the faster ones.
 ghost use Rattle.std.specs.Prelude.{◌≡◌, ℕ, ◌<◌, ◌≤◌, IfSome, Some, true};
 ghost use Rattle.ten_unit.specs.Word as characters;
-ghost use Rattle.ten_unit.specs.Carried.{ones, value_of};
+ghost use Rattle.ten_unit.specs.inside.Carried.{ones, value_of};
 
 use crate::{Element, is_word};
 

@@ -1,8 +1,8 @@
 //! The ten-unit code as a table, by which a word is read in one look.
 ghost use Rattle.std.specs.Prelude.{◌≡◌, List, ◌<◌, length, slice_index};
 ghost use Rattle.ten_unit.specs.declared.character.Element.{Element};
-ghost use Rattle.ten_unit.specs.Number.{number_of};
-ghost use Rattle.ten_unit.specs.Symbol.{IsSymbol};
+ghost use Rattle.ten_unit.specs.inside.Number.{number_of};
+ghost use Rattle.ten_unit.specs.inside.Symbol.{IsSymbol};
 
 /// The symbol in the row of a number.
 fn row(number: u32) -> u8

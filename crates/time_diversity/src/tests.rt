@@ -1,15 +1,5 @@
 use super::*;
-
-// A distress alert of identity 338040079, disabled and adrift, and its slots.
-const ALERT: [u8; 20] = [
-    112, 112, 33, 80, 40, 7, 90, 106, 14, 23, 10, 83, 12, 20, 19, 100, 127, 78, 127, 127,
-];
-
-const ALERT_SLOTS: [u8; 52] = [
-    125, 111, 125, 110, 125, 109, 125, 108, 125, 107, 125, 106, 112, 105, 112, 104, 33, 112, 80,
-    112, 40, 33, 7, 80, 90, 40, 106, 7, 14, 90, 23, 106, 10, 14, 83, 23, 12, 10, 20, 83, 19, 12,
-    100, 20, 127, 19, 78, 100, 127, 127, 127, 78,
-];
+use dsc_symbols::worked::{ALERT, ALERT_SLOTS};
 
 #[test]
 fn the_slots_of_an_alert(rt: HostRuntime) {

@@ -1,6 +1,6 @@
 use Rattle.symbol_reader.specs.declared.letters.Letter.TheVariants.{UpTo, Digits}
 use Rattle.symbol_reader.proofs.Steps.{letter_good, alike, next, stop, fail, only_read}
-use Rattle.call_grammar.specs.Grammar.{identity_of}
+use Rattle.call_grammar.specs.inside.Grammar.{identity_of}
 use Rattle.call_grammar.proofs.IdentityParts.{identity_alike, second_good, third_good, fourth_good, last_good}
 use Rattle.symbol_reader.proofs.Laws.{only_good}
 use Rattle.call_grammar.proofs.fields.identity.Goals as goal

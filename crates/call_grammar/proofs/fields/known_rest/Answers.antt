@@ -2,7 +2,7 @@ use Rattle.std.proofs.Common.{◌≡◌, Some, arith}
 use Rattle.std.proofs.lemmas.Grind.{common_steps}
 use Rattle.symbol_reader.proofs.Laws.{only_good}
 use Rattle.symbol_reader.proofs.Steps.{letter_good, next, stop, fail, only_read}
-use Rattle.call_grammar.specs.Grammar.{fix_of, latitude_ones, minutes_and_hundreds, longitude_ones, longitude_minutes}
+use Rattle.call_grammar.specs.inside.Grammar.{fix_of, latitude_ones, minutes_and_hundreds, longitude_ones, longitude_minutes}
 use Rattle.call_grammar.proofs.PositionParts.{hundreds_good, longitude_good, minutes_good}
 use Rattle.call_grammar.proofs.fields.known_rest.Goals as goal
 

@@ -1,7 +1,7 @@
 use Rattle.std.proofs.Common.{◌≡◌, ◌-◌, length, take, drop, sym, ◌∙◌, subst, arith}
 use Rattle.std.proofs.lemmas.Grind.{common_steps}
-use Rattle.symbol_reader.specs.Reading.{Took}
-use Rattle.call_grammar.specs.Grammar.{CheckedCharacters}
+use Rattle.symbol_reader.specs.inside.Reading.{Took}
+use Rattle.call_grammar.specs.inside.Grammar.{CheckedCharacters}
 use Rattle.call_grammar.proofs.Steps.{checked_at}
 use Rattle.call_grammar.proofs.judging.judge.Goals as goal
 

@@ -3,7 +3,7 @@ use Rattle.std.proofs.lemmas.Grind.{common_steps}
 use Rattle.symbol_reader.specs.declared.letters.Letter.TheVariants.{UpTo}
 use Rattle.symbol_reader.proofs.Laws.{only_good}
 use Rattle.symbol_reader.proofs.Steps.{letter_good, alike, next, stop, fail, only_read}
-use Rattle.call_grammar.specs.Grammar.{area_latitude, longitude_ones, area_of}
+use Rattle.call_grammar.specs.inside.Grammar.{area_latitude, longitude_ones, area_of}
 use Rattle.call_grammar.proofs.AreaParts.{area_alike, area_second_good, area_third_good, area_fourth_good, area_last_good}
 use Rattle.call_grammar.proofs.messages.area.Goals as goal
 

@@ -1,7 +1,7 @@
 use Rattle.symbol_reader.specs.declared.letters.Letter.TheVariants.{UpTo}
 use Rattle.symbol_reader.proofs.Laws.{only_good}
 use Rattle.symbol_reader.proofs.Steps.{letter_good, next, stop, fail, chosen, not_chosen, only_read}
-use Rattle.call_grammar.specs.Grammar.{field_letter, long_field}
+use Rattle.call_grammar.specs.inside.Grammar.{field_letter, long_field}
 use Rattle.call_grammar.proofs.CodedParts.{is_same, is_other}
 use Rattle.call_grammar.proofs.FieldParts.{field_third_good, field_end_good}
 use Rattle.call_grammar.proofs.messages.field_rest.Goals as goal

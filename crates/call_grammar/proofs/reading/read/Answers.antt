@@ -1,7 +1,7 @@
 use Rattle.std.proofs.Common.{◌≡◌, ◌-◌, ◌≤◌, length, take, drop, sym, ◌∙◌, subst, arith}
 use Rattle.std.proofs.lemmas.Grind.{common_steps}
-use Rattle.symbol_reader.specs.Reading.{Wants, Leaves}
-use Rattle.call_grammar.specs.Grammar.{CheckedCharacters}
+use Rattle.symbol_reader.specs.inside.Reading.{Wants, Leaves}
+use Rattle.call_grammar.specs.inside.Grammar.{CheckedCharacters}
 use Rattle.call_grammar.proofs.Readings.{checked_short, checked_outside, part_short, outside_short}
 use Rattle.call_grammar.proofs.reading.read.Goals as goal
 

@@ -4,13 +4,13 @@ use Rattle.call_grammar.proofs.spelling.up_to_end.Goals as goal
 
 pub append-requires-2 : goal.append-requires-2
 append-requires-2 c =
-    omega (arith, length-fields c.args.call.now, simp length-append at (ap length c.append_fields.ensures), simp length-append at (ap length c.append.ensures), ap length c.new-list.ensures)
+    omega (arith, simp length-append at (length-fields c.args.call.now), simp length-append at (ap length c.append_fields.ensures), simp length-append at (ap length c.append.ensures), ap length c.new-list.ensures)
 
 pub returns-clause-short : goal.returns-clause-short
 returns-clause-short c =
     omega (
       arith,
-      length-fields c.args.call.now,
+      simp length-append at (length-fields c.args.call.now),
       simp length-append at (ap length c.append_fields.ensures),
       simp length-append at (ap length c.append.ensures),
       simp length-append at (ap length c.append-2.ensures),

@@ -1,5 +1,5 @@
 use Rattle.symbol_reader.proofs.Steps.{letter_good, coded_stop, coded_read, fail}
-use Rattle.call_grammar.specs.Forms.{distress_telecommand_letter}
+use Rattle.call_grammar.specs.inside.Forms.{distress_telecommand_letter}
 use Rattle.call_grammar.proofs.CodedParts.{distress_telecommand_coded, distress_telecommand_lawful, distress_telecommand_there}
 use Rattle.call_grammar.proofs.symbols.distress_telecommand.Goals as goal
 

@@ -2,7 +2,7 @@ use Rattle.std.proofs.Common.{◌≡◌, ℕ, ◌+◌, not, ◌||◌, bit_or, re
 use Rattle.std.specs.Int.{bit_not, w64}
 use Rattle.ten_unit.specs.declared.character.Element.{Element}
 use Rattle.ten_unit.specs.declared.character.Element.TheVariants.{Y, B, Lost}
-use Rattle.ten_unit.specs.Marks.{IsMarks}
+use Rattle.ten_unit.specs.inside.Marks.{IsMarks}
 use Rattle.ten_unit.specs.Word.{element_eq}
 use Rattle.phasing.proofs.BitTests.{or_marks, not_marks, same_marks}
 use Rattle.phasing.proofs.marking.element_marked.Goals as goal

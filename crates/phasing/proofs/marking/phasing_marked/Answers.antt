@@ -1,7 +1,7 @@
 use Rattle.std.proofs.Common.{ℕ, ◌-◌, subst}
-use Rattle.ten_unit.specs.Marks.{IsMarks}
+use Rattle.ten_unit.specs.inside.Marks.{IsMarks}
 use Rattle.ten_unit.specs.Word.{word_of}
-use Rattle.phasing.specs.Places.{is_at}
+use Rattle.phasing.specs.inside.Places.{is_at}
 use Rattle.phasing.proofs.BitTests.{eight}
 use Rattle.phasing.proofs.marking.phasing_marked.Goals as goal
 

@@ -1,9 +1,9 @@
 use Rattle.std.proofs.Common.{◌≡◌, ◌+◌, ◌<◌, length, take, get_or, arith, ap, sym, subst, ◌∙◌}
 use Rattle.std.proofs.Math.Seq.{take-length}
 use Rattle.ten_unit.specs.declared.character.Element.TheVariants.{Y}
-use Rattle.ten_unit.specs.Marks.{IsMarks}
+use Rattle.ten_unit.specs.inside.Marks.{IsMarks}
 use Rattle.ten_unit.specs.Word.{element_eq}
-use Rattle.phasing.specs.Places.{is_at}
+use Rattle.phasing.specs.inside.Places.{is_at}
 use Rattle.phasing.proofs.BitTests.{all_marks, and_marks, same_marks, moved_marks}
 use Rattle.phasing.proofs.Words.{is_at_push}
 use Rattle.phasing.proofs.marking.word_marked.Goals as goal

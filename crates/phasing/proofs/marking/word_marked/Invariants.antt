@@ -1,7 +1,7 @@
 use Rattle.std.proofs.Common.{ℕ, ◌+◌, take}
 use Rattle.ten_unit.specs.declared.character.Element.{Element}
-use Rattle.ten_unit.specs.Marks.{IsMarks, IsPlanes}
-use Rattle.phasing.specs.Places.{is_at}
+use Rattle.ten_unit.specs.inside.Marks.{IsMarks, IsPlanes}
+use Rattle.phasing.specs.inside.Places.{is_at}
 use Rattle.phasing.proofs.marking.word_marked.Given as goal
 
 abbrev pub invariant-loop-shift : goal.invariant-loop-shift

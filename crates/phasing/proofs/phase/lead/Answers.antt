@@ -2,11 +2,11 @@ use Rattle.std.proofs.Common.{ℕ, ◌+◌, ◌*◌, List, lit≤, refl, arith, 
 use Rattle.std.specs.Int.{trailing_zeros, w64}
 use Rattle.ten_unit.specs.declared.character.Element.{Element}
 use Rattle.ten_unit.specs.declared.packing.Planes.{Planes}
-use Rattle.ten_unit.specs.Marks.{IsMarks, IsPlanes}
+use Rattle.ten_unit.specs.inside.Marks.{IsMarks, IsPlanes}
 use Rattle.phasing.specs.declared.marking.Phasing.{Phasing}
-use Rattle.phasing.specs.Marked.{ArePhasing}
+use Rattle.phasing.specs.inside.Marked.{ArePhasing}
 use Rattle.phasing.specs.Origin.{is_phased, lead_of}
-use Rattle.phasing.specs.Places.{element_at}
+use Rattle.phasing.specs.inside.Places.{element_at}
 use Rattle.phasing.proofs.Blocks.{none_in_block, first_in_block, IsFound}
 use Rattle.phasing.proofs.Counts.{phasing_at, planes_at}
 use Rattle.phasing.proofs.Leads.{none_found, is_phased-early}

@@ -1,8 +1,8 @@
 use Rattle.std.proofs.Common.{◌≡◌, ℕ, ◌+◌, ◌*◌, ◌<◌, false}
-use Rattle.ten_unit.specs.Marks.{IsPlanes}
-use Rattle.phasing.specs.Marked.{ArePhasing}
+use Rattle.ten_unit.specs.inside.Marks.{IsPlanes}
+use Rattle.phasing.specs.inside.Marked.{ArePhasing}
 use Rattle.phasing.specs.Origin.{is_phased}
-use Rattle.phasing.specs.Places.{element_at}
+use Rattle.phasing.specs.inside.Places.{element_at}
 use Rattle.phasing.proofs.phase.lead.Given as goal
 
 abbrev pub invariant-loop-block : goal.invariant-loop-block

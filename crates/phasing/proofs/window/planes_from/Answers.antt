@@ -3,7 +3,7 @@ use Rattle.std.proofs.lemmas.Bool.{cases_lt}
 use Rattle.std.proofs.lemmas.List.{get_or_past, get_or-take, get_or-drop, take_rest}
 use Rattle.ten_unit.specs.declared.character.Element.{Element}
 use Rattle.ten_unit.specs.declared.character.Element.TheVariants.{Lost}
-use Rattle.phasing.specs.Places.{element_at}
+use Rattle.phasing.specs.inside.Places.{element_at}
 use Rattle.phasing.proofs.Words.{element_at-inside}
 use Rattle.phasing.proofs.window.planes_from.Goals as goal
 

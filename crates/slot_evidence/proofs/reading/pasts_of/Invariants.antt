@@ -1,5 +1,5 @@
 use Rattle.std.proofs.Common.{◌≡◌, ℕ, ◌+◌, ◌<◌, max, length, slice_index}
-use Rattle.slot_evidence.specs.Kept.{past_symbol}
+use Rattle.slot_evidence.specs.inside.Kept.{past_symbol}
 use Rattle.slot_evidence.proofs.reading.pasts_of.Given as goal
 
 abbrev pub invariant-loop-p : goal.invariant-loop-p

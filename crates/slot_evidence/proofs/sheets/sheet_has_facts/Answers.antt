@@ -1,6 +1,6 @@
 use Rattle.std.proofs.Common.{List, subst}
 use Rattle.slot_evidence.specs.declared.places.Seen.{Seen}
-use Rattle.slot_evidence.specs.Kept.{seen_of}
+use Rattle.slot_evidence.specs.inside.Kept.{seen_of}
 use Rattle.slot_evidence.specs.Sheet.{IsEnds, facts_in}
 use Rattle.slot_evidence.proofs.Ends.{own_ends}
 use Rattle.slot_evidence.proofs.Kept.{IsSheet-kept}

@@ -1,5 +1,5 @@
 use Rattle.std.proofs.Common.{◌<◌, ◌+◌, ◌*◌, arith}
-use Rattle.slot_evidence.specs.Window.{element_at}
+use Rattle.phasing.specs.inside.Places.{element_at}
 use Rattle.slot_evidence.proofs.Window.{slot_shown, filled_none, filled_more, filled_all}
 use Rattle.slot_evidence.proofs.slots.read_slots.Goals as goal
 
@@ -16,7 +16,7 @@ loop-k-preserved c =
     let lead = c.args.lead in
     let at = 3 * c.loop-window.window + c.loop-k.k in
     let room : at < 66 = omega (arith, c.windows-window-end.ensures.most) in
-    let planes = c.planes_at-planes.ensures in
+    let planes = c.planes_from-planes.ensures in
     record {
       dx = filled_more e lead 12 c.loop-k.dx at _ _ (omega arith) room kept.dx (slot_shown e lead (12 + 2 * at) _ _ (omega arith) (c.symbol_at.ensures _ (element_at e) planes));
       rx = filled_more e lead 13 c.loop-k.rx at _ _ (omega arith) room kept.rx (slot_shown e lead (13 + 2 * at) _ _ (omega arith) (c.symbol_at-in-loop-k.ensures _ (element_at e) planes));

@@ -3,7 +3,7 @@ use Rattle.std.proofs.lemmas.Bool.{eqb-true, eq-eqb, lt-ltb, ltb-true, cases_Boo
 use Rattle.std.specs.Bool.{then_some}
 use Rattle.ten_unit.specs.declared.character.Element.{Element}
 use Rattle.ten_unit.specs.Word.{is_word}
-use Rattle.ten_unit.specs.Symbol.{IsSymbol}
+use Rattle.ten_unit.specs.inside.Symbol.{IsSymbol}
 use Rattle.ten_unit.proofs.character.symbol.Goals as goal
 
 -- the symbol, where the number that it is kept as is one

@@ -1,6 +1,6 @@
 use Rattle.std.proofs.Common.{◌≡◌, true, ap, sym, subst, ◌∙◌}
 use Rattle.ten_unit.specs.Word.{word_of, is_word, elements_eq}
-use Rattle.ten_unit.specs.Carried.{value_of}
+use Rattle.ten_unit.specs.inside.Carried.{value_of}
 use Rattle.ten_unit.proofs.Reading.{elements_same, elements_own, value_back}
 use Rattle.ten_unit.proofs.character.words_tell_symbols_apart.Goals as goal
 

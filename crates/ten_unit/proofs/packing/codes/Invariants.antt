@@ -1,6 +1,6 @@
 use Rattle.std.proofs.Common.{◌≡◌, ◌<◌, length, ℕ, slice_index, slice_index_or}
 use Rattle.ten_unit.specs.declared.character.Element.TheVariants.{Lost}
-use Rattle.ten_unit.specs.Codes.{code_of}
+use Rattle.ten_unit.specs.inside.Codes.{code_of}
 use Rattle.ten_unit.proofs.packing.codes.Given as goal
 
 abbrev pub invariant-loop-i : goal.invariant-loop-i

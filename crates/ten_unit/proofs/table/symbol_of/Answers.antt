@@ -1,5 +1,5 @@
 use Rattle.std.proofs.Common.{subst, sym, ℕ}
-use Rattle.ten_unit.specs.Symbol.{IsSymbol}
+use Rattle.ten_unit.specs.inside.Symbol.{IsSymbol}
 use Rattle.ten_unit.proofs.Rows.{symbol_row, no_symbol}
 use Rattle.ten_unit.proofs.table.symbol_of.Goals as goal
 

@@ -1,6 +1,6 @@
 use Rattle.std.proofs.Common.{◌≡◌, ◌++◌, [], ◌∷◌, drop, sym, ap, ◌∙◌, subst, arith}
 use Rattle.call_grammar.specs.Walk.{IsAtEnd}
-use Rattle.call_grammar.specs.Judging.{IsCovered}
+use Rattle.call_grammar.specs.inside.Judging.{IsCovered}
 use Rattle.call_grammar.proofs.Ends.{taken_short, end_at}
 use Rattle.call_grammar.proofs.walking.Walk.ends_with.Goals as goal
 

@@ -1,6 +1,6 @@
 use Rattle.std.proofs.Common.{◌≡◌, ◌⊎◌, ℕ, ◌<◌, inl, inr, List, [], ◌∷◌, ◌++◌, length, take, drop, lit<, refl, sym, ◌∙◌, ap, subst, arith}
 use Rattle.call_grammar.specs.Walk.{IsDone, IsStep}
-use Rattle.call_grammar.specs.Judging.{Judges}
+use Rattle.call_grammar.specs.inside.Judging.{Judges}
 use Rattle.call_grammar.proofs.Steps.{pushed, not_done, step_taken, step_left, walk_keeps, taken_back}
 use Rattle.call_grammar.proofs.Lengths.{walking_short}
 use Rattle.call_grammar.proofs.walking.Walk.take.Goals as goal

@@ -1,7 +1,7 @@
 use Rattle.std.proofs.Common.{ℕ, ◌+◌, ◌-◌, arith}
-use Rattle.ten_unit.specs.Marks.{IsMarks}
+use Rattle.ten_unit.specs.inside.Marks.{IsMarks}
 use Rattle.ten_unit.specs.Word.{word_of}
-use Rattle.phasing.specs.Places.{element_at, is_at}
+use Rattle.phasing.specs.inside.Places.{element_at, is_at}
 use Rattle.phasing.proofs.BitTests.{eight, no_marks}
 use Rattle.phasing.proofs.Words.{is_at-early}
 use Rattle.phasing.proofs.marking.Phasing.before.Goals as goal

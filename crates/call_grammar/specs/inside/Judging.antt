@@ -1,10 +1,10 @@
 -- What is read of a list on which the format specifier stands once.
 use Rattle.std.specs.Prelude.{◌≡◌, ℕ, ◌≢◌, ◌⊎◌, Bool, true, false, List, ◌∷◌, ◌++◌}
-use Rattle.symbol_reader.specs.Reading.{Wants, Leaves}
+use Rattle.symbol_reader.specs.inside.Reading.{Wants, Leaves}
 use Rattle.call_values.specs.declared.calls.Call.{Call}
 use Rattle.call_values.specs.Calls.{IsCall}
 use Rattle.call_grammar.specs.Spelling.{covered, check_of}
-use Rattle.call_grammar.specs.Grammar.{CheckedCharacters}
+use Rattle.call_grammar.specs.inside.Grammar.{CheckedCharacters}
 use Rattle.call_grammar.specs.Walk.{IsOpen}
 use Rattle.call_grammar.specs.declared.walking.Step.{Step}
 use Rattle.call_grammar.specs.declared.walking.Step.TheVariants.{More, Done, Outside, Check}

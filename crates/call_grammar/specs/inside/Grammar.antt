@@ -4,7 +4,7 @@ use Rattle.dsc_symbols.specs.declared.messages.TheConstants.{NO_INFORMATION, UNK
 use Rattle.symbol_reader.specs.declared.letters.Letter.{Letter}
 use Rattle.symbol_reader.specs.declared.letters.Letter.TheVariants.{Exactly, UpTo, Digits}
 use Rattle.symbol_reader.specs.Letters.{Allows}
-use Rattle.symbol_reader.specs.Languages.{One, Only, Then, Choice, Spelled}
+use Rattle.symbol_reader.specs.inside.Languages.{One, Only, Then, Choice, Spelled}
 use Rattle.call_values.specs.declared.places.Fix.{Fix}
 use Rattle.call_values.specs.declared.calls.Casualty.{Casualty}
 use Rattle.call_values.specs.declared.calls.Call.{Call}

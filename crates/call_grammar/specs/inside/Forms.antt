@@ -8,7 +8,7 @@ use Rattle.dsc_symbols.specs.declared.ends.TheConstants as ends
 use Rattle.dsc_symbols.specs.declared.messages.TheConstants.{NO_INFORMATION, POSITION_FOLLOWS}
 use Rattle.symbol_reader.specs.declared.letters.Letter.{Letter}
 use Rattle.symbol_reader.specs.declared.letters.Letter.TheVariants.{Exactly, Either}
-use Rattle.symbol_reader.specs.Languages.{Only, Then, Spelled}
+use Rattle.symbol_reader.specs.inside.Languages.{Only, Then, Spelled}
 use Rattle.call_values.specs.declared.calls.Casualty.{Casualty}
 use Rattle.call_values.specs.declared.calls.Call.{Call}
 use Rattle.call_values.specs.declared.calls.Call.TheVariants.{Alert, Ack, Relay, RelayAck, AllShips, AreaCall, GroupCall, Individual, Service}
@@ -26,7 +26,7 @@ use Rattle.call_grammar.specs.declared.symbols.Specifier.TheVariants as format
 use Rattle.call_grammar.specs.declared.symbols.Telecommand.{Telecommand}
 use Rattle.call_grammar.specs.declared.symbols.Telecommand.TheVariants as telecommand
 use Rattle.call_grammar.specs.Spelling.{category_symbol, end_symbol}
-use Rattle.call_grammar.specs.Grammar.{Symbol, Identities, Positions, Times, Casualties, Areas, Firsts, Seconds, FieldWords, Messages, Blanks}
+use Rattle.call_grammar.specs.inside.Grammar.{Symbol, Identities, Positions, Times, Casualties, Areas, Firsts, Seconds, FieldWords, Messages, Blanks}
 
 -- the symbol of each format specifier
 abbrev pub format_symbol : Specifier → ℕ
