@@ -3,7 +3,7 @@ use Rattle.std.proofs.Common.{◌≡◌, ℕ, inl, inr, Bool, true, false, Optio
 use Rattle.symbol_reader.specs.declared.letters.Letter.{Letter}
 use Rattle.symbol_reader.specs.declared.letters.Letter.TheVariants.{Exactly}
 use Rattle.symbol_reader.specs.Letters.{Allows}
-use Rattle.symbol_reader.specs.Languages.{One, Only, Then, Spelled}
+use Rattle.symbol_reader.specs.inside.Languages.{One, Only, Then, Spelled}
 use Rattle.symbol_reader.proofs.Laws.{Good, Alike, no_word_goes_on}
 use Rattle.symbol_reader.proofs.Steps.{letter_good, split}
 use Rattle.call_values.specs.declared.choices.Category.{Category}
@@ -15,9 +15,9 @@ use Rattle.call_grammar.specs.declared.symbols.Specifier.TheVariants as format
 use Rattle.call_grammar.specs.declared.symbols.Telecommand.{Telecommand}
 use Rattle.call_grammar.specs.declared.symbols.Telecommand.TheVariants as telecommand
 use Rattle.call_grammar.specs.Spelling.{format_of, covered, check_of, end_of}
-use Rattle.call_grammar.specs.Grammar.{CheckedCharacters}
+use Rattle.call_grammar.specs.inside.Grammar.{CheckedCharacters}
 use Rattle.call_grammar.specs.Walk.{IsViable, IsAtEnd, IsAtCheck}
-use Rattle.call_grammar.specs.Forms.{Relays, Acks, AfterDistressTelecommand, Distress, Requests, Tests, Answers, Questions, AfterTold, Places, Others, AfterTelecommand, AfterCategory, Addressed, SenderAndIndividual, AfterCategoryToOne, AddressedOne, Alerts, AfterFormat}
+use Rattle.call_grammar.specs.inside.Forms.{Relays, Acks, AfterDistressTelecommand, Distress, Requests, Tests, Answers, Questions, AfterTold, Places, Others, AfterTelecommand, AfterCategory, Addressed, SenderAndIndividual, AfterCategoryToOne, AddressedOne, Alerts, AfterFormat}
 use Rattle.call_grammar.proofs.IdentityParts.{identity_good}
 use Rattle.call_grammar.proofs.PositionParts.{position_good}
 use Rattle.call_grammar.proofs.TimeParts.{time_good}
