@@ -3,21 +3,21 @@ use Rattle.std.proofs.Common.{◌≡◌, ℕ, inl, inr, Bool, true, false, Optio
 use Rattle.symbol_reader.specs.declared.letters.Letter.{Letter}
 use Rattle.symbol_reader.specs.declared.letters.Letter.TheVariants.{Exactly}
 use Rattle.symbol_reader.specs.Letters.{Allows}
-use Rattle.symbol_reader.specs.Languages.{One, Only, Then, Spelled}
+use Rattle.symbol_reader.specs.inside.Languages.{One, Only, Then, Spelled}
 use Rattle.symbol_reader.proofs.Laws.{Good, Alike, no_word_goes_on}
 use Rattle.symbol_reader.proofs.Steps.{letter_good, split}
 use Rattle.call_values.specs.declared.choices.Category.{Category}
 use Rattle.call_values.specs.declared.parts.To.{To}
 use Rattle.call_values.specs.declared.parts.To.TheVariants as to
-use Rattle.call_values.specs.declared.alerts.Call.{Call}
-use Rattle.call_grammar.specs.declared.signs.Specifier.{Specifier}
-use Rattle.call_grammar.specs.declared.signs.Specifier.TheVariants as format
-use Rattle.call_grammar.specs.declared.signs.Telecommand.{Telecommand}
-use Rattle.call_grammar.specs.declared.signs.Telecommand.TheVariants as opener
+use Rattle.call_values.specs.declared.calls.Call.{Call}
+use Rattle.call_grammar.specs.declared.symbols.Specifier.{Specifier}
+use Rattle.call_grammar.specs.declared.symbols.Specifier.TheVariants as format
+use Rattle.call_grammar.specs.declared.symbols.Telecommand.{Telecommand}
+use Rattle.call_grammar.specs.declared.symbols.Telecommand.TheVariants as telecommand
 use Rattle.call_grammar.specs.Spelling.{format_of, covered, check_of, end_of}
-use Rattle.call_grammar.specs.Grammar.{Opened}
+use Rattle.call_grammar.specs.inside.Grammar.{CheckedCharacters}
 use Rattle.call_grammar.specs.Walk.{IsViable, IsAtEnd, IsAtCheck}
-use Rattle.call_grammar.specs.Forms.{Relays, Acks, AfterSign, Distress, Requests, Tests, Answers, Questions, AfterTold, Places, Others, AfterOpener, AfterLead, Addressed, Letters, AfterOneLead, AddressedOne, Alerts, AfterFormat}
+use Rattle.call_grammar.specs.inside.Forms.{Relays, Acks, AfterDistressTelecommand, Distress, Requests, Tests, Answers, Questions, AfterTold, Places, Others, AfterTelecommand, AfterCategory, Addressed, SenderAndIndividual, AfterCategoryToOne, AddressedOne, Alerts, AfterFormat}
 use Rattle.call_grammar.proofs.IdentityParts.{identity_good}
 use Rattle.call_grammar.proofs.PositionParts.{position_good}
 use Rattle.call_grammar.proofs.TimeParts.{time_good}
@@ -25,8 +25,8 @@ use Rattle.call_grammar.proofs.CasualtyParts.{casualty_good}
 use Rattle.call_grammar.proofs.AreaParts.{area_good}
 use Rattle.call_grammar.proofs.FieldParts.{field_good}
 use Rattle.call_grammar.proofs.MessageParts.{message_good}
-use Rattle.call_grammar.proofs.SignParts.{formats_good, leads_good, eithers_good, signs_good, openers_good, first_good, second_good, blanks_good}
-use Rattle.call_grammar.proofs.CallParts.{call_alike, opened_good}
+use Rattle.call_grammar.proofs.CodedParts.{formats_good, categories_good, eithers_good, distress_telecommands_good, telecommands_good, first_good, second_good, blanks_good}
+use Rattle.call_grammar.proofs.CallParts.{call_alike, checked_characters_good}
 use Rattle.call_grammar.proofs.Steps.{heads, spelled, no_cover}
 
 -- each word has a symbol, and what lacks the last symbol of a word lacks one symbol of every word that it begins
@@ -124,12 +124,12 @@ relays_last t from = then_last _ _ casualty_good (λ _ _ _. ends _ _ (code_one _
 acks_last : (from : ℕ) → LacksOne (Acks from)
 acks_last from = then_last _ _ casualty_good (λ _ _ _. ends _ _ (letter_one (Exactly 127)))
 
-after_sign_last : (t : To) (from : ℕ) (is_ack : Bool) → LacksOne (AfterSign t from is_ack)
-after_sign_last t from true = acks_last from
-after_sign_last t from false = relays_last t from
+after_distress_telecommand_last : (t : To) (from : ℕ) (is_ack : Bool) → LacksOne (AfterDistressTelecommand t from is_ack)
+after_distress_telecommand_last t from true = acks_last from
+after_distress_telecommand_last t from false = relays_last t from
 
 distress_last : (t : To) → LacksOne (Distress t)
-distress_last t = then_last _ _ identity_good (λ from _ _. then_last _ _ (signs_good t) (λ b _ _. after_sign_last t from b))
+distress_last t = then_last _ _ identity_good (λ from _ _. then_last _ _ (distress_telecommands_good t) (λ b _ _. after_distress_telecommand_last t from b))
 
 requests_last : (t : To) (g : Category) (from : ℕ) → LacksOne (Requests t g from)
 requests_last t g from =
@@ -158,27 +158,27 @@ places_last m g from =
 others_last : (m : ℕ) (g : Category) (from first : ℕ) → LacksOne (Others m g from first)
 others_last m g from first = then_last _ _ second_good (λ _ _ _. then_last _ _ message_good (λ _ _ _. ends _ _ (code_one _ _)))
 
-after_opener_last : (m : ℕ) (g : Category) (from : ℕ) (o : Telecommand) → LacksOne (AfterOpener m g from o)
-after_opener_last m g from opener.Test = tests_last m g from
-after_opener_last m g from opener.Position = places_last m g from
-after_opener_last m g from (opener.Request first) = others_last m g from first
+after_telecommand_last : (m : ℕ) (g : Category) (from : ℕ) (o : Telecommand) → LacksOne (AfterTelecommand m g from o)
+after_telecommand_last m g from telecommand.Test = tests_last m g from
+after_telecommand_last m g from telecommand.Position = places_last m g from
+after_telecommand_last m g from (telecommand.Request first) = others_last m g from first
 
-after_lead_last : (t : To) (lead : Option Category) → LacksOne (AfterLead t lead)
-after_lead_last t None = distress_last t
-after_lead_last t (Some g) = then_last _ _ identity_good (λ from _ _. requests_last t g from)
+after_category_last : (t : To) (category : Option Category) → LacksOne (AfterCategory t category)
+after_category_last t None = distress_last t
+after_category_last t (Some g) = then_last _ _ identity_good (λ from _ _. requests_last t g from)
 
 addressed_last : (t : To) → LacksOne (Addressed t)
-addressed_last t = then_last _ _ leads_good (λ lead _ _. after_lead_last t lead)
+addressed_last t = then_last _ _ categories_good (λ category _ _. after_category_last t category)
 
-letters_last : (m : ℕ) (g : Category) → LacksOne (Letters m g)
-letters_last m g = then_last _ _ identity_good (λ from _ _. then_last _ _ openers_good (λ o _ _. after_opener_last m g from o))
+sender_and_individual_last : (m : ℕ) (g : Category) → LacksOne (SenderAndIndividual m g)
+sender_and_individual_last m g = then_last _ _ identity_good (λ from _ _. then_last _ _ telecommands_good (λ o _ _. after_telecommand_last m g from o))
 
-after_one_lead_last : (m : ℕ) (lead : Option Category) → LacksOne (AfterOneLead m lead)
-after_one_lead_last m None = distress_last (to.One m)
-after_one_lead_last m (Some g) = letters_last m g
+after_category_to_one_last : (m : ℕ) (category : Option Category) → LacksOne (AfterCategoryToOne m category)
+after_category_to_one_last m None = distress_last (to.One m)
+after_category_to_one_last m (Some g) = sender_and_individual_last m g
 
 addressed_one_last : (m : ℕ) → LacksOne (AddressedOne m)
-addressed_one_last m = then_last _ _ leads_good (λ lead _ _. after_one_lead_last m lead)
+addressed_one_last m = then_last _ _ categories_good (λ category _ _. after_category_to_one_last m category)
 
 alerts_last : LacksOne Alerts
 alerts_last = then_last _ _ casualty_good (λ _ _ _. ends _ _ (letter_one (Exactly 127)))
@@ -190,22 +190,22 @@ after_format_last format.Area = then_last _ _ area_good (λ a _ _. addressed_las
 after_format_last format.Group = then_last _ _ identity_good (λ m _ _. addressed_last (to.Group m))
 after_format_last format.One = then_last _ _ identity_good (λ m _ _. addressed_one_last m)
 
-opened_last : LacksOne Opened
-opened_last = alike_last _ _ call_alike (then_last _ _ formats_good (λ f _ _. after_format_last f))
+checked_last : LacksOne CheckedCharacters
+checked_last = alike_last _ _ call_alike (then_last _ _ formats_good (λ f _ _. after_format_last f))
 
 -- behind all fields of a call, a symbol with which a call goes on is followed by a check
-one_more : (l : List ℕ) (x : ℕ) (c d : Call) (rest tail : List ℕ) → Opened c (l ++ (end_of c ∷ [])) → Opened d (covered d)
+one_more : (l : List ℕ) (x : ℕ) (c d : Call) (rest tail : List ℕ) → CheckedCharacters c (l ++ (end_of c ∷ [])) → CheckedCharacters d (covered d)
     → covered d ++ tail ≡ l ++ (x ∷ rest) → covered d ≡ l ++ (x ∷ [])
 one_more l x c d rest tail p q e = elim (split (covered d) tail l (x ∷ rest) e) [
   | inl h ↦ (
-      let one = one_symbol h.0 (opened_last.one c d l (end_of c) h.0 p (subst (Opened d) h.1 q)) in
+      let one = one_symbol h.0 (checked_last.one c d l (end_of c) h.0 p (subst (CheckedCharacters d) h.1 q)) in
       let starts : x ∷ rest ≡ one.0 ∷ tail = h.2 ∙ ap (λ t. t ++ tail) one.1 in
       let same : x ≡ one.0 = heads _ _ _ _ starts in
       h.1 ∙ ap (λ t. l ++ t) one.1 ∙ ap (λ y. l ++ (y ∷ [])) (sym same))
   | inr h ↦ (
       let longer : l ++ (end_of c ∷ []) ≡ covered d ++ (h.0 ∷ (h.1 ++ (end_of c ∷ []))) =
       ap (λ t. t ++ (end_of c ∷ [])) h.2 ∙ append_assoc (covered d) (h.0 ∷ h.1) (end_of c ∷ []) in
-      absurd (no_word_goes_on Opened opened_good d c (covered d) h.0 (h.1 ++ (end_of c ∷ [])) q (subst (Opened c) longer p)))
+      absurd (no_word_goes_on CheckedCharacters checked_characters_good d c (covered d) h.0 (h.1 ++ (end_of c ∷ [])) q (subst (CheckedCharacters c) longer p)))
 ]
 
 pub end_then_check : (l : List ℕ) (x : ℕ) → IsAtEnd l → IsViable (l ++ (x ∷ [])) → IsAtCheck (l ++ (x ∷ []))
@@ -224,5 +224,5 @@ end_then_check (f ∷ l) x a v =
     let rest : (covered d ++ (k ∷ [])) ++ tail ≡ (l ++ (x ∷ [])) ++ v.rest = cc in
     let format : format_of d ≡ f = heads _ _ _ _ whole in
     let split_at : covered d ++ (k ∷ tail) ≡ l ++ (x ∷ v.rest) = sym (append_assoc (covered d) (k ∷ []) tail) ∙ rest ∙ append_assoc l (x ∷ []) v.rest in
-    let same : covered d ≡ l ++ (x ∷ []) = one_more l x c d v.rest (k ∷ tail) (subst (Opened c) fields (spelled c a.lawful)) (spelled d v.lawful) split_at in
+    let same : covered d ≡ l ++ (x ∷ []) = one_more l x c d v.rest (k ∷ tail) (subst (CheckedCharacters c) fields (spelled c a.lawful)) (spelled d v.lawful) split_at in
     record { call = d; lawful = v.lawful; list = ap (λ y. y ∷ (l ++ (x ∷ []))) (sym format) ∙ ap (λ t. format_of d ∷ t) (sym same) }

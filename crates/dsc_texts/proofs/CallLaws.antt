@@ -1,13 +1,13 @@
 -- call texts are read by their grammar
 use Rattle.std.proofs.Common.{◌≡◌, ℕ, ◌+◌, ◌≤◌, true, List, length, Result, Ok, Err, refl, sym, ◌∙◌, ap, subst}
-use Rattle.call_values.specs.declared.alerts.Call.{Call}
-use Rattle.call_values.specs.declared.alerts.Call.TheVariants.{Alert, Ack, Relay, RelayAck, AllShips, AreaCall, GroupCall, Individual, Service}
+use Rattle.call_values.specs.declared.calls.Call.{Call}
+use Rattle.call_values.specs.declared.calls.Call.TheVariants.{Alert, Ack, Relay, RelayAck, AllShips, AreaCall, GroupCall, Individual, Service}
 use Rattle.call_values.specs.declared.parts.Kind.TheVariants.{Test, AskPosition, Position}
 use Rattle.call_values.specs.Calls.{IsCall}
 use Rattle.line_grammar.specs.Columns.{IsColumn}
 use Rattle.line_grammar.specs.Grammar.{Parts, Spells, written}
 use Rattle.line_grammar.specs.inside.Reading.{read, fits}
-use Rattle.line_grammar.specs.inside.Soundness.{is_sound, is_plain}
+use Rattle.line_grammar.specs.inside.Soundness.{is_sound, is_unambiguous}
 use Rattle.line_grammar.proofs.Stops.{Reads, Stops, IsAlike, Stops-alike, left_le, IsColumn-stops}
 use Rattle.line_grammar.proofs.Grammars.{reads}
 use Rattle.line_grammar.proofs.Written.{tells_all, written_spells, spelled_parts, one_line, written_is_read}
@@ -20,7 +20,7 @@ pub calls_sound : is_sound calls ≡ true
 unfolding fits
 calls_sound = refl
 
-pub calls_plain : is_plain calls ≡ true
+pub calls_plain : is_unambiguous calls ≡ true
 calls_plain = refl
 
 calls_told : tells_all calls ≡ true

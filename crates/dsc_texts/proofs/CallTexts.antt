@@ -2,9 +2,9 @@
 use Rattle.std.proofs.Common.{◌≡◌, ℕ, Bool, List, [], ◌∷◌, ◌⊎◌, inl, inr, Option, codes, refl, sym, ◌∙◌, ap, subst}
 use Rattle.line_grammar.specs.Grammar.{Grammar, word, field, Parts, none, part, AreParts}
 use Rattle.call_values.specs.declared.places.Fix.{Fix}
-use Rattle.call_values.specs.declared.alerts.Casualty.{Casualty}
-use Rattle.call_values.specs.declared.alerts.Call.{Call}
-use Rattle.call_values.specs.declared.alerts.Call.TheVariants.{Alert, Ack, Relay, RelayAck, AllShips, AreaCall, GroupCall, Individual, Service}
+use Rattle.call_values.specs.declared.calls.Casualty.{Casualty}
+use Rattle.call_values.specs.declared.calls.Call.{Call}
+use Rattle.call_values.specs.declared.calls.Call.TheVariants.{Alert, Ack, Relay, RelayAck, AllShips, AreaCall, GroupCall, Individual, Service}
 use Rattle.call_values.specs.declared.choices.Category.{Category}
 use Rattle.call_values.specs.declared.choices.End.{End}
 use Rattle.call_values.specs.declared.fields.FieldKind.{FieldKind}
@@ -13,8 +13,9 @@ use Rattle.call_values.specs.declared.parts.Message.{Message}
 use Rattle.call_values.specs.declared.parts.Message.TheVariants.{Fields, At}
 use Rattle.call_values.specs.declared.parts.Kind.TheVariants.{Test, AskPosition, Position}
 use Rattle.call_values.specs.Identity.{IsMmsi}
-use Rattle.call_values.specs.Symbols.{IsNature, IsComm}
-use Rattle.call_values.specs.Telecommands.{IsFirst, IsSecond}
+use Rattle.dsc_symbols.specs.Natures.{IsNature}
+use Rattle.dsc_symbols.specs.Telecommands.{IsComm}
+use Rattle.dsc_symbols.specs.Telecommands.{IsFirst, IsSecond}
 use Rattle.call_values.specs.Places.{IsPosition}
 use Rattle.call_values.specs.Clock.{IsHourMinute}
 use Rattle.call_values.specs.Fields.{IsField}

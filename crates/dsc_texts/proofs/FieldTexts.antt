@@ -2,7 +2,7 @@
 use Rattle.std.proofs.Common.{◌≡◌, ℕ, suc, ◌+◌, ◌-◌, ◌≤◌, true, List, [], ◌∷◌, ◌++◌, length, slice_index_or, ◌⊎◌, inl, inr, Option, Some, None, codes, refl, sym, ◌∙◌, ap, append_assoc, arith}
 use Rattle.std.proofs.lemmas.Bool.Decides.{nat_tests}
 use Rattle.std.proofs.lemmas.List.{append_cancel_left}
-use Rattle.line_grammar.specs.Shapes.{Shape, letters, numeral, pair, choice, is_within, digits, IsShaped}
+use Rattle.line_grammar.specs.Shapes.{Shape, letters, fixed_number, pair, choice, is_within, digits, IsShaped}
 use Rattle.line_grammar.specs.Tokens.{IsToken}
 use Rattle.line_grammar.proofs.ShapesNumerals.{digits_length}
 use Rattle.line_grammar.proofs.Digits.{one_number, one_front}
@@ -21,10 +21,10 @@ use Rattle.dsc_texts.specs.CallParts.{time_text, position_text, area_text, frequ
 use Rattle.dsc_texts.proofs.SymbolTexts.{Told, identity_told}
 
 -- a number up to the most in so many digits
-up_to : (width most n : ℕ) → n ≤ most → IsShaped (numeral width ((0, most) ∷ [])) (digits width n)
+up_to : (width most n : ℕ) → n ≤ most → IsShaped (fixed_number width ((0, most) ∷ [])) (digits width n)
 up_to width most n h = (n, grind (arith, nat_tests), refl)
 
-most_of : (width most : ℕ) (bytes : List ℕ) (h : IsShaped (numeral width ((0, most) ∷ [])) bytes) → h.0 ≤ most
+most_of : (width most : ℕ) (bytes : List ℕ) (h : IsShaped (fixed_number width ((0, most) ∷ [])) bytes) → h.0 ≤ most
 most_of width most bytes h = let e = h.1 in grind (arith, nat_tests)
 
 -- times
@@ -60,7 +60,7 @@ time_told = record { is = time_is; of = time_of; one = time_one }
 
 -- arcs of latitude and of longitude
 abbrev arc : (width most : ℕ) (pole : List ℕ) → Shape
-arc width most pole = choice (pair (numeral width ((0, most) ∷ [])) minutes) (letters pole)
+arc width most pole = choice (pair (fixed_number width ((0, most) ∷ [])) minutes) (letters pole)
 
 arc_minutes : (degrees least most : ℕ) → IsArc degrees least most → (least ≤ 59) × (degrees ≤ most)
 arc_minutes degrees least most h = (grind arith, grind arith)

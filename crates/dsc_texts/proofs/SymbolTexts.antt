@@ -1,12 +1,13 @@
 -- identities and symbols are numbers in nine and in three digits
 use Rattle.std.proofs.Common.{◌≡◌, ℕ, ◌<◌, ◌^◌, Bool, true, false, List, [], ◌∷◌, ◌⊎◌, inl, inr, refl, ◌∙◌, ap, arith}
 use Rattle.std.proofs.lemmas.Bool.Decides.{nat_tests}
-use Rattle.line_grammar.specs.Shapes.{numeral, is_within, digits}
+use Rattle.line_grammar.specs.Shapes.{fixed_number, is_within, digits}
 use Rattle.line_grammar.specs.Tokens.{Token, IsToken, shaped}
 use Rattle.line_grammar.proofs.Digits.{one_number}
 use Rattle.call_values.specs.Identity.{IsMmsi}
-use Rattle.call_values.specs.Symbols.{IsNature, IsComm}
-use Rattle.call_values.specs.Telecommands.{IsFirst, IsSecond}
+use Rattle.dsc_symbols.specs.Natures.{IsNature}
+use Rattle.dsc_symbols.specs.Telecommands.{IsComm}
+use Rattle.dsc_symbols.specs.Telecommands.{IsFirst, IsSecond}
 use Rattle.call_values.specs.declared.choices.Category.{Category}
 use Rattle.call_values.specs.declared.choices.Category.TheVariants.{Routine, Safety, Urgency}
 use Rattle.call_values.specs.declared.choices.End.{End}
@@ -23,7 +24,7 @@ pub record Told {V : Type 0} (token : Token) (Lawful : V → Type 0) (text : V �
 
 -- the numbers of some ranges
 pub numbers : (width : ℕ) (ranges : List (ℕ × ℕ)) (Lawful : ℕ → Type 0) → ((n : ℕ) → Lawful n → is_within ranges n ≡ true) → ((n : ℕ) → is_within ranges n ≡ true → Lawful n)
-    → ((n : ℕ) → Lawful n → n < 10 ^ width) → Told (shaped (numeral width ranges)) Lawful (digits width)
+    → ((n : ℕ) → Lawful n → n < 10 ^ width) → Told (shaped (fixed_number width ranges)) Lawful (digits width)
 numbers width ranges Lawful inside lawful below = record {
   is = λ n h. (n, inside n h, refl);
   of = λ bytes h. (h.0, lawful h.0 h.1, h.2);
@@ -48,7 +49,7 @@ second_told = numbers 3 _ IsSecond (λ n h. grind (arith, nat_tests)) (λ n h. g
 -- values that have numbers of some ranges, one number each
 pub coded : {V : Type 0} (width : ℕ) (ranges : List (ℕ × ℕ)) (Lawful : V → Type 0) (code : V → ℕ) → ((v : V) → Lawful v → (is_within ranges (code v) ≡ true) × (code v < 10 ^ width))
     → ((n : ℕ) → is_within ranges n ≡ true → (v : V) × Lawful v × (n ≡ code v)) → ((u v : V) → Lawful u → Lawful v → code u ≡ code v → u ≡ v)
-    → Told (shaped (numeral width ranges)) Lawful (λ v. digits width (code v))
+    → Told (shaped (fixed_number width ranges)) Lawful (λ v. digits width (code v))
 coded width ranges Lawful code inside decode one = record {
   is = λ v h. (code v, (inside v h).0, refl);
   of = λ bytes h. (let v = decode h.0 h.1 in (v.0, v.1, h.2 ∙ ap (digits width) v.2));

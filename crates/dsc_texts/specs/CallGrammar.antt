@@ -1,67 +1,72 @@
 -- The grammar of call texts, one row for each form: this project's profile over the forms of ITU-R M.493.
 use Rattle.std.specs.Prelude.{ℕ, List, [], ◌∷◌, codes}
-use Rattle.line_grammar.specs.Shapes.{Shape, letters, numeral, pair, choice}
+use Rattle.dsc_symbols.specs.declared.categories.TheConstants.{CATEGORIES}
+use Rattle.dsc_symbols.specs.declared.ends.TheConstants.{ENDS, RELAY_ENDS, TEST_ENDS}
+use Rattle.dsc_symbols.specs.declared.natures.TheConstants.{NATURES}
+use Rattle.dsc_symbols.specs.declared.notices.TheConstants.{SECONDS}
+use Rattle.dsc_symbols.specs.declared.telecommands.TheConstants.{COMMS, FIRSTS}
+use Rattle.line_grammar.specs.Shapes.{Shape, letters, fixed_number, pair, choice}
 use Rattle.line_grammar.specs.Tokens.{Token, shaped}
 use Rattle.line_grammar.specs.Grammar.{Grammar, finish, word, field, either}
 
 -- the nine digits of an identity
 abbrev pub identity_shape : Shape
-identity_shape = numeral 9 ((0, 999999999) ∷ [])
+identity_shape = fixed_number 9 ((0, 999999999) ∷ [])
 
 abbrev pub identity : Token
 identity = shaped identity_shape
 
 -- a symbol in three digits
 abbrev pub symbol : List (ℕ × ℕ) → Token
-symbol ranges = shaped (numeral 3 ranges)
+symbol ranges = shaped (fixed_number 3 ranges)
 
 -- nature of distress
 abbrev pub nature : Token
-nature = symbol ((100, 110) ∷ (112, 112) ∷ [])
+nature = symbol NATURES
 
 -- category
 abbrev pub category : Token
-category = symbol ((100, 100) ∷ (108, 108) ∷ (110, 110) ∷ [])
+category = symbol CATEGORIES
 
 -- first telecommand
 abbrev pub first_command : Token
-first_command = symbol ((100, 101) ∷ (103, 104) ∷ (106, 106) ∷ (109, 109) ∷ (113, 113) ∷ (115, 115) ∷ (126, 126) ∷ [])
+first_command = symbol FIRSTS
 
 -- second telecommand
 abbrev pub second_command : Token
-second_command = symbol ((100, 113) ∷ (126, 126) ∷ [])
+second_command = symbol SECONDS
 
 -- subsequent communications
 abbrev pub comm : Token
-comm = symbol ((100, 101) ∷ (106, 106) ∷ (109, 109) ∷ (113, 113) ∷ (115, 115) ∷ (126, 126) ∷ [])
+comm = symbol COMMS
 
 -- minutes of a degree or of an hour
 abbrev pub minutes : Shape
-minutes = numeral 2 ((0, 59) ∷ [])
+minutes = fixed_number 2 ((0, 59) ∷ [])
 
 -- degrees and minutes of latitude, at most 90 00
 abbrev pub latitude : Shape
-latitude = choice (pair (numeral 2 ((0, 89) ∷ [])) minutes) (letters (codes "9000"))
+latitude = choice (pair (fixed_number 2 ((0, 89) ∷ [])) minutes) (letters (codes "9000"))
 
 -- degrees and minutes of longitude, at most 180 00
 abbrev pub longitude : Shape
-longitude = choice (pair (numeral 3 ((0, 179) ∷ [])) minutes) (letters (codes "18000"))
+longitude = choice (pair (fixed_number 3 ((0, 179) ∷ [])) minutes) (letters (codes "18000"))
 
 -- a quadrant, a latitude and a longitude, or nines where they are not known
 abbrev pub position : Token
-position = shaped (choice (pair (numeral 1 ((0, 3) ∷ [])) (pair latitude longitude)) (letters (codes "9999999999")))
+position = shaped (choice (pair (fixed_number 1 ((0, 3) ∷ [])) (pair latitude longitude)) (letters (codes "9999999999")))
 
 -- an hour and a minute, or eights where they are not known
 abbrev pub time : Token
-time = shaped (choice (pair (numeral 2 ((0, 23) ∷ [])) minutes) (letters (codes "8888")))
+time = shaped (choice (pair (fixed_number 2 ((0, 23) ∷ [])) minutes) (letters (codes "8888")))
 
 -- a quadrant, a latitude, a longitude, and the sides southwards and eastwards
 abbrev pub area_shape : Shape
 area_shape =
-    pair (numeral 1 ((0, 3) ∷ [])) (
-    pair (numeral 2 ((0, 90) ∷ [])) (
-    pair (numeral 3 ((0, 180) ∷ [])) (
-    pair (numeral 2 ((0, 99) ∷ [])) (numeral 2 ((0, 99) ∷ [])))))
+    pair (fixed_number 1 ((0, 3) ∷ [])) (
+    pair (fixed_number 2 ((0, 90) ∷ [])) (
+    pair (fixed_number 3 ((0, 180) ∷ [])) (
+    pair (fixed_number 2 ((0, 99) ∷ [])) (fixed_number 2 ((0, 99) ∷ [])))))
 
 abbrev pub area : Token
 area = shaped area_shape
@@ -77,7 +82,7 @@ address =
 abbrev pub frequency : Token
 frequency =
     shaped (choice (letters (codes "none"))
-    (choice (numeral 6 ((0, 299999) ∷ (300000, 399999) ∷ (900000, 909999) ∷ [])) (numeral 8 ((40000000, 49999999) ∷ []))))
+    (choice (fixed_number 6 ((0, 299999) ∷ (300000, 399999) ∷ (900000, 909999) ∷ [])) (fixed_number 8 ((40000000, 49999999) ∷ []))))
 
 -- a field behind its label
 abbrev pub labelled : List ℕ → Token → Grammar → Grammar
@@ -115,13 +120,13 @@ message rest = either (frequencies rest) (labelled (codes " at=") position rest)
 
 -- the ends of sequence of a relay, of a test, and of a call to one station
 abbrev pub relay_ends : List (ℕ × ℕ)
-relay_ends = (117, 117) ∷ (127, 127) ∷ []
+relay_ends = RELAY_ENDS
 
 abbrev pub test_ends : List (ℕ × ℕ)
-test_ends = (117, 117) ∷ (122, 122) ∷ []
+test_ends = TEST_ENDS
 
 abbrev pub all_ends : List (ℕ × ℕ)
-all_ends = (117, 117) ∷ (122, 122) ∷ (127, 127) ∷ []
+all_ends = ENDS
 
 -- one of these ends of sequence, and no more
 abbrev pub end : List (ℕ × ℕ) → Grammar

@@ -1,10 +1,11 @@
 -- The parts of call texts: this project's profile.
 use Rattle.std.specs.Prelude.{◌≡◌, ℕ, ◌+◌, Bool, if◌then◌else◌, List, ◌++◌, Option, Some, None, codes}
+use Rattle.dsc_symbols.specs.declared.ends.TheConstants.{ACKNOWLEDGE_RQ, ACKNOWLEDGE_BQ, EOS}
 use Rattle.call_values.specs.declared.places.Fix.{Fix}
 use Rattle.call_values.specs.Areas.{Rectangle}
-use Rattle.call_values.specs.declared.alerts.Casualty.{Casualty}
-use Rattle.call_values.specs.declared.alerts.Call.{Call}
-use Rattle.call_values.specs.declared.alerts.Call.TheVariants.{Alert, Ack, Relay, RelayAck, AllShips, AreaCall, GroupCall, Individual, Service}
+use Rattle.call_values.specs.declared.calls.Casualty.{Casualty}
+use Rattle.call_values.specs.declared.calls.Call.{Call}
+use Rattle.call_values.specs.declared.calls.Call.TheVariants.{Alert, Ack, Relay, RelayAck, AllShips, AreaCall, GroupCall, Individual, Service}
 use Rattle.call_values.specs.declared.choices.Category.{Category}
 use Rattle.call_values.specs.declared.fields.FieldKind.{FieldKind}
 use Rattle.call_values.specs.declared.fields.FieldKind.TheVariants.{Absent, Hundreds, Hf, Vhf, Tens}
@@ -76,11 +77,11 @@ message_parts (At position) rest = second (part (position_text position) rest)
 
 -- the end of sequence of a relay, which may ask for an acknowledgement
 abbrev pub relay_end : Bool → ℕ
-relay_end ask = if ask then 117 else 127
+relay_end ask = if ask then ACKNOWLEDGE_RQ else EOS
 
 -- the end of sequence of a test, and of the reply to one
 abbrev pub test_end : Bool → ℕ
-test_end reply = if reply then 122 else 117
+test_end reply = if reply then ACKNOWLEDGE_BQ else ACKNOWLEDGE_RQ
 
 -- an end of sequence
 abbrev pub end_parts : ℕ → Parts

@@ -1,7 +1,7 @@
 ghost use Rattle.std.specs.Prelude.{◌≡◌, ◌+◌, ◌≤◌, ◌++◌};
 ghost use Rattle.arrayvec.specs.ArrayVec.{array_vec_len};
 ghost use Rattle.dsc_texts.specs.CallParts.{call_text};
-ghost use Rattle.call_values.specs.declared.alerts.Call.TheVariants.{Alert, Service};
+ghost use Rattle.call_values.specs.declared.calls.Call.TheVariants.{Alert, Service};
 ghost use Rattle.dsc_texts.specs.Texts.{reported_text};
 
 use crate::pieces::{append, append_digits};
@@ -12,6 +12,7 @@ use crate::values::{
 use arrayvec::ArrayVec;
 use call_grammar::end_of;
 use call_values::{Call, Casualty, Category, Kind, Mmsi};
+use dsc_symbols::ends::{ACKNOWLEDGE_BQ, ACKNOWLEDGE_RQ};
 use slot_join::Extra;
 
 /// The text of a call and of what follows it on air.
@@ -146,7 +147,14 @@ fn append_service<const N: usize>(
             append(out, b"test to=");
             append_digits(out, 9, u64::from(to.number()));
             append_sender(out, category, from);
-            append_end(out, if *reply { 122 } else { 117 });
+            append_end(
+                out,
+                if *reply {
+                    ACKNOWLEDGE_BQ
+                } else {
+                    ACKNOWLEDGE_RQ
+                },
+            );
         }
         Kind::AskPosition => {
             append(out, b"askpos to=");

@@ -14,40 +14,14 @@ ghost use Rattle.dsc_texts.specs.CallParts as texts;
 use call_values::{
     Area, Category, Comm, End, Field, First, Fix, HourMinute, Mmsi, Nature, Position, Second, To,
 };
-use line_grammar::{numeral, word};
+use dsc_symbols::categories::{self, CATEGORIES};
+use dsc_symbols::ends::{self, ENDS, RELAY_ENDS, TEST_ENDS};
+use dsc_symbols::natures::NATURES;
+use dsc_symbols::notices::SECONDS;
+use dsc_symbols::telecommands::{COMMS, FIRSTS};
+use line_grammar::{fixed_number, word};
 
 const IDENTITIES: [(u64, u64); 1] = [(0, 999_999_999)];
-
-const NATURES: [(u64, u64); 2] = [(100, 110), (112, 112)];
-
-const COMMS: [(u64, u64); 6] = [
-    (100, 101),
-    (106, 106),
-    (109, 109),
-    (113, 113),
-    (115, 115),
-    (126, 126),
-];
-
-const FIRSTS: [(u64, u64); 7] = [
-    (100, 101),
-    (103, 104),
-    (106, 106),
-    (109, 109),
-    (113, 113),
-    (115, 115),
-    (126, 126),
-];
-
-const SECONDS: [(u64, u64); 2] = [(100, 113), (126, 126)];
-
-const CATEGORIES: [(u64, u64); 3] = [(100, 100), (108, 108), (110, 110)];
-
-const RELAY_ENDS: [(u64, u64); 2] = [(117, 117), (127, 127)];
-
-const TEST_ENDS: [(u64, u64); 2] = [(117, 117), (122, 122)];
-
-const ENDS: [(u64, u64); 3] = [(117, 117), (122, 122), (127, 127)];
 
 const SIX_DIGITS: [(u64, u64); 3] = [(0, 299_999), (300_000, 399_999), (900_000, 909_999)];
 
@@ -109,10 +83,10 @@ fn up_to(width: usize, most: u8, bytes: &[u8]) -> Result<(u8, &[u8]), usize>
     requires width { width ≤ 3 }
     requires most { most < 10 ^ width }
     ensures range { IfOk result (λ parts. parts.0 ≤ most) }
-    ensures value { IfOk result (λ parts. read_shape (shape.numeral width ((0, most) ∷ [])) bytes.now ≡ Ok (digits width parts.0, parts.1.now)) }
-    ensures left { IfErr result (λ left. read_shape (shape.numeral width ((0, most) ∷ [])) bytes.now ≡ Err left) }
+    ensures value { IfOk result (λ parts. read_shape (shape.fixed_number width ((0, most) ∷ [])) bytes.now ≡ Ok (digits width parts.0, parts.1.now)) }
+    ensures left { IfErr result (λ left. read_shape (shape.fixed_number width ((0, most) ∷ [])) bytes.now ≡ Err left) }
 {
-    let (number, rest) = numeral(width, &[(0, u64::from(most))], bytes)?;
+    let (number, rest) = fixed_number(width, &[(0, u64::from(most))], bytes)?;
     Ok((number as u8, rest))
 }
 
@@ -123,7 +97,7 @@ impl Token for Mmsi {
     ghost text = { λ v. digits 9 v };
 
     fn read(bytes: &[u8]) -> Result<(Mmsi, &[u8]), usize> {
-        let (number, rest) = numeral(9, &IDENTITIES, bytes)?;
+        let (number, rest) = fixed_number(9, &IDENTITIES, bytes)?;
         Ok((Mmsi::new(number as u32).unwrap(), rest))
     }
 }
@@ -135,7 +109,7 @@ impl Token for Nature {
     ghost text = { λ v. digits 3 v };
 
     fn read(bytes: &[u8]) -> Result<(Nature, &[u8]), usize> {
-        let (symbol, rest) = numeral(3, &NATURES, bytes)?;
+        let (symbol, rest) = fixed_number(3, &NATURES, bytes)?;
         Ok((Nature::new(symbol as u8).unwrap(), rest))
     }
 }
@@ -147,7 +121,7 @@ impl Token for Comm {
     ghost text = { λ v. digits 3 v };
 
     fn read(bytes: &[u8]) -> Result<(Comm, &[u8]), usize> {
-        let (symbol, rest) = numeral(3, &COMMS, bytes)?;
+        let (symbol, rest) = fixed_number(3, &COMMS, bytes)?;
         Ok((Comm::new(symbol as u8).unwrap(), rest))
     }
 }
@@ -159,7 +133,7 @@ impl Token for First {
     ghost text = { λ v. digits 3 v };
 
     fn read(bytes: &[u8]) -> Result<(First, &[u8]), usize> {
-        let (symbol, rest) = numeral(3, &FIRSTS, bytes)?;
+        let (symbol, rest) = fixed_number(3, &FIRSTS, bytes)?;
         Ok((First::new(symbol as u8).unwrap(), rest))
     }
 }
@@ -171,7 +145,7 @@ impl Token for Second {
     ghost text = { λ v. digits 3 v };
 
     fn read(bytes: &[u8]) -> Result<(Second, &[u8]), usize> {
-        let (symbol, rest) = numeral(3, &SECONDS, bytes)?;
+        let (symbol, rest) = fixed_number(3, &SECONDS, bytes)?;
         Ok((Second::new(symbol as u8).unwrap(), rest))
     }
 }
@@ -183,10 +157,10 @@ impl Token for Category {
     ghost text = { λ v. digits 3 (spelling.category_symbol v) };
 
     fn read(bytes: &[u8]) -> Result<(Category, &[u8]), usize> {
-        let (symbol, rest) = numeral(3, &CATEGORIES, bytes)?;
-        let category = match symbol {
-            100 => Category::Routine,
-            108 => Category::Safety,
+        let (symbol, rest) = fixed_number(3, &CATEGORIES, bytes)?;
+        let category = match symbol as u8 {
+            categories::ROUTINE => Category::Routine,
+            categories::SAFETY => Category::Safety,
             _ => Category::Urgency,
         };
         Ok((category, rest))
@@ -200,8 +174,10 @@ impl Token for RelayEnd {
     ghost text = { λ v. digits 3 (texts.relay_end v.ask) };
 
     fn read(bytes: &[u8]) -> Result<(RelayEnd, &[u8]), usize> {
-        let (symbol, rest) = numeral(3, &RELAY_ENDS, bytes)?;
-        let end = RelayEnd { ask: symbol == 117 };
+        let (symbol, rest) = fixed_number(3, &RELAY_ENDS, bytes)?;
+        let end = RelayEnd {
+            ask: symbol as u8 == ends::ACKNOWLEDGE_RQ,
+        };
         Ok((end, rest))
     }
 }
@@ -213,9 +189,9 @@ impl Token for TestEnd {
     ghost text = { λ v. digits 3 (texts.test_end v.reply) };
 
     fn read(bytes: &[u8]) -> Result<(TestEnd, &[u8]), usize> {
-        let (symbol, rest) = numeral(3, &TEST_ENDS, bytes)?;
+        let (symbol, rest) = fixed_number(3, &TEST_ENDS, bytes)?;
         let end = TestEnd {
-            reply: symbol == 122,
+            reply: symbol as u8 == ends::ACKNOWLEDGE_BQ,
         };
         Ok((end, rest))
     }
@@ -228,10 +204,10 @@ impl Token for End {
     ghost text = { λ v. digits 3 (spelling.end_symbol v) };
 
     fn read(bytes: &[u8]) -> Result<(End, &[u8]), usize> {
-        let (symbol, rest) = numeral(3, &ENDS, bytes)?;
-        let end = match symbol {
-            117 => End::Ask,
-            122 => End::Reply,
+        let (symbol, rest) = fixed_number(3, &ENDS, bytes)?;
+        let end = match symbol as u8 {
+            ends::ACKNOWLEDGE_RQ => End::Ask,
+            ends::ACKNOWLEDGE_BQ => End::Reply,
             _ => End::Plain,
         };
         Ok((end, rest))
@@ -244,8 +220,8 @@ fn with_minutes(width: usize, most: u8, bytes: &[u8]) -> Result<((u8, u8), &[u8]
     requires width { width ≤ 3 }
     requires most { most < 10 ^ width }
     ensures range { IfOk result (λ parts. (parts.0.0 ≤ most) × (parts.0.1 < 60)) }
-    ensures value { IfOk result (λ parts. read_shape (shape.pair (shape.numeral width ((0, most) ∷ [])) grammar.minutes) bytes.now ≡ Ok (digits width parts.0.0 ++ digits 2 parts.0.1, parts.1.now)) }
-    ensures left { IfErr result (λ left. read_shape (shape.pair (shape.numeral width ((0, most) ∷ [])) grammar.minutes) bytes.now ≡ Err left) }
+    ensures value { IfOk result (λ parts. read_shape (shape.pair (shape.fixed_number width ((0, most) ∷ [])) grammar.minutes) bytes.now ≡ Ok (digits width parts.0.0 ++ digits 2 parts.0.1, parts.1.now)) }
+    ensures left { IfErr result (λ left. read_shape (shape.pair (shape.fixed_number width ((0, most) ∷ [])) grammar.minutes) bytes.now ≡ Err left) }
 {
     let (whole, rest) = up_to(width, most, bytes)?;
     let (minutes, rest) = up_to(2, 59, rest)?;
@@ -279,8 +255,8 @@ fn longitude(bytes: &[u8]) -> Result<((u8, u8), &[u8]), usize>
 /// The ten digits of a place at the front of these bytes, and what follows them. An error is how many bytes are left
 /// at the fault.
 fn known_position(bytes: &[u8]) -> Result<(Position, &[u8]), usize>
-    ensures value { IfOk result (λ parts. read_shape (shape.pair (shape.numeral 1 ((0, 3) ∷ [])) (shape.pair grammar.latitude grammar.longitude)) bytes.now ≡ Ok (texts.position_text parts.0, parts.1.now)) }
-    ensures left { IfErr result (λ left. read_shape (shape.pair (shape.numeral 1 ((0, 3) ∷ [])) (shape.pair grammar.latitude grammar.longitude)) bytes.now ≡ Err left) }
+    ensures value { IfOk result (λ parts. read_shape (shape.pair (shape.fixed_number 1 ((0, 3) ∷ [])) (shape.pair grammar.latitude grammar.longitude)) bytes.now ≡ Ok (texts.position_text parts.0, parts.1.now)) }
+    ensures left { IfErr result (λ left. read_shape (shape.pair (shape.fixed_number 1 ((0, 3) ∷ [])) (shape.pair grammar.latitude grammar.longitude)) bytes.now ≡ Err left) }
 {
     let (quadrant, rest) = up_to(1, 3, bytes)?;
     let ((lat_deg, lat_min), rest) = latitude(rest)?;
@@ -311,8 +287,8 @@ impl Token for Position {
 /// The four digits of an hour and a minute at the front of these bytes, and what follows them. An error is how many
 /// bytes are left at the fault.
 fn known_time(bytes: &[u8]) -> Result<(HourMinute, &[u8]), usize>
-    ensures value { IfOk result (λ parts. read_shape (shape.pair (shape.numeral 2 ((0, 23) ∷ [])) grammar.minutes) bytes.now ≡ Ok (texts.time_text parts.0, parts.1.now)) }
-    ensures left { IfErr result (λ left. read_shape (shape.pair (shape.numeral 2 ((0, 23) ∷ [])) grammar.minutes) bytes.now ≡ Err left) }
+    ensures value { IfOk result (λ parts. read_shape (shape.pair (shape.fixed_number 2 ((0, 23) ∷ [])) grammar.minutes) bytes.now ≡ Ok (texts.time_text parts.0, parts.1.now)) }
+    ensures left { IfErr result (λ left. read_shape (shape.pair (shape.fixed_number 2 ((0, 23) ∷ [])) grammar.minutes) bytes.now ≡ Err left) }
 {
     let ((hour, minute), rest) = with_minutes(2, 23, bytes)?;
     Ok((HourMinute::new(hour, minute).unwrap(), rest))
@@ -363,20 +339,20 @@ fn of_six_digits(number: u32) -> Field
 /// Hundreds of hertz or a channel in six digits at the front of these bytes, and what follows them. An error is how
 /// many bytes are left at the fault.
 fn six_digits(bytes: &[u8]) -> Result<(Field, &[u8]), usize>
-    ensures value { IfOk result (λ parts. read_shape (shape.numeral 6 ((0, 299999) ∷ (300000, 399999) ∷ (900000, 909999) ∷ [])) bytes.now ≡ Ok (texts.frequency_text parts.0, parts.1.now)) }
-    ensures left { IfErr result (λ left. read_shape (shape.numeral 6 ((0, 299999) ∷ (300000, 399999) ∷ (900000, 909999) ∷ [])) bytes.now ≡ Err left) }
+    ensures value { IfOk result (λ parts. read_shape (shape.fixed_number 6 ((0, 299999) ∷ (300000, 399999) ∷ (900000, 909999) ∷ [])) bytes.now ≡ Ok (texts.frequency_text parts.0, parts.1.now)) }
+    ensures left { IfErr result (λ left. read_shape (shape.fixed_number 6 ((0, 299999) ∷ (300000, 399999) ∷ (900000, 909999) ∷ [])) bytes.now ≡ Err left) }
 {
-    let (number, rest) = numeral(6, &SIX_DIGITS, bytes)?;
+    let (number, rest) = fixed_number(6, &SIX_DIGITS, bytes)?;
     Ok((of_six_digits(number as u32), rest))
 }
 
 /// Tens of hertz in eight digits at the front of these bytes, and what follows them. An error is how many bytes are
 /// left at the fault.
 fn eight_digits(bytes: &[u8]) -> Result<(Field, &[u8]), usize>
-    ensures value { IfOk result (λ parts. read_shape (shape.numeral 8 ((40000000, 49999999) ∷ [])) bytes.now ≡ Ok (texts.frequency_text parts.0, parts.1.now)) }
-    ensures left { IfErr result (λ left. read_shape (shape.numeral 8 ((40000000, 49999999) ∷ [])) bytes.now ≡ Err left) }
+    ensures value { IfOk result (λ parts. read_shape (shape.fixed_number 8 ((40000000, 49999999) ∷ [])) bytes.now ≡ Ok (texts.frequency_text parts.0, parts.1.now)) }
+    ensures left { IfErr result (λ left. read_shape (shape.fixed_number 8 ((40000000, 49999999) ∷ [])) bytes.now ≡ Err left) }
 {
-    let (number, rest) = numeral(8, &EIGHT_DIGITS, bytes)?;
+    let (number, rest) = fixed_number(8, &EIGHT_DIGITS, bytes)?;
     Ok((Field::tens(number as u32 - 40_000_000).unwrap(), rest))
 }
 

@@ -1,5 +1,5 @@
 ghost use Rattle.std.specs.Prelude.{◌≡◌, Ok};
-ghost use Rattle.call_values.specs.declared.alerts.Call.{Call};
+ghost use Rattle.call_values.specs.declared.calls.Call.{Call};
 ghost use Rattle.call_values.specs.Calls.{IsCall};
 ghost use Rattle.line_grammar.specs.inside.Reading.{read};
 ghost use Rattle.dsc_texts.specs.CallGrammar.{calls};

@@ -6,7 +6,7 @@ use Rattle.std.proofs.lemmas.List.{append_cancel_left}
 use Rattle.line_grammar.specs.Columns.{Answers, with_column}
 use Rattle.line_grammar.specs.Tokens.{Token, IsToken}
 use Rattle.line_grammar.specs.Grammar.{Grammar, finish, anything, word, field, either, Parts, none, part, first, second, Spells}
-use Rattle.line_grammar.specs.inside.Soundness.{may_have, may_follow, is_some_token, is_sound, cut, cut_all, may_end, differs, is_plain}
+use Rattle.line_grammar.specs.inside.Soundness.{may_have, may_follow, is_some_token, is_sound, cut, cut_all, may_end, differs, is_unambiguous}
 use Rattle.line_grammar.specs.inside.Reading.{read}
 use Rattle.line_grammar.proofs.Splits.{split}
 use Rattle.line_grammar.proofs.Stops.{Reads, left_le, IsColumn-stops}
@@ -158,7 +158,7 @@ either_apart left right p q s sound h k m =
     differ left (right ∷ []) p s both.0 h k (inl (q, m, both.1))
 
 -- one reading
-pub one_reading : (G : Grammar) (p q : Parts) (s : List ℕ) → is_sound G ≡ true → is_plain G ≡ true → Spells G p s → Spells G q s → p ≡ q
+pub one_reading : (G : Grammar) (p q : Parts) (s : List ℕ) → is_sound G ≡ true → is_unambiguous G ≡ true → Spells G p s → Spells G q s → p ≡ q
 one_reading finish none none s h k a b = refl
 one_reading anything none none s h k a b = refl
 one_reading (word text rest) p q s h k a b =
@@ -171,15 +171,15 @@ one_reading (field token rest) (part x p) (part y q) s h k a b =
     let more = one_reading rest p q b.1.0 follow.1 k (subst (λ (l : List ℕ). Spells rest p l) same.1 a.1.2) b.1.2 in
     ap (λ (l : List ℕ). part l p) same.0 ∙ ap (λ (r : Parts). part y r) more
 one_reading (either left right) (first p) (first q) s h k a b =
-    let plain = and_parts (differs left (right ∷ [])) (is_plain left && is_plain right) k in
-    ap first (one_reading left p q s (and_parts (is_sound left) (is_sound right) h).0 (and_parts (is_plain left) (is_plain right) plain.1).0 a b)
+    let plain = and_parts (differs left (right ∷ [])) (is_unambiguous left && is_unambiguous right) k in
+    ap first (one_reading left p q s (and_parts (is_sound left) (is_sound right) h).0 (and_parts (is_unambiguous left) (is_unambiguous right) plain.1).0 a b)
 one_reading (either left right) (second p) (second q) s h k a b =
-    let plain = and_parts (differs left (right ∷ [])) (is_plain left && is_plain right) k in
-    ap second (one_reading right p q s (and_parts (is_sound left) (is_sound right) h).1 (and_parts (is_plain left) (is_plain right) plain.1).1 a b)
+    let plain = and_parts (differs left (right ∷ [])) (is_unambiguous left && is_unambiguous right) k in
+    ap second (one_reading right p q s (and_parts (is_sound left) (is_sound right) h).1 (and_parts (is_unambiguous left) (is_unambiguous right) plain.1).1 a b)
 one_reading (either left right) (first p) (second q) s h k a b =
-    absurd (either_apart left right p q s h (and_parts (differs left (right ∷ [])) (is_plain left && is_plain right) k).0 a b)
+    absurd (either_apart left right p q s h (and_parts (differs left (right ∷ [])) (is_unambiguous left && is_unambiguous right) k).0 a b)
 one_reading (either left right) (second p) (first q) s h k a b =
-    absurd (either_apart left right q p s h (and_parts (differs left (right ∷ [])) (is_plain left && is_plain right) k).0 b a)
+    absurd (either_apart left right q p s h (and_parts (differs left (right ∷ [])) (is_unambiguous left && is_unambiguous right) k).0 b a)
 one_reading finish none (part a b) s h k x y = absurd y
 one_reading finish none (first a) s h k x y = absurd y
 one_reading finish none (second a) s h k x y = absurd y
@@ -206,9 +206,9 @@ one_reading (either left right) none q s h k x y = absurd x
 one_reading (either left right) (part a b) q s h k x y = absurd x
 
 -- the reader's answer, with the column
-answered : (G : Grammar) (bytes : List ℕ) (r : Result Parts ℕ) → is_sound G ≡ true → is_plain G ≡ true → Reads (Spells G) bytes r → Answers (Spells G) bytes (with_column bytes r)
+answered : (G : Grammar) (bytes : List ℕ) (r : Result Parts ℕ) → is_sound G ≡ true → is_unambiguous G ≡ true → Reads (Spells G) bytes r → Answers (Spells G) bytes (with_column bytes r)
 answered G bytes (Ok parts) h k m = (m, λ other n. one_reading G other parts bytes h k n m)
 answered G bytes (Err left) h k m = IsColumn-stops (Spells G) bytes left (length bytes + 1 - left) m (omega (arith, left_le (Spells G) bytes left m))
 
-pub answers : (G : Grammar) (bytes : List ℕ) → is_sound G ≡ true → is_plain G ≡ true → Answers (Spells G) bytes (with_column bytes (read G bytes))
+pub answers : (G : Grammar) (bytes : List ℕ) → is_sound G ≡ true → is_unambiguous G ≡ true → Answers (Spells G) bytes (with_column bytes (read G bytes))
 answers G bytes h k = answered G bytes (read G bytes) h k (reads G bytes h)

@@ -1,7 +1,7 @@
 -- the steps of the reader of numbers in code
 use Rattle.std.proofs.Common.{◌≡◌, ℕ, zero, suc, ◌+◌, ◌-◌, ◌*◌, ◌<◌, ◌≤◌, Bool, true, false, ◌==◌, ◌&&◌, nat_le, if◌then◌else◌, List, [], ◌∷◌, ◌++◌, length, Ok, Err, refl, sym, ◌∙◌, ap, subst, arith}
 use Rattle.std.proofs.lemmas.Bool.{le-leb, lt-leb, cond-true, cond-false, eq-eqb, ne_eqb}
-use Rattle.line_grammar.specs.Tokens.{number, is_digit, value_after}
+use Rattle.line_grammar.specs.Tokens.{free_number, is_digit, value_after}
 use Rattle.line_grammar.specs.inside.Reading.{reaches, goes_on, judged, judged_zero, read_digits, read_number, read_token}
 use Rattle.line_grammar.proofs.Numbers.{reaches_low, value_append}
 
@@ -84,29 +84,29 @@ pub walked_all : (least most first n : ℕ) (bytes rest : List ℕ) → Walked l
 unfolding Halts
 walked_all least most first n bytes rest w h front = let s = w.same front in (s.0, s.1 ∙ h s.0, s.2)
 
-pub number_end : (least most : ℕ) (bytes : List ℕ) → length bytes ≡ 0 → read_token (number least most) bytes ≡ Err 0
+pub number_end : (least most : ℕ) (bytes : List ℕ) → length bytes ≡ 0 → read_token (free_number least most) bytes ≡ Err 0
 unfolding read_token read_number
 number_end least most [] h = refl
 number_end least most (b ∷ bytes) h = absurd (omega arith)
 
-zero_first : (least most b : ℕ) (bytes rest : List ℕ) → bytes ≡ b ∷ rest → b ≡ 48 → read_token (number least most) bytes ≡ judged_zero least rest
+zero_first : (least most b : ℕ) (bytes rest : List ℕ) → bytes ≡ b ∷ rest → b ≡ 48 → read_token (free_number least most) bytes ≡ judged_zero least rest
 unfolding read_token read_number
 zero_first least most b bytes rest e h =
     ap (read_number least most) e
     ∙ cond-true (b == 48) (judged_zero least rest) (if is_digit b && goes_on least most (b - 48) then read_digits least most (b - 48) (b ∷ []) rest else Err (suc (length rest))) (eq-eqb b 48 h)
 
-pub number_zero : (least most b : ℕ) (bytes rest : List ℕ) → bytes ≡ b ∷ rest → b ≡ 48 → least ≡ 0 → read_token (number least most) bytes ≡ Ok (48 ∷ [], rest)
+pub number_zero : (least most b : ℕ) (bytes rest : List ℕ) → bytes ≡ b ∷ rest → b ≡ 48 → least ≡ 0 → read_token (free_number least most) bytes ≡ Ok (48 ∷ [], rest)
 number_zero least most b bytes rest e h k =
     zero_first least most b bytes rest e h ∙ cond-true (least == 0) (Ok (48 ∷ [], rest)) (Err (suc (length rest))) (eq-eqb least 0 k)
 
-pub number_no_zero : (least most b : ℕ) (bytes rest : List ℕ) → bytes ≡ b ∷ rest → b ≡ 48 → (least ≡ 0 → ⊥) → read_token (number least most) bytes ≡ Err (length bytes)
+pub number_no_zero : (least most b : ℕ) (bytes rest : List ℕ) → bytes ≡ b ∷ rest → b ≡ 48 → (least ≡ 0 → ⊥) → read_token (free_number least most) bytes ≡ Err (length bytes)
 number_no_zero least most b bytes rest e h k =
     zero_first least most b bytes rest e h
     ∙ cond-false (least == 0) (Ok (48 ∷ [], rest)) (Err (suc (length rest))) (ne_eqb least 0 k)
     ∙ ap (λ (l : List ℕ). Err (length l)) (sym e)
 
 other_first : (least most b : ℕ) (bytes rest : List ℕ) → bytes ≡ b ∷ rest → (b ≡ 48 → ⊥)
-    → read_token (number least most) bytes ≡ (if is_digit b && goes_on least most (b - 48) then read_digits least most (b - 48) (b ∷ []) rest else Err (suc (length rest)))
+    → read_token (free_number least most) bytes ≡ (if is_digit b && goes_on least most (b - 48) then read_digits least most (b - 48) (b ∷ []) rest else Err (suc (length rest)))
 unfolding read_token read_number
 other_first least most b bytes rest e h =
     ap (read_number least most) e
@@ -115,7 +115,7 @@ other_first least most b bytes rest e h =
 from_zero : (d : ℕ) → 10 * 0 + d ≡ d
 from_zero d = omega arith
 
-pub number_none : (least most b : ℕ) (bytes rest : List ℕ) → bytes ≡ b ∷ rest → (b ≡ 48 → ⊥) → (is_digit b && goes_on least most (10 * 0 + (b - 48))) ≡ false → read_token (number least most) bytes ≡ Err (length bytes)
+pub number_none : (least most b : ℕ) (bytes rest : List ℕ) → bytes ≡ b ∷ rest → (b ≡ 48 → ⊥) → (is_digit b && goes_on least most (10 * 0 + (b - 48))) ≡ false → read_token (free_number least most) bytes ≡ Err (length bytes)
 number_none least most b bytes rest e h k =
     other_first least most b bytes rest e h
     ∙ cond-false (is_digit b && goes_on least most (b - 48)) (read_digits least most (b - 48) (b ∷ []) rest) (Err (suc (length rest)))
@@ -123,7 +123,7 @@ number_none least most b bytes rest e h k =
     ∙ ap (λ (l : List ℕ). Err (length l)) (sym e)
 
 pub number_begun : (least most b next : ℕ) (bytes rest : List ℕ) → bytes ≡ b ∷ rest → (b ≡ 48 → ⊥) → next ≡ 10 * 0 + (b - 48) → (is_digit b && goes_on least most next) ≡ true
-    → read_token (number least most) bytes ≡ read_digits least most next (b ∷ []) rest
+    → read_token (free_number least most) bytes ≡ read_digits least most next (b ∷ []) rest
 number_begun least most b next bytes rest e h f k =
     let same : next ≡ b - 48 = f ∙ from_zero (b - 48) in
     other_first least most b bytes rest e h
@@ -137,12 +137,12 @@ Digits least most begun n bytes rest =
     (front : List ℕ) → (all : List ℕ) × (read_digits least most begun front bytes ≡ judged least n all rest) × (value_after 0 front ≡ begun → value_after 0 all ≡ n)
 
 pub number_low : (least most b next n : ℕ) (bytes back rest : List ℕ) → bytes ≡ b ∷ back → (b ≡ 48 → ⊥) → next ≡ 10 * 0 + (b - 48) → (is_digit b && goes_on least most next) ≡ true → Digits least most next n back rest → n < least
-    → read_token (number least most) bytes ≡ Err (length rest)
+    → read_token (free_number least most) bytes ≡ Err (length rest)
 number_low least most b next n bytes back rest e h f k d low =
     number_begun least most b next bytes back e h f k ∙ (d (b ∷ [])).1 ∙ judged_err least n (d (b ∷ [])).0 rest low
 
 pub number_ok : (least most b next n : ℕ) (bytes back rest : List ℕ) → bytes ≡ b ∷ back → (b ≡ 48 → ⊥) → next ≡ 10 * 0 + (b - 48) → (is_digit b && goes_on least most next) ≡ true → Digits least most next n back rest → least ≤ n
-    → (front : List ℕ) × (read_token (number least most) bytes ≡ Ok (front, rest)) × (value_after 0 front ≡ n)
+    → (front : List ℕ) × (read_token (free_number least most) bytes ≡ Ok (front, rest)) × (value_after 0 front ≡ n)
 number_ok least most b next n bytes back rest e h f k d high =
     let s = d (b ∷ []) in
     (s.0, number_begun least most b next bytes back e h f k ∙ s.1 ∙ judged_ok least n s.0 rest high, s.2 (sym f))

@@ -3,7 +3,7 @@ use Rattle.std.proofs.Common.{◌≡◌, ◌≢◌, ℕ, zero, suc, ◌+◌, ◌
 use Rattle.std.specs.List.{list_all}
 use Rattle.std.proofs.lemmas.Bool.{and_parts, and_from, leb-true, leb-false, le-leb, eqb-true, eqb-false, cases_lt}
 use Rattle.std.proofs.lemmas.List.Folds.{list_all-append}
-use Rattle.line_grammar.specs.Tokens.{number, is_digit, value_after, HasNoLeadingZero, IsNumber}
+use Rattle.line_grammar.specs.Tokens.{free_number, is_digit, value_after, HasNoLeadingZero, IsNumber}
 use Rattle.line_grammar.specs.inside.Reading.{reaches, goes_on, judged, judged_zero, read_digits, read_number}
 use Rattle.line_grammar.proofs.Splits.{split}
 use Rattle.line_grammar.proofs.Tokens.{Misses, TokenReads}
@@ -170,7 +170,7 @@ too_short least most front a t x r below e h =
     omega (arith, whole, value_le (value_after 0 a) t, h.low)
 
 judge : (least most : ℕ) (front back : List ℕ) (x : ℕ) (t : Bool) → nat_le least x ≡ t → least ≤ most → IsRead front x → goes_on least most x ≡ true → Ends least most front back
-    → TokenReads (number least most) (front ++ back) (if t then Ok (front, back) else Err (length back))
+    → TokenReads (free_number least most) (front ++ back) (if t then Ok (front, back) else Err (length back))
 unfolding goes_on
 judge least most front back x true e range r h ends = record {
   list = refl;
@@ -213,11 +213,11 @@ one_digit front x b r h = record {
 }
 
 digits_step : (least most x b : ℕ) (front back : List ℕ) (t : Bool) → (is_digit b && goes_on least most (10 * x + (b - 48))) ≡ t → least ≤ most → IsRead front x → goes_on least most x ≡ true
-    → (IsRead (front ++ (b ∷ [])) (10 * x + (b - 48)) → goes_on least most (10 * x + (b - 48)) ≡ true → TokenReads (number least most) ((front ++ (b ∷ [])) ++ back) (read_digits least most (10 * x + (b - 48)) (front ++ (b ∷ [])) back))
-    → TokenReads (number least most) (front ++ (b ∷ back)) (if t then read_digits least most (10 * x + (b - 48)) (front ++ (b ∷ [])) back else judged least x front (b ∷ back))
+    → (IsRead (front ++ (b ∷ [])) (10 * x + (b - 48)) → goes_on least most (10 * x + (b - 48)) ≡ true → TokenReads (free_number least most) ((front ++ (b ∷ [])) ++ back) (read_digits least most (10 * x + (b - 48)) (front ++ (b ∷ [])) back))
+    → TokenReads (free_number least most) (front ++ (b ∷ back)) (if t then read_digits least most (10 * x + (b - 48)) (front ++ (b ∷ [])) back else judged least x front (b ∷ back))
 digits_step least most x b front back true e range r h more =
     let k = and_parts (is_digit b) (goes_on least most (10 * x + (b - 48))) e in
-    subst (λ (l : List ℕ). TokenReads (number least most) l (read_digits least most (10 * x + (b - 48)) (front ++ (b ∷ [])) back)) (append_assoc front (b ∷ []) back)
+    subst (λ (l : List ℕ). TokenReads (free_number least most) l (read_digits least most (10 * x + (b - 48)) (front ++ (b ∷ [])) back)) (append_assoc front (b ∷ []) back)
     (more (one_digit front x b r k.0) k.1)
 digits_step least most x b front back false e range r h more =
     judge least most front (b ∷ back) x (nat_le least x) refl range r h
@@ -225,7 +225,7 @@ digits_step least most x b front back false e range r h more =
     let same : c ≡ b = cc in
     never_on least most front x b on r e (subst (λ (d : ℕ). IsNumber least most (front ++ (d ∷ on))) same k))
 
-digits_read : (least most x : ℕ) (front back : List ℕ) → least ≤ most → IsRead front x → goes_on least most x ≡ true → TokenReads (number least most) (front ++ back) (read_digits least most x front back)
+digits_read : (least most x : ℕ) (front back : List ℕ) → least ≤ most → IsRead front x → goes_on least most x ≡ true → TokenReads (free_number least most) (front ++ back) (read_digits least most x front back)
 unfolding read_digits
 digits_read least most x front [] range r h = judge least most front [] x (nat_le least x) refl range r h (λ c rest on (f : [] ≡ c ∷ rest) k. absurd (cc))
 digits_read least most x front (b ∷ back) range r h =
@@ -244,13 +244,13 @@ record Numeral (n : ℕ) : Type 0 where
   leading : HasNoLeadingZero digits
   value : value_after 0 digits ≡ n
 
-numeral : (steps n : ℕ) → n < steps → Numeral n
-numeral zero n h = absurd (omega arith)
-numeral (suc steps) n h =
+fixed_number : (steps n : ℕ) → n < steps → Numeral n
+fixed_number zero n h = absurd (omega arith)
+fixed_number (suc steps) n h =
     elim (cases_lt n 10) [
       | inl small ↦ record { digits = (48 + n) ∷ []; all = and_from (is_digit (48 + n)) true (digit_of n small) refl; leading = tt; value = omega arith }
       | inr large ↦
-          let w = numeral steps (n / 10) (omega arith) in
+          let w = fixed_number steps (n / 10) (omega arith) in
           let d : n % 10 < 10 = omega arith in
           let last = 48 + n % 10 in
           record {
@@ -263,7 +263,7 @@ numeral (suc steps) n h =
 
 pub some_number : (least most : ℕ) → least ≤ most → (bytes : List ℕ) × IsNumber least most bytes
 some_number least most range =
-    let w = numeral (suc least) least (omega arith) in
+    let w = fixed_number (suc least) least (omega arith) in
     (w.digits, record { digits = w.all; leading = w.leading; low = omega (arith, w.value); high = omega (arith, w.value) })
 
 -- a byte with which no number begins
@@ -279,7 +279,7 @@ first_none least most b bytes never (c ∷ a) s e h =
     let same : c ≡ b = cc in
     never a (subst (λ (d : ℕ). IsNumber least most (d ∷ a)) same h)
 
-first_never : (least most b : ℕ) (bytes : List ℕ) → least ≤ most → ((l : List ℕ) → IsNumber least most (b ∷ l) → ⊥) → Misses (number least most) (b ∷ bytes) (suc (length bytes))
+first_never : (least most b : ℕ) (bytes : List ℕ) → least ≤ most → ((l : List ℕ) → IsNumber least most (b ∷ l) → ⊥) → Misses (free_number least most) (b ∷ bytes) (suc (length bytes))
 first_never least most b bytes range never = record {
   front = [];
   back = b ∷ bytes;
@@ -295,7 +295,7 @@ zero_alone : (least most : ℕ) (l : List ℕ) → (least ≡ 0 → ⊥) → IsN
 zero_alone least most [] h k = h (omega (arith, k.low))
 zero_alone least most (c ∷ l) h k = k.leading refl
 
-zero_step : (least most b : ℕ) (bytes : List ℕ) (t : Bool) → (least == 0) ≡ t → b ≡ 48 → least ≤ most → TokenReads (number least most) (b ∷ bytes) (if t then Ok (48 ∷ [], bytes) else Err (suc (length bytes)))
+zero_step : (least most b : ℕ) (bytes : List ℕ) (t : Bool) → (least == 0) ≡ t → b ≡ 48 → least ≤ most → TokenReads (free_number least most) (b ∷ bytes) (if t then Ok (48 ∷ [], bytes) else Err (suc (length bytes)))
 zero_step least most b bytes true e h range =
     let none = eqb-true least 0 e in
     record {
@@ -321,7 +321,7 @@ positive_digit b above other =
     elim (cases_lt 48 b) [ inl more ↦ omega arith | inr less ↦ absurd (other (omega arith)) ]
 
 first_step : (least most b : ℕ) (bytes : List ℕ) (t : Bool) → (is_digit b && goes_on least most (b - 48)) ≡ t → (b ≡ 48 → ⊥) → least ≤ most
-    → TokenReads (number least most) (b ∷ bytes) (if t then read_digits least most (b - 48) (b ∷ []) bytes else Err (suc (length bytes)))
+    → TokenReads (free_number least most) (b ∷ bytes) (if t then read_digits least most (b - 48) (b ∷ []) bytes else Err (suc (length bytes)))
 first_step least most b bytes true e other range =
     let k = and_parts (is_digit b) (goes_on least most (b - 48)) e in
     let d = digit_bounds b k.0 in
@@ -338,7 +338,7 @@ first_step least most b bytes true e other range =
 first_step least most b bytes false e other range = first_never least most b bytes range (λ l k. no_first least most b l e k)
 
 number_step : (least most b : ℕ) (bytes : List ℕ) (t : Bool) → (b == 48) ≡ t → least ≤ most
-    → TokenReads (number least most) (b ∷ bytes) (if t then judged_zero least bytes else (if is_digit b && goes_on least most (b - 48) then read_digits least most (b - 48) (b ∷ []) bytes else Err (suc (length bytes))))
+    → TokenReads (free_number least most) (b ∷ bytes) (if t then judged_zero least bytes else (if is_digit b && goes_on least most (b - 48) then read_digits least most (b - 48) (b ∷ []) bytes else Err (suc (length bytes))))
 number_step least most b bytes true e range = zero_step least most b bytes (least == 0) refl (eqb-true b 48 e) range
 number_step least most b bytes false e range = first_step least most b bytes (is_digit b && goes_on least most (b - 48)) refl (eqb-false b 48 e) range
 
@@ -346,7 +346,7 @@ none_here : (least most : ℕ) (a s : List ℕ) → [] ≡ a ++ s → IsNumber l
 none_here least most [] s e h = h.leading
 none_here least most (c ∷ a) s e h = absurd (cc)
 
-pub number_reads : (least most : ℕ) (bytes : List ℕ) → least ≤ most → TokenReads (number least most) bytes (read_number least most bytes)
+pub number_reads : (least most : ℕ) (bytes : List ℕ) → least ≤ most → TokenReads (free_number least most) bytes (read_number least most bytes)
 unfolding read_number
 number_reads least most [] range = record {
   front = [];

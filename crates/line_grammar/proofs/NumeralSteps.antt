@@ -3,7 +3,7 @@ use Rattle.std.proofs.Common.{◌≡◌, ℕ, suc, ◌+◌, ◌-◌, ◌*◌, �
 use Rattle.std.proofs.lemmas.Bool.{and_parts, leb-true, cond-true, cond-false}
 use Rattle.std.proofs.lemmas.List.{nil_from_length}
 use Rattle.std.proofs.Math.Nat.{div-eq_of_lt}
-use Rattle.line_grammar.specs.Shapes.{numeral, digits, is_within}
+use Rattle.line_grammar.specs.Shapes.{fixed_number, digits, is_within}
 use Rattle.line_grammar.specs.Tokens.{is_digit}
 use Rattle.line_grammar.specs.inside.Reading.{behind, fits, read_numeral, read_shape}
 use Rattle.line_grammar.specs.inside.Soundness.{are_ranges}
@@ -14,7 +14,7 @@ pub record Passed (width : ℕ) (ranges : List (ℕ × ℕ)) (bytes : List ℕ) 
   pub done : ℕ
   pub count : done + more ≡ width
   pub fit : fits more ranges n ≡ true
-  pub same : read_shape (numeral width ranges) bytes ≡ behind (digits done n) (read_numeral more ranges n rest)
+  pub same : read_shape (fixed_number width ranges) bytes ≡ behind (digits done n) (read_numeral more ranges n rest)
 
 behind_nothing : (r : Result (List ℕ × List ℕ) ℕ) → r ≡ behind [] r
 behind_nothing (Ok (front, back)) = refl
@@ -75,7 +75,7 @@ passed_more width before more ranges bytes rest back n b next p down e f h =
     }
 
 pub passed_end : (width before more : ℕ) (ranges : List (ℕ × ℕ)) (bytes rest : List ℕ) (n : ℕ) → Passed width ranges bytes before n rest → before ≡ suc more → length rest ≡ 0
-    → read_shape (numeral width ranges) bytes ≡ Err 0
+    → read_shape (fixed_number width ranges) bytes ≡ Err 0
 unfolding read_numeral
 passed_end width before more ranges bytes rest n p down e =
     p.same
@@ -83,7 +83,7 @@ passed_end width before more ranges bytes rest n p down e =
     ∙ ap (λ (l : List ℕ). behind (digits p.done n) (read_numeral (suc more) ranges n l)) (nil_from_length rest e)
 
 pub passed_stop : (width before more : ℕ) (ranges : List (ℕ × ℕ)) (bytes rest back : List ℕ) (n b : ℕ) → Passed width ranges bytes before n rest → before ≡ suc more → rest ≡ b ∷ back
-    → (is_digit b && fits more ranges (10 * n + (b - 48))) ≡ false → read_shape (numeral width ranges) bytes ≡ Err (length rest)
+    → (is_digit b && fits more ranges (10 * n + (b - 48))) ≡ false → read_shape (fixed_number width ranges) bytes ≡ Err (length rest)
 unfolding read_numeral
 passed_stop width before more ranges bytes rest back n b p down e h =
     let on = 10 * n + (b - 48) in
@@ -95,7 +95,7 @@ passed_stop width before more ranges bytes rest back n b p down e h =
     ∙ ap (λ (l : List ℕ). Err (length l)) (sym e)
 
 pub passed_all : (width more : ℕ) (ranges : List (ℕ × ℕ)) (bytes rest : List ℕ) (n : ℕ) → Passed width ranges bytes more n rest → more ≡ 0
-    → (is_within ranges n ≡ true) × (read_shape (numeral width ranges) bytes ≡ Ok (digits width n, rest))
+    → (is_within ranges n ≡ true) × (read_shape (fixed_number width ranges) bytes ≡ Ok (digits width n, rest))
 unfolding read_numeral
 passed_all width more ranges bytes rest n p none =
     let whole : p.done ≡ width = omega (arith, p.count, none) in (

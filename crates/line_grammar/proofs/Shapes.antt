@@ -4,7 +4,7 @@ use Rattle.std.specs.List.{list_all}
 use Rattle.std.proofs.lemmas.Bool.{and_parts, and_from, or_left, or_right, or_cases, eq-eqb, eqb-true, eqb-false, leb-true, not-true, agree_below_at}
 use Rattle.std.proofs.lemmas.List.{append_cancel_left}
 use Rattle.std.proofs.lemmas.List.Folds.{list_all-append, list_any-append}
-use Rattle.line_grammar.specs.Shapes.{Shape, letters, numeral, pair, choice, digits, is_within, IsShaped}
+use Rattle.line_grammar.specs.Shapes.{Shape, letters, fixed_number, pair, choice, digits, is_within, IsShaped}
 use Rattle.line_grammar.specs.Tokens.{is_one_of, is_digit, shaped}
 use Rattle.line_grammar.specs.inside.Reading.{fits, read_shape}
 use Rattle.line_grammar.specs.inside.Soundness.{shape_may_have, firsts, may_begin, begin_apart, both_widths, one_width, is_width, width_of, are_as_wide, leading, part_ways, are_apart, are_ranges, is_some_shape}
@@ -29,7 +29,7 @@ all_letters (c ∷ text) =
 
 pub shape_has : (shape : Shape) (bytes : List ℕ) → IsShaped shape bytes → list_all (shape_may_have shape) bytes ≡ true
 shape_has (letters text) bytes h = subst (λ (l : List ℕ). list_all (is_one_of text) l ≡ true) (sym h) (all_letters text)
-shape_has (numeral width ranges) bytes h = subst (λ (l : List ℕ). list_all is_digit l ≡ true) (sym h.2) (digits_all width h.0)
+shape_has (fixed_number width ranges) bytes h = subst (λ (l : List ℕ). list_all is_digit l ≡ true) (sym h.2) (digits_all width h.0)
 shape_has (pair left right) bytes h =
     let p = shape_may_have (pair left right) in
     let front = all_more (shape_may_have left) p h.0 (λ b k. or_left (shape_may_have left b) (shape_may_have right b) k) (shape_has left h.0 h.3) in
@@ -53,7 +53,7 @@ digit_first b h =
     let high = leb-true b 57 (and_parts (nat_le 48 b) (nat_le b 57) h).1 in
     sym (agree_below_at is_digit (is_one_of (codes "0123456789")) 58 b refl (omega (arith, high))) ∙ h
 
-begun_numeral : (more : ℕ) (ranges : List (ℕ × ℕ)) (n : ℕ) (bytes : List ℕ) → are_ranges (suc more) ranges ≡ true → is_within ranges n ≡ true → bytes ≡ digits (suc more) n → Begun (numeral (suc more) ranges) bytes
+begun_numeral : (more : ℕ) (ranges : List (ℕ × ℕ)) (n : ℕ) (bytes : List ℕ) → are_ranges (suc more) ranges ≡ true → is_within ranges n ≡ true → bytes ≡ digits (suc more) n → Begun (fixed_number (suc more) ranges) bytes
 begun_numeral more ranges n bytes some h e =
     let b = 48 + n / 10 ^ more % 10 in
     let list = e ∙ digits_first more n in
@@ -72,8 +72,8 @@ begun_numeral more ranges n bytes some h e =
 pub begun : (shape : Shape) (bytes : List ℕ) → is_some_shape shape ≡ true → IsShaped shape bytes → Begun shape bytes
 begun (letters []) bytes some h = absurd (cc)
 begun (letters (c ∷ text)) bytes some h = record { byte = c; rest = text; list = h; begins = eq-eqb c c refl; is_first = or_left (c == c) false (eq-eqb c c refl) }
-begun (numeral zero ranges) bytes some h = absurd (cc)
-begun (numeral (suc more) ranges) bytes some h = begun_numeral more ranges h.0 bytes some h.1 h.2
+begun (fixed_number zero ranges) bytes some h = absurd (cc)
+begun (fixed_number (suc more) ranges) bytes some h = begun_numeral more ranges h.0 bytes some h.1 h.2
 begun (pair left right) bytes some h =
     let b = begun left h.0 (and_parts (is_some_shape left) (is_some_shape right) some).0 h.3 in
     record { byte = b.byte; rest = b.rest ++ h.1; list = h.2 ∙ ap (λ (l : List ℕ). l ++ h.1) b.list; begins = b.begins; is_first = b.is_first }
@@ -146,7 +146,7 @@ part_fronts (c ∷ text) (d ∷ other) r s h e = part_step c d text other r s (c
 
 leads : (shape : Shape) (bytes : List ℕ) → IsShaped shape bytes → (rest : List ℕ) × (bytes ≡ leading shape ++ rest)
 leads (letters text) bytes h = ([], h ∙ sym (append-nil text))
-leads (numeral width ranges) bytes h = (bytes, refl)
+leads (fixed_number width ranges) bytes h = (bytes, refl)
 leads (pair left right) bytes h =
     let f = leads left h.0 h.3 in
     (f.0 ++ h.1, h.2 ∙ ap (λ (l : List ℕ). l ++ h.1) f.1 ∙ append_assoc (leading left) f.0 h.1)
@@ -176,7 +176,7 @@ one_is None b n h = absurd (cc)
 
 wide : (shape : Shape) (bytes : List ℕ) (n : ℕ) → width_of shape ≡ Some n → IsShaped shape bytes → length bytes ≡ n
 wide (letters text) bytes n e h = let same : length text ≡ n = cc in ap length h ∙ same
-wide (numeral width ranges) bytes n e h = let same : width ≡ n = cc in ap length h.2 ∙ digits_length width h.0 ∙ same
+wide (fixed_number width ranges) bytes n e h = let same : width ≡ n = cc in ap length h.2 ∙ digits_length width h.0 ∙ same
 wide (pair left right) bytes n e h =
     let w = both_is (width_of left) (width_of right) n e in
     omega (arith, ap length h.2, length-append h.0 h.1, wide left h.0 w.0 w.2 h.3, wide right h.1 w.1 w.3 h.4, w.4)
@@ -207,7 +207,7 @@ one_side left right a r b s h some_left some_right is_a is_b e =
 
 sides_one : (left right : Shape) (a r b s : List ℕ) → are_apart left right ≡ true → is_some_shape left ≡ true → is_some_shape right ≡ true → IsShaped left a → IsShaped right b → a ++ r ≡ b ++ s → a ≡ b
 sides_one left (letters text) a r b s h some_left some_right is_a is_b e = one_side left (letters text) a r b s h some_left some_right is_a is_b e
-sides_one left (numeral width ranges) a r b s h some_left some_right is_a is_b e = one_side left (numeral width ranges) a r b s h some_left some_right is_a is_b e
+sides_one left (fixed_number width ranges) a r b s h some_left some_right is_a is_b e = one_side left (fixed_number width ranges) a r b s h some_left some_right is_a is_b e
 sides_one left (pair one other) a r b s h some_left some_right is_a is_b e = one_side left (pair one other) a r b s h some_left some_right is_a is_b e
 sides_one left (choice one other) a r b s h some_left some_right is_a (inl is_b) e =
     let some = and_parts (is_some_shape one) (is_some_shape other) (and_parts (are_apart one other) (is_some_shape one && is_some_shape other) some_right).1 in
@@ -233,7 +233,7 @@ pair_one left right one_left one_right a r b s x y e =
 
 pub one_shape : (shape : Shape) → is_some_shape shape ≡ true → IsOne (IsShaped shape)
 one_shape (letters text) some a r b s x y e = x ∙ sym y
-one_shape (numeral width ranges) some a r b s x y e =
+one_shape (fixed_number width ranges) some a r b s x y e =
     same_length a r b s (ap length x.2 ∙ digits_length width x.0 ∙ sym (digits_length width y.0) ∙ sym (ap length y.2)) e
 one_shape (pair left right) some a r b s x y e =
     let k = and_parts (is_some_shape left) (is_some_shape right) some in
@@ -246,8 +246,8 @@ one_shape (choice left right) some a r b s x y e =
 -- a shape has some bytes
 pub some_shape : (shape : Shape) → is_some_shape shape ≡ true → (bytes : List ℕ) × IsShaped shape bytes
 some_shape (letters text) some = (text, refl)
-some_shape (numeral zero ranges) some = absurd (cc)
-some_shape (numeral (suc more) ranges) some = let n = some_numeral (suc more) ranges some in (digits (suc more) n.0, (n.0, n.1, refl))
+some_shape (fixed_number zero ranges) some = absurd (cc)
+some_shape (fixed_number (suc more) ranges) some = let n = some_numeral (suc more) ranges some in (digits (suc more) n.0, (n.0, n.1, refl))
 some_shape (pair left right) some =
     let k = and_parts (is_some_shape left) (is_some_shape right) some in
     let a = some_shape left k.0 in
@@ -259,21 +259,21 @@ some_shape (choice left right) some =
     (a.0, inl a.1)
 
 -- shapes are read
-numeral_found : (more : ℕ) (ranges : List (ℕ × ℕ)) (bytes : List ℕ) → are_ranges (suc more) ranges ≡ true → Finds (IsShaped (numeral (suc more) ranges)) bytes (read_shape (numeral (suc more) ranges) bytes)
+numeral_found : (more : ℕ) (ranges : List (ℕ × ℕ)) (bytes : List ℕ) → are_ranges (suc more) ranges ≡ true → Finds (IsShaped (fixed_number (suc more) ranges)) bytes (read_shape (fixed_number (suc more) ranges) bytes)
 unfolding read_shape
 numeral_found more ranges bytes some =
     let all = are_all_of (suc more) ranges some in
     let n = some_numeral (suc more) ranges some in
     let start = numbered_start (suc more) ranges n.0 (digits (suc more) n.0) all n.1 refl in
-    finds_alike (Numbered (suc more) ranges 0) (IsShaped (numeral (suc more) ranges)) bytes (read_shape (numeral (suc more) ranges) bytes)
+    finds_alike (Numbered (suc more) ranges 0) (IsShaped (fixed_number (suc more) ranges)) bytes (read_shape (fixed_number (suc more) ranges) bytes)
     (λ l h. (h.0, h.1, h.3)) (λ l h. numbered_start (suc more) ranges h.0 l all h.1 h.2)
     (numeral_read (suc more) (suc more) ranges 0 bytes all (digits (suc more) n.0) start)
 
 pub shape_found : (shape : Shape) (bytes : List ℕ) → is_some_shape shape ≡ true → Finds (IsShaped shape) bytes (read_shape shape bytes)
 unfolding read_shape
 shape_found (letters text) bytes some = letters_read text bytes
-shape_found (numeral zero ranges) bytes some = absurd (cc)
-shape_found (numeral (suc more) ranges) bytes some = numeral_found more ranges bytes some
+shape_found (fixed_number zero ranges) bytes some = absurd (cc)
+shape_found (fixed_number (suc more) ranges) bytes some = numeral_found more ranges bytes some
 shape_found (pair left right) bytes some =
     let k = and_parts (is_some_shape left) (is_some_shape right) some in
     let b = some_shape right k.1 in

@@ -3,7 +3,7 @@ use Rattle.std.proofs.Common.{◌≡◌, ℕ, Bool, true, false, ◌&&◌, List,
 use Rattle.std.proofs.lemmas.Bool.{and_parts}
 use Rattle.line_grammar.specs.Columns.{Answers, with_column}
 use Rattle.line_grammar.specs.Grammar.{Grammar, finish, anything, word, field, either, Parts, none, part, first, second, Spells, AreParts, written}
-use Rattle.line_grammar.specs.inside.Soundness.{is_sound, is_plain}
+use Rattle.line_grammar.specs.inside.Soundness.{is_sound, is_unambiguous}
 use Rattle.line_grammar.specs.inside.Reading.{read}
 use Rattle.line_grammar.proofs.Apart.{answers}
 
@@ -75,7 +75,7 @@ read_back : (G : Grammar) (parts : Parts) (bytes : List ℕ) (r : Result Parts �
 read_back G parts bytes (Ok found) h k = ap (λ (p : Parts). Ok p) (sym (k.1 parts h))
 read_back G parts bytes (Err left) h k = absurd (k.is_none parts h)
 
-pub written_is_read : (G : Grammar) (parts : Parts) → is_sound G ≡ true → is_plain G ≡ true → AreParts G parts → read G (written G parts) ≡ Ok parts
+pub written_is_read : (G : Grammar) (parts : Parts) → is_sound G ≡ true → is_unambiguous G ≡ true → AreParts G parts → read G (written G parts) ≡ Ok parts
 written_is_read G parts sound plain h =
     let line = written G parts in
     read_back G parts line (read G line) (written_spells G parts h) (answers G line sound plain)

@@ -29,14 +29,14 @@ pub record IsNumber (least most : ℕ) (bytes : List ℕ) : Type 0 where
   pub low : least ≤ value_after 0 bytes
   pub high : value_after 0 bytes ≤ most
 
--- a token: one or more of these bytes, a number from the first to the second, or what has this shape
+-- a token: one or more of these bytes, a number from the first to the second in as many digits as it has, or what has this shape
 pub data Token : Type 0 where
   run : List ℕ → Token
-  number : ℕ → ℕ → Token
+  free_number : ℕ → ℕ → Token
   shaped : Shape → Token
 
 -- which bytes are a token
 abbrev pub IsToken : Token → List ℕ → Type 0
 IsToken (run signs) bytes = (bytes ≢ []) × (list_all (is_one_of signs) bytes ≡ true)
-IsToken (number least most) bytes = IsNumber least most bytes
+IsToken (free_number least most) bytes = IsNumber least most bytes
 IsToken (shaped shape) bytes = IsShaped shape bytes

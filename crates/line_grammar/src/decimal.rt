@@ -62,11 +62,11 @@ fn more_digits(least: u64, most: u64, first: u64, bytes: &[u8]) -> (u64, &[u8])
 
 /// A decimal number from the least to the most at the front of these bytes, without leading zeros and as far as its
 /// digits go, and what follows it. An error is how many bytes are left where no such number goes on.
-pub fn number(least: u64, most: u64, bytes: &[u8]) -> Result<(u64, &[u8]), usize>
+pub fn free_number(least: u64, most: u64, bytes: &[u8]) -> Result<(u64, &[u8]), usize>
     requires most { most < 2 ^ 60 }
     requires least { least ≤ most }
-    ensures number { IfOk result (λ parts. (front : List ℕ) × (read_token (tokens.number least most) bytes.now ≡ Ok (front, parts.1.now)) × (value_after 0 front ≡ parts.0)) }
-    ensures left { IfErr result (λ left. read_token (tokens.number least most) bytes.now ≡ Err left) }
+    ensures number { IfOk result (λ parts. (front : List ℕ) × (read_token (tokens.free_number least most) bytes.now ≡ Ok (front, parts.1.now)) × (value_after 0 front ≡ parts.0)) }
+    ensures left { IfErr result (λ left. read_token (tokens.free_number least most) bytes.now ≡ Err left) }
 {
     let Some((first, rest)) = bytes.split_first() else {
         return Err(0);

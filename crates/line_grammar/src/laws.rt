@@ -2,14 +2,14 @@ ghost use Rattle.std.specs.Prelude.{◌≡◌, ℕ, List, Ok, true};
 ghost use Rattle.line_grammar.specs.Columns.{Answers, with_column};
 ghost use Rattle.line_grammar.specs.Grammar.{AreParts, Grammar, Parts, Spells, written};
 ghost use Rattle.line_grammar.specs.inside.Reading.{read};
-ghost use Rattle.line_grammar.specs.inside.Soundness.{is_sound, is_plain};
+ghost use Rattle.line_grammar.specs.inside.Soundness.{is_sound, is_unambiguous};
 
-/// The plain reader of a sound and plain grammar answers each line with its one reading, or with its column.
+/// The plain reader of a sound and unambiguous grammar answers each line with its one reading, or with its column.
 pub fn grammars_are_read()
-    ensures { (G : Grammar) (bytes : List ℕ) → is_sound G ≡ true → is_plain G ≡ true → Answers (Spells G) bytes (with_column bytes (read G bytes)) }
+    ensures { (G : Grammar) (bytes : List ℕ) → is_sound G ≡ true → is_unambiguous G ≡ true → Answers (Spells G) bytes (with_column bytes (read G bytes)) }
 {}
 
-/// The plain reader of a sound and plain grammar reads back the parts of which a line was written.
+/// The plain reader of a sound and unambiguous grammar reads back the parts of which a line was written.
 pub fn written_lines_are_read()
-    ensures { (G : Grammar) (parts : Parts) → is_sound G ≡ true → is_plain G ≡ true → AreParts G parts → read G (written G parts) ≡ Ok parts }
+    ensures { (G : Grammar) (parts : Parts) → is_sound G ≡ true → is_unambiguous G ≡ true → AreParts G parts → read G (written G parts) ≡ Ok parts }
 {}

@@ -16,7 +16,7 @@ fn power_of_ten(exponent: usize) -> u64
 
 /// Whether some number of these ranges has so many digits more behind those of this one.
 #[tactic(auto, unfolding(crate::specs::inside::Reading::fits))]
-fn goes_on(more: usize, ranges: &[(u64, u64)], number: u64) -> bool
+fn fits(more: usize, ranges: &[(u64, u64)], number: u64) -> bool
     requires { more ≤ 10 }
     ensures { result ≡ fits more ranges.now number }
 {
@@ -36,7 +36,7 @@ fn with_digit(more: usize, ranges: &[(u64, u64)], number: u64, byte: u8) -> Opti
         return None;
     }
     let next = 10 * number + u64::from(byte - b'0');
-    if goes_on(more, ranges, next) {
+    if fits(more, ranges, next) {
         Some(next)
     } else {
         None
@@ -45,15 +45,15 @@ fn with_digit(more: usize, ranges: &[(u64, u64)], number: u64, byte: u8) -> Opti
 
 /// A number of these ranges in so many digits at the front of these bytes, and what follows it. An error is how many
 /// bytes are left where no such number goes on.
-pub fn numeral<'a>(
+pub fn fixed_number<'a>(
     width: usize,
     ranges: &[(u64, u64)],
     bytes: &'a [u8],
 ) -> Result<(u64, &'a [u8]), usize>
     requires width { width ≤ 10 }
     requires ranges { are_ranges width ranges.now ≡ true }
-    ensures number { IfOk result (λ parts. (is_within ranges.now parts.0 ≡ true) × (read_shape (shape.numeral width ranges.now) bytes.now ≡ Ok (digits width parts.0, parts.1.now))) }
-    ensures left { IfErr result (λ left. read_shape (shape.numeral width ranges.now) bytes.now ≡ Err left) }
+    ensures number { IfOk result (λ parts. (is_within ranges.now parts.0 ≡ true) × (read_shape (shape.fixed_number width ranges.now) bytes.now ≡ Ok (digits width parts.0, parts.1.now))) }
+    ensures left { IfErr result (λ left. read_shape (shape.fixed_number width ranges.now) bytes.now ≡ Err left) }
 {
     let mut number = 0;
     let mut rest = bytes;

@@ -4,6 +4,14 @@ ghost use Rattle.ten_unit.specs.declared.character.Element.{Element};
 ghost use Rattle.phasing.specs.Origin.{is_phased, lead_of, origin_of};
 ghost use Rattle.phasing.specs.Start.{start_symbols, formats, IsIntactStart};
 
+use crate::reception::{LAST_LEAD, LONGEST};
+
+/// The law that these are the limits of a search. It does nothing.
+pub fn limits()
+    ensures longest { LONGEST ≡ 1000000 }
+    ensures last { LAST_LEAD ≡ LONGEST + 150 }
+{}
+
 /// No lead from 150 past the reception's length on is phased, so the origin's search loses none.
 pub fn none_past_the_end()
     ensures { (e : List Element) (lead : ℕ) → length e + 150 ≤ lead → is_phased e lead ≡ false }

@@ -11,7 +11,7 @@ mod reception;
 mod sending;
 mod window;
 
-pub use laws::{late_starts_are_found, none_past_the_end, origin_is_least};
+pub use laws::{late_starts_are_found, limits, none_past_the_end, origin_is_least};
 pub use phase::{lead, origin};
 pub use reception::{LAST_LEAD, LONGEST, slot_symbol};
 pub use sending::transmission;

@@ -7,7 +7,7 @@ use Rattle.std.proofs.lemmas.List.Elements.{All-get_or}
 use Rattle.ten_unit.specs.declared.character.Element.{Element}
 use Rattle.time_diversity.specs.Slots.{dx_slot, rx_slot}
 use Rattle.phasing.specs.Slot.{shows}
-use Rattle.call_values.specs.declared.alerts.Call.{Call}
+use Rattle.call_values.specs.declared.calls.Call.{Call}
 use Rattle.call_values.specs.Calls.{IsCall}
 use Rattle.call_grammar.specs.Spelling.{spell, front, end_of, format_of}
 use Rattle.call_grammar.specs.Walk.{IsViable}

@@ -7,12 +7,13 @@ use Rattle.std.proofs.lemmas.List.Elements.{All-get_or}
 use Rattle.ten_unit.specs.declared.character.Element.{Element}
 use Rattle.ten_unit.specs.Word.{word_of, is_word}
 use Rattle.time_diversity.specs.Slots.{dx_slot, rx_slot, IsSlotOf}
-use Rattle.time_diversity.specs.OnAir.{slot_symbol}
+use Rattle.time_diversity.specs.OnAir.{sent_symbol}
 use Rattle.phasing.specs.Slot.{slot, shows}
-use Rattle.call_values.specs.declared.alerts.Call.{Call}
+use Rattle.call_values.specs.declared.calls.Call.{Call}
 use Rattle.call_values.specs.Calls.{IsCall}
 use Rattle.call_grammar.specs.Spelling.{spell, front, format_of, fields_of, end_of, covered, check_of}
-use Rattle.call_grammar.specs.Walk.{IsFormat, IsViable}
+use Rattle.call_grammar.specs.Walk.{IsViable}
+use Rattle.dsc_symbols.specs.Formats.{IsFormat}
 use Rattle.slot_evidence.specs.declared.places.Seen.TheVariants as seen
 use Rattle.slot_evidence.specs.Facts.{Facts, facts_of, facts_at}
 use Rattle.slot_evidence.specs.Seen.{ShowsOne}
@@ -31,7 +32,7 @@ abbrev pub WordsApart : Type 0
 WordsApart = (u v : ℕ) → u < 128 → v < 128 → word_of u ≡ word_of v → u ≡ v
 
 abbrev pub BothSlots : Type 0
-BothSlots = (list : List ℕ) (slot p : ℕ) → IsSlotOf slot p → slot_symbol list slot ≡ get_or list p 0
+BothSlots = (list : List ℕ) (slot p : ℕ) → IsSlotOf slot p → sent_symbol list slot ≡ get_or list p 0
 
 and_both : (x y : Bool) → (x && y) ≡ true → (x ≡ true) × (y ≡ true)
 and_both true y e = (refl, e)

@@ -2,12 +2,12 @@
 use Rattle.std.proofs.Common.{◌≡◌, ℕ, ◌+◌, ◌*◌, ◌==◌, true, List, ◌∷◌, ◌++◌, length, take, refl, arith}
 use Rattle.std.specs.List.{list_any}
 use Rattle.std.proofs.lemmas.List.FromFn.{take-map-range_with_len}
-use Rattle.call_values.specs.declared.alerts.Call.{Call}
-use Rattle.call_values.specs.declared.alerts.Call.TheVariants.{Alert, Ack, Relay, RelayAck, AllShips, AreaCall, GroupCall, Individual, Service}
+use Rattle.call_values.specs.declared.calls.Call.{Call}
+use Rattle.call_values.specs.declared.calls.Call.TheVariants.{Alert, Ack, Relay, RelayAck, AllShips, AreaCall, GroupCall, Individual, Service}
 use Rattle.call_values.specs.declared.parts.To.{To}
 use Rattle.call_values.specs.declared.parts.To.TheVariants as to
 use Rattle.call_grammar.specs.Spelling.{format_to, format_of, spell}
-use Rattle.time_diversity.specs.OnAir.{slot_symbol, on_air}
+use Rattle.time_diversity.specs.OnAir.{sent_symbol, on_air}
 use Rattle.phasing.specs.Start.{start_symbols, formats}
 
 to_listed : (t : To) → list_any (λ f. f == format_to t) formats ≡ true
@@ -28,8 +28,8 @@ format_listed (Individual t category from first second message end) = refl
 format_listed (Service t category from kind) = refl
 
 list_start : (format : ℕ) (rest : List ℕ) → take 16 (on_air (format ∷ format ∷ rest)) ≡ start_symbols format
-unfolding on_air slot_symbol
-list_start format rest = take-map-range_with_len (slot_symbol (format ∷ format ∷ rest)) 0 (2 * length (format ∷ format ∷ rest) + 12) 16 (omega arith)
+unfolding on_air sent_symbol
+list_start format rest = take-map-range_with_len (sent_symbol (format ∷ format ∷ rest)) 0 (2 * length (format ∷ format ∷ rest) + 12) 16 (omega arith)
 
 pub call_start : (c : Call) (tail : List ℕ) → take 16 (on_air (spell c ++ tail)) ≡ start_symbols (format_of c)
 call_start c tail = list_start (format_of c) _

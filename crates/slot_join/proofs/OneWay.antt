@@ -9,9 +9,9 @@ use Rattle.ten_unit.specs.declared.character.Element.{Element}
 use Rattle.ten_unit.specs.Word.{word_of, is_word}
 use Rattle.ten_unit.specs.Errors.{IsOneWay}
 use Rattle.time_diversity.specs.Slots.{dx_slot, rx_slot, IsSlotOf}
-use Rattle.time_diversity.specs.OnAir.{slot_symbol, on_air}
+use Rattle.time_diversity.specs.OnAir.{sent_symbol, on_air}
 use Rattle.phasing.specs.Slot.{slot, shows}
-use Rattle.call_values.specs.declared.alerts.Call.{Call}
+use Rattle.call_values.specs.declared.calls.Call.{Call}
 use Rattle.call_values.specs.Calls.{IsCall}
 use Rattle.call_grammar.specs.Spelling.{spell, front, end_of}
 use Rattle.slot_evidence.specs.Facts.{facts_of, facts_at}
@@ -22,16 +22,16 @@ use Rattle.slot_join.specs.OneCall.{ShowsNoOther}
 pub record Laws : Type 0 where
   pub equal : (w : List Element) (v : ℕ) → (is_word w v ≡ true) ↔ (w ≡ word_of v)
   pub one_way : (received : List Element) (u v : ℕ) → u < 128 → v < 128 → IsOneWay (word_of v) received → is_word received u ≡ true → u ≡ v
-  pub slots : (list : List ℕ) (s p : ℕ) → IsSlotOf s p → slot_symbol list s ≡ get_or list p 0
+  pub slots : (list : List ℕ) (s p : ℕ) → IsSlotOf s p → sent_symbol list s ≡ get_or list p 0
   pub characters : (c : Call) → IsCall c → All (λ v. v < 128) (spell c)
 
 pub length-on_air : (list : List ℕ) → length (on_air list) ≡ 2 * length list + 12
 unfolding on_air
-length-on_air list = length-map-range_with_len (slot_symbol list) 0 (2 * length list + 12)
+length-on_air list = length-map-range_with_len (sent_symbol list) 0 (2 * length list + 12)
 
-pub sent_at : (list : List ℕ) (s : ℕ) → s < 2 * length list + 12 → get_or (on_air list) s 0 ≡ slot_symbol list s
+pub sent_at : (list : List ℕ) (s : ℕ) → s < 2 * length list + 12 → get_or (on_air list) s 0 ≡ sent_symbol list s
 unfolding on_air
-sent_at list s below = get_or-map-range_with_len (slot_symbol list) 0 (2 * length list + 12) s s 0 below (omega arith)
+sent_at list s below = get_or-map-range_with_len (sent_symbol list) 0 (2 * length list + 12) s s 0 below (omega arith)
 
 ten : (v : ℕ) → length (word_of v) ≡ 10
 unfolding word_of

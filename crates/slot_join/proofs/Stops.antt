@@ -1,6 +1,6 @@
 -- What a walk that is still open says of the answer.
 use Rattle.std.proofs.Common.{◌≡◌, ℕ, ◌+◌, ◌≤◌, ◌<◌, List, [], ◌∷◌, ◌++◌, length, drop, refl, sym, ap, subst, ◌∙◌, inl, inr, append_assoc, arith, length-append}
-use Rattle.call_values.specs.declared.alerts.Call.{Call}
+use Rattle.call_values.specs.declared.calls.Call.{Call}
 use Rattle.call_values.specs.Calls.{IsCall}
 use Rattle.call_grammar.specs.Spelling.{front, spell, end_of, check_of}
 use Rattle.call_grammar.specs.Walk.{IsViable, IsOpen, IsAtCheck, after}

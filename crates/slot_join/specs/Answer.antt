@@ -1,9 +1,11 @@
 -- The answer to a set of facts: this project's profile, over the calls of ITU-R M.493.
 use Rattle.std.specs.Prelude.{◌≡◌, ℕ, Bool, true, ◌||◌, ◌==◌, ◌⊎◌, List, length, drop}
-use Rattle.call_values.specs.declared.alerts.Call.{Call}
+use Rattle.dsc_symbols.specs.declared.formats.TheConstants.{DISTRESS, ALL_SHIPS}
+use Rattle.call_values.specs.declared.calls.Call.{Call}
 use Rattle.call_values.specs.Calls.{IsCall}
 use Rattle.call_grammar.specs.Spelling.{front, check_of}
-use Rattle.call_grammar.specs.Walk.{IsAtCheck, IsFormat}
+use Rattle.call_grammar.specs.Walk.{IsAtCheck}
+use Rattle.dsc_symbols.specs.Formats.{IsFormat}
 use Rattle.slot_evidence.specs.declared.places.Seen.{Seen}
 use Rattle.slot_evidence.specs.declared.places.Seen.TheVariants as seen
 use Rattle.slot_evidence.specs.Facts.{Facts}
@@ -43,7 +45,7 @@ pub record IsStopped (F : Facts) (answer : Joined) : Type 0 where
 
 -- distress alerts and calls to all ships count only where both places of the format specifier showed it
 abbrev pub needs_both : ℕ → Bool
-needs_both format = format == 112 || format == 116
+needs_both format = format == DISTRESS || format == ALL_SHIPS
 
 -- a format specifier that its places showed often enough
 pub record HasFormat (F : Facts) (format : ℕ) : Type 0 where

@@ -6,7 +6,7 @@ use Rattle.time_diversity.specs.Slots.{dx_slot, rx_slot}
 use Rattle.time_diversity.specs.OnAir.{on_air}
 use Rattle.phasing.specs.Slot.{shows}
 use Rattle.phasing.specs.Origin.{lead_of}
-use Rattle.call_values.specs.declared.alerts.Call.{Call}
+use Rattle.call_values.specs.declared.calls.Call.{Call}
 use Rattle.call_grammar.specs.Spelling.{format_of, front, spell}
 use Rattle.slot_evidence.specs.Facts.{facts_of_all}
 use Rattle.slot_evidence.specs.Seen.{ShowsNone}

@@ -1,6 +1,6 @@
 -- Facts of one call: this project's profile, over the places of ITU-R M.493.
 use Rattle.std.specs.Prelude.{◌≡◌, ℕ, ◌<◌, true, ◌⊎◌, List, length, slice_index}
-use Rattle.call_values.specs.declared.alerts.Call.{Call}
+use Rattle.call_values.specs.declared.calls.Call.{Call}
 use Rattle.call_grammar.specs.Spelling.{front}
 use Rattle.slot_evidence.specs.Facts.{Facts}
 use Rattle.slot_evidence.specs.Seen.{ShowsNone}

@@ -1,6 +1,6 @@
 ghost use Rattle.std.specs.Prelude.{◌≡◌, ◌++◌, ◌↔◌, ℕ, Bool, List, Some, pos, ◌-ℤ◌};
 ghost use Rattle.ten_unit.specs.declared.character.Element.{Element};
-ghost use Rattle.call_values.specs.declared.alerts.Call.{Call};
+ghost use Rattle.call_values.specs.declared.calls.Call.{Call};
 ghost use Rattle.call_values.specs.Calls.{IsCall};
 ghost use Rattle.call_grammar.specs.Spelling.{spell, front};
 ghost use Rattle.time_diversity.specs.OnAir.{on_air};

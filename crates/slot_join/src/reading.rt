@@ -1,5 +1,6 @@
 ghost use Rattle.std.specs.Prelude.{◌≡◌, ◌⊎◌, ◌<◌, ◌↔◌, IsTrue, true, length, [], ◌∷◌};
-ghost use Rattle.call_grammar.specs.Walk.{IsFormat, IsOpen};
+ghost use Rattle.call_grammar.specs.Walk.{IsOpen};
+ghost use Rattle.dsc_symbols.specs.Formats.{IsFormat};
 ghost use Rattle.slot_evidence.specs.Facts.{Facts};
 ghost use Rattle.slot_evidence.specs.Seen.{IsSeen, IsLawful, ShowsNone, ShowsOne};
 ghost use Rattle.slot_evidence.specs.Sheet.{IsEnds, seen_at};
@@ -11,6 +12,7 @@ use crate::joined::{Extra, Joined};
 use call_grammar::{
     Step, Walk, formats_begin_calls, fronts_differ, lists_are_short, open_is_not_done,
 };
+use dsc_symbols::formats::{ALL_SHIPS, DISTRESS};
 use slot_evidence::{Seen, Sheet};
 
 /// The answer to every set of facts that has this sheet: it reads the places one after the other, until one
@@ -38,7 +40,7 @@ fn head(sheet: &Sheet) -> Seen
 fn needs_both(format: u8) -> bool
     ensures { result ≡ answers.needs_both format }
 {
-    format == 112 || format == 116
+    format == DISTRESS || format == ALL_SHIPS
 }
 
 /// The answer where this is the one format specifier that its two places showed.

@@ -1,7 +1,7 @@
 -- Where a form stands among the others of the grammar of call texts.
 use Rattle.std.specs.Prelude.{ℕ, zero, suc}
-use Rattle.call_values.specs.declared.alerts.Call.{Call}
-use Rattle.call_values.specs.declared.alerts.Call.TheVariants.{Alert, Ack, Relay, RelayAck, AllShips, AreaCall, GroupCall, Individual, Service}
+use Rattle.call_values.specs.declared.calls.Call.{Call}
+use Rattle.call_values.specs.declared.calls.Call.TheVariants.{Alert, Ack, Relay, RelayAck, AllShips, AreaCall, GroupCall, Individual, Service}
 use Rattle.call_values.specs.declared.parts.Kind.TheVariants.{Test, AskPosition, Position}
 use Rattle.line_grammar.specs.Grammar.{Parts, first, second}
 use Rattle.dsc_texts.specs.CallParts.{parts_of}

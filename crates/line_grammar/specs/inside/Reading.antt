@@ -1,8 +1,8 @@
 -- The plain reader of a grammar: it answers with the parts, or with how many bytes are left at the fault.
 use Rattle.std.specs.Prelude.{ℕ, ◌+◌, ◌-◌, ◌*◌, ◌/◌, ◌^◌, min, zero, suc, Bool, ◌&&◌, nat_le, ◌==◌, if◌then◌else◌, List, [], ◌∷◌, ◌++◌, length, take, drop, Result, Ok, Err}
 use Rattle.std.specs.List.{prefix_len, list_any}
-use Rattle.line_grammar.specs.Shapes.{Shape, letters, numeral, pair, choice}
-use Rattle.line_grammar.specs.Tokens.{Token, run, number, shaped, is_one_of, is_digit}
+use Rattle.line_grammar.specs.Shapes.{Shape, letters, fixed_number, pair, choice}
+use Rattle.line_grammar.specs.Tokens.{Token, run, free_number, shaped, is_one_of, is_digit}
 use Rattle.line_grammar.specs.Grammar.{Grammar, finish, anything, word, field, either, Parts, none, part, first, second}
 
 -- of two answers the one that is no fault, or the further fault
@@ -88,7 +88,7 @@ and_shape (Err left) right = Err left
 -- a shape's bytes at the front, and what follows them
 unfoldable pub read_shape : Shape → List ℕ → Result (List ℕ × List ℕ) ℕ
 read_shape (letters text) bytes = and_letters text (after text bytes)
-read_shape (numeral width ranges) bytes = read_numeral width ranges 0 bytes
+read_shape (fixed_number width ranges) bytes = read_numeral width ranges 0 bytes
 read_shape (pair left right) bytes = and_shape (read_shape left bytes) (read_shape right)
 read_shape (choice left right) bytes = further (read_shape left bytes) (read_shape right bytes)
 
@@ -97,7 +97,7 @@ unfoldable pub read_token : Token → List ℕ → Result (List ℕ × List ℕ)
 read_token (run signs) bytes =
     let n = prefix_len (is_one_of signs) bytes in
     if n == 0 then Err (length bytes) else Ok (take n bytes, drop n bytes)
-read_token (number least most) bytes = read_number least most bytes
+read_token (free_number least most) bytes = read_number least most bytes
 read_token (shaped shape) bytes = read_shape shape bytes
 
 -- the rest of a line behind a word

@@ -1,15 +1,15 @@
 -- Which grammars a reader may read by going as far as each token goes: this project's profile.
 use Rattle.std.specs.Prelude.{ℕ, zero, suc, ◌+◌, ◌-◌, ◌^◌, Bool, true, false, not, nat_le, ◌&&◌, ◌||◌, ◌==◌, if◌then◌else◌, List, [], ◌∷◌, ◌++◌, length, Option, Some, None, codes}
 use Rattle.std.specs.List.{flat_map, list_any, list_all}
-use Rattle.line_grammar.specs.Shapes.{Shape, letters, numeral, pair, choice}
-use Rattle.line_grammar.specs.Tokens.{Token, run, number, shaped, is_one_of, is_digit}
+use Rattle.line_grammar.specs.Shapes.{Shape, letters, fixed_number, pair, choice}
+use Rattle.line_grammar.specs.Tokens.{Token, run, free_number, shaped, is_one_of, is_digit}
 use Rattle.line_grammar.specs.inside.Reading.{fits}
 use Rattle.line_grammar.specs.Grammar.{Grammar, finish, anything, word, field, either}
 
 -- a test of bytes: whether a shape may have it
 abbrev pub shape_may_have : Shape → ℕ → Bool
 shape_may_have (letters text) b = is_one_of text b
-shape_may_have (numeral width ranges) b = is_digit b
+shape_may_have (fixed_number width ranges) b = is_digit b
 shape_may_have (pair left right) b = shape_may_have left b || shape_may_have right b
 shape_may_have (choice left right) b = shape_may_have left b || shape_may_have right b
 
@@ -17,7 +17,7 @@ shape_may_have (choice left right) b = shape_may_have left b || shape_may_have r
 abbrev pub firsts : Shape → List ℕ
 firsts (letters []) = []
 firsts (letters (c ∷ text)) = c ∷ []
-firsts (numeral width ranges) = codes "0123456789"
+firsts (fixed_number width ranges) = codes "0123456789"
 firsts (pair left right) = firsts left
 firsts (choice left right) = firsts left ++ firsts right
 
@@ -25,8 +25,8 @@ firsts (choice left right) = firsts left ++ firsts right
 abbrev pub may_begin : Shape → ℕ → Bool
 may_begin (letters []) b = false
 may_begin (letters (c ∷ text)) b = c == b
-may_begin (numeral zero ranges) b = false
-may_begin (numeral (suc more) ranges) b = is_digit b && fits more ranges (b - 48)
+may_begin (fixed_number zero ranges) b = false
+may_begin (fixed_number (suc more) ranges) b = is_digit b && fits more ranges (b - 48)
 may_begin (pair left right) b = may_begin left b
 may_begin (choice left right) b = may_begin left b || may_begin right b
 
@@ -52,7 +52,7 @@ is_width None = false
 -- how many bytes a shape has, where that is one number
 abbrev pub width_of : Shape → Option ℕ
 width_of (letters text) = Some (length text)
-width_of (numeral width ranges) = Some width
+width_of (fixed_number width ranges) = Some width
 width_of (pair left right) = both_widths (width_of left) (width_of right)
 width_of (choice left right) = one_width (width_of left) (width_of right)
 
@@ -63,7 +63,7 @@ are_as_wide left right = is_width (one_width (width_of left) (width_of right))
 -- the letters that each of a shape's byte lists begins with
 abbrev pub leading : Shape → List ℕ
 leading (letters text) = text
-leading (numeral width ranges) = []
+leading (fixed_number width ranges) = []
 leading (pair left right) = leading left
 leading (choice left right) = []
 
@@ -88,22 +88,22 @@ are_ranges width (range ∷ ranges) =
 abbrev pub is_some_shape : Shape → Bool
 is_some_shape (letters []) = false
 is_some_shape (letters (c ∷ text)) = true
-is_some_shape (numeral zero ranges) = false
-is_some_shape (numeral (suc more) ranges) = are_ranges (suc more) ranges
+is_some_shape (fixed_number zero ranges) = false
+is_some_shape (fixed_number (suc more) ranges) = are_ranges (suc more) ranges
 is_some_shape (pair left right) = is_some_shape left && is_some_shape right
 is_some_shape (choice left right) = are_apart left right && (is_some_shape left && is_some_shape right)
 
 -- a test of bytes: whether a token may have it
 abbrev pub may_have : Token → ℕ → Bool
 may_have (run signs) b = is_one_of signs b
-may_have (number least most) b = is_digit b
+may_have (free_number least most) b = is_digit b
 may_have (shaped shape) b = shape_may_have shape b
 
 -- there is such a token
 abbrev pub is_some_token : Token → Bool
 is_some_token (run []) = false
 is_some_token (run (c ∷ signs)) = true
-is_some_token (number least most) = nat_le least most
+is_some_token (free_number least most) = nat_le least most
 is_some_token (shaped shape) = is_some_shape shape
 
 -- no byte of the token begins what follows it
@@ -156,9 +156,9 @@ differs (field token rest) grammars = list_all (may_follow token) grammars
 differs (either left right) grammars = differs left grammars && differs right grammars
 
 -- no line has two readings
-abbrev pub is_plain : Grammar → Bool
-is_plain finish = true
-is_plain anything = true
-is_plain (word text rest) = is_plain rest
-is_plain (field token rest) = is_plain rest
-is_plain (either left right) = differs left (right ∷ []) && (is_plain left && is_plain right)
+abbrev pub is_unambiguous : Grammar → Bool
+is_unambiguous finish = true
+is_unambiguous anything = true
+is_unambiguous (word text rest) = is_unambiguous rest
+is_unambiguous (field token rest) = is_unambiguous rest
+is_unambiguous (either left right) = differs left (right ∷ []) && (is_unambiguous left && is_unambiguous right)

@@ -20,7 +20,7 @@ const READ: [(u64, u64, &str, Result<(u64, usize), usize>); 12] = [
 fn numbers_go_as_far_as_their_range(rt: HostRuntime) {
     for (least, most, text, want) in READ {
         if most < 1 << 60 && least <= most {
-            let read = number(least, most, text.as_bytes()).map(|(number, rest)| (
+            let read = free_number(least, most, text.as_bytes()).map(|(number, rest)| (
                 number,
                 rest.len(),
             ));

@@ -19,7 +19,10 @@ const READ: [(&str, Result<(u64, usize), usize>); 9] = [
 #[test]
 fn numerals_have_so_many_digits(rt: HostRuntime) {
     for (text, want) in READ {
-        let read = numeral(3, &NATURES, text.as_bytes()).map(|(number, rest)| (number, rest.len()));
+        let read = fixed_number(3, &NATURES, text.as_bytes()).map(|(number, rest)| (
+            number,
+            rest.len(),
+        ));
         assert_eq!(rt; read, want, "{text}");
     }
 }

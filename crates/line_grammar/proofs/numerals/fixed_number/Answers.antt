@@ -1,6 +1,6 @@
 use Rattle.std.proofs.Common.{arith}
 use Rattle.line_grammar.proofs.NumeralSteps.{passed_none, passed_more, passed_end, passed_stop, passed_all, passed_small, one_less}
-use Rattle.line_grammar.proofs.numerals.numeral.Goals as goal
+use Rattle.line_grammar.proofs.numerals.fixed_number.Goals as goal
 
 pub loop-more-init : goal.loop-more-init
 loop-more-init c = passed_none _ _ _ c.requires.ranges

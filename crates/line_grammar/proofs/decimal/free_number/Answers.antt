@@ -1,6 +1,6 @@
 use Rattle.std.proofs.Common.{◌∷◌, [], refl}
 use Rattle.line_grammar.proofs.DigitSteps.{number_end, number_zero, number_no_zero, number_none, number_low, number_ok}
-use Rattle.line_grammar.proofs.decimal.number.Goals as goal
+use Rattle.line_grammar.proofs.decimal.free_number.Goals as goal
 
 pub returns-in_default-clause-left : goal.returns-in_default-clause-left
 returns-in_default-clause-left c = number_end _ _ _ c.in_default.ensures.cases
