@@ -1,0 +1,8 @@
+//! Expansions: what may follow a call on air, how it is spelled in symbols and read back, symbol by symbol.
+#![tactic(auto)]
+
+mod parts;
+mod values;
+
+pub use parts::{Part, PartKind};
+pub use values::{Expansion, Sets};
