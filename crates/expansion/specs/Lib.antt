@@ -1,2 +1,3 @@
 pub mod Parts
 pub mod Expansions
+pub mod Spelling

@@ -2,7 +2,9 @@
 #![tactic(auto)]
 
 mod parts;
+mod spelling;
 mod values;
 
 pub use parts::{Part, PartKind};
+pub use spelling::spell_sets;
 pub use values::{Expansion, Sets};
