@@ -1,0 +1,5 @@
+pub mod DigitParts
+pub mod SetGoods
+pub mod SetParts
+pub mod Lengths
+pub mod WholeLists

@@ -2,9 +2,13 @@
 #![tactic(auto)]
 
 mod parts;
+mod readers;
+mod reading;
 mod spelling;
 mod values;
 
 pub use parts::{Part, PartKind};
+pub use reading::read_sets;
 pub use spelling::spell_sets;
+pub use symbol_reader::ReadRefusal;
 pub use values::{Expansion, Sets};
