@@ -3,3 +3,4 @@ pub mod SetGoods
 pub mod SetParts
 pub mod Lengths
 pub mod WholeLists
+pub mod OneList

@@ -1,12 +1,14 @@
 //! Expansions: what may follow a call on air, how it is spelled in symbols and read back, symbol by symbol.
 #![tactic(auto)]
 
+mod laws;
 mod parts;
 mod readers;
 mod reading;
 mod spelling;
 mod values;
 
+pub use laws::{fronts_differ, lists_are_characters, lists_are_short, one_list, read_back};
 pub use parts::{Part, PartKind};
 pub use reading::read_sets;
 pub use spelling::spell_sets;

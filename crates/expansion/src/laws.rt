@@ -1,0 +1,34 @@
+ghost use Rattle.std.specs.Prelude.{◌≡◌, ℕ, ◌<◌, ◌≤◌, All, List, [], ◌∷◌, ◌++◌, length, Result, Ok};
+ghost use Rattle.symbol_reader.specs.declared.refusals.ReadRefusal.{ReadRefusal};
+ghost use Rattle.call_values.specs.declared.choices.End.{End};
+ghost use Rattle.expansion.specs.declared.values.Sets.{Sets};
+ghost use Rattle.expansion.specs.Expansions.{IsExpansion};
+ghost use Rattle.expansion.specs.Spelling.{spell, front};
+ghost use Rattle.expansion.specs.Reading.{IsReading};
+
+/// The law that no list belongs to two expansions, nor to one with two ends of sequence. It does nothing.
+pub fn one_list()
+    ensures { (x y : Sets) (e f : End) → IsExpansion x → IsExpansion y → spell x e ≡ spell y f → (x ≡ y) × (e ≡ f) }
+{}
+
+/// The law that with one end of sequence no expansion's list up to its check begins another's. It does nothing.
+pub fn fronts_differ()
+    ensures { (x y : Sets) (e : End) (rest : List ℕ) → IsExpansion x → IsExpansion y → front y e ≡ front x e ++ rest → (x ≡ y) × (rest ≡ []) }
+{}
+
+/// The law that an expansion's list has from 6 to 15 symbols. It does nothing.
+pub fn lists_are_short()
+    ensures { (x : Sets) (e : End) → IsExpansion x → (6 ≤ length (spell x e)) × (length (spell x e) ≤ 15) }
+{}
+
+/// The law that every symbol of an expansion's list is a character's, below 128. It does nothing.
+pub fn lists_are_characters()
+    ensures { (x : Sets) (e : End) → IsExpansion x → All (λ symbol. symbol < 128) (spell x e) }
+{}
+
+/// The law that of a list which begins with an expansion's list, whatever follows, reading with its end of sequence can
+/// answer nothing but this expansion and its length. It does nothing.
+pub fn read_back()
+    ensures { (x : Sets) (e : End) (rest : List ℕ) (answer : Result (Sets × ℕ) ReadRefusal)
+        → IsExpansion x → IsReading e (spell x e ++ rest) answer → answer ≡ Ok (x, length (spell x e)) }
+{}
