@@ -1,5 +1,5 @@
 -- Lists of different expansions differ, and how a list that begins with an expansion's list is read.
-use Rattle.std.proofs.Common.{◌≡◌, ℕ, inl, inr, List, [], ◌∷◌, ◌++◌, length, Result, Ok, Err, refl, sym, ◌∙◌, ap, subst, append-nil, append_assoc, length-append, arith}
+use Rattle.std.proofs.Common.{◌≡◌, ℕ, inl, inr, List, [], ◌∷◌, ◌++◌, length, Result, Ok, Err, refl, sym, ◌∙◌, ap, append-nil, append_assoc, length-append, arith}
 use Rattle.symbol_reader.specs.Checks.{check_of}
 use Rattle.symbol_reader.specs.declared.refusals.ReadRefusal.{ReadRefusal}
 use Rattle.symbol_reader.specs.declared.refusals.ReadRefusal.TheVariants.{Short, Outside, Check}
@@ -14,7 +14,7 @@ use Rattle.expansion.specs.Spelling.{covered, front, spell}
 use Rattle.expansion.specs.Reading.{IsViable, IsReading}
 use Rattle.expansion.specs.inside.Grammar.{CheckedSets}
 use Rattle.expansion.proofs.SetParts.{checked_sets_good}
-use Rattle.expansion.proofs.WholeLists.{Lists, lists_good}
+use Rattle.expansion.proofs.WholeLists.{lists_good}
 
 -- the last symbols of two lists
 last_same : (a b : List ℕ) (x y : ℕ) → a ++ (x ∷ []) ≡ b ++ (y ∷ []) → x ≡ y

@@ -1,9 +1,6 @@
 -- Expansions by their sets.
-use Rattle.std.proofs.Common.{◌≡◌, ℕ, ◌⊎◌, inl, inr, ◌==◌, Bool, true, false, List, [], ◌∷◌, ◌++◌, refl, sym, ◌∙◌, ap, subst, append_assoc, arith}
-use Rattle.symbol_reader.specs.declared.letters.Letter.TheVariants.{Exactly, Either, OneOf}
-use Rattle.symbol_reader.specs.Letters.{Allows}
+use Rattle.std.proofs.Common.{◌≡◌, ℕ, ◌⊎◌, inl, inr, ◌==◌, Bool, true, false, List, [], ◌∷◌, ◌++◌, refl, sym, ◌∙◌, ap, subst, arith}
 use Rattle.symbol_reader.specs.Digits.{eight_digits, four_digits}
-use Rattle.symbol_reader.specs.inside.Languages.{Then, Choice}
 use Rattle.symbol_reader.proofs.Laws.{Good, Alike, alike_good}
 use Rattle.symbol_reader.proofs.Steps.{one_then, joined, spelled_then, spelt}
 use Rattle.call_values.specs.declared.choices.End.{End}
@@ -15,8 +12,8 @@ use Rattle.expansion.specs.declared.values.Sets.{Sets}
 use Rattle.expansion.specs.Parts.{IsThere, IsUpTo}
 use Rattle.expansion.specs.Expansions.{IsExpansion}
 use Rattle.expansion.specs.Spelling.{set_symbols, covered}
-use Rattle.expansion.specs.inside.Grammar.{Symbol, EightDigits, FourDigits, IsTold, told_symbols, sets_of, AfterSpeed, AfterEnhanced, AfterFirst, SetWords, CheckedSets}
-use Rattle.expansion.proofs.DigitParts.{is_same, is_other, test_is, test_not}
+use Rattle.expansion.specs.inside.Grammar.{told_symbols, sets_of, AfterSpeed, AfterEnhanced, AfterFirst, SetWords, CheckedSets}
+use Rattle.expansion.proofs.DigitParts.{test_is, test_not}
 use Rattle.expansion.proofs.SetGoods.{CourseAndEnd, SpeedAndRest, set_words_good}
 
 -- a symbol that is no specifier of a set

@@ -8,7 +8,7 @@ use Rattle.symbol_reader.specs.declared.refusals.ReadRefusal.{ReadRefusal}
 use Rattle.symbol_reader.specs.declared.refusals.ReadRefusal.TheVariants as refusal
 use Rattle.symbol_reader.specs.declared.refusals.ReadRefusal.TheVariants.{Check}
 use Rattle.symbol_reader.specs.inside.Languages.{Only, Then, Spelled}
-use Rattle.symbol_reader.specs.inside.Reading.{Begins, Wants, Took, Leaves, Reads}
+use Rattle.symbol_reader.specs.inside.Reading.{Begins, Wants, Leaves, Reads}
 use Rattle.symbol_reader.specs.inside.Closings.{Closing}
 use Rattle.symbol_reader.proofs.Laws.{Good, Alike, then_good, only_good, alike_good, no_word_goes_on}
 use Rattle.symbol_reader.proofs.Steps.{alike, next, stop, one_then, joined, spelled_then}

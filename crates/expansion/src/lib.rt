@@ -14,3 +14,6 @@ pub use reading::read_sets;
 pub use spelling::spell_sets;
 pub use symbol_reader::ReadRefusal;
 pub use values::{Expansion, Sets};
+
+#[cfg(test)]
+mod tests;

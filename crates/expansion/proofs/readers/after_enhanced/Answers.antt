@@ -1,8 +1,6 @@
 use Rattle.symbol_reader.specs.declared.letters.Letter.TheVariants.{Either}
 use Rattle.std.proofs.Common.{arith}
-use Rattle.symbol_reader.specs.inside.Reading.{Reads}
 use Rattle.symbol_reader.proofs.Steps.{letter_good, next, stop, fail, chosen, not_chosen}
-use Rattle.expansion.specs.inside.Grammar.{AfterSpeed}
 use Rattle.expansion.proofs.DigitParts.{four_good, is_same, is_other}
 use Rattle.expansion.proofs.SetGoods.{after_speed_good, course_and_end_good}
 use Rattle.expansion.proofs.readers.after_enhanced.Goals as goal

@@ -1,9 +1,8 @@
-use Rattle.std.proofs.Common.{◌≡◌, ℕ, ◌-◌, ◌≤◌, List, length, refl, sym, ◌∙◌, ap, arith, Ok, Err, ◌==◌}
+use Rattle.std.proofs.Common.{◌≡◌, ◌-◌, ◌≤◌, length, refl, sym, ◌∙◌, ap, arith, Ok, Err, ◌==◌}
 use Rattle.symbol_reader.specs.Checks.{check_of}
 use Rattle.symbol_reader.specs.declared.reading.Stop.TheVariants.{Short, Outside}
 use Rattle.symbol_reader.specs.inside.Reading.{Reads, Leaves}
 use Rattle.symbol_reader.specs.inside.Closings.{Closing}
-use Rattle.call_values.specs.Ends.{end_symbol}
 use Rattle.expansion.specs.Spelling.{covered}
 use Rattle.expansion.specs.Reading.{EndsShort}
 use Rattle.expansion.proofs.WholeLists.{Lists, part_of, part_short, closed_ok, closed_short, closed_left, closed_refused, covered_part, closing_as, left_place}

@@ -1,4 +1,4 @@
-use Rattle.std.proofs.Common.{◌≡◌, ◌-◌, ◌≤◌, length, sym, ap, subst, arith, Err}
+use Rattle.std.proofs.Common.{◌-◌, ◌≤◌, length, sym, subst, arith, Err}
 use Rattle.symbol_reader.specs.declared.reading.Stop.TheVariants.{Short, Outside}
 use Rattle.symbol_reader.specs.inside.Reading.{Reads}
 use Rattle.expansion.specs.inside.Grammar.{CheckedSets}
