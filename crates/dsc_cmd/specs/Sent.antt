@@ -1,7 +1,7 @@
 -- What is written where all receptions are of one call: ITU-R M.493, the error-detecting code and time diversity; the rule is this project's profile.
 use Rattle.std.specs.Prelude.{◌≡◌, ◌≢◌, ℕ, ◌<◌, ◌⊎◌, List, [], ◌++◌, length, Option, All}
 use Rattle.ten_unit.specs.declared.character.Element.{Element}
-use Rattle.call_values.specs.declared.alerts.Call.{Call}
+use Rattle.call_values.specs.declared.calls.Call.{Call}
 use Rattle.call_values.specs.Calls.{IsCall}
 use Rattle.call_grammar.specs.Spelling.{spell, front}
 use Rattle.slot_evidence.specs.Seen.{ShowsNone}
