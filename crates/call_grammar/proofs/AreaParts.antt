@@ -9,7 +9,7 @@ use Rattle.symbol_reader.proofs.Steps.{letter_good, one_then, joined}
 use Rattle.call_values.specs.Areas.{Rectangle, IsArea}
 use Rattle.call_grammar.specs.Spelling.{area_digits, area_symbols}
 use Rattle.call_grammar.specs.inside.Grammar.{Symbol, Areas, area_latitude, longitude_ones, area_of}
-use Rattle.call_grammar.proofs.Digits.{ten_digits-of}
+use Rattle.symbol_reader.proofs.Digits.{ten_digits-of}
 
 abbrev pub AreaLast : ℕ → ℕ → ℕ → ℕ → Rectangle → List ℕ → Type 0
 AreaLast a b c d = Then (Symbol (UpTo 99)) (λ e. Only (area_of a b c d e))

@@ -1,7 +1,6 @@
 -- Every symbol of a call's list is below 128.
 use Rattle.std.proofs.Common.{ℕ, zero, suc, Bool, true, false, cond, ◌+◌, ◌*◌, ◌<◌, List, [], ◌∷◌, ◌++◌, Option, Some, None, arith}
-use Rattle.std.specs.List.{AllByRecursion}
-use Rattle.std.proofs.lemmas.Nat.{xor_lt}
+use Rattle.symbol_reader.proofs.Characters.{AreCharacters, both, ten, of_six, of_eight, of_check}
 use Rattle.call_values.specs.declared.places.Fix.{Fix}
 use Rattle.call_values.specs.declared.calls.Casualty.{Casualty}
 use Rattle.call_values.specs.declared.calls.Call.{Call}
@@ -31,18 +30,6 @@ use Rattle.call_values.specs.Calls.{IsCasualty, IsRequest, IsCall}
 use Rattle.call_values.specs.Views.{address_of}
 use Rattle.call_grammar.specs.Spelling.{ten_digits, position_digits, identity_symbols, position_symbols, time_symbols, casualty_symbols, area_digits, area_symbols, six_digits, eight_digits, blanks, field_symbols, message_symbols, category_symbol, end_symbol, format_to, address_symbols, distress_symbols, request_symbols, kind_symbols, kind_end, format_of, end_of, fields_of, covered, check_of, spell}
 
-abbrev pub AreCharacters : List ℕ → Type 0
-AreCharacters l = AllByRecursion (λ symbol. symbol < 128) l
-
-pub both : (l m : List ℕ) → AreCharacters l → AreCharacters m → AreCharacters (l ++ m)
-both [] m a b = b
-both (x ∷ l) m a b = (a.0, both l m a.1 b)
-
--- ten digits
-pub ten : (n : ℕ) → n < 10000000000 → AreCharacters (ten_digits n)
-unfolding ten_digits
-ten n below = (omega arith, (omega arith, (omega arith, (omega arith, (omega arith, tt)))))
-
 of_position : (p : Option Fix) → IsPosition p → AreCharacters (position_symbols p)
 unfolding position_digits
 of_position None lawful = (omega arith, (omega arith, (omega arith, (omega arith, (omega arith, tt)))))
@@ -63,14 +50,6 @@ of_casualty c lawful =
 of_area : (a : Rectangle) → IsArea a → AreCharacters (area_symbols a)
 unfolding area_digits
 of_area a lawful = ten (area_digits a) (omega (arith, lawful.quadrant, lawful.latitude, lawful.longitude, lawful.south, lawful.east))
-
-of_six : (n : ℕ) → n < 1000000 → AreCharacters (six_digits n)
-unfolding six_digits
-of_six n below = (omega arith, (omega arith, (omega arith, tt)))
-
-of_eight : (n : ℕ) → n < 100000000 → AreCharacters (eight_digits n)
-unfolding eight_digits
-of_eight n below = (omega arith, (omega arith, (omega arith, (omega arith, tt))))
 
 of_field : (f : FieldKind) → IsField f → AreCharacters (field_symbols f)
 of_field Absent lawful = (omega arith, (omega arith, (omega arith, tt)))
@@ -171,11 +150,6 @@ of_end (AreaCall a g from x y f1 f2) = omega arith
 of_end (GroupCall m g from x y f1 f2) = omega arith
 of_end (Individual m g from x y told e) = of_end_symbol e
 of_end (Service m g from k) = of_kind_end k
-
-of_check : (l : List ℕ) → AreCharacters l → check_of l < 128
-unfolding check_of
-of_check [] all = omega arith
-of_check (x ∷ l) all = xor_lt 7 x (check_of l) all.0 (of_check l all.1)
 
 pub of_call : (c : Call) → IsCall c → AreCharacters (spell c)
 of_call c lawful =

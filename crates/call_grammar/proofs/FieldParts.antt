@@ -10,7 +10,8 @@ use Rattle.symbol_reader.proofs.Steps.{letter_good, one_then, joined}
 use Rattle.call_values.specs.declared.fields.FieldKind.{FieldKind}
 use Rattle.call_values.specs.declared.fields.FieldKind.TheVariants.{Absent, Hundreds, Hf, Vhf, Tens}
 use Rattle.call_values.specs.Fields.{IsField}
-use Rattle.call_grammar.specs.Spelling.{six_digits, eight_digits, field_symbols}
+use Rattle.call_grammar.specs.Spelling.{field_symbols}
+use Rattle.symbol_reader.proofs.Digits.{six-of, eight-of}
 use Rattle.call_grammar.specs.inside.Grammar.{Symbol, FieldWords, FieldRest, field_letter, short_field, long_field}
 use Rattle.call_grammar.proofs.CodedParts.{is_same, is_other}
 
@@ -40,17 +41,6 @@ parts_good = then_good _ _ (letter_good letter.Field) (λ initial _ _. field_res
 
 three : {a b c a' b' c' : ℕ} → a ≡ a' → b ≡ b' → c ≡ c' → a ∷ b ∷ c ∷ [] ≡ a' ∷ b' ∷ c' ∷ []
 three p q r = cc
-
-four : {a b c d a' b' c' d' : ℕ} → a ≡ a' → b ≡ b' → c ≡ c' → d ≡ d' → a ∷ b ∷ c ∷ d ∷ [] ≡ a' ∷ b' ∷ c' ∷ d' ∷ []
-four p q r s = cc
-
-six-of : (n a b c : ℕ) → b ≤ 99 → c ≤ 99 → n ≡ 10000 * a + 100 * b + c → six_digits n ≡ a ∷ b ∷ c ∷ []
-unfolding six_digits
-six-of n a b c hb hc h = three (omega arith) (omega arith) (omega arith)
-
-eight-of : (n a b c d : ℕ) → b ≤ 99 → c ≤ 99 → d ≤ 99 → n ≡ 1000000 * a + 10000 * b + 100 * c + d → eight_digits n ≡ a ∷ b ∷ c ∷ d ∷ []
-unfolding eight_digits
-eight-of n a b c d hb hc hd h = four (omega arith) (omega arith) (omega arith) (omega arith)
 
 test_is : (m n : ℕ) → (m == n) ≡ true → m ≡ n
 test_is m n e = grind (arith, nat_tests)

@@ -7,7 +7,7 @@ use Rattle.symbol_reader.proofs.Steps.{letter_good, one_then, joined}
 use Rattle.call_values.specs.Identity.{IsMmsi}
 use Rattle.call_grammar.specs.Spelling.{identity_symbols}
 use Rattle.call_grammar.specs.inside.Grammar.{Symbol, Identities, identity_of}
-use Rattle.call_grammar.proofs.Digits.{ten_digits-of}
+use Rattle.symbol_reader.proofs.Digits.{ten_digits-of}
 
 abbrev pub Last : ℕ → ℕ → ℕ → ℕ → ℕ → List ℕ → Type 0
 Last a b c d = Then (Symbol (Digits 9 0)) (λ e. Only (identity_of a b c d e))

@@ -1,4 +1,3 @@
-pub mod Digits
 pub mod IdentityParts
 pub mod SymbolParts
 pub mod TimeParts
@@ -14,7 +13,6 @@ pub mod ToForms
 pub mod FromForms
 pub mod CallParts
 pub mod Steps
-pub mod Checks
 pub mod Lengths
 pub mod Fronts
 pub mod Readings

@@ -10,7 +10,7 @@ use Rattle.call_values.specs.declared.places.Fix.{Fix}
 use Rattle.call_values.specs.Places.{IsArc, IsFix}
 use Rattle.call_grammar.specs.Spelling.{ten_digits, position_digits}
 use Rattle.call_grammar.specs.inside.Grammar.{Symbol, Positions, KnownRest, UnknownRest, fix_of, latitude_ones, minutes_and_hundreds, longitude_ones, longitude_minutes}
-use Rattle.call_grammar.proofs.Digits.{ten_digits-of}
+use Rattle.symbol_reader.proofs.Digits.{ten_digits-of}
 
 abbrev pub Minutes : ℕ → ℕ → ℕ → ℕ → Option Fix → List ℕ → Type 0
 Minutes a b c d = Then (Symbol (longitude_minutes c d)) (λ e. Only (Some (fix_of a b c d e)))

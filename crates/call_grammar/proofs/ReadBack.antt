@@ -6,8 +6,8 @@ use Rattle.call_values.specs.Calls.{IsCall}
 use Rattle.call_grammar.specs.Spelling.{format_of, covered, up_to_end, spell}
 use Rattle.call_grammar.specs.Walk.{IsViable}
 use Rattle.call_grammar.specs.Reading.{IsReading}
-use Rattle.call_grammar.specs.declared.reading.ReadRefusal.{ReadRefusal}
-use Rattle.call_grammar.specs.declared.reading.ReadRefusal.TheVariants.{Short, Outside, Check}
+use Rattle.symbol_reader.specs.declared.refusals.ReadRefusal.{ReadRefusal}
+use Rattle.symbol_reader.specs.declared.refusals.ReadRefusal.TheVariants.{Short, Outside, Check}
 use Rattle.call_grammar.proofs.Fronts.{same_covered}
 use Rattle.call_grammar.proofs.Readings.{tail_of, spell-tail}
 

@@ -1,5 +1,5 @@
 -- The lists of calls: ITU-R M.493, composition of call sequences and their fields.
-use Rattle.std.specs.Prelude.{ℕ, zero, suc, ◌+◌, ◌*◌, ◌/◌, ◌%◌, Bool, if◌then◌else◌, List, [], ◌∷◌, ◌++◌, Option, Some, None, bit_xor}
+use Rattle.std.specs.Prelude.{ℕ, zero, suc, ◌+◌, ◌*◌, Bool, if◌then◌else◌, List, [], ◌∷◌, ◌++◌, Option, Some, None}
 use Rattle.dsc_symbols.specs.declared.formats.TheConstants as formats
 use Rattle.dsc_symbols.specs.declared.categories.TheConstants as categories
 use Rattle.dsc_symbols.specs.declared.telecommands.TheConstants as telecommands
@@ -13,8 +13,6 @@ use Rattle.call_values.specs.declared.bodies.Body.{Body}
 use Rattle.call_values.specs.declared.bodies.Body.TheVariants as body
 use Rattle.call_values.specs.declared.choices.Category.{Category}
 use Rattle.call_values.specs.declared.choices.Category.TheVariants.{Routine, Safety, Urgency}
-use Rattle.call_values.specs.declared.choices.End.{End}
-use Rattle.call_values.specs.declared.choices.End.TheVariants.{Ask, Reply, Plain}
 use Rattle.call_values.specs.declared.fields.FieldKind.{FieldKind}
 use Rattle.call_values.specs.declared.fields.FieldKind.TheVariants.{Absent, Hundreds, Hf, Vhf, Tens}
 use Rattle.call_values.specs.declared.parts.To.{To}
@@ -24,11 +22,10 @@ use Rattle.call_values.specs.declared.parts.Message.TheVariants.{Fields, At}
 use Rattle.call_values.specs.declared.parts.Kind.{Kind}
 use Rattle.call_values.specs.declared.parts.Kind.TheVariants.{Test, AskPosition, Position}
 use Rattle.call_values.specs.Areas.{Rectangle}
+pub use Rattle.call_values.specs.Ends.{end_symbol}
 use Rattle.call_values.specs.Views.{address_of, body_of}
-
--- ten digits in five characters of two digits each
-unfoldable pub ten_digits : ℕ → List ℕ
-ten_digits n = (n / 100000000) ∷ (n / 1000000 % 100) ∷ (n / 10000 % 100) ∷ (n / 100 % 100) ∷ (n % 100) ∷ []
+unfoldable pub use Rattle.symbol_reader.specs.Digits.{ten_digits, eight_digits, six_digits}
+unfoldable pub use Rattle.symbol_reader.specs.Checks.{check_of}
 
 -- nine digits and a 0: 338040079 is 33 80 40 07 90
 abbrev pub identity_symbols : ℕ → List ℕ
@@ -61,14 +58,6 @@ area_digits a = 1000000000 * a.quadrant + 10000000 * a.latitude + 10000 * a.long
 abbrev pub area_symbols : Rectangle → List ℕ
 area_symbols a = ten_digits (area_digits a)
 
--- six digits in three characters
-unfoldable pub six_digits : ℕ → List ℕ
-six_digits n = (n / 10000) ∷ (n / 100 % 100) ∷ (n % 100) ∷ []
-
--- eight digits in four characters
-unfoldable pub eight_digits : ℕ → List ℕ
-eight_digits n = (n / 1000000) ∷ (n / 10000 % 100) ∷ (n / 100 % 100) ∷ (n % 100) ∷ []
-
 -- the character of no information, so many times
 abbrev pub blanks : ℕ → List ℕ
 blanks zero = []
@@ -92,12 +81,6 @@ abbrev pub category_symbol : Category → ℕ
 category_symbol Routine = categories.ROUTINE
 category_symbol Safety = categories.SAFETY
 category_symbol Urgency = categories.URGENCY
-
--- the ends of sequence: acknowledgement wanted, acknowledgement given, neither
-abbrev pub end_symbol : End → ℕ
-end_symbol Ask = ends.ACKNOWLEDGE_RQ
-end_symbol Reply = ends.ACKNOWLEDGE_BQ
-end_symbol Plain = ends.EOS
 
 -- the format specifiers of calls to all ships, to an area, to a group and to one station
 abbrev pub format_to : To → ℕ
@@ -170,11 +153,6 @@ end_of (Service to category from kind) = kind_end kind
 -- what the error check covers: the format specifier once, the fields and the end of sequence
 abbrev pub covered : Call → List ℕ
 covered c = format_of c ∷ (fields_of c ++ (end_of c ∷ []))
-
--- the error check character: the bitwise exclusive or of the symbols that it covers
-unfoldable pub check_of : List ℕ → ℕ
-check_of [] = 0
-check_of (x ∷ rest) = bit_xor x (check_of rest)
 
 -- a call's list up to its first end of sequence, the format specifier twice
 abbrev pub up_to_end : Call → List ℕ

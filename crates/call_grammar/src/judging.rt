@@ -7,18 +7,7 @@ use crate::forms::checked_characters;
 use crate::walking::Step;
 use call_values::Call;
 use cursor::Cursor;
-use symbol_reader::Stop;
-
-/// The error check character of these symbols, their bitwise exclusive or (ITU-R M.493, error check character).
-pub fn check(list: &[u8]) -> u8
-    ensures { result ≡ check_of list.now }
-{
-    let mut check = 0;
-    for symbol in list {
-        check ^= *symbol;
-    }
-    check
-}
+use symbol_reader::{Stop, check};
 
 /// How a call's list goes on at the last symbol, the format specifier standing twice.
 pub fn judge(list: &[u8]) -> Step

@@ -5,7 +5,7 @@ ghost use Rattle.call_grammar.specs.Spelling.{spell, front, up_to_end, check_of}
 ghost use Rattle.dsc_symbols.specs.Formats.{IsFormat};
 ghost use Rattle.call_grammar.specs.Walk.{IsViable, IsOpen, IsAtEnd, IsAtCheck, IsDone};
 ghost use Rattle.call_grammar.specs.Reading.{IsReading};
-ghost use Rattle.call_grammar.specs.declared.reading.ReadRefusal.{ReadRefusal};
+ghost use Rattle.symbol_reader.specs.declared.refusals.ReadRefusal.{ReadRefusal};
 
 /// The law that no call's list up to its check begins another call's. It does nothing.
 pub fn fronts_differ()

@@ -16,8 +16,9 @@ pub use laws::{
     checks_tell_ends, formats_begin_calls, fronts_differ, lists_are_characters, lists_are_short,
     one_check_place, one_end_place, one_list, open_is_not_done, read_back,
 };
-pub use reading::{ReadRefusal, read};
+pub use reading::read;
 pub use spelling::{area_digits, category_symbol, end_of, end_symbol, position_digits, spell};
+pub use symbol_reader::ReadRefusal;
 pub use walking::{Step, Walk};
 
 #[cfg(test)]

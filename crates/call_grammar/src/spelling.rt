@@ -3,7 +3,6 @@ ghost use Rattle.call_values.specs.Places.{IsFix};
 ghost use Rattle.call_values.specs.Areas.{IsArea};
 ghost use Rattle.call_grammar.specs.Spelling as sequence;
 
-use crate::judging::check;
 use arrayvec::ArrayVec;
 use call_values::{
     Area, Body, Call, Casualty, Category, End, Field, FieldKind, First, Fix, HourMinute, Kind,
@@ -11,6 +10,7 @@ use call_values::{
 };
 use dsc_symbols::messages::{NO_INFORMATION, POSITION_FOLLOWS, UNKNOWN_POSITION, UNKNOWN_TIME};
 use dsc_symbols::{categories, ends, formats, telecommands};
+use symbol_reader::{check, eight_digits, six_digits, ten_digits};
 
 /// A call's list: the format specifier twice, the fields, the end of sequence, the error check character, and the
 /// end of sequence twice more (ITU-R M.493, composition of call sequences).
@@ -75,11 +75,7 @@ pub fn end_of(call: &Call) -> u8
 pub fn end_symbol(end: &End) -> u8
     ensures { result ≡ sequence.end_symbol end.now }
 {
-    match end {
-        End::Ask => ends::ACKNOWLEDGE_RQ,
-        End::Reply => ends::ACKNOWLEDGE_BQ,
-        End::Plain => ends::EOS,
-    }
+    end.symbol()
 }
 
 fn kind_end(kind: &Kind) -> u8
@@ -294,48 +290,6 @@ fn time_symbols(time: &HourMinute) -> [u8; 2]
         None => [UNKNOWN_TIME; 2],
         Some((hour, minute)) => [hour, minute],
     }
-}
-
-/// Ten digits in five characters of two.
-#[tactic(auto, unfolding(crate::specs::Spelling::ten_digits))]
-fn ten_digits(number: u64) -> [u8; 5]
-    requires { number < 10000000000 }
-    ensures { result ≡ sequence.ten_digits number }
-{
-    [
-        (number / 100_000_000) as u8,
-        (number / 1_000_000 % 100) as u8,
-        (number / 10_000 % 100) as u8,
-        (number / 100 % 100) as u8,
-        (number % 100) as u8,
-    ]
-}
-
-/// Six digits in three characters of two.
-#[tactic(auto, unfolding(crate::specs::Spelling::six_digits))]
-fn six_digits(number: u32) -> [u8; 3]
-    requires { number < 1000000 }
-    ensures { result ≡ sequence.six_digits number }
-{
-    [
-        (number / 10_000) as u8,
-        (number / 100 % 100) as u8,
-        (number % 100) as u8,
-    ]
-}
-
-/// Eight digits in four characters of two.
-#[tactic(auto, unfolding(crate::specs::Spelling::eight_digits))]
-fn eight_digits(number: u32) -> [u8; 4]
-    requires { number < 100000000 }
-    ensures { result ≡ sequence.eight_digits number }
-{
-    [
-        (number / 1_000_000) as u8,
-        (number / 10_000 % 100) as u8,
-        (number / 100 % 100) as u8,
-        (number % 100) as u8,
-    ]
 }
 
 fn area_symbols(area: &Area) -> [u8; 5]

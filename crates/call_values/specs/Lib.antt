@@ -1,6 +1,7 @@
 pub mod Identity
 pub mod Places
 pub mod Clock
+pub mod Ends
 pub mod Calls
 pub mod Areas
 pub mod Fields

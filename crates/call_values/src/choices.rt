@@ -1,3 +1,8 @@
+ghost use Rattle.std.specs.Prelude.{◌≡◌};
+ghost use Rattle.call_values.specs.Ends.{end_symbol};
+
+use dsc_symbols::ends;
+
 /// The category of a call that is not a distress call (ITU-R M.493, category).
 #[derive(Clone, Copy, Debug, PartialEq, Eq)]
 pub enum Category {
@@ -18,6 +23,19 @@ pub enum End {
     Reply,
     /// Neither, symbol 127.
     Plain,
+}
+
+impl End {
+    /// The symbol of the end of sequence (ITU-R M.493, end of sequence).
+    pub fn symbol(&self) -> u8
+        ensures { result ≡ end_symbol self.now }
+    {
+        match self {
+            End::Ask => ends::ACKNOWLEDGE_RQ,
+            End::Reply => ends::ACKNOWLEDGE_BQ,
+            End::Plain => ends::EOS,
+        }
+    }
 }
 
 /// The band in which a coast station works.

@@ -1,7 +1,7 @@
 -- Each letter stands for some symbol.
 use Rattle.std.proofs.Common.{ℕ, refl, inl, inr, lit≤, arith}
 use Rattle.symbol_reader.specs.declared.letters.Letter.{Letter}
-use Rattle.symbol_reader.specs.declared.letters.Letter.TheVariants.{Exactly, UpTo, UpToOr, Digits, Nature, Comm, Either, Format, Category, First, FirstToOne, Second, Field, Message, End}
+use Rattle.symbol_reader.specs.declared.letters.Letter.TheVariants.{Exactly, UpTo, UpToOr, Digits, Nature, Comm, Either, OneOf, Format, Category, First, FirstToOne, Second, Field, Message, End}
 use Rattle.symbol_reader.specs.Letters.{Allows}
 
 -- a symbol of the letter
@@ -13,6 +13,7 @@ example_of (Digits tens ones) = 0
 example_of Nature = 100
 example_of Comm = 100
 example_of (Either one other) = one
+example_of (OneOf one other third) = one
 example_of Format = 112
 example_of Category = 112
 example_of First = 100
@@ -31,6 +32,7 @@ Allows-example (Digits tens ones) = omega arith
 Allows-example Nature = inl (lit≤ tt, lit≤ tt)
 Allows-example Comm = inl (lit≤ tt, lit≤ tt)
 Allows-example (Either one other) = inl refl
+Allows-example (OneOf one other third) = inl refl
 Allows-example Format = inl refl
 Allows-example Category = inl refl
 Allows-example First = inl (lit≤ tt, lit≤ tt)

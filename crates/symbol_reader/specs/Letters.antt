@@ -8,7 +8,7 @@ use Rattle.dsc_symbols.specs.Formats.{IsFormat}
 use Rattle.dsc_symbols.specs.Natures.{IsNature}
 use Rattle.dsc_symbols.specs.Telecommands.{IsFirst, IsSecond, IsComm}
 use Rattle.symbol_reader.specs.declared.letters.Letter.{Letter}
-use Rattle.symbol_reader.specs.declared.letters.Letter.TheVariants.{Exactly, UpTo, UpToOr, Digits, Nature, Comm, Either, Format, Category, First, FirstToOne, Second, Field, Message, End}
+use Rattle.symbol_reader.specs.declared.letters.Letter.TheVariants.{Exactly, UpTo, UpToOr, Digits, Nature, Comm, Either, OneOf, Format, Category, First, FirstToOne, Second, Field, Message, End}
 
 -- the symbols that a letter stands for
 abbrev pub Allows : Letter → ℕ → Type 0
@@ -19,6 +19,7 @@ Allows (Digits tens ones) x = (x / 10 ≤ tens) × (x % 10 ≤ ones)
 Allows Nature x = IsNature x
 Allows Comm x = IsComm x
 Allows (Either one other) x = (x ≡ one) ⊎ (x ≡ other)
+Allows (OneOf one other third) x = (x ≡ one) ⊎ (x ≡ other) ⊎ (x ≡ third)
 Allows Format x = IsFormat x
 Allows Category x = IsCategory x
 Allows First x = IsFirst x

@@ -1,2 +1,5 @@
 pub mod Letters
+pub mod Digits
+pub mod Checks
+pub mod Refusals
 pub mod inside

@@ -26,6 +26,8 @@ pub enum Letter {
     Comm,
     /// This symbol or that one.
     Either(u8, u8),
+    /// One of these three symbols.
+    OneOf(u8, u8, u8),
     /// The format specifiers.
     Format,
     /// The categories, distress among them.
@@ -57,6 +59,9 @@ impl Letter {
             Letter::Nature => is_nature(symbol),
             Letter::Comm => is_comm(symbol),
             Letter::Either(one, other) => symbol == one || symbol == other,
+            Letter::OneOf(one, other, third) => {
+                symbol == one || symbol == other || symbol == third
+            }
             Letter::Format => is_format(symbol),
             Letter::Category => is_category(symbol),
             Letter::First => is_first(symbol),

@@ -2,7 +2,7 @@
 use Rattle.std.proofs.Common.{◌≡◌, ℕ, ◌+◌, ◌<◌, ◌≤◌, List, [], ◌∷◌, ◌++◌, length, drop, get_or, refl, sym, ◌∙◌, ap, drop-cons, add-one}
 use Rattle.std.specs.Int.Bits.{bit_xor, xor_assoc, xor_self, xor_zero_l, xor_zero_r}
 use Rattle.std.proofs.lemmas.List.{drop_all}
-use Rattle.call_grammar.specs.Spelling.{check_of}
+use Rattle.symbol_reader.specs.Checks.{check_of}
 
 check_more : (x : ℕ) (l : List ℕ) → check_of (x ∷ l) ≡ bit_xor x (check_of l)
 unfolding check_of

@@ -1,5 +1,5 @@
-use Rattle.call_grammar.proofs.Checks.{count_more, count_all}
-use Rattle.call_grammar.proofs.judging.check.Goals as goal
+use Rattle.symbol_reader.proofs.Checks.{count_more, count_all}
+use Rattle.symbol_reader.proofs.checking.check.Goals as goal
 
 pub loop-symbol-preserved : goal.loop-symbol-preserved
 loop-symbol-preserved c =
