@@ -5,8 +5,7 @@ use Rattle.call_values.specs.declared.calls.Call.{Call}
 use Rattle.call_values.specs.Calls.{IsCall}
 use Rattle.call_grammar.specs.Spelling.{format_of, covered, check_of, end_of, up_to_end, spell}
 use Rattle.call_grammar.specs.Walk.{IsViable, IsAtCheck}
-use Rattle.call_grammar.specs.Reading.{IsPart, BeginsWith, EndsShort, EndsOutside, EndsWrong, IsReading}
-use Rattle.symbol_reader.specs.Refusals.{Shows, Misses}
+use Rattle.call_grammar.specs.Reading.{IsPart, BeginsWith, EndsShort, EndsOutside, EndsWrong, IsReading, Shows, Misses}
 use Rattle.symbol_reader.specs.declared.refusals.ReadRefusal.{ReadRefusal}
 use Rattle.symbol_reader.specs.declared.refusals.ReadRefusal.TheVariants.{Short, Outside, Check}
 use Rattle.call_grammar.proofs.Fronts.{same_covered}

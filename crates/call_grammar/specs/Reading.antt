@@ -1,5 +1,5 @@
 -- Reading of whole lists: the lists are those of ITU-R M.493, the refusals this project's profile.
-use Rattle.std.specs.Prelude.{◌≡◌, ℕ, List, [], ◌∷◌, ◌++◌, length, drop, Result, Ok, Err}
+use Rattle.std.specs.Prelude.{◌≡◌, ℕ, List, [], ◌∷◌, ◌++◌, ◌<◌, ◌≤◌, ◌≢◌, length, drop, slice_index, Result, Ok, Err}
 use Rattle.call_values.specs.declared.calls.Call.{Call}
 use Rattle.call_values.specs.Calls.{IsCall}
 use Rattle.call_grammar.specs.Spelling.{spell, check_of}
@@ -61,3 +61,14 @@ pub record IsTwice (l : List ℕ) : Type 0 where
   pub rest : List ℕ
   pub lawful : IsFormat format
   pub list : l ≡ format ∷ format ∷ rest
+
+-- this symbol stands at place n
+pub record Shows (l : List ℕ) (n x : ℕ) : Type 0 where
+  pub inside : n < length l
+  pub symbol : slice_index l n ≡ x
+
+-- the list ends before place n, or another symbol stands there
+abbrev pub Misses : List ℕ → ℕ → ℕ → ReadRefusal → Type 0
+Misses l n x (Short m) = (m ≡ n) × (length l ≤ n)
+Misses l n x (Outside m got) = (m ≡ n) × Shows l n got × (got ≢ x)
+Misses l n x (Check m want got) = ⊥

@@ -2,14 +2,14 @@ ghost use Rattle.std.specs.Prelude.{◌≡◌, ℕ, ◌≤◌, List, ◌∷◌, 
 ghost use Rattle.call_values.specs.Calls.{IsCall};
 ghost use Rattle.call_grammar.specs.Spelling.{up_to_end};
 ghost use Rattle.dsc_symbols.specs.Formats.{IsFormat};
-ghost use Rattle.call_grammar.specs.Reading.{IsReading, IsTwice};
+ghost use Rattle.call_grammar.specs.Reading.{IsReading, IsTwice, Shows, Misses};
 
 use crate::forms::checked_characters;
 use crate::spelling::end_of;
 use call_values::Call;
 use cursor::Cursor;
 use dsc_symbols::formats::is_format;
-use symbol_reader::{ReadRefusal, Stop, check, expect};
+use symbol_reader::{ReadRefusal, Stop, check};
 
 /// Reads the call whose list is a prefix of the given one, and answers it with that list's length.
 pub fn read(list: &[u8]) -> Result<(Call, usize), ReadRefusal>
@@ -58,4 +58,15 @@ fn ending(list: &[u8], place: usize, call: Call) -> Result<(Call, usize), ReadRe
     expect(list, n + 1, end)?;
     expect(list, n + 2, end)?;
     Ok((call, place + 3))
+}
+
+/// Reads one symbol, at this place, that can be no other than this one.
+fn expect(list: &[u8], place: u8, symbol: u8) -> Result<(), ReadRefusal>
+    ensures { MatchResult result (λ _. Shows list.now place symbol) (λ refusal. Misses list.now place symbol refusal) }
+{
+    match list.get(place as usize) {
+        None => Err(ReadRefusal::Short(place)),
+        Some(got) if *got != symbol => Err(ReadRefusal::Outside(place, *got)),
+        Some(_) => Ok(()),
+    }
 }

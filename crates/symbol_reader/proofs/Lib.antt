@@ -4,3 +4,4 @@ pub mod Steps
 pub mod Checks
 pub mod Digits
 pub mod Characters
+pub mod Closings

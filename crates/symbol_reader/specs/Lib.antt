@@ -1,5 +1,4 @@
 pub mod Letters
 pub mod Digits
 pub mod Checks
-pub mod Refusals
 pub mod inside

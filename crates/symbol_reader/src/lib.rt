@@ -3,13 +3,15 @@
 #![tactic(auto)]
 
 mod checking;
+mod endings;
 mod letters;
 mod numbers;
 mod reading;
 mod refusals;
 
 pub use checking::check;
+pub use endings::closing;
 pub use letters::Letter;
 pub use numbers::{eight_digits, four_digits, six_digits, ten_digits};
 pub use reading::{Stop, symbol};
-pub use refusals::{ReadRefusal, expect};
+pub use refusals::ReadRefusal;

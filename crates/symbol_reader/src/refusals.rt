@@ -1,6 +1,3 @@
-ghost use Rattle.std.specs.Prelude.{MatchResult};
-ghost use Rattle.symbol_reader.specs.Refusals.{Shows, Misses};
-
 /// Why a list isn't read as that of a call or of an expansion. "Such a list" is one that spells a value of the kind that is read.
 #[derive(Clone, Copy, Debug, PartialEq, Eq)]
 pub enum ReadRefusal {
@@ -11,15 +8,4 @@ pub enum ReadRefusal {
     Outside(u8, u8),
     /// This place is the first at which no such list goes on, and is that of the error check character.
     Check { n: u8, want: u8, got: u8 },
-}
-
-/// Reads one symbol, at this place, that can be no other than this one.
-pub fn expect(list: &[u8], place: u8, symbol: u8) -> Result<(), ReadRefusal>
-    ensures { MatchResult result (λ _. Shows list.now place symbol) (λ refusal. Misses list.now place symbol refusal) }
-{
-    match list.get(place as usize) {
-        None => Err(ReadRefusal::Short(place)),
-        Some(got) if *got != symbol => Err(ReadRefusal::Outside(place, *got)),
-        Some(_) => Ok(()),
-    }
 }
