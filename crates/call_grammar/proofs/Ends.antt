@@ -8,7 +8,7 @@ use Rattle.call_values.specs.declared.calls.Call.{Call}
 use Rattle.call_values.specs.declared.calls.Call.TheVariants.{Alert, Ack, Relay, RelayAck, AllShips, AreaCall, GroupCall, Individual, Service}
 use Rattle.call_values.specs.declared.choices.End.TheVariants.{Ask, Reply, Plain}
 use Rattle.call_values.specs.declared.parts.Kind.TheVariants.{Test, AskPosition, Position}
-use Rattle.call_grammar.specs.Spelling.{format_of, fields_of, end_of, covered, check_of, front}
+use Rattle.call_grammar.specs.Spelling.{format_of, fields_of, end_of, covered, check_of, through_check}
 use Rattle.call_grammar.specs.inside.Grammar.{CheckedCharacters}
 use Rattle.call_grammar.specs.Walk.{IsDone, IsAtEnd}
 use Rattle.call_grammar.specs.inside.Judging.{IsWalking, IsCovered}
@@ -20,7 +20,7 @@ use Rattle.call_grammar.proofs.Steps.{heads, spelled, no_cover}
 pub taken_short : (l : List ℕ) → (l ≡ []) ⊎ IsWalking l ⊎ IsDone l → length l ≤ 30
 taken_short l (inl e) = omega (arith, walking_short l (inl e))
 taken_short l (inr (inl w)) = omega (arith, walking_short l (inr w))
-taken_short l (inr (inr d)) = let k : length l ≡ length (front d.call) = ap length d.list in omega (arith, length-front d.call)
+taken_short l (inr (inr d)) = let k : length l ≡ length (through_check d.call) = ap length d.list in omega (arith, length-front d.call)
 
 -- what is read to its end is what a check covers
 pub read_covered : (l new : List ℕ) (v : Call) → Took CheckedCharacters v l new → length new ≡ 0 → IsCovered l

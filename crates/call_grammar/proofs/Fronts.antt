@@ -2,7 +2,7 @@
 use Rattle.std.proofs.Common.{◌≡◌, ℕ, ◌⊎◌, inl, inr, List, [], ◌∷◌, ◌++◌, refl, sym, ◌∙◌, ap, append_assoc, append-nil}
 use Rattle.call_values.specs.declared.calls.Call.{Call}
 use Rattle.call_values.specs.Calls.{IsCall}
-use Rattle.call_grammar.specs.Spelling.{format_of, end_of, covered, check_of, up_to_end, front, spell}
+use Rattle.call_grammar.specs.Spelling.{format_of, end_of, covered, check_of, up_to_end, through_check, spell}
 use Rattle.call_grammar.specs.Walk.{IsOpen, IsDone}
 use Rattle.call_grammar.proofs.CallParts.{checked_characters_good}
 
@@ -11,7 +11,7 @@ same_covered c d r s h k e =
     let one = checked_characters_good.one d c (covered d) (covered c) r s (record { is_lawful = k; list = refl }) (record { is_lawful = h; list = refl }) e in
     (sym one.0, one.2)
 
-pub front_same : (c d : Call) (rest : List ℕ) → IsCall c → IsCall d → front d ≡ front c ++ rest → (c ≡ d) × (rest ≡ [])
+pub front_same : (c d : Call) (rest : List ℕ) → IsCall c → IsCall d → through_check d ≡ through_check c ++ rest → (c ≡ d) × (rest ≡ [])
 front_same c d rest h k e =
     let m : ℕ = check_of (covered c) in let n : ℕ = check_of (covered d) in
     let whole : format_of d ∷ (covered d ++ (n ∷ [])) ≡ format_of c ∷ ((covered c ++ (m ∷ [])) ++ rest) = e in
@@ -44,6 +44,6 @@ no_more l x rest e = cc
 pub open_not_done : (l : List ℕ) → (l ≡ []) ⊎ IsOpen l → IsDone l → ⊥
 open_not_done l (inl e) d = let k : [] ≡ format_of d.call ∷ (covered d.call ++ (check_of (covered d.call) ∷ [])) = sym e ∙ d.list in cc
 open_not_done l (inr o) d =
-    let e : front o.call ≡ front d.call ++ (o.next ∷ o.rest) = o.list ∙ ap (λ a. a ++ (o.next ∷ o.rest)) d.list in
+    let e : through_check o.call ≡ through_check d.call ++ (o.next ∷ o.rest) = o.list ∙ ap (λ a. a ++ (o.next ∷ o.rest)) d.list in
     let same = front_same d.call o.call (o.next ∷ o.rest) d.lawful o.lawful e in
     no_more l o.next o.rest same.1

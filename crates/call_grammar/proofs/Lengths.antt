@@ -15,7 +15,7 @@ use Rattle.call_values.specs.declared.parts.Message.TheVariants.{Fields, At}
 use Rattle.call_values.specs.declared.parts.Kind.{Kind}
 use Rattle.call_values.specs.declared.parts.Kind.TheVariants.{Test, AskPosition, Position}
 use Rattle.call_values.specs.Views.{address_of, body_of}
-use Rattle.call_grammar.specs.Spelling.{ten_digits, position_digits, position_symbols, time_symbols, identity_symbols, casualty_symbols, six_digits, eight_digits, area_digits, field_symbols, message_symbols, address_symbols, distress_symbols, request_symbols, distress_telecommand, kind_symbols, body_symbols, fields_of, end_of, covered, check_of, front, spell}
+use Rattle.call_grammar.specs.Spelling.{ten_digits, position_digits, position_symbols, time_symbols, identity_symbols, casualty_symbols, six_digits, eight_digits, area_digits, field_symbols, message_symbols, address_symbols, distress_symbols, request_symbols, distress_telecommand, kind_symbols, body_symbols, fields_of, end_of, covered, check_of, through_check, spell}
 use Rattle.call_grammar.specs.inside.Judging.{IsWalking}
 
 length-ten_digits : (n : ℕ) → length (ten_digits n) ≡ 5
@@ -100,17 +100,17 @@ length-fields c =
 pub length-covered : (c : Call) → length (covered c) ≤ 28
 length-covered c = omega (arith, length-fields c, length-append (fields_of c) (end_of c ∷ []))
 
-pub length-front : (c : Call) → length (front c) ≤ 30
+pub length-front : (c : Call) → length (through_check c) ≤ 30
 length-front c = omega (arith, length-covered c, length-append (covered c) (check_of (covered c) ∷ []))
 
 pub length-spell : (c : Call) → length (spell c) ≤ 32
-length-spell c = omega (arith, length-front c, length-append (front c) (end_of c ∷ end_of c ∷ []))
+length-spell c = omega (arith, length-front c, length-append (through_check c) (end_of c ∷ end_of c ∷ []))
 
 pub four-spell : (c : Call) → 4 ≤ length (spell c)
 four-spell c =
     omega (
       arith,
-      length-append (front c) (end_of c ∷ end_of c ∷ []),
+      length-append (through_check c) (end_of c ∷ end_of c ∷ []),
       length-append (covered c) (check_of (covered c) ∷ []),
       length-append (fields_of c) (end_of c ∷ []),
     )
@@ -120,5 +120,5 @@ pub walking_short : (l : List ℕ) → (l ≡ []) ⊎ IsWalking l → length l �
 walking_short l (inl e) = let k : length l ≡ 0 = ap length e in omega arith
 walking_short l (inr w) =
     let o = w.begins in
-    let k : length (front o.call) ≡ length (l ++ (o.next ∷ o.rest)) = ap length o.list in
+    let k : length (through_check o.call) ≡ length (l ++ (o.next ∷ o.rest)) = ap length o.list in
     omega (arith, length-front o.call, length-append l (o.next ∷ o.rest))

@@ -6,7 +6,7 @@ use Rattle.symbol_reader.proofs.Laws.{no_word_goes_on}
 use Rattle.symbol_reader.proofs.Steps.{split, shorter}
 use Rattle.call_values.specs.declared.calls.Call.{Call}
 use Rattle.call_values.specs.Calls.{IsCall}
-use Rattle.call_grammar.specs.Spelling.{format_of, fields_of, end_of, covered, check_of, front}
+use Rattle.call_grammar.specs.Spelling.{format_of, fields_of, end_of, covered, check_of, through_check}
 use Rattle.call_grammar.specs.inside.Grammar.{CheckedCharacters}
 use Rattle.call_grammar.specs.Walk.{IsViable, IsOpen, IsAtCheck, IsDone, after, FailsCheck, IsStep}
 use Rattle.call_grammar.specs.inside.Judging.{IsCovered, IsRight, Judges, IsWalking, is_taken}
@@ -81,7 +81,7 @@ open_of f m tail twice (inr w) =
 
 -- the call is done
 completes : (f x : ℕ) (l tail : List ℕ) (c : Call) → l ++ (x ∷ []) ≡ f ∷ tail → Begins CheckedCharacters l → IsRight (l ++ (x ∷ [])) c
-    → f ∷ (l ++ (x ∷ [])) ≡ front c
+    → f ∷ (l ++ (x ∷ [])) ≡ through_check c
 completes f x l tail c twice b right =
     let place = at_place c l right.rest x (check_of (covered c)) right.lawful b right.list in
     let format : f ≡ format_of c = heads _ _ _ _ (sym twice ∙ right.list) in
@@ -183,7 +183,7 @@ judged old x step s j = subst (λ a. Judges (drop 1 a) step) s.list j
 open_after : (old : List ℕ) (x : ℕ) (s : Stands old x) → Judges (drop 1 (after old x)) More → IsOpen (after old x)
 open_after old x s j = subst IsOpen (sym s.list) (open_of s.f (s.l ++ (x ∷ [])) s.tail s.twice (judged old x More s j))
 
-done_after : (old : List ℕ) (x : ℕ) (call : Call) (s : Stands old x) → Judges (drop 1 (after old x)) (Done call) → after old x ≡ front call
+done_after : (old : List ℕ) (x : ℕ) (call : Call) (s : Stands old x) → Judges (drop 1 (after old x)) (Done call) → after old x ≡ through_check call
 done_after old x call s j = s.list ∙ completes s.f x s.l s.tail call s.twice s.begins (judged old x (Done call) s j)
 
 outside_after : (old : List ℕ) (x : ℕ) (s : Stands old x) → Judges (drop 1 (after old x)) Outside

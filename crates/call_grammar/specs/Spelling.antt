@@ -159,9 +159,9 @@ abbrev pub up_to_end : Call → List ℕ
 up_to_end c = format_of c ∷ covered c
 
 -- and with its error check character
-abbrev pub front : Call → List ℕ
-front c = up_to_end c ++ (check_of (covered c) ∷ [])
+abbrev pub through_check : Call → List ℕ
+through_check c = up_to_end c ++ (check_of (covered c) ∷ [])
 
 -- a call's whole list: the end of sequence stands twice more after the check
 abbrev pub spell : Call → List ℕ
-spell c = front c ++ (end_of c ∷ end_of c ∷ [])
+spell c = through_check c ++ (end_of c ∷ end_of c ∷ [])

@@ -2,7 +2,7 @@
 use Rattle.std.specs.Prelude.{◌≡◌, ℕ, ◌⊎◌, List, [], ◌∷◌, ◌++◌, drop}
 use Rattle.call_values.specs.declared.calls.Call.{Call}
 use Rattle.call_values.specs.Calls.{IsCall}
-use Rattle.call_grammar.specs.Spelling.{spell, front, up_to_end, end_of, check_of}
+use Rattle.call_grammar.specs.Spelling.{spell, through_check, up_to_end, end_of, check_of}
 use Rattle.call_grammar.specs.declared.walking.Step.{Step}
 use Rattle.call_grammar.specs.declared.walking.Step.TheVariants.{More, Done, Outside, Check}
 
@@ -19,7 +19,7 @@ pub record IsOpen (l : List ℕ) : Type 0 where
   pub next : ℕ
   pub rest : List ℕ
   pub lawful : IsCall call
-  pub list : front call ≡ l ++ (next ∷ rest)
+  pub list : through_check call ≡ l ++ (next ∷ rest)
 
 -- the next place is that of some call's check
 pub record IsAtCheck (l : List ℕ) : Type 0 where
@@ -37,7 +37,7 @@ pub record IsAtEnd (l : List ℕ) : Type 0 where
 pub record IsDone (l : List ℕ) : Type 0 where
   pub call : Call
   pub lawful : IsCall call
-  pub list : l ≡ front call
+  pub list : l ≡ through_check call
 
 -- the list after one more symbol: the format specifier counts twice
 abbrev pub after : List ℕ → ℕ → List ℕ
@@ -53,7 +53,7 @@ pub record GoesOn (old : List ℕ) (x : ℕ) (new : List ℕ) : Type 0 where
 pub record Completes (old : List ℕ) (x : ℕ) (call : Call) (new : List ℕ) : Type 0 where
   pub taken : new ≡ after old x
   pub lawful : IsCall call
-  pub list : new ≡ front call
+  pub list : new ≡ through_check call
 
 -- no call's list goes on with the symbol, which is at no check's place
 pub record StaysOutside (old : List ℕ) (x : ℕ) (new : List ℕ) : Type 0 where

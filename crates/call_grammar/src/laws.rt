@@ -1,7 +1,7 @@
 ghost use Rattle.std.specs.Prelude.{◌≡◌, ℕ, ◌<◌, ◌≤◌, All, ◌⊎◌, ◌↔◌, List, [], ◌∷◌, ◌++◌, length, Result, Ok};
 ghost use Rattle.call_values.specs.declared.calls.Call.{Call};
 ghost use Rattle.call_values.specs.Calls.{IsCall};
-ghost use Rattle.call_grammar.specs.Spelling.{spell, front, up_to_end, check_of};
+ghost use Rattle.call_grammar.specs.Spelling.{spell, through_check, up_to_end, check_of};
 ghost use Rattle.dsc_symbols.specs.Formats.{IsFormat};
 ghost use Rattle.call_grammar.specs.Walk.{IsViable, IsOpen, IsAtEnd, IsAtCheck, IsDone};
 ghost use Rattle.call_grammar.specs.Reading.{IsReading};
@@ -9,7 +9,7 @@ ghost use Rattle.symbol_reader.specs.declared.refusals.ReadRefusal.{ReadRefusal}
 
 /// The law that no call's list up to its check begins another call's. It does nothing.
 pub fn fronts_differ()
-    ensures { (c d : Call) (rest : List ℕ) → IsCall c → IsCall d → front d ≡ front c ++ rest → (c ≡ d) × (rest ≡ []) }
+    ensures { (c d : Call) (rest : List ℕ) → IsCall c → IsCall d → through_check d ≡ through_check c ++ rest → (c ≡ d) × (rest ≡ []) }
 {}
 
 /// The law that up to its first end of sequence no call's list begins another's. It does nothing.

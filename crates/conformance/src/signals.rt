@@ -4,7 +4,7 @@ use dsc_symbols::worked::{ALERT, ALERT_SLOTS};
 use phasing::transmission;
 use std::test::Fail;
 use ten_unit::Element;
-use time_diversity::{on_air, place_of};
+use time_diversity::on_air;
 
 fn alert() -> Option<Call> {
     let fix = Fix {
@@ -35,21 +35,6 @@ fn an_alert_on_air(rt: HostRuntime) -> Result<(), Fail> {
         assert_eq!(rt; pair, [Element::B, Element::Y].as_slice());
     }
     Ok(())
-}
-
-#[test]
-fn places_of_slots(rt: HostRuntime) {
-    for (slot, place) in [
-        (13, None),
-        (14, Some(1)),
-        (17, Some(0)),
-        (138, Some(63)),
-        (140, None),
-        (143, Some(63)),
-        (145, None),
-    ] {
-        assert_eq!(rt; place_of(slot), place, "slot {slot}");
-    }
 }
 
 #[test]

@@ -1,7 +1,7 @@
 -- receptions of one call are answered by it
 use Rattle.std.proofs.Common.{◌≡◌, ℕ, List, ◌++◌, Option, All, inl, inr, ◌∙◌, ap}
 use Rattle.ten_unit.specs.declared.character.Element.{Element}
-use Rattle.call_values.specs.declared.alerts.Call.{Call}
+use Rattle.call_values.specs.declared.calls.Call.{Call}
 use Rattle.call_values.specs.Calls.{IsCall}
 use Rattle.call_grammar.specs.Spelling.{spell}
 use Rattle.slot_join.specs.declared.joined.Joined.{Joined}

@@ -1,9 +1,9 @@
 -- What is written where all receptions are of one call: ITU-R M.493, the error-detecting code and time diversity; the rule is this project's profile.
 use Rattle.std.specs.Prelude.{◌≡◌, ◌≢◌, ℕ, ◌<◌, ◌⊎◌, List, [], ◌++◌, length, Option, All}
 use Rattle.ten_unit.specs.declared.character.Element.{Element}
-use Rattle.call_values.specs.declared.alerts.Call.{Call}
+use Rattle.call_values.specs.declared.calls.Call.{Call}
 use Rattle.call_values.specs.Calls.{IsCall}
-use Rattle.call_grammar.specs.Spelling.{spell, front}
+use Rattle.call_grammar.specs.Spelling.{spell, through_check}
 use Rattle.slot_evidence.specs.Seen.{ShowsNone}
 use Rattle.slot_join.specs.declared.joined.Joined.TheVariants.{Reported, Missing}
 use Rattle.slot_join.specs.declared.joined.Extra.TheVariants.{Absent}
@@ -30,7 +30,7 @@ pub record TellsCall (call : Call) (text : List ℕ) (status : ℕ) : Type 0 whe
 -- the line of a place of the call, up to its error check character, at which no reception showed a symbol and no copy came intact
 pub record TellsLostPlace (receptions : List (List Element)) (call : Call) (tail text : List ℕ) (status : ℕ) : Type 0 where
   pub place : ℕ
-  pub inside : place < length (front call)
+  pub inside : place < length (through_check call)
   pub blank : ShowsNone (facts_of_all receptions place)
   pub nowhere : CameNowhere receptions (spell call ++ tail) place
   pub text_is : text ≡ answer_line (Missing place)

@@ -16,7 +16,7 @@ use crate::faults::{fault_status, put_fault};
 use crate::words::is_join;
 use dsc_files::{Failed, ReadError, Sink, Source, Status, read_at_most, write_all};
 use dsc_texts::put_answer_line;
-use join_lines::{LinesError, early_fault, join_lines};
+use join_lines::{LONGEST_LINE, LinesError, MOST_LINES, early_fault, join_lines};
 use slot_join::{
     Gate, Joined, Sheet, intact_copies_report_the_call, report, sent_call_is_answered,
 };
@@ -25,7 +25,7 @@ use std::thread::Threads;
 
 /// Reading stops once more bytes than this were taken: an input within the limits of lines and of their bytes has no
 /// more, so the first fault of a longer one is among them.
-const MOST_BYTES: usize = 4096 * 4201;
+const MOST_BYTES: usize = MOST_LINES * (LONGEST_LINE + 1);
 
 /// Writes a text and flushes the sink.
 fn write_flushed<K: Sink>(sink: &mut K, text: &[u8]) -> Result<(), Failed>

@@ -2,10 +2,10 @@ ghost use Rattle.std.specs.Prelude.{◌≡◌, ◌+◌, ◌≤◌, ◌++◌, [],
 ghost use Rattle.arrayvec.specs.ArrayVec.{array_vec_len};
 ghost use Rattle.dsc_texts.specs.Texts.{verdict_text, answer_text};
 
-use crate::calls::append_call;
+use crate::calls::append_reported;
 use crate::pieces::{append, append_number};
 use arrayvec::ArrayVec;
-use slot_join::{Extra, Joined};
+use slot_join::Joined;
 
 /// A group's answer, without the end of its line: `g0 reported ..`, `g0 missing 7`, `g0 differ 8 14 22`,
 /// `g0 outside 6 91` or `g0 check 17 78 79`.
@@ -46,10 +46,7 @@ fn append_verdict<const N: usize>(out: &mut ArrayVec<u8, N>, answer: &Joined)
     match answer {
         Joined::Reported { call, expansion } => {
             append(out, b" reported ");
-            append_call(out, call);
-            match expansion {
-                Extra::Absent => {}
-            }
+            append_reported(out, call, expansion);
         }
         Joined::Missing(n) => {
             append(out, b" missing ");

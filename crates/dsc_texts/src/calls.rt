@@ -20,15 +20,25 @@ pub fn put_call(call: &Call, extra: &Extra) -> ArrayVec<u8, 256>
     ensures { result.items ≡ reported_text call.now extra.now }
 {
     let mut out = ArrayVec::new();
-    append_call(&mut out, call);
+    append_reported(&mut out, call, extra);
+    out
+}
+
+/// Appends the text of a call and of what follows it on air, which takes at most 111 bytes.
+pub fn append_reported<const N: usize>(out: &mut ArrayVec<u8, N>, call: &Call, extra: &Extra)
+    requires { array_vec_len out.old + 111 ≤ N }
+    ensures items { out.new.items ≡ out.old.items ++ reported_text call.now extra.now }
+    ensures len { array_vec_len out.new ≤ array_vec_len out.old + 111 }
+{
+    append_call(out, call);
     match extra {
-        Extra::Absent => out,
+        Extra::Absent => {}
     }
 }
 
 /// Appends a call's text, which takes at most 111 bytes.
 #[tactic(auto, unfolding(crate::specs::CallParts::call_text))]
-pub fn append_call<const N: usize>(out: &mut ArrayVec<u8, N>, call: &Call)
+fn append_call<const N: usize>(out: &mut ArrayVec<u8, N>, call: &Call)
     requires { array_vec_len out.old + 111 ≤ N }
     ensures items { out.new.items ≡ out.old.items ++ call_text call.now }
     ensures len { array_vec_len out.new ≤ array_vec_len out.old + 111 }

@@ -10,7 +10,7 @@ use Rattle.call_values.specs.declared.choices.End.TheVariants.{Ask, Reply, Plain
 use Rattle.call_values.specs.Ends.{end_symbol}
 use Rattle.expansion.specs.declared.values.Sets.{Sets}
 use Rattle.expansion.specs.Expansions.{IsExpansion}
-use Rattle.expansion.specs.Spelling.{covered, front, spell}
+use Rattle.expansion.specs.Spelling.{covered, through_check, spell}
 use Rattle.expansion.specs.Reading.{IsViable, IsReading}
 use Rattle.expansion.specs.inside.Grammar.{CheckedSets}
 use Rattle.expansion.proofs.SetParts.{checked_sets_good}
@@ -54,7 +54,7 @@ spell_same x y e f h k p =
     let list : spell x e ≡ spell y e = p ∙ ap (λ g. spell y g) (sym same) in
     ((same_lists x y e [] [] h k (ap (λ l. l ++ []) (sym list))).0, same)
 
-pub front_same : (x y : Sets) (e : End) (rest : List ℕ) → IsExpansion x → IsExpansion y → front y e ≡ front x e ++ rest → (x ≡ y) × (rest ≡ [])
+pub front_same : (x y : Sets) (e : End) (rest : List ℕ) → IsExpansion x → IsExpansion y → through_check y e ≡ through_check x e ++ rest → (x ≡ y) × (rest ≡ [])
 front_same x y e rest h k p =
     let m : ℕ = check_of (covered x e) in let n : ℕ = check_of (covered y e) in
     let parts : covered y e ++ (n ∷ []) ≡ covered x e ++ (m ∷ rest) = p ∙ append_assoc (covered x e) (m ∷ []) rest in

@@ -22,9 +22,9 @@ covered x last =
     set_symbols ENHANCED_POSITION eight_digits x.enhanced
     ++ (set_symbols SPEED four_digits x.speed ++ (set_symbols COURSE four_digits x.course ++ (end_symbol last ∷ [])))
 
--- and with its check
-abbrev pub front : Sets → End → List ℕ
-front x last = covered x last ++ (check_of (covered x last) ∷ [])
+-- what the check covers, and the check
+abbrev pub through_check : Sets → End → List ℕ
+through_check x last = covered x last ++ (check_of (covered x last) ∷ [])
 
 -- an expansion's whole list: the end of sequence stands twice more after the check
 abbrev pub spell : Sets → End → List ℕ

@@ -3,7 +3,7 @@ ghost use Rattle.symbol_reader.specs.declared.refusals.ReadRefusal.{ReadRefusal}
 ghost use Rattle.call_values.specs.declared.choices.End.{End};
 ghost use Rattle.expansion.specs.declared.values.Sets.{Sets};
 ghost use Rattle.expansion.specs.Expansions.{IsExpansion};
-ghost use Rattle.expansion.specs.Spelling.{spell, front};
+ghost use Rattle.expansion.specs.Spelling.{spell, through_check};
 ghost use Rattle.expansion.specs.Reading.{IsReading};
 
 /// The law that no list belongs to two expansions, nor to one with two ends of sequence. It does nothing.
@@ -13,7 +13,7 @@ pub fn one_list()
 
 /// The law that with one end of sequence no expansion's list up to its check begins another's. It does nothing.
 pub fn fronts_differ()
-    ensures { (x y : Sets) (e : End) (rest : List ℕ) → IsExpansion x → IsExpansion y → front y e ≡ front x e ++ rest → (x ≡ y) × (rest ≡ []) }
+    ensures { (x y : Sets) (e : End) (rest : List ℕ) → IsExpansion x → IsExpansion y → through_check y e ≡ through_check x e ++ rest → (x ≡ y) × (rest ≡ []) }
 {}
 
 /// The law that an expansion's list has from 6 to 15 symbols. It does nothing.

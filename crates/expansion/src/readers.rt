@@ -18,6 +18,7 @@ pub fn checked_sets(list: &mut Cursor, end: End) -> Result<Expansion, Stop>
     Ok(Expansion::new(sets.enhanced, sets.speed, sets.course).unwrap())
 }
 
+/// Reads the sets, one at least, and this end of sequence.
 fn set_words(list: &mut Cursor, end: u8) -> Result<Sets, Stop>
     ensures { Reads (grammar.SetWords end) list.old result list.new }
 {

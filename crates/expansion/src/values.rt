@@ -44,8 +44,10 @@ impl Expansion {
         ensures some { IsSome result ↔ IsExpansion (record { enhanced = enhanced; speed = speed; course = course }) }
     {
         let is_some = enhanced.is_there() || speed.is_there() || course.is_there();
-        let is_digits = enhanced.is_up_to(99_999_999) && speed.is_up_to(9_999);
-        if is_some && is_digits && course.is_up_to(3_599) {
+        let is_in_range = enhanced.is_up_to(99_999_999)
+            && speed.is_up_to(9_999)
+            && course.is_up_to(3_599);
+        if is_some && is_in_range {
             Some(Expansion {
                 sets: Sets {
                     enhanced,

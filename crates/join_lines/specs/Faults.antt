@@ -1,5 +1,6 @@
 -- The first fault of an input: this project's profile.
 use Rattle.std.specs.Prelude.{◌≡◌, ℕ, ◌+◌, ◌<◌, ◌≤◌, List, [], ◌∷◌, ◌++◌, length, slice_index_or}
+use Rattle.join_lines.specs.declared.line.TheConstants.{MOST_LINES, LONGEST_LINE}
 use Rattle.line_grammar.specs.Columns.{IsColumn}
 use Rattle.join_lines.specs.declared.faults.Fault.{Fault}
 use Rattle.join_lines.specs.declared.faults.Fault.TheVariants as fault
@@ -7,19 +8,11 @@ use Rattle.join_lines.specs.declared.faults.LinesError.{LinesError}
 use Rattle.join_lines.specs.declared.faults.LinesError.TheVariants as error
 use Rattle.join_lines.specs.JoinLine.{IsLine}
 
--- an input has at most this many lines
-abbrev pub most_lines : ℕ
-most_lines = 4096
-
--- a line has at most this many bytes
-abbrev pub longest_line : ℕ
-longest_line = 4200
-
--- the fault of a line, whose number counts from 1: the first of these, in this order
+-- the fault of a line, whose number counts from 1: the first of these, in this order. An input has at most 4,096 lines, and a line at most 4,200 bytes
 abbrev pub IsFault : (number : ℕ) → (text : List ℕ) → Fault → Type 0
-IsFault number text fault.TooManyLines = most_lines < number
-IsFault number text fault.TooLong = (number ≤ most_lines) × (longest_line < length text)
-IsFault number text (fault.Column n) = (number ≤ most_lines) × ((length text ≤ longest_line) × IsColumn IsLine text n)
+IsFault number text fault.TooManyLines = MOST_LINES < number
+IsFault number text fault.TooLong = (number ≤ MOST_LINES) × (LONGEST_LINE < length text)
+IsFault number text (fault.Column n) = (number ≤ MOST_LINES) × ((length text ≤ LONGEST_LINE) × IsColumn IsLine text n)
 
 -- no line has a fault
 abbrev pub IsFaultless : List (List ℕ) → Type 0

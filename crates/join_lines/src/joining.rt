@@ -6,7 +6,7 @@ ghost use Rattle.join_lines.specs.Faults.{IsFault, IsFaultless, IsLineError, IsE
 ghost use Rattle.join_lines.specs.Receptions.{receptions_in, receptions_of, IsJoined};
 
 use crate::faults::{FirstFault, LinesError};
-use crate::line::{checked, first_line};
+use crate::line::{MOST_LINES, checked, first_line};
 use crate::receptions::{joined, shown_by};
 use slot_evidence::Sheet;
 use std::alloc::Global;
@@ -19,7 +19,7 @@ fn with_line(
     found: Option<Sheet>,
 ) -> Result<Option<Sheet>, LinesError>
     ensures sound { OnOk result ((fault : Fault) → IsFault number text.now fault → ⊥) }
-    ensures few { OnOk result (number ≤ 4096) }
+    ensures few { OnOk result (number ≤ MOST_LINES) }
     ensures joined { IfOk result (λ more. (before : List (List Element)) → IsJoined before found → IsJoined (before ++ receptions_in text.now) more) }
     ensures error { IfErr result (λ error. IsLineError number text.now error) }
 {

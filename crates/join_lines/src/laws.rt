@@ -1,4 +1,4 @@
-ghost use Rattle.std.specs.Prelude.{◌≡◌, ℕ, ◌*◌, ◌<◌, ◌||◌, ◌↔◌, List, [], ◌∷◌, ◌++◌, length, slice_index_or, Contains, ◌⊎◌};
+ghost use Rattle.std.specs.Prelude.{◌≡◌, ℕ, ◌+◌, ◌*◌, ◌<◌, ◌||◌, ◌↔◌, List, [], ◌∷◌, ◌++◌, length, slice_index_or, Contains, ◌⊎◌};
 ghost use Rattle.ten_unit.specs.declared.character.Element.{Element};
 ghost use Rattle.join_lines.specs.declared.faults.Fault.{Fault};
 ghost use Rattle.join_lines.specs.JoinLine.{JoinLine, IsLine, reception, nothing};
@@ -6,11 +6,19 @@ ghost use Rattle.join_lines.specs.Lines.{lines_of};
 ghost use Rattle.join_lines.specs.Faults.{IsFaultless, IsFirstFault};
 ghost use Rattle.join_lines.specs.Receptions.{receptions_in, facts_of_all};
 
+use crate::line::{LONGEST_LINE, MOST_LINES};
+
+/// The law that these are the limits of an input. It does nothing.
+pub fn limits()
+    ensures lines { MOST_LINES ≡ 4096 }
+    ensures bytes { LONGEST_LINE ≡ 4200 }
+{}
+
 /// An input of more than 4,096 lines of 4,200 bytes has a first fault, and a reader that stopped there knows it: it
 /// is the first fault of every input that begins with these bytes.
 pub fn early_fault()
-    ensures has_one { (taken : List ℕ) → 4096 * 4201 < length taken → (number : ℕ) × (fault : Fault) × IsFirstFault (lines_of taken) number fault }
-    ensures keeps { (taken rest : List ℕ) (number : ℕ) (fault : Fault) → 4096 * 4201 < length taken
+    ensures has_one { (taken : List ℕ) → MOST_LINES * (LONGEST_LINE + 1) < length taken → (number : ℕ) × (fault : Fault) × IsFirstFault (lines_of taken) number fault }
+    ensures keeps { (taken rest : List ℕ) (number : ℕ) (fault : Fault) → MOST_LINES * (LONGEST_LINE + 1) < length taken
         → IsFirstFault (lines_of taken) number fault → IsFirstFault (lines_of (taken ++ rest)) number fault }
 {}
 

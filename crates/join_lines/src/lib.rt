@@ -9,4 +9,7 @@ mod receptions;
 
 pub use faults::{Fault, FirstFault, LinesError};
 pub use joining::join_lines;
-pub use laws::{early_fault, facts_forget_order, faultless_lines, one_first_fault, one_line};
+pub use laws::{
+    early_fault, facts_forget_order, faultless_lines, limits, one_first_fault, one_line,
+};
+pub use line::{LONGEST_LINE, MOST_LINES};

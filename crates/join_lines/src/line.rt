@@ -14,10 +14,10 @@ use crate::faults::Fault as LineFault;
 use line_grammar::{column, end, run, word};
 
 /// An input has at most this many lines.
-const MOST_LINES: usize = 4096;
+pub const MOST_LINES: usize = 4096;
 
 /// A line has at most this many bytes.
-const LONGEST_LINE: usize = 4200;
+pub const LONGEST_LINE: usize = 4200;
 
 /// How many bytes stand before the first line feed.
 fn line_length(bytes: &[u8]) -> usize
@@ -67,7 +67,7 @@ fn reception(text: &[u8]) -> Result<&[u8], usize>
 
 /// The signs of a line that is a reception, or `None` for a line that says nothing. An error is the column.
 fn signs_of(text: &[u8]) -> Result<Option<&[u8]>, usize>
-    requires { length text.now ≤ 4200 }
+    requires { length text.now ≤ LONGEST_LINE }
     ensures line { OnOk result ((line : JoinLine) × IsLine line text.now) }
     ensures signs { IfOk result (λ signs. MatchOption signs (receptions_in text.now ≡ []) (λ signs. receptions_in text.now ≡ map element_of signs.now ∷ [])) }
     ensures column { IfErr result (λ n. IsColumn IsLine text.now n) }
@@ -87,7 +87,7 @@ fn signs_of(text: &[u8]) -> Result<Option<&[u8]>, usize>
 /// The signs of the line of this number, if it is a reception, or the line's fault.
 pub(crate) fn checked(number: usize, text: &[u8]) -> Result<Option<&[u8]>, LineFault>
     ensures sound { OnOk result ((fault : Fault) → IsFault number text.now fault → ⊥) }
-    ensures few { OnOk result ((number ≤ 4096) × (length text.now ≤ 4200)) }
+    ensures few { OnOk result ((number ≤ MOST_LINES) × (length text.now ≤ LONGEST_LINE)) }
     ensures signs { IfOk result (λ signs. MatchOption signs (receptions_in text.now ≡ []) (λ signs. receptions_in text.now ≡ map element_of signs.now ∷ [])) }
     ensures fault { IfErr result (λ fault. IsFault number text.now fault) }
 {

@@ -5,6 +5,7 @@ ghost use Rattle.slot_evidence.specs.Sheet.{IsEnds};
 ghost use Rattle.join_lines.specs.Receptions as receptions;
 ghost use Rattle.join_lines.specs.Receptions.{IsJoined};
 
+use crate::line::LONGEST_LINE;
 use slot_evidence::{Sheet, read_sheet};
 use std::alloc::{AllocError, Global};
 use ten_unit::Element;
@@ -29,7 +30,7 @@ fn elements_of(alloc: Global, signs: &[u8]) -> Result<Vec<Element>, AllocError>
 
 /// The sheet of a reception with these signs.
 pub(crate) fn shown_by(alloc: Global, signs: &[u8]) -> Result<Sheet, AllocError>
-    requires { length signs.now ≤ 4200 }
+    requires { length signs.now ≤ LONGEST_LINE }
     ensures { IfOk result (λ sheet. IsEnds (facts_of (map receptions.element_of signs.now)) sheet) }
 {
     let elements = elements_of(alloc, signs)?;

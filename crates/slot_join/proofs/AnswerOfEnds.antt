@@ -1,7 +1,7 @@
 -- Facts that are alike at each place have the same answers.
 use Rattle.std.proofs.Common.{ℕ, ◌||◌, ◌⊎◌, List, length, take, get_or, inl, inr}
 use Rattle.std.specs.Prelude.{◌↔◌}
-use Rattle.call_grammar.specs.Spelling.{front}
+use Rattle.call_grammar.specs.Spelling.{through_check}
 use Rattle.slot_evidence.specs.declared.places.Seen.{Seen}
 use Rattle.slot_evidence.specs.declared.places.Seen.TheVariants as seen
 use Rattle.slot_evidence.specs.Facts.{Facts, Symbols, union}
@@ -46,7 +46,7 @@ shown_too laws F G l alike a = record {
 
 reported_too : Laws → (F G : Facts) (answer : Joined) → Alike F G → IsReported F answer → IsReported G answer
 reported_too laws F G answer alike r =
-    record { call = r.call; lawful = r.lawful; shown = shown_too laws F G (front r.call) alike r.shown; answer_is = r.answer_is }
+    record { call = r.call; lawful = r.lawful; shown = shown_too laws F G (through_check r.call) alike r.shown; answer_is = r.answer_is }
 
 stops_at_too : (F G : Facts) (l : List ℕ) (v : ℕ) (answer : Joined) → StopsAt F l v answer → StopsAt G l v answer
 stops_at_too F G l v answer stops = stops
@@ -59,7 +59,7 @@ stops_too F G l (seen.One v) answer stops = stops_at_too F G l v answer stops
 stopped_too : Laws → (F G : Facts) (answer : Joined) → Alike F G → IsStopped F answer → IsStopped G answer
 stopped_too laws F G answer alike s = record {
   list = s.list;
-  unreported = λ call lawful shown. s.unreported call lawful (shown_too laws G F (front call) (flip F G alike) shown);
+  unreported = λ call lawful shown. s.unreported call lawful (shown_too laws G F (through_check call) (flip F G alike) shown);
   longest = record {
     shown = shown_too laws F G s.list alike s.longest.shown;
     viable = s.longest.viable;

@@ -9,7 +9,7 @@ use Rattle.time_diversity.specs.Slots.{dx_slot, rx_slot}
 use Rattle.phasing.specs.Slot.{shows}
 use Rattle.call_values.specs.declared.calls.Call.{Call}
 use Rattle.call_values.specs.Calls.{IsCall}
-use Rattle.call_grammar.specs.Spelling.{spell, front, end_of, format_of}
+use Rattle.call_grammar.specs.Spelling.{spell, through_check, end_of, format_of}
 use Rattle.call_grammar.specs.Walk.{IsViable}
 use Rattle.slot_evidence.specs.declared.places.Seen.TheVariants as seen
 use Rattle.slot_evidence.specs.Facts.{facts_of, facts_at, facts_of_all}
@@ -27,7 +27,7 @@ use Rattle.slot_join.proofs.CallOrMissing.{FormatsBegin, head_is}
 use Rattle.slot_join.proofs.OneWay.{in_call}
 
 abbrev pub HeardLaw : Type 0
-HeardLaw = (call : Call) (tail : List ℕ) (reception : List Element) → IsCall call → IsHeard reception (spell call ++ tail) → ShowsNoOther (facts_of reception) (front call)
+HeardLaw = (call : Call) (tail : List ℕ) (reception : List Element) → IsCall call → IsHeard reception (spell call ++ tail) → ShowsNoOther (facts_of reception) (through_check call)
 
 -- lists of calls are short, and their symbols are characters
 pub record Lists : Type 0 where
@@ -36,7 +36,7 @@ pub record Lists : Type 0 where
 
 -- receptions that are heard show no other symbols together
 any_told : HeardLaw → (receptions : List (List Element)) (call : Call) (tail : List ℕ) (p v : ℕ) → IsCall call → All (λ reception. IsHeard reception (spell call ++ tail)) receptions
-    → p < length (front call) → list_any (λ e. facts_of e p v) receptions ≡ true → v ≡ get_or (front call) p 0
+    → p < length (through_check call) → list_any (λ e. facts_of e p v) receptions ≡ true → v ≡ get_or (through_check call) p 0
 any_told law [] call tail p v lawful heard below has = absurd (cc)
 any_told law (e ∷ receptions) call tail p v lawful heard below has =
     elim (or_cases (facts_of e p v) (list_any (λ x. facts_of x p v) receptions) has) [
@@ -45,7 +45,7 @@ any_told law (e ∷ receptions) call tail p v lawful heard below has =
     ]
 
 pub all_told : HeardLaw → (receptions : List (List Element)) (call : Call) (tail : List ℕ) → IsCall call → All (λ reception. IsHeard reception (spell call ++ tail)) receptions
-    → ShowsNoOther (facts_of_all receptions) (front call)
+    → ShowsNoOther (facts_of_all receptions) (through_check call)
 unfolding facts_of_all
 all_told law receptions call tail lawful heard p v below has = any_told law receptions call tail p v lawful heard below has
 
@@ -71,21 +71,21 @@ copy_shows e list lead p inside small intact =
     subst (λ (o : Option ℕ). facts_at e o p v ≡ true) (sym intact.origin) here
 
 -- the characters of a call's places up to its check, and where they stand
-character : Lists → (c : Call) (tail : List ℕ) (p : ℕ) → IsCall c → p < length (front c) → get_or (spell c ++ tail) p 0 < 128
+character : Lists → (c : Call) (tail : List ℕ) (p : ℕ) → IsCall c → p < length (through_check c) → get_or (spell c ++ tail) p 0 < 128
 character lists c tail p lawful below =
     let ends : List ℕ = end_of c ∷ end_of c ∷ [] in
-    let inside : p < length (spell c) = omega (arith, length-append (front c) ends) in
+    let inside : p < length (spell c) = omega (arith, length-append (through_check c) ends) in
     let small : get_or (spell c) p 0 < 128 = All-get_or (λ v. v < 128) (spell c) p 0 inside (lists.characters c lawful) in
     omega (arith, get_or_append_left (spell c) tail 0 p inside, small)
 
-within : Lists → (c : Call) (p : ℕ) → IsCall c → p < length (front c) → p < 64
+within : Lists → (c : Call) (p : ℕ) → IsCall c → p < length (through_check c) → p < 64
 within lists c p lawful below =
     let ends : List ℕ = end_of c ∷ end_of c ∷ [] in
-    omega (arith, length-append (front c) ends, (lists.short c lawful).1)
+    omega (arith, length-append (through_check c) ends, (lists.short c lawful).1)
 
 -- a place that came intact somewhere is shown
-somewhere_shown : Lists → (receptions : List (List Element)) (c : Call) (tail : List ℕ) (p : ℕ) → IsCall c → p < length (front c)
-    → CameSomewhere receptions (spell c ++ tail) p → facts_of_all receptions p (get_or (front c) p 0) ≡ true
+somewhere_shown : Lists → (receptions : List (List Element)) (c : Call) (tail : List ℕ) (p : ℕ) → IsCall c → p < length (through_check c)
+    → CameSomewhere receptions (spell c ++ tail) p → facts_of_all receptions p (get_or (through_check c) p 0) ≡ true
 unfolding facts_of_all
 somewhere_shown lists receptions c tail p lawful below came =
     let v : ℕ = get_or (spell c ++ tail) p 0 in
@@ -94,13 +94,13 @@ somewhere_shown lists receptions c tail p lawful below came =
     subst (λ (u : ℕ). list_any (λ e. facts_of e p u) receptions ≡ true) (in_call c tail p below) any
 
 -- a place that no reception showed came intact nowhere
-blank_nowhere : Lists → (receptions : List (List Element)) (c : Call) (tail : List ℕ) (p : ℕ) → IsCall c → p < length (front c)
+blank_nowhere : Lists → (receptions : List (List Element)) (c : Call) (tail : List ℕ) (p : ℕ) → IsCall c → p < length (through_check c)
     → ShowsNone (facts_of_all receptions p) → CameNowhere receptions (spell c ++ tail) p
 blank_nowhere lists receptions c tail p lawful below none k d inside = λ lead intact.
     let e : List Element = get_or receptions k d in
     let same : get_or receptions k e ≡ e = sym (get_or_default receptions k d e inside) in
-    let yes : facts_of_all receptions p (get_or (front c) p 0) ≡ true = somewhere_shown lists receptions c tail p lawful below (k, e, inside, same, (lead, intact)) in
-    let no : facts_of_all receptions p (get_or (front c) p 0) ≡ false = none (get_or (front c) p 0) in
+    let yes : facts_of_all receptions p (get_or (through_check c) p 0) ≡ true = somewhere_shown lists receptions c tail p lawful below (k, e, inside, same, (lead, intact)) in
+    let no : facts_of_all receptions p (get_or (through_check c) p 0) ≡ false = none (get_or (through_check c) p 0) in
     cc
 
 -- the call that was sent, or a place of it no copy of which came intact
@@ -118,10 +118,10 @@ sent_or_lost lists receptions c tail answer lawful (inr missing) = inr (record {
 -- a call whose places came intact, each at some receiver, is an answer
 module _ (law : HeardLaw) (lists : Lists) (formats : FormatsBegin) (receptions : List (List Element)) (c : Call) (tail : List ℕ)
     (lawful : IsCall c) (heard : All (λ reception. IsHeard reception (spell c ++ tail)) receptions) (arrives : ArrivesInParts receptions c tail) where
-  only : ShowsNoOther (facts_of_all receptions) (front c)
+  only : ShowsNoOther (facts_of_all receptions) (through_check c)
   only = all_told law receptions c tail lawful heard
 
-  came : (p : ℕ) → p < length (front c) → CameSomewhere receptions (spell c ++ tail) p → facts_of_all receptions p (get_or (front c) p 0) ≡ true
+  came : (p : ℕ) → p < length (through_check c) → CameSomewhere receptions (spell c ++ tail) p → facts_of_all receptions p (get_or (through_check c) p 0) ≡ true
   came p below somewhere = somewhere_shown lists receptions c tail p lawful below somewhere
 
   format_one : ShowsOne (head_of (facts_of_all receptions)) (format_of c)
@@ -133,10 +133,10 @@ module _ (law : HeardLaw) (lists : Lists) (formats : FormatsBegin) (receptions :
     λ v has. head_is (facts_of_all receptions) c only v has,
   )
 
-  shown : IsShown (facts_of_all receptions) (front c)
+  shown : IsShown (facts_of_all receptions) (through_check c)
   shown = record {
     format = format_of c;
-    rest = drop 2 (front c);
+    rest = drop 2 (through_check c);
     begins = refl;
     head = format_one;
     places = λ p least below. (came p below (arrives.places p least below), λ v has. only p v below has);
@@ -145,7 +145,7 @@ module _ (law : HeardLaw) (lists : Lists) (formats : FormatsBegin) (receptions :
   pub answered : IsAnswer (facts_of_all receptions) (Reported c Absent)
   answered =
       let f : ℕ = format_of c in
-      let begins : IsViable (f ∷ f ∷ []) = viable_front (f ∷ f ∷ []) (drop 2 (front c)) (front_viable c lawful) in
+      let begins : IsViable (f ∷ f ∷ []) = viable_front (f ∷ f ∷ []) (drop 2 (through_check c)) (front_viable c lawful) in
       record {
         head = seen.One f;
         seen = format_one;

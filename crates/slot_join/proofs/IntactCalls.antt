@@ -11,7 +11,7 @@ use Rattle.time_diversity.specs.OnAir.{sent_symbol}
 use Rattle.phasing.specs.Slot.{slot, shows}
 use Rattle.call_values.specs.declared.calls.Call.{Call}
 use Rattle.call_values.specs.Calls.{IsCall}
-use Rattle.call_grammar.specs.Spelling.{spell, front, format_of, fields_of, end_of, covered, check_of}
+use Rattle.call_grammar.specs.Spelling.{spell, through_check, format_of, fields_of, end_of, covered, check_of}
 use Rattle.call_grammar.specs.Walk.{IsViable}
 use Rattle.dsc_symbols.specs.Formats.{IsFormat}
 use Rattle.slot_evidence.specs.declared.places.Seen.TheVariants as seen
@@ -92,19 +92,19 @@ module _ (equal : WordsEqual) (apart : WordsApart) (slots : BothSlots) (e : List
 one_or_other : (F : Facts) (f : ℕ) → ShowsOne (F 0) f → ShowsOne (F 1) f → ShowsOne (head_of F) f
 one_or_other F f a b = (or_left (F 0 f) (F 1 f) a.0, λ w has. elim (or_either (F 0 w) (F 1 w) has) [ inl here ↦ a.1 w here | inr here ↦ b.1 w here ])
 
-some_front : (c : Call) → 2 < length (front c)
+some_front : (c : Call) → 2 < length (through_check c)
 some_front c = omega (arith, length-append (covered c) (check_of (covered c) ∷ []), length-append (fields_of c) (end_of c ∷ []))
 
-shown_by : (F : Facts) (c : Call) → ((p : ℕ) → p + 2 < length (spell c) → ShowsOne (F p) (get_or (spell c) p 0)) → IsShown F (front c)
+shown_by : (F : Facts) (c : Call) → ((p : ℕ) → p + 2 < length (spell c) → ShowsOne (F p) (get_or (spell c) p 0)) → IsShown F (through_check c)
 shown_by F c places =
-    let whole : length (spell c) ≡ length (front c) + 2 = length-append (front c) (end_of c ∷ end_of c ∷ []) in
-    let some : 2 < length (front c) = some_front c in
+    let whole : length (spell c) ≡ length (through_check c) + 2 = length-append (through_check c) (end_of c ∷ end_of c ∷ []) in
+    let some : 2 < length (through_check c) = some_front c in
     record {
       format = format_of c;
-      rest = drop 2 (front c);
+      rest = drop 2 (through_check c);
       begins = refl;
       head = one_or_other F (format_of c) (places 0 (omega arith)) (places 1 (omega arith));
-      places = λ p least below. subst (λ (x : ℕ). ShowsOne (F p) x) (get_or_append_left (front c) (end_of c ∷ end_of c ∷ []) 0 p below) (places p (omega arith));
+      places = λ p least below. subst (λ (x : ℕ). ShowsOne (F p) x) (get_or_append_left (through_check c) (end_of c ∷ end_of c ∷ []) 0 p below) (places p (omega arith));
     }
 
 -- the laws of the crates below that this one stands on
@@ -124,10 +124,10 @@ reported laws c e lawful arrives =
     let places : (p : ℕ) → p + 2 < length (spell c) → ShowsOne (F p) (get_or (spell c) p 0) =
     place_shows laws.equal laws.apart laws.slots e (spell c) arrives (laws.characters c lawful) (laws.short c lawful).1 in
     let least : 4 ≤ length (spell c) = (laws.short c lawful).0 in
-    let shown : IsShown F (front c) = shown_by F c places in
+    let shown : IsShown F (through_check c) = shown_by F c places in
     let first : ShowsOne (F 0) f = places 0 (omega arith) in
-    let second : ShowsOne (F 1) f = places 1 (omega (arith, some_front c, length-append (front c) (end_of c ∷ end_of c ∷ []))) in
-    let whole : IsViable (f ∷ f ∷ []) = viable_front (f ∷ f ∷ []) (drop 2 (front c)) (front_viable c lawful) in
+    let second : ShowsOne (F 1) f = places 1 (omega (arith, some_front c, length-append (through_check c) (end_of c ∷ end_of c ∷ []))) in
+    let whole : IsViable (f ∷ f ∷ []) = viable_front (f ∷ f ∷ []) (drop 2 (through_check c)) (front_viable c lawful) in
     record {
       head = seen.One f;
       seen = one_or_other F f first second;

@@ -4,7 +4,7 @@ use Rattle.std.proofs.lemmas.Bool.{cases_lt}
 use Rattle.std.proofs.lemmas.List.{append-nil, drop_all}
 use Rattle.call_values.specs.declared.calls.Call.{Call}
 use Rattle.call_values.specs.Calls.{IsCall}
-use Rattle.call_grammar.specs.Spelling.{front}
+use Rattle.call_grammar.specs.Spelling.{through_check}
 use Rattle.slot_evidence.specs.declared.places.Seen.{Seen}
 use Rattle.slot_evidence.specs.declared.places.Seen.TheVariants as seen
 use Rattle.slot_evidence.specs.Facts.{Facts, Symbols}
@@ -22,10 +22,10 @@ abbrev pub OneSeen : Type 0
 OneSeen = (S : Symbols) (a b : Seen) → IsSeen S a → IsSeen S b → a ≡ b
 
 -- two calls that are shown are one
-same_call : FrontsDiffer → (F : Facts) (c d : Call) → IsCall c → IsCall d → IsShown F (front c) → IsShown F (front d) → c ≡ d
-same_call differ F c d lc ld sc sd = elim (cases_lt (length (front d)) (length (front c))) [
-  | inl lt ↦ sym (differ d c (drop (length (front d)) (front c)) ld lc (agree F (front d) (front c) sd sc (omega arith))).0
-  | inr le ↦ (differ c d (drop (length (front c)) (front d)) lc ld (agree F (front c) (front d) sc sd le)).0
+same_call : FrontsDiffer → (F : Facts) (c d : Call) → IsCall c → IsCall d → IsShown F (through_check c) → IsShown F (through_check d) → c ≡ d
+same_call differ F c d lc ld sc sd = elim (cases_lt (length (through_check d)) (length (through_check c))) [
+  | inl lt ↦ sym (differ d c (drop (length (through_check d)) (through_check c)) ld lc (agree F (through_check d) (through_check c) sd sc (omega arith))).0
+  | inr le ↦ (differ c d (drop (length (through_check c)) (through_check d)) lc ld (agree F (through_check c) (through_check d) sc sd le)).0
 ]
 
 both_reported : FrontsDiffer → (F : Facts) (a b : Joined) → IsReported F a → IsReported F b → a ≡ b

@@ -13,7 +13,7 @@ use Rattle.time_diversity.specs.OnAir.{sent_symbol, on_air}
 use Rattle.phasing.specs.Slot.{slot, shows}
 use Rattle.call_values.specs.declared.calls.Call.{Call}
 use Rattle.call_values.specs.Calls.{IsCall}
-use Rattle.call_grammar.specs.Spelling.{spell, front, end_of}
+use Rattle.call_grammar.specs.Spelling.{spell, through_check, end_of}
 use Rattle.slot_evidence.specs.Facts.{facts_of, facts_at}
 use Rattle.slot_join.specs.Heard.{IsOneWayAt, IsTrulyPhased, IsHeard}
 use Rattle.slot_join.specs.OneCall.{ShowsNoOther}
@@ -76,16 +76,16 @@ heard_at e list lead one_way (inl found) = inr (lead, found, one_way)
 heard_at e list lead one_way (inr none) = inl none
 
 -- the places of a call up to its check are those of what was sent
-pub in_call : (c : Call) (tail : List ℕ) (p : ℕ) → p < length (front c) → get_or (spell c ++ tail) p 0 ≡ get_or (front c) p 0
+pub in_call : (c : Call) (tail : List ℕ) (p : ℕ) → p < length (through_check c) → get_or (spell c ++ tail) p 0 ≡ get_or (through_check c) p 0
 in_call c tail p below =
     let ends = end_of c ∷ end_of c ∷ [] in
-    ap (λ (l : List ℕ). get_or l p 0) (append_assoc (front c) ends tail) ∙ get_or_append_left (front c) (ends ++ tail) 0 p below
+    ap (λ (l : List ℕ). get_or l p 0) (append_assoc (through_check c) ends tail) ∙ get_or_append_left (through_check c) (ends ++ tail) 0 p below
 
-pub heard_call : Laws → (c : Call) (tail : List ℕ) (e : List Element) → IsCall c → IsHeard e (spell c ++ tail) → ShowsNoOther (facts_of e) (front c)
+pub heard_call : Laws → (c : Call) (tail : List ℕ) (e : List Element) → IsCall c → IsHeard e (spell c ++ tail) → ShowsNoOther (facts_of e) (through_check c)
 heard_call laws c tail e lawful heard p v below has =
     let ends = end_of c ∷ end_of c ∷ [] in
-    let long : length (front c) + 2 ≤ length (spell c ++ tail) = omega (arith, length-append (spell c) tail, length-append (front c) ends) in
-    let character : get_or (spell c) p 0 < 128 = All-get_or (λ v. v < 128) (spell c) p 0 (omega (arith, length-append (front c) ends)) (laws.characters c lawful) in
+    let long : length (through_check c) + 2 ≤ length (spell c ++ tail) = omega (arith, length-append (spell c) tail, length-append (through_check c) ends) in
+    let character : get_or (spell c) p 0 < 128 = All-get_or (λ v. v < 128) (spell c) p 0 (omega (arith, length-append (through_check c) ends)) (laws.characters c lawful) in
     let same = in_call c tail p below in
-    let in_list : get_or (spell c) p 0 ≡ get_or (front c) p 0 = get_or_append_left (front c) ends 0 p below in
+    let in_list : get_or (spell c) p 0 ≡ get_or (through_check c) p 0 = get_or_append_left (through_check c) ends 0 p below in
     told laws e (spell c ++ tail) p v heard (omega (arith, long)) (omega (arith, same, in_list, character)) has ∙ same

@@ -5,7 +5,7 @@ use Rattle.std.proofs.lemmas.Bool.{cases_lt}
 use Rattle.std.proofs.lemmas.List.{take-append-le, length-take-le, get_or-take, take-append-drop, ext_get_or, get_or_append_left, get_or_push, drop_more, length_push}
 use Rattle.call_values.specs.declared.calls.Call.{Call}
 use Rattle.call_values.specs.Calls.{IsCall}
-use Rattle.call_grammar.specs.Spelling.{front, end_of}
+use Rattle.call_grammar.specs.Spelling.{through_check, end_of}
 use Rattle.call_grammar.specs.Walk.{IsViable, IsOpen, after}
 use Rattle.slot_evidence.specs.Facts.{Facts, Symbols}
 use Rattle.slot_evidence.specs.Seen.{ShowsOne}
@@ -48,14 +48,14 @@ push_shown F l v a one = record {
   head = a.head;
   places = λ p least below. elim (cases_lt p (length l)) [
     | inl lt ↦
-        let front : take p (l ++ v ∷ []) ≡ take p l = take-append-le p l (v ∷ []) (omega arith) in
-        subst (λ (x : List ℕ). Gives F x p (get_or (l ++ v ∷ []) p 0)) (sym front)
+        let through_check : take p (l ++ v ∷ []) ≡ take p l = take-append-le p l (v ∷ []) (omega arith) in
+        subst (λ (x : List ℕ). Gives F x p (get_or (l ++ v ∷ []) p 0)) (sym through_check)
         (subst (λ (x : ℕ). Gives F (take p l) p x) (sym (get_or_append_left l (v ∷ []) 0 p lt)) (a.places p least lt))
     | inr le ↦
         let same : length l ≡ p = omega (arith, length_push l v) in
-        let front : take (length l) (l ++ v ∷ []) ≡ l = take-append_seam l (v ∷ []) in
+        let through_check : take (length l) (l ++ v ∷ []) ≡ l = take-append_seam l (v ∷ []) in
         subst (λ (q : ℕ). Gives F (take q (l ++ v ∷ [])) q (get_or (l ++ v ∷ []) q 0)) same
-        (subst (λ (x : List ℕ). Gives F x (length l) (get_or (l ++ v ∷ []) (length l) 0)) (sym front)
+        (subst (λ (x : List ℕ). Gives F x (length l) (get_or (l ++ v ∷ []) (length l) 0)) (sym through_check)
         (subst (λ (x : ℕ). Gives F l (length l) x) (sym (get_or_push l v 0 (length l) refl)) one))
   ];
 }
@@ -66,7 +66,7 @@ after_shown F l v a = ap (λ (x : List ℕ). after x v) a.begins ∙ sym (ap (λ
 pub viable_front : (l t : List ℕ) → IsViable (l ++ t) → IsViable l
 viable_front l t a = record { call = a.call; rest = t ++ a.rest; lawful = a.lawful; list = a.list ∙ append_assoc l t a.rest }
 
-pub front_viable : (c : Call) → IsCall c → IsViable (front c)
+pub front_viable : (c : Call) → IsCall c → IsViable (through_check c)
 front_viable c lawful = record { call = c; rest = end_of c ∷ end_of c ∷ []; lawful = lawful; list = refl }
 
 pub open_viable : (l : List ℕ) → IsOpen l → IsViable l
@@ -86,8 +86,8 @@ longest_from F l shown viable stops = record {
         let begins : m ≡ l ++ drop (length l) m = agree F l m shown ms (omega arith) in
         let more : drop (length l) m ≡ v ∷ drop (length l + 1) m = drop_more m (length l) 0 lt in
         let whole : m ≡ (l ++ v ∷ []) ++ drop (length l + 1) m = begins ∙ ap (λ (x : List ℕ). l ++ x) more ∙ sym (append_assoc l (v ∷ []) (drop (length l + 1) m)) in
-        let front : take (length l) m ≡ l = ap (λ (x : List ℕ). take (length l) x) begins ∙ take-append_seam l (drop (length l) m) in
-        let gives : Gives F l (length l) v = subst (λ (x : List ℕ). Gives F x (length l) v) front (ms.places (length l) (two F l shown) lt) in
+        let through_check : take (length l) m ≡ l = ap (λ (x : List ℕ). take (length l) x) begins ∙ take-append_seam l (drop (length l) m) in
+        let gives : Gives F l (length l) v = subst (λ (x : List ℕ). Gives F x (length l) v) through_check (ms.places (length l) (two F l shown) lt) in
         absurd (stops v gives (viable_front (l ++ v ∷ []) (drop (length l + 1) m) (subst IsViable whole mv)))
   ];
 }

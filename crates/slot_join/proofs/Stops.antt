@@ -2,7 +2,7 @@
 use Rattle.std.proofs.Common.{◌≡◌, ℕ, ◌+◌, ◌≤◌, ◌<◌, List, [], ◌∷◌, ◌++◌, length, drop, refl, sym, ap, subst, ◌∙◌, inl, inr, append_assoc, arith, length-append}
 use Rattle.call_values.specs.declared.calls.Call.{Call}
 use Rattle.call_values.specs.Calls.{IsCall}
-use Rattle.call_grammar.specs.Spelling.{front, spell, end_of, check_of}
+use Rattle.call_grammar.specs.Spelling.{through_check, spell, end_of, check_of}
 use Rattle.call_grammar.specs.Walk.{IsViable, IsOpen, IsAtCheck, after}
 use Rattle.slot_evidence.specs.declared.places.Seen.{Seen}
 use Rattle.slot_evidence.specs.declared.places.Seen.TheVariants as seen
@@ -18,15 +18,15 @@ use Rattle.slot_join.proofs.ShownLists.{agree, push_shown, after_shown, open_via
 
 -- no call's list up to its check begins another's
 abbrev pub FrontsDiffer : Type 0
-FrontsDiffer = (c d : Call) (rest : List ℕ) → IsCall c → IsCall d → front d ≡ front c ++ rest → (c ≡ d) × (rest ≡ [])
+FrontsDiffer = (c d : Call) (rest : List ℕ) → IsCall c → IsCall d → through_check d ≡ through_check c ++ rest → (c ≡ d) × (rest ≡ [])
 
 -- what is open shows no call, if nothing longer is shown
-pub unreported : FrontsDiffer → (F : Facts) (l : List ℕ) → IsOpen l → IsLongest F l → (c : Call) → IsCall c → IsShown F (front c) → ⊥
+pub unreported : FrontsDiffer → (F : Facts) (l : List ℕ) → IsOpen l → IsLongest F l → (c : Call) → IsCall c → IsShown F (through_check c) → ⊥
 unreported differ F l o longest c lawful shown =
-    let le : length (front c) ≤ length l = longest.longest (front c) shown (front_viable c lawful) in
-    let t : List ℕ = drop (length (front c)) l in
-    let split : l ≡ front c ++ t = agree F (front c) l shown longest.shown le in
-    let whole : front o.call ≡ front c ++ (t ++ o.next ∷ o.rest) = o.list ∙ ap (λ (x : List ℕ). x ++ o.next ∷ o.rest) split ∙ append_assoc (front c) t (o.next ∷ o.rest) in
+    let le : length (through_check c) ≤ length l = longest.longest (through_check c) shown (front_viable c lawful) in
+    let t : List ℕ = drop (length (through_check c)) l in
+    let split : l ≡ through_check c ++ t = agree F (through_check c) l shown longest.shown le in
+    let whole : through_check o.call ≡ through_check c ++ (t ++ o.next ∷ o.rest) = o.list ∙ ap (λ (x : List ℕ). x ++ o.next ∷ o.rest) split ∙ append_assoc (through_check c) t (o.next ∷ o.rest) in
     let none : (t ++ o.next ∷ o.rest) ≡ [] = (differ c o.call (t ++ o.next ∷ o.rest) lawful o.lawful whole).1 in
     let len : length (t ++ o.next ∷ o.rest) ≡ 0 = ap length none in
     absurd (omega (arith, length-append t (o.next ∷ o.rest)))
@@ -68,10 +68,10 @@ stops_check differ F l n v want got len o shown one not at want_is got_is =
     stopped differ F l (seen.One v) (Check n want got) o shown here (one_stops F l v shown here not) (inl (at, answer))
 
 -- a shown list and the one symbol behind it that end a call report it
-pub reports : (F : Facts) (l : List ℕ) (n v : ℕ) (c : Call) → length l ≡ n → IsShown F l → ShowsOne (F n) v → IsCall c → after l v ≡ front c → IsReported F (Reported c Absent)
+pub reports : (F : Facts) (l : List ℕ) (n v : ℕ) (c : Call) → length l ≡ n → IsShown F l → ShowsOne (F n) v → IsCall c → after l v ≡ through_check c → IsReported F (Reported c Absent)
 reports F l n v c len shown one lawful ends =
     let here : ShowsOne (F (length l)) v = subst (λ (k : ℕ). ShowsOne (F k) v) (sym len) one in
-    let all : IsShown F (front c) = subst (λ (x : List ℕ). IsShown F x) (sym (after_shown F l v shown) ∙ ends) (push_shown F l v shown here) in
+    let all : IsShown F (through_check c) = subst (λ (x : List ℕ). IsShown F x) (sym (after_shown F l v shown) ∙ ends) (push_shown F l v shown here) in
     record { call = c; lawful = lawful; shown = all; answer_is = refl }
 
 -- a shown list and one more symbol
@@ -92,7 +92,7 @@ after_long (f ∷ l) v some = omega (arith, length-append l (v ∷ []))
 -- calls are short, and so is what begins one
 pub open_short : ((c : Call) → IsCall c → (4 ≤ length (spell c)) × (length (spell c) ≤ 32)) → (l : List ℕ) → IsOpen l → length l < 32
 open_short short l o =
-    let whole : length (spell o.call) ≡ length (front o.call) + 2 = length-append (front o.call) (end_of o.call ∷ end_of o.call ∷ []) in
-    let part : length (front o.call) ≡ length l + length (o.next ∷ o.rest) = ap length o.list ∙ length-append l (o.next ∷ o.rest) in
+    let whole : length (spell o.call) ≡ length (through_check o.call) + 2 = length-append (through_check o.call) (end_of o.call ∷ end_of o.call ∷ []) in
+    let part : length (through_check o.call) ≡ length l + length (o.next ∷ o.rest) = ap length o.list ∙ length-append l (o.next ∷ o.rest) in
     let most : length (spell o.call) ≤ 32 = (short o.call o.lawful).1 in
     omega arith

@@ -3,7 +3,7 @@ use Rattle.std.specs.Prelude.{◌≡◌, ℕ, Bool, true, ◌||◌, ◌==◌, �
 use Rattle.dsc_symbols.specs.declared.formats.TheConstants.{DISTRESS, ALL_SHIPS}
 use Rattle.call_values.specs.declared.calls.Call.{Call}
 use Rattle.call_values.specs.Calls.{IsCall}
-use Rattle.call_grammar.specs.Spelling.{front, check_of}
+use Rattle.call_grammar.specs.Spelling.{through_check, check_of}
 use Rattle.call_grammar.specs.Walk.{IsAtCheck}
 use Rattle.dsc_symbols.specs.Formats.{IsFormat}
 use Rattle.slot_evidence.specs.declared.places.Seen.{Seen}
@@ -19,7 +19,7 @@ use Rattle.slot_join.specs.Shown.{head_of, IsShown, IsLongest}
 pub record IsReported (F : Facts) (answer : Joined) : Type 0 where
   pub call : Call
   pub lawful : IsCall call
-  pub shown : IsShown F (front call)
+  pub shown : IsShown F (through_check call)
   pub answer_is : answer ≡ Reported call Absent
 
 -- the answer where no call goes on with the one symbol that the place behind the longest list showed
@@ -37,7 +37,7 @@ StopsWith F list (seen.One v) answer = StopsAt F list v answer
 -- no call is shown up to its error check character, and so the answer tells of the place behind the longest list
 pub record IsStopped (F : Facts) (answer : Joined) : Type 0 where
   pub list : List ℕ
-  pub unreported : (call : Call) → IsCall call → IsShown F (front call) → ⊥
+  pub unreported : (call : Call) → IsCall call → IsShown F (through_check call) → ⊥
   pub longest : IsLongest F list
   pub here : Seen
   pub seen : IsSeen (F (length list)) here

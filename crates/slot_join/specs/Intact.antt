@@ -7,7 +7,7 @@ use Rattle.time_diversity.specs.OnAir.{on_air}
 use Rattle.phasing.specs.Slot.{shows}
 use Rattle.phasing.specs.Origin.{lead_of}
 use Rattle.call_values.specs.declared.calls.Call.{Call}
-use Rattle.call_grammar.specs.Spelling.{format_of, front, spell}
+use Rattle.call_grammar.specs.Spelling.{format_of, through_check, spell}
 use Rattle.slot_evidence.specs.Facts.{facts_of_all}
 use Rattle.slot_evidence.specs.Seen.{ShowsNone}
 use Rattle.slot_join.specs.declared.joined.Joined.{Joined}
@@ -40,7 +40,7 @@ CameSomewhere receptions list place = Any (λ reception. (lead : ℕ) × IsIntac
 -- which came intact
 pub record NamesLostPlace (receptions : List (List Element)) (call : Call) (tail : List ℕ) (answer : Joined) : Type 0 where
   pub place : ℕ
-  pub inside : place < length (front call)
+  pub inside : place < length (through_check call)
   pub blank : ShowsNone (facts_of_all receptions place)
   pub nowhere : CameNowhere receptions (spell call ++ tail) place
   pub answer_is : answer ≡ Missing place
@@ -54,4 +54,4 @@ IsSentOrLostPlace receptions call tail answer = (answer ≡ Reported call Absent
 pub record ArrivesInParts (receptions : List (List Element)) (call : Call) (tail : List ℕ) : Type 0 where
   pub format : CameSomewhere receptions (spell call ++ tail) 0 ⊎ CameSomewhere receptions (spell call ++ tail) 1
   pub both : needs_both (format_of call) ≡ true → CameSomewhere receptions (spell call ++ tail) 0 × CameSomewhere receptions (spell call ++ tail) 1
-  pub places : (place : ℕ) → 2 ≤ place → place < length (front call) → CameSomewhere receptions (spell call ++ tail) place
+  pub places : (place : ℕ) → 2 ≤ place → place < length (through_check call) → CameSomewhere receptions (spell call ++ tail) place

@@ -1,7 +1,7 @@
 -- Facts of one call: this project's profile, over the places of ITU-R M.493.
 use Rattle.std.specs.Prelude.{◌≡◌, ℕ, ◌<◌, true, ◌⊎◌, List, length, slice_index}
 use Rattle.call_values.specs.declared.calls.Call.{Call}
-use Rattle.call_grammar.specs.Spelling.{front}
+use Rattle.call_grammar.specs.Spelling.{through_check}
 use Rattle.slot_evidence.specs.Facts.{Facts}
 use Rattle.slot_evidence.specs.Seen.{ShowsNone}
 use Rattle.slot_join.specs.declared.joined.Joined.{Joined}
@@ -21,4 +21,4 @@ pub record IsMissing (F : Facts) (list : List ℕ) (answer : Joined) : Type 0 wh
 
 -- the call, or a place of it up to its error check character that showed nothing
 abbrev pub IsCallOrMissing : Facts → Call → Joined → Type 0
-IsCallOrMissing F call answer = (answer ≡ Reported call Absent) ⊎ IsMissing F (front call) answer
+IsCallOrMissing F call answer = (answer ≡ Reported call Absent) ⊎ IsMissing F (through_check call) answer

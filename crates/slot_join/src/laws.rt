@@ -2,7 +2,7 @@ ghost use Rattle.std.specs.Prelude.{◌≡◌, ◌++◌, ◌↔◌, ℕ, Bool, L
 ghost use Rattle.ten_unit.specs.declared.character.Element.{Element};
 ghost use Rattle.call_values.specs.declared.calls.Call.{Call};
 ghost use Rattle.call_values.specs.Calls.{IsCall};
-ghost use Rattle.call_grammar.specs.Spelling.{spell, front};
+ghost use Rattle.call_grammar.specs.Spelling.{spell, through_check};
 ghost use Rattle.time_diversity.specs.OnAir.{on_air};
 ghost use Rattle.phasing.specs.Origin.{lead_of, origin_of};
 ghost use Rattle.phasing.specs.Start.{IsIntactStart};
@@ -77,7 +77,7 @@ pub fn unphased_receptions_are_heard()
 /// its places up to the error check character no other symbols than the call's. It does nothing.
 pub fn heard_calls_show_no_other()
     ensures { (call : Call) (tail : List ℕ) (reception : List Element) → IsCall call → IsHeard reception (spell call ++ tail)
-        → ShowsNoOther (facts_of reception) (front call) }
+        → ShowsNoOther (facts_of reception) (through_check call) }
 {
     words_tell_symbols_apart();
     one_way_errors_are_seen();
@@ -88,7 +88,7 @@ pub fn heard_calls_show_no_other()
 /// The law that where the places of a call, up to its error check character, showed no other symbols than the call's, the answer is the
 /// call, or names as missing a place of it that showed nothing. It does nothing.
 pub fn call_or_missing_place()
-    ensures { (F : Facts) (call : Call) (answer : Joined) → IsCall call → ShowsNoOther F (front call) → IsAnswer F answer
+    ensures { (F : Facts) (call : Call) (answer : Joined) → IsCall call → ShowsNoOther F (through_check call) → IsAnswer F answer
         → IsCallOrMissing F call answer }
 {
     fronts_differ();
