@@ -3,7 +3,6 @@
 
 pub mod categories;
 pub mod ends;
-pub mod expansions;
 pub mod formats;
 pub mod messages;
 pub mod natures;

@@ -1,6 +1,6 @@
 -- The lists of expansions: this project's profile, with the digits, the check and the ends of sequence of ITU-R M.493.
 use Rattle.std.specs.Prelude.{ℕ, List, [], ◌∷◌, ◌++◌}
-use Rattle.dsc_symbols.specs.declared.expansions.TheConstants.{ENHANCED_POSITION, SPEED, COURSE}
+use Rattle.expansion.specs.declared.specifiers.TheConstants.{ENHANCED_POSITION, SPEED, COURSE}
 use Rattle.dsc_symbols.specs.declared.messages.TheConstants.{NO_INFORMATION}
 use Rattle.symbol_reader.specs.Digits.{eight_digits, four_digits}
 use Rattle.symbol_reader.specs.Checks.{check_of}

@@ -3,10 +3,10 @@ ghost use Rattle.symbol_reader.specs.inside.Reading.{Reads};
 ghost use Rattle.expansion.specs.inside.Grammar as grammar;
 
 use crate::parts::Part;
+use crate::specifiers::{COURSE, ENHANCED_POSITION, SPEED};
 use crate::values::{Expansion, Sets};
 use call_values::End;
 use cursor::Cursor;
-use dsc_symbols::expansions::{COURSE, ENHANCED_POSITION, SPEED};
 use dsc_symbols::messages::NO_INFORMATION;
 use symbol_reader::{Letter, Stop, symbol};
 

@@ -1,15 +1,15 @@
 ghost use Rattle.std.specs.Prelude.{◌≡◌, ◌+◌, ◌≤◌, ◌++◌, ◌∷◌, [], length};
 ghost use Rattle.call_values.specs.Ends.{end_symbol};
-ghost use Rattle.dsc_symbols.specs.declared.expansions.TheConstants as expansions;
+ghost use Rattle.expansion.specs.declared.specifiers.TheConstants as specifiers;
 ghost use Rattle.symbol_reader.specs.Digits as digits;
 ghost use Rattle.expansion.specs.Parts.{IsUpTo};
 ghost use Rattle.expansion.specs.Spelling as sequence;
 
 use crate::parts::{Part, PartKind};
+use crate::specifiers::{COURSE, ENHANCED_POSITION, SPEED};
 use crate::values::Expansion;
 use arrayvec::ArrayVec;
 use call_values::End;
-use dsc_symbols::expansions::{COURSE, ENHANCED_POSITION, SPEED};
 use dsc_symbols::messages::NO_INFORMATION;
 use symbol_reader::{check, eight_digits, four_digits};
 
@@ -43,7 +43,7 @@ fn covered(x: &Expansion, end: End) -> ArrayVec<u8, 16>
 fn append_position(list: &mut ArrayVec<u8, 16>, part: &Part)
     requires room { length list.old.items ≤ 11 }
     requires range { IsUpTo 99999999 part.now }
-    ensures list { list.new.items ≡ list.old.items ++ sequence.set_symbols expansions.ENHANCED_POSITION digits.eight_digits part.now }
+    ensures list { list.new.items ≡ list.old.items ++ sequence.set_symbols specifiers.ENHANCED_POSITION digits.eight_digits part.now }
     ensures short { length list.new.items ≤ length list.old.items + 5 }
 {
     match part.kind() {

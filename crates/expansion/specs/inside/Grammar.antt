@@ -1,6 +1,6 @@
 -- The grammar of expansions, each symbol that parts two of them by itself: this project's profile.
 use Rattle.std.specs.Prelude.{ℕ, ◌+◌, ◌*◌, ◌==◌, List, [], ◌∷◌}
-use Rattle.dsc_symbols.specs.declared.expansions.TheConstants.{ENHANCED_POSITION, SPEED, COURSE}
+use Rattle.expansion.specs.declared.specifiers.TheConstants.{ENHANCED_POSITION, SPEED, COURSE}
 use Rattle.dsc_symbols.specs.declared.messages.TheConstants.{NO_INFORMATION}
 use Rattle.symbol_reader.specs.declared.letters.Letter.{Letter}
 use Rattle.symbol_reader.specs.declared.letters.Letter.TheVariants.{Exactly, Either, OneOf}

@@ -1,3 +1,4 @@
+//! The specifiers of the sets of an expansion: this project's profile, after ITU-R M.821.
 ghost use Rattle.std.specs.Prelude.{◌≡◌};
 
 /// The enhanced position follows.
