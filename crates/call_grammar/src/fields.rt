@@ -114,6 +114,7 @@ fn minutes_and_hundreds(initial: u8) -> Letter
     }
 }
 
+/// The tens and ones of a longitude's degrees behind its hundreds: at most 180 degrees in all (ITU-R M.493, position).
 pub fn longitude_ones(hundreds: u8) -> Letter
     ensures { result ≡ grammar.longitude_ones hundreds }
 {

@@ -1,6 +1,7 @@
 ghost use Rattle.std.specs.Prelude.{◌≡◌, ◌+◌, ◌≤◌, ◌++◌};
 ghost use Rattle.arrayvec.specs.ArrayVec.{array_vec_len};
 ghost use Rattle.dsc_texts.specs.CallParts.{call_text};
+ghost use Rattle.dsc_texts.specs.CallParts as parts;
 ghost use Rattle.call_values.specs.declared.calls.Call.TheVariants.{Alert, Service};
 ghost use Rattle.dsc_texts.specs.Texts.{reported_text};
 
@@ -140,6 +141,17 @@ fn append_alert<const N: usize>(out: &mut ArrayVec<u8, N>, casualty: &Casualty)
     append_casualty(out, casualty);
 }
 
+/// The end of sequence of a test, or of the reply to one.
+fn test_end(reply: bool) -> u8
+    ensures { result ≡ parts.test_end reply }
+{
+    if reply {
+        ACKNOWLEDGE_BQ
+    } else {
+        ACKNOWLEDGE_RQ
+    }
+}
+
 #[tactic(auto, unfolding(crate::specs::CallParts::call_text))]
 fn append_service<const N: usize>(
     out: &mut ArrayVec<u8, N>,
@@ -157,14 +169,7 @@ fn append_service<const N: usize>(
             append(out, b"test to=");
             append_digits(out, 9, u64::from(to.number()));
             append_sender(out, category, from);
-            append_end(
-                out,
-                if *reply {
-                    ACKNOWLEDGE_BQ
-                } else {
-                    ACKNOWLEDGE_RQ
-                },
-            );
+            append_end(out, test_end(*reply));
         }
         Kind::AskPosition => {
             append(out, b"askpos to=");

@@ -13,6 +13,7 @@ use call_values::{
     Second, To,
 };
 
+/// Appends a position's ten digits, nines where it isn't known.
 pub fn append_position<const N: usize>(out: &mut ArrayVec<u8, N>, position: &Position)
     requires { array_vec_len out.old + 10 ≤ N }
     ensures items { out.new.items ≡ out.old.items ++ position_text position.now }
@@ -36,6 +37,7 @@ fn append_fix<const N: usize>(out: &mut ArrayVec<u8, N>, fix: &Fix)
     append_digits(out, 2, u64::from(fix.lon_min));
 }
 
+/// Appends the four digits of hour and minute, eights where they aren't known.
 pub fn append_time<const N: usize>(out: &mut ArrayVec<u8, N>, time: &HourMinute)
     requires { array_vec_len out.old + 4 ≤ N }
     ensures items { out.new.items ≡ out.old.items ++ time_text time.now }
@@ -100,6 +102,7 @@ pub fn append_address<const N: usize>(out: &mut ArrayVec<u8, N>, to: &To)
     }
 }
 
+/// Appends the fields of a casualty behind its identity: nature of distress, position, time and communication.
 pub fn append_casualty<const N: usize>(out: &mut ArrayVec<u8, N>, casualty: &Casualty)
     requires { array_vec_len out.old + 45 ≤ N }
     ensures items { out.new.items ≡ out.old.items ++ written (grammar.casualty finish) (casualty_parts casualty.now none) }

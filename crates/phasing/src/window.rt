@@ -16,6 +16,9 @@ fn padded(e: &[Element]) -> [Element; 64]
 
 /// The 64 elements of a reception from one on as bits, of which those past its end are lost. Places count, as leads do, from
 /// 150 elements before the reception's first one.
+///
+/// It is asked for once a block by the search for the origin, which is a tenth slower where the call isn't inlined.
+#[inline(always)]
 pub fn planes_from(e: &[Element], begin: usize) -> Planes
     ensures { IsPlanes result.y result.b (begin + 150) (element_at e.now) }
 {
