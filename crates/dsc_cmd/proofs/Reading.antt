@@ -2,7 +2,7 @@
 use Rattle.std.proofs.Common.{◌≡◌, ℕ, ◌+◌, ◌*◌, ◌<◌, ◌≤◌, List, [], ◌∷◌, ◌++◌, length, get_or, Option, Some, refl, sym, ap, subst, ◌∙◌, inl, inr, arith, length-append}
 use Rattle.std.proofs.lemmas.Bool.{cases_lt}
 use Rattle.std.proofs.lemmas.List.{append-nil, get_or_at}
-use Rattle.dsc_files.specs.Streams.{IsEnded}
+use Rattle.dsc_streams.specs.Streams.{IsEnded}
 use Rattle.join_lines.specs.declared.faults.Fault.{Fault}
 use Rattle.join_lines.specs.Lines.{lines_of}
 use Rattle.join_lines.specs.Faults.{IsFault, IsFaultless, IsFirstFault}

@@ -1,6 +1,6 @@
 -- How a run ends, by its status, over what its source and its sink told before it and tell after it.
 use Rattle.std.specs.Prelude.{◌≡◌, ℕ, ◌⊎◌, List, ◌++◌, Option, Some}
-use Rattle.dsc_files.specs.Streams.{Loses, Gains, IsEnded, IsFlushed}
+use Rattle.dsc_streams.specs.Streams.{Loses, Gains, IsEnded, IsFlushed}
 use Rattle.dsc_cmd.specs.Words.{IsJoin}
 use Rattle.dsc_cmd.specs.Output.{words_refused, IsJoinText, IsFaultText, Asks}
 

@@ -11,7 +11,7 @@ use Rattle.slot_join.specs.Heard.{IsHeard}
 use Rattle.slot_join.specs.Intact.{CameNowhere, ArrivesInParts}
 use Rattle.join_lines.specs.Lines.{lines_of}
 use Rattle.join_lines.specs.Receptions.{receptions_of, facts_of_all}
-use Rattle.dsc_files.specs.Streams.{Loses, IsEnded}
+use Rattle.dsc_streams.specs.Streams.{Loses, IsEnded}
 use Rattle.dsc_cmd.specs.Output.{answer_line}
 use Rattle.dsc_cmd.specs.Endings.{Writes}
 

@@ -4,7 +4,7 @@ ghost use Rattle.dsc_cmd.specs.Output.{fault_line, fault_name};
 ghost use Rattle.dsc_cmd.specs.Output as output;
 
 use arrayvec::ArrayVec;
-use dsc_files::Status;
+use dsc_streams::Status;
 use dsc_texts::{append, append_number};
 use join_lines::{Fault, FirstFault};
 

@@ -5,7 +5,7 @@ mod faults;
 mod running;
 mod words;
 
-pub use dsc_files::{
+pub use dsc_streams::{
     ByteSink, ByteSource, Failed, NoMemory, Sink, Source, Status, StdSink, StdSource, SureSink,
     SureSource,
 };

@@ -5,7 +5,7 @@ ghost use Rattle.slot_evidence.specs.Sheet.{IsEnds};
 ghost use Rattle.slot_join.specs.declared.joined.Joined.{Joined};
 ghost use Rattle.slot_join.specs.Answer.{IsAnswer};
 ghost use Rattle.join_lines.specs.Receptions.{IsJoined};
-ghost use Rattle.dsc_files.specs.Streams.{Rises, Told};
+ghost use Rattle.dsc_streams.specs.Streams.{Rises, Told};
 ghost use Rattle.dsc_cmd.specs.Words.{IsJoin};
 ghost use Rattle.dsc_cmd.specs.Output as output;
 ghost use Rattle.dsc_cmd.specs.Output.{words_refused, answer_line, IsAnswered};
@@ -14,7 +14,7 @@ ghost use Rattle.dsc_cmd.specs.Sent.{ReportsSent};
 
 use crate::faults::{fault_status, put_fault};
 use crate::words::is_join;
-use dsc_files::{Failed, ReadError, Sink, Source, Status, read_at_most, write_all};
+use dsc_streams::{Failed, ReadError, Sink, Source, Status, read_at_most, write_all};
 use dsc_texts::put_answer_line;
 use join_lines::{LONGEST_LINE, LinesError, MOST_LINES, early_fault, join_lines};
 use slot_join::{

@@ -1,6 +1,6 @@
 use Rattle.std.proofs.Common.{◌∙◌}
-use Rattle.dsc_files.proofs.Runs.{front_more}
-use Rattle.dsc_files.proofs.whole.write_all.Goals as goal
+use Rattle.dsc_streams.proofs.Runs.{front_more}
+use Rattle.dsc_streams.proofs.whole.write_all.Goals as goal
 
 pub loop-rest-preserved : goal.loop-rest-preserved
 loop-rest-preserved g c =

@@ -1,6 +1,6 @@
 use Rattle.std.proofs.Common.{◌≡◌, ℕ, List, ◌++◌, length}
-use Rattle.dsc_files.specs.Streams.{Gains}
-use Rattle.dsc_files.proofs.whole.write_all.Given as goal
+use Rattle.dsc_streams.specs.Streams.{Gains}
+use Rattle.dsc_streams.proofs.whole.write_all.Given as goal
 
 abbrev pub invariant-loop-rest : goal.invariant-loop-rest
 invariant-loop-rest g l = record {

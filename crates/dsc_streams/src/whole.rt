@@ -1,6 +1,6 @@
 ghost use Rattle.std.specs.Prelude.{◌≡◌, ℕ, ◌+◌, ◌≤◌, List, ◌++◌, length, IfOk, OnOk, OnErr, IsErrOf};
-ghost use Rattle.dsc_files.specs.declared.whole.ReadError.TheVariants.{Failed as failed, Memory as memory};
-ghost use Rattle.dsc_files.specs.Streams.{Loses, Gains, Rises, IsEnded, Told};
+ghost use Rattle.dsc_streams.specs.declared.whole.ReadError.TheVariants.{Failed as failed, Memory as memory};
+ghost use Rattle.dsc_streams.specs.Streams.{Loses, Gains, Rises, IsEnded, Told};
 
 use crate::{Failed, NoMemory, Sink, Source};
 use std::alloc::Global;

@@ -1,5 +1,5 @@
 ghost use Rattle.std.specs.Prelude.{◌≡◌, ℕ, ◌<◌, ◌≤◌, Option, List, [], length, take, IfOk, OnOk, OnErr, MatchResult};
-ghost use Rattle.dsc_files.specs.Streams.{Loses, Gains, Rises, IsEnded, IsFlushed, next};
+ghost use Rattle.dsc_streams.specs.Streams.{Loses, Gains, Rises, IsEnded, IsFlushed, next};
 
 /// A read, a write or a flush that did not come about.
 #[derive(Clone, Copy, Debug, PartialEq, Eq)]

@@ -1,7 +1,7 @@
 ghost use Rattle.std.specs.Prelude.{◌≡◌, None, ◌<◌, ◌≤◌, [], length, take, IfOk, OnOk, OnErr, MatchResult};
 ghost use Rattle.std.specs.Io.KnownBytes.{Keeps, ReadConsumes, WriteAppends};
-ghost use Rattle.dsc_files.specs.Streams.{Loses, Gains, Rises, IsEnded, IsFlushed, next};
-ghost use Rattle.dsc_files.specs.Standard.{untold};
+ghost use Rattle.dsc_streams.specs.Streams.{Loses, Gains, Rises, IsEnded, IsFlushed, next};
+ghost use Rattle.dsc_streams.specs.Standard.{untold};
 
 use crate::streams::after;
 use crate::{Failed, Sink, Source};
@@ -17,7 +17,7 @@ pub struct StdSource<R> {
 }
 
 impl<R> Model for StdSource<R> {
-    ghost use Rattle.dsc_files.specs.Standard.{Port};
+    ghost use Rattle.dsc_streams.specs.Standard.{Port};
 
     ghost Value = { Port R };
 
@@ -71,7 +71,7 @@ pub struct StdSink<W> {
 }
 
 impl<W> Model for StdSink<W> {
-    ghost use Rattle.dsc_files.specs.Standard.{Port};
+    ghost use Rattle.dsc_streams.specs.Standard.{Port};
 
     ghost Value = { Port W };
 

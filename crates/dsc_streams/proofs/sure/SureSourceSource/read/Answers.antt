@@ -1,7 +1,7 @@
 use Rattle.std.proofs.Common.{sym, ◌∙◌, ap, arith}
-use Rattle.dsc_files.specs.Sure.{Supply}
-use Rattle.dsc_files.proofs.Runs.{read_result}
-use Rattle.dsc_files.proofs.sure.SureSourceSource.read.Goals as goal
+use Rattle.dsc_streams.specs.Sure.{Supply}
+use Rattle.dsc_streams.proofs.Runs.{read_result}
+use Rattle.dsc_streams.proofs.sure.SureSourceSource.read.Goals as goal
 
 pub returns-clause-bytes : goal.returns-clause-bytes
 returns-clause-bytes c =

@@ -1,6 +1,6 @@
 ghost use Rattle.std.specs.Prelude.{◌≡◌, ◌+◌, ◌-◌, ◌<◌, ◌≤◌, ◌⊎◌, ◌↔◌, Some, [], length, take, IfOk, IsErr, OnOk, OnErr, MatchResult};
 ghost use Rattle.std.specs.List.{Contains};
-ghost use Rattle.dsc_files.specs.Streams.{Loses, Gains, Rises, IsEnded, IsFlushed, next};
+ghost use Rattle.dsc_streams.specs.Streams.{Loses, Gains, Rises, IsEnded, IsFlushed, next};
 
 use crate::streams::after;
 use crate::{Failed, NoMemory, Sink, Source, SureSink, SureSource};
@@ -64,7 +64,7 @@ pub struct ByteSource {
 }
 
 impl Model for ByteSource {
-    ghost use Rattle.dsc_files.specs.Failing.{FailingSupply};
+    ghost use Rattle.dsc_streams.specs.Failing.{FailingSupply};
 
     ghost Value = { FailingSupply };
 
@@ -120,7 +120,7 @@ pub struct ByteSink {
 }
 
 impl Model for ByteSink {
-    ghost use Rattle.dsc_files.specs.Failing.{FailingStore};
+    ghost use Rattle.dsc_streams.specs.Failing.{FailingStore};
 
     ghost Value = { FailingStore };
 

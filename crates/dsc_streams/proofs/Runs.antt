@@ -2,8 +2,8 @@ use Rattle.std.proofs.Common.{◌≡◌, ℕ, ◌+◌, ◌-◌, ◌≤◌, min, 
 use Rattle.std.proofs.lemmas.List.{take-append-drop, length-take, length-take-le, take_min, drop-drop}
 use Rattle.std.proofs.Math.Seq.{take-length, take-append_seam, take-append-add}
 use Rattle.std.proofs.lemmas.Bool.Decides.{nat_tests}
-use Rattle.dsc_files.specs.Streams.{Loses, Gains, Told}
-use Rattle.dsc_files.specs.Sure.{Store, stored}
+use Rattle.dsc_streams.specs.Streams.{Loses, Gains, Told}
+use Rattle.dsc_streams.specs.Sure.{Store, stored}
 
 pub Loses-none : (a : Option (List ℕ)) → Loses a a []
 Loses-none (Some all) = refl

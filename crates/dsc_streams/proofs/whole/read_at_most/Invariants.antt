@@ -1,6 +1,6 @@
 use Rattle.std.proofs.Common.{◌≡◌, ◌+◌, ◌-◌, ◌≤◌, vec_len}
-use Rattle.dsc_files.specs.Streams.{Loses}
-use Rattle.dsc_files.proofs.whole.read_at_most.Given as goal
+use Rattle.dsc_streams.specs.Streams.{Loses}
+use Rattle.dsc_streams.proofs.whole.read_at_most.Given as goal
 
 abbrev pub invariant-loop-piece : goal.invariant-loop-piece
 invariant-loop-piece g l = record {

@@ -1,6 +1,6 @@
 ghost use Rattle.std.specs.Prelude.{◌≡◌, ◌+◌, ◌-◌, ◌<◌, ◌≤◌, Some, [], true, length, take, IfOk, IsOk, OnOk, OnErr, MatchResult};
-ghost use Rattle.dsc_files.specs.Streams.{Loses, Gains, Rises, IsEnded, IsFlushed};
-ghost use Rattle.dsc_files.specs.Sure.{no_faults, told, stored};
+ghost use Rattle.dsc_streams.specs.Streams.{Loses, Gains, Rises, IsEnded, IsFlushed};
+ghost use Rattle.dsc_streams.specs.Sure.{no_faults, told, stored};
 
 use crate::{Failed, NoMemory, Sink, Source};
 use std::alloc::Global;
@@ -16,7 +16,7 @@ pub struct SureSource {
 
 impl Model for SureSource {
     ghost use Rattle.std.specs.Prelude.{◌≤◌, drop, length};
-    ghost use Rattle.dsc_files.specs.Sure.{Supply};
+    ghost use Rattle.dsc_streams.specs.Sure.{Supply};
 
     ghost Value = { Supply };
 
@@ -78,7 +78,7 @@ pub struct SureSink {
 
 impl Model for SureSink {
     ghost use Rattle.std.specs.Prelude.{◌≤◌, vec_len, vec_capacity};
-    ghost use Rattle.dsc_files.specs.Sure.{Store};
+    ghost use Rattle.dsc_streams.specs.Sure.{Store};
 
     ghost Value = { Store };
 

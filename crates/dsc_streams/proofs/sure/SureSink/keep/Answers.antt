@@ -1,8 +1,8 @@
 use Rattle.std.proofs.Common.{◌≡◌, ◌-◌, ◌≤◌, min, Bool, ◌&&◌, nat_eq, length, vec_len, sym, ◌∙◌, ap, arith}
-use Rattle.dsc_files.specs.Sure.{Store, stored}
-use Rattle.dsc_files.proofs.Runs.{stored_is, appended}
-use Rattle.dsc_files.proofs.sure.SureSink.keep.Goals as goal
-use Rattle.dsc_files.proofs.sure.SureSink.keep.Goals.{then-self, else-self}
+use Rattle.dsc_streams.specs.Sure.{Store, stored}
+use Rattle.dsc_streams.proofs.Runs.{stored_is, appended}
+use Rattle.dsc_streams.proofs.sure.SureSink.keep.Goals as goal
+use Rattle.dsc_streams.proofs.sure.SureSink.keep.Goals.{then-self, else-self}
 
 pub returns : goal.returns
 returns c =

@@ -1,5 +1,5 @@
-use Rattle.dsc_files.proofs.Runs.{lost_more}
-use Rattle.dsc_files.proofs.whole.read_at_most.Goals as goal
+use Rattle.dsc_streams.proofs.Runs.{lost_more}
+use Rattle.dsc_streams.proofs.whole.read_at_most.Goals as goal
 
 pub returns-in_err-extend_from_slice-clause-lost :
     goal.returns-in_err-extend_from_slice-clause-lost
