@@ -5,8 +5,8 @@ ghost use Rattle.dsc_cmd.specs.Output as output;
 
 use arrayvec::ArrayVec;
 use dsc_streams::Status;
-use dsc_texts::{append, append_number};
 use join_lines::{Fault, FirstFault};
+use text_pieces::{append, append_number};
 
 /// The line that tells of a fault in the input: `dsc: line 3 column 7`, `dsc: line 2 too long` or
 /// `dsc: line 4097 too many lines`.

@@ -3,7 +3,7 @@ ghost use Rattle.arrayvec.specs.ArrayVec.{array_vec_len};
 ghost use Rattle.dsc_texts.specs.Texts.{verdict_text, answer_text};
 
 use crate::calls::append_reported;
-use crate::pieces::{append, append_number};
+use text_pieces::{append, append_number};
 use arrayvec::ArrayVec;
 use slot_join::Joined;
 

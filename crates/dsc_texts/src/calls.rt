@@ -5,7 +5,8 @@ ghost use Rattle.dsc_texts.specs.CallParts as parts;
 ghost use Rattle.call_values.specs.declared.calls.Call.TheVariants.{Alert, Service};
 ghost use Rattle.dsc_texts.specs.Texts.{reported_text};
 
-use crate::pieces::{append, append_digits};
+use crate::pieces::append_digits;
+use text_pieces::append;
 use crate::values::{
     append_address, append_area, append_casualty, append_distress, append_end, append_frequencies,
     append_from, append_message, append_position, append_request, append_sender, append_time,

@@ -15,5 +15,4 @@ mod values;
 pub use answers::{put_answer, put_answer_line};
 pub use calls::put_call;
 pub use laws::{call_texts_are_read, texts_tell_calls_apart};
-pub use pieces::{append, append_number};
 pub use reading::read_call;

@@ -5,7 +5,8 @@ ghost use Rattle.line_grammar.specs.Grammar.{finish, none, part, written};
 ghost use Rattle.dsc_texts.specs.CallGrammar as grammar;
 ghost use Rattle.dsc_texts.specs.CallParts.{position_text, time_text, area_text, frequency_text, address_text, casualty_parts, distress_parts, sender_parts, frequencies_parts, message_parts, request_parts, end_parts};
 
-use crate::pieces::{append, append_digits};
+use crate::pieces::append_digits;
+use text_pieces::append;
 use arrayvec::ArrayVec;
 use call_grammar::category_symbol;
 use call_values::{
