@@ -1,17 +1,16 @@
 -- Lists of expansions up to their checks, and what is read of them.
-use Rattle.std.proofs.Common.{◌≡◌, ℕ, ◌-◌, List, [], ◌∷◌, ◌++◌, length, Ok, Err, refl, sym, ◌∙◌, ap, subst, append_assoc, append-nil, length-append, arith}
+use Rattle.std.proofs.Common.{◌≡◌, ℕ, ◌-◌, List, [], ◌∷◌, ◌++◌, length, Err, refl, sym, ◌∙◌, ap, subst, append_assoc, append-nil, length-append, arith}
 use Rattle.std.proofs.lemmas.List.{append_cancel_right}
 use Rattle.symbol_reader.specs.Checks.{check_of}
 use Rattle.symbol_reader.specs.declared.reading.Stop.{Stop}
 use Rattle.symbol_reader.specs.declared.reading.Stop.TheVariants.{Short, Outside}
 use Rattle.symbol_reader.specs.inside.Reading.{Wants, Reads}
-use Rattle.symbol_reader.proofs.Laws.{only_good}
 use Rattle.symbol_reader.proofs.Steps.{alike, stop}
 use Rattle.call_values.specs.declared.choices.End.{End}
 use Rattle.call_values.specs.Ends.{end_symbol}
 use Rattle.expansion.specs.declared.values.Sets.{Sets}
 use Rattle.expansion.specs.Expansions.{IsExpansion}
-use Rattle.expansion.specs.Spelling.{covered, through_check, spell}
+use Rattle.expansion.specs.Spelling.{covered}
 use Rattle.expansion.specs.Reading.{IsViable, IsOpen, BeginsChecked, StopsOpen}
 use Rattle.expansion.specs.inside.Grammar.{CheckedSets}
 use Rattle.expansion.proofs.SetParts.{checked_sets_good}
@@ -57,10 +56,10 @@ checked_stop e l new Outside p =
       place = ap (λ a. length a - length new) (o.list ∙ ap (λ a. o.front ++ a) (sym o.left)) ∙ left_length o.front new;
       open_ = open_of e o.front o.wants;
       never = λ x more is viable. (
-        let begins : v.next ∷ v.rest ≡ x ∷ more = sym v.left ∙ is in
-        let first : v.next ≡ x = cc in
-        let list : o.front ++ (x ∷ []) ≡ v.front ++ (v.next ∷ []) = ap (λ a. a ++ (x ∷ [])) (sym same) ∙ ap (λ a. v.front ++ (a ∷ [])) (sym first) in
-        never_viable e (v.front ++ (v.next ∷ [])) v.never (subst (IsViable e) list viable));
+          let begins : v.next ∷ v.rest ≡ x ∷ more = sym v.left ∙ is in
+          let first : v.next ≡ x = cc in
+          let list : o.front ++ (x ∷ []) ≡ v.front ++ (v.next ∷ []) = ap (λ a. a ++ (x ∷ [])) (sym same) ∙ ap (λ a. v.front ++ (a ∷ [])) (sym first) in
+          never_viable e (v.front ++ (v.next ∷ [])) v.never (subst (IsViable e) list viable));
     }
 
 -- behind what the check covers stands the check

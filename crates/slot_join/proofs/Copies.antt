@@ -11,7 +11,6 @@ use Rattle.call_values.specs.declared.calls.Call.{Call}
 use Rattle.call_values.specs.Calls.{IsCall}
 use Rattle.call_grammar.specs.Spelling.{spell, through_check, end_of, format_of}
 use Rattle.call_grammar.specs.Walk.{IsViable}
-use Rattle.slot_evidence.specs.declared.places.Seen.TheVariants as seen
 use Rattle.slot_evidence.specs.Facts.{facts_of, facts_at, facts_of_all}
 use Rattle.slot_evidence.specs.Seen.{ShowsNone, ShowsOne}
 use Rattle.slot_join.specs.declared.joined.Joined.{Joined}

@@ -1,5 +1,5 @@
 -- What follows a call is read in one way.
-use Rattle.std.proofs.Common.{◌≡◌, ℕ, ◌+◌, ◌<◌, ◌≤◌, true, false, List, [], ◌∷◌, ◌++◌, length, get_or, take, drop, refl, sym, ap, subst, ◌∙◌, inl, inr, append_assoc, length-append, arith}
+use Rattle.std.proofs.Common.{◌≡◌, ℕ, ◌+◌, ◌<◌, ◌≤◌, false, List, [], ◌∷◌, ◌++◌, length, get_or, take, drop, refl, sym, ap, subst, ◌∙◌, inl, inr, append_assoc, length-append, arith}
 use Rattle.std.proofs.lemmas.Bool.{cases_lt}
 use Rattle.std.proofs.lemmas.List.{length-take-le, get_or-take, take-append-drop, ext_get_or, get_or_append_left, get_or_push, drop_more, length_push}
 use Rattle.call_values.specs.declared.choices.End.{End}
@@ -144,7 +144,6 @@ followed F c extra e from own place is = record { last = e; own = own; is = subs
 -- what the code reads: the symbols of the places that showed one, up to the first that didn't, and how far an expansion goes in them
 module _ (differ : ExpansionsDiffer) (F : Facts) (from : ℕ) (e : End) (list : List ℕ) (shown : IsShownFrom F from list)
     (stops : (v : ℕ) → from + length list < 64 → ShowsOne (F (from + length list)) v → ⊥) where
-
   pub whole_of : (x : Sets) (rest : List ℕ) → IsExpansion x → list ≡ through_check x e ++ rest → IsExtra F from e (Whole x)
   whole_of x rest h is = (h, shown_front F from (through_check x e) rest (subst (λ (l : List ℕ). IsShownFrom F from l) is shown))
 

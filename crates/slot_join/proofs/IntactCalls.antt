@@ -16,7 +16,6 @@ use Rattle.call_grammar.specs.Walk.{IsViable}
 use Rattle.expansion.specs.declared.values.Sets.{Sets}
 use Rattle.expansion.specs.Spelling.{through_check as expanded_check, spell as expanded}
 use Rattle.dsc_symbols.specs.Formats.{IsFormat}
-use Rattle.slot_evidence.specs.declared.places.Seen.TheVariants as seen
 use Rattle.slot_evidence.specs.Facts.{Facts, facts_of, facts_at}
 use Rattle.slot_evidence.specs.Seen.{ShowsOne}
 use Rattle.slot_join.specs.declared.joined.Joined.{Joined}

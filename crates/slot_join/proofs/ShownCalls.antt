@@ -1,5 +1,5 @@
 -- A call that is shown up to its check is reported.
-use Rattle.std.proofs.Common.{◌≡◌, ℕ, ◌⊎◌, true, sym, ap, subst, ◌∙◌, inl, inr}
+use Rattle.std.proofs.Common.{◌≡◌, ◌⊎◌, ap, subst, ◌∙◌, inl, inr}
 use Rattle.call_values.specs.declared.calls.Call.{Call}
 use Rattle.call_values.specs.Calls.{IsCall}
 use Rattle.call_grammar.specs.Spelling.{through_check, format_of}

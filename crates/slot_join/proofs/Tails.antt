@@ -1,5 +1,5 @@
 -- What is told of what was sent behind a call.
-use Rattle.std.proofs.Common.{◌≡◌, ℕ, zero, suc, ◌+◌, ◌*◌, ◌<◌, ◌≤◌, Bool, true, false, ◌&&◌, ◌||◌, ltb, nat_le, List, [], ◌∷◌, ◌++◌, length, get_or, take, drop, Option, Some, None, refl, sym, ap, subst, ◌∙◌, inl, inr, append_assoc, length-append, arith, All}
+use Rattle.std.proofs.Common.{◌≡◌, ℕ, suc, ◌+◌, ◌*◌, ◌<◌, ◌≤◌, Bool, true, false, ◌&&◌, ◌||◌, ltb, nat_le, List, [], ◌∷◌, ◌++◌, length, get_or, drop, Option, Some, None, refl, sym, ap, subst, ◌∙◌, inl, inr, append_assoc, length-append, arith, All}
 use Rattle.std.specs.Prelude.{◌↔◌}
 use Rattle.std.specs.List.{list_any}
 use Rattle.std.proofs.lemmas.Bool.{cases_lt, or_cases, cond-false, lt-leb}
@@ -25,7 +25,7 @@ use Rattle.slot_join.specs.declared.joined.Extra.{Extra}
 use Rattle.slot_join.specs.declared.joined.Extra.TheVariants.{Absent, Whole, Broken}
 use Rattle.slot_join.specs.Extra.{IsBlankFrom, IsShownFrom, IsBroken, IsExtra, Follows}
 use Rattle.slot_join.specs.Heard.{IsHeard}
-use Rattle.slot_join.specs.Intact.{IsIntactAt, CameNowhere, IsExpandedBy, EndsWithin, IsLostAt, TellsTail}
+use Rattle.slot_join.specs.Intact.{CameNowhere, IsExpandedBy, EndsWithin, IsLostAt, TellsTail}
 use Rattle.slot_join.proofs.OneWay.{length-on_air}
 use Rattle.slot_join.proofs.Copies.{any_shows, copy_shows}
 use Rattle.slot_join.proofs.Followers.{ExpansionsDiffer, ExpansionsAreShort, CallsAreShort, pointwise, push_from, shown_some, some_check, extra_with}

@@ -1,4 +1,4 @@
-use Rattle.std.proofs.Common.{◌≡◌, ◌-◌, [], ◌∷◌, length, sym, ap, ◌∙◌, arith}
+use Rattle.std.proofs.Common.{◌≡◌, ◌∷◌, length, sym, ap, ◌∙◌, arith}
 use Rattle.symbol_reader.specs.Checks.{check_of}
 use Rattle.expansion.specs.Spelling.{covered}
 use Rattle.expansion.proofs.WholeLists.{covered_part}

@@ -1,7 +1,6 @@
-use Rattle.std.proofs.Common.{◌-◌, length, sym, subst, Err}
+use Rattle.std.proofs.Common.{sym, subst, Err}
 use Rattle.symbol_reader.specs.inside.Reading.{Reads}
 use Rattle.expansion.specs.inside.Grammar.{CheckedSets}
-use Rattle.expansion.specs.Reading.{StopsOpen}
 use Rattle.expansion.proofs.CheckedLists.{checked_stop}
 use Rattle.expansion.proofs.reading.read_checked.Goals as goal
 

@@ -1,9 +1,5 @@
-use Rattle.std.proofs.Common.{◌≡◌, ℕ, ◌+◌, ◌<◌, ◌++◌, length, refl, sym, ap, ◌∙◌, subst, arith}
-use Rattle.slot_evidence.specs.Facts.{Facts}
-use Rattle.slot_evidence.specs.Seen.{ShowsOne}
-use Rattle.slot_evidence.specs.Sheet.{IsEnds}
+use Rattle.std.proofs.Common.{ℕ, ◌+◌, ◌<◌, length, sym, ap, ◌∙◌, arith}
 use Rattle.slot_join.specs.declared.joined.Extra.TheVariants.{Absent, Whole, Broken}
-use Rattle.slot_join.specs.Extra.{IsShownFrom}
 use Rattle.slot_join.proofs.Followers.{blank_facts, some_facts, none_one, followed, whole_of, broken_of, open_short}
 use Rattle.slot_join.proofs.extras.read_extra.Goals as goal
 

@@ -1,4 +1,4 @@
-use Rattle.std.proofs.Common.{◌≡◌, ◌+◌, ◌++◌, ◌∷◌, [], length, sym, ap, ◌∙◌, subst, arith, length-append}
+use Rattle.std.proofs.Common.{◌≡◌, ◌+◌, ◌∷◌, [], length, sym, ap, ◌∙◌, subst, arith, length-append}
 use Rattle.slot_evidence.specs.declared.places.Seen.TheVariants as seen
 use Rattle.slot_evidence.specs.Seen.{ShowsOne}
 use Rattle.slot_join.specs.Extra.{IsShownFrom}

@@ -1,8 +1,7 @@
-use Rattle.std.proofs.Common.{ℕ, List, ◌++◌, ◌<◌, get_or, All}
+use Rattle.std.proofs.Common.{◌++◌}
 use Rattle.call_grammar.specs.Spelling.{spell}
 use Rattle.slot_evidence.specs.Facts.{facts_of_all}
 use Rattle.slot_join.specs.OneCall.{IsCallOrMissing}
-use Rattle.slot_join.specs.Heard.{IsHeard}
 use Rattle.slot_join.proofs.Copies.{Lists, all_told, sent_or_lost}
 use Rattle.slot_join.proofs.Tails as tails
 use Rattle.slot_join.proofs.Tails.{all_of_tail, all_characters, tells}
