@@ -1,0 +1,4 @@
+pub mod Cutting
+pub mod Faultless
+pub mod Going
+pub mod Writing
