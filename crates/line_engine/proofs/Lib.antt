@@ -2,3 +2,4 @@ pub mod Cutting
 pub mod Faultless
 pub mod Going
 pub mod Writing
+pub mod Rooms

@@ -1,0 +1,1 @@
+use Rattle.line_engine.proofs.driving.take_input.Goals as goal
