@@ -1,7 +1,7 @@
 -- a run from one line to the next
 use Rattle.std.proofs.Common.{◌≡◌, ◌≢◌, ℕ, ◌+◌, ◌-◌, ◌<◌, ◌≤◌, Bool, true, List, [], ◌∷◌, ◌++◌, length, Option, Some, None, refl, sym, ◌∙◌, ap, subst, arith, append_assoc, append-nil, ◌⊎◌, inl, inr}
 use Rattle.std.proofs.lemmas.List.{length_push}
-use Rattle.dsc_streams.specs.Streams.{IsEnded}
+use Rattle.dsc_streams.specs.Streams.{Loses, IsEnded}
 use Rattle.line_engine.specs.declared.faults.Fault.{Fault}
 use Rattle.line_engine.specs.declared.faults.Fault.TheVariants.{TooManyLines, TooLong, Column, TooManyGroups}
 use Rattle.line_engine.specs.declared.halts.Halt.{Halt}
@@ -10,7 +10,7 @@ use Rattle.line_engine.specs.Lines.{Lines, lines_of}
 use Rattle.line_engine.specs.Meaning.{Meaning}
 use Rattle.line_engine.specs.Faults.{IsFault, IsFaultless}
 use Rattle.line_engine.specs.Endings.{IsRest}
-use Rattle.line_engine.specs.inside.Progress.{HasWritten, IsOn, IsThrough, IsNextFault, Stops, StopsInRead, StopsAtLine, PassesLimit, IsLimitPassed, IsCounted, TakesLines, PendingFails}
+use Rattle.line_engine.specs.inside.Progress.{HasWritten, IsOn, IsThrough, IsNextFault, Stops, StopsInRead, StopsAtLine, PassesLimit, IsLimitPassed, IsCounted, TakesLines, PendingFails, RunsInto}
 use Rattle.line_engine.proofs.Cutting.{is_text, last_line, IsOpenLine, open_line, none_taken, read_more, next_line, line_taken, at_end}
 use Rattle.line_engine.proofs.Faultless.{none_yet}
 
@@ -248,3 +248,15 @@ counted_line {line = line} was takes = record {
   stands = takes.stands;
   count_is = ap (λ (n : ℕ). n + 1) was.count_is ∙ sym (length_push was.lines line);
 }
+
+-- a run that stopped between two reads
+pub stopped : {Sink : Type 0} {meaning : Meaning} {written : Sink → Option (List ℕ)} {faults : Sink → ℕ} (left_before left : Option (List ℕ)) (start sink : Sink) (taken pending : List ℕ) (h : Halt)
+    → Loses left_before left taken → length taken ≤ 17338368 → Stops meaning written faults start left taken pending sink h → RunsInto meaning written faults left_before left start pending sink h
+stopped left_before left start sink taken pending (halt.Fault first) lost within s = record { taken = taken; lost = lost; within = within; stops = s }
+stopped left_before left start sink taken pending halt.Read lost within s = absurd s
+stopped left_before left start sink taken pending halt.Write lost within s = record { taken = taken; lost = lost; within = within; stops = s }
+stopped left_before left start sink taken pending halt.Memory lost within s = record { taken = taken; lost = lost; within = within; stops = s }
+
+pub not_read : {Sink : Type 0} (meaning : Meaning) (written : Sink → Option (List ℕ)) (faults : Sink → ℕ) (start sink : Sink) (left : Option (List ℕ)) (taken pending : List ℕ) (h : Halt)
+    → Stops meaning written faults start left taken pending sink h → h ≡ halt.Read → ⊥
+not_read meaning written faults start sink left taken pending h s e = subst (λ (k : Halt). Stops meaning written faults start left taken pending sink k) e s

@@ -3,3 +3,4 @@ pub mod Faultless
 pub mod Going
 pub mod Writing
 pub mod Rooms
+pub mod Pieces

@@ -98,13 +98,21 @@ pub record StopsInRead {Sink : Type 0} (meaning : Meaning) (written : Sink → O
   pub gives : meaning.Gives lines text
   pub wrote : HasWritten written faults start sink text
 
--- why a run stopped, and what it leaves
+-- why a run stopped between two reads, and what it leaves
 abbrev pub Stops : {Sink : Type 0} (meaning : Meaning) (written : Sink → Option (List ℕ)) (faults : Sink → ℕ) (start : Sink) (left : Option (List ℕ))
     (taken pending : List ℕ) (sink : Sink) → Halt → Type 0
 Stops meaning written faults start left taken pending sink (halt.Fault first) = StopsAtFault meaning written faults start left taken pending sink first
-Stops meaning written faults start left taken pending sink halt.Read = StopsInRead meaning written faults start taken sink
+Stops meaning written faults start left taken pending sink halt.Read = ⊥
 Stops meaning written faults start left taken pending sink halt.Write = StopsInWrite meaning written faults start left taken sink
 Stops meaning written faults start left taken pending sink halt.Memory = StopsInMemory meaning written faults start left taken sink
+
+-- why a run stopped, and what it leaves
+abbrev pub StopsOrFails : {Sink : Type 0} (meaning : Meaning) (written : Sink → Option (List ℕ)) (faults : Sink → ℕ) (start : Sink) (left : Option (List ℕ))
+    (taken pending : List ℕ) (sink : Sink) → Halt → Type 0
+StopsOrFails meaning written faults start left taken pending sink (halt.Fault first) = StopsAtFault meaning written faults start left taken pending sink first
+StopsOrFails meaning written faults start left taken pending sink halt.Read = StopsInRead meaning written faults start taken sink
+StopsOrFails meaning written faults start left taken pending sink halt.Write = StopsInWrite meaning written faults start left taken sink
+StopsOrFails meaning written faults start left taken pending sink halt.Memory = StopsInMemory meaning written faults start left taken sink
 
 -- a line behind so many lines, which has so many bytes, passes a limit
 abbrev pub IsLimitPassed : (count len : ℕ) → Fault → Type 0
@@ -162,4 +170,4 @@ pub record RunsInto {Sink : Type 0} (meaning : Meaning) (written : Sink → Opti
   pub taken : List ℕ
   pub lost : Loses left_before left_after taken
   pub within : length taken ≤ MOST_TAKEN
-  pub stops : Stops meaning written faults start left_after taken pending sink halt
+  pub stops : StopsOrFails meaning written faults start left_after taken pending sink halt
