@@ -4,3 +4,4 @@ pub mod Going
 pub mod Writing
 pub mod Rooms
 pub mod Pieces
+pub mod Told

@@ -1,5 +1,5 @@
 -- from one read to the next
-use Rattle.std.proofs.Common.{◌≡◌, ℕ, ◌+◌, ◌-◌, ◌*◌, ◌<◌, ◌≤◌, true, List, [], ◌∷◌, ◌++◌, length, drop, Option, Result, Ok, Err, IfErr, IsErrAnd, refl, sym, ◌∙◌, ap, subst, arith, append-nil, length-append}
+use Rattle.std.proofs.Common.{◌≡◌, ℕ, zero, suc, ◌+◌, ◌-◌, ◌*◌, ◌<◌, ◌≤◌, true, List, [], ◌∷◌, ◌++◌, length, drop, Option, Result, Ok, Err, IfErr, IsErrAnd, refl, sym, ◌∙◌, ap, subst, arith, append-nil, length-append}
 use Rattle.std.proofs.lemmas.List.{nil_from_length}
 use Rattle.std.proofs.lemmas.Result.{IfErr-at_err}
 use Rattle.dsc_streams.specs.Streams.{Loses, IsEnded}
@@ -87,3 +87,8 @@ pub runs_into_last : {Command Sink : Type 0} {meaning : Meaning} {stands_for : C
     → RunsInto meaning written faults left_before left_after start after sink h
 runs_into_last {left_after = left_after} {sink = sink} bytes after gives ended t is h s =
     stops_after sink after is h (stops_last bytes after left_after gives (cut_all bytes t s.0) ended is.on h (s.1 is.on.lines is.on.text is.on.stands is.on.count_is))
+
+-- an open line within the limits
+pub few_bytes : (count left len : ℕ) → count ≤ 4096 → (0 < left → count < 4096) → left ≤ 4200 → len ≡ left → count * 4201 + len ≤ 17207296
+few_bytes count zero len few some short e = omega arith
+few_bytes count (suc n) len few some short e = let less : count < 4096 = some (omega arith) in omega arith

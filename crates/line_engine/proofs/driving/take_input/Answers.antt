@@ -5,7 +5,7 @@ use Rattle.line_engine.specs.declared.halts.Halt.TheVariants as halt
 use Rattle.line_engine.specs.inside.Progress.{PassesLimit}
 use Rattle.line_engine.proofs.Cutting.{is_text}
 use Rattle.line_engine.proofs.Going.{on_start, on_written, on_left, on_counted, stopped, stops_in_write, stops_open, not_read}
-use Rattle.line_engine.proofs.Pieces.{exit_is, no_window, read_on, stops_after, text_still, runs_through, runs_into_last}
+use Rattle.line_engine.proofs.Pieces.{exit_is, no_window, read_on, stops_after, text_still, runs_through, runs_into_last, few_bytes}
 use Rattle.line_engine.proofs.Writing.{nothing_written, exit}
 use Rattle.line_engine.proofs.driving.take_input.Goals as goal
 
@@ -119,7 +119,7 @@ loop-window-preserved g c =
       lost = is.lost;
       sound = c.in-Ok.ensures.sound ∙ was.sound;
       most = omega arith;
-      few = omega (arith, within.0, within.1, few, len);
+      few = few_bytes walked.count walked.left _ few within.0 within.1 len;
       within = few;
       some = λ is. omega arith;
       short = omega arith;
