@@ -1,0 +1,12 @@
+-- Lines of which each says something of its own: this project's profile.
+use Rattle.std.specs.Prelude.{◌≡◌, ℕ, List, [], ◌∷◌, ◌++◌}
+use Rattle.line_engine.specs.Lines.{Lines}
+
+-- what these lines say behind earlier ones, where a line says a function of itself and of all before it
+unfoldable pub said_behind : (says : Lines → List ℕ → List ℕ) → (earlier lines : Lines) → List ℕ
+said_behind says earlier [] = []
+said_behind says earlier (line ∷ lines) = says earlier line ++ said_behind says (earlier ++ line ∷ []) lines
+
+-- what all these lines say
+abbrev pub said : (says : Lines → List ℕ → List ℕ) → Lines → List ℕ
+said says lines = said_behind says [] lines
