@@ -1,0 +1,5 @@
+pub mod Refusals
+pub mod LongWords
+pub mod OptionWalk
+pub mod CommandWalk
+pub mod PlanWords
