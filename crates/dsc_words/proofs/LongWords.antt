@@ -1,6 +1,8 @@
 -- The words `--name` and `--name=value`, as `clap` reads them.
-use Rattle.std.proofs.Common.{◌≡◌, ◌≢◌, ◌∙◌, ◌+◌, ◌<◌, ◌==◌, ◌⊎◌, inl, inr, Bool, true, false, ℕ, List, [], ◌∷◌, ◌++◌, refl, ap, sym, subst, cond, zero, suc, length, get_or, arith}
+use Rattle.std.proofs.Common.{◌≡◌, ◌≢◌, ◌∙◌, ◌==◌, ◌⊎◌, inl, inr, Bool, true, false, ℕ, [], ◌∷◌, ◌++◌, refl, ap, sym, cond, zero, suc, arith}
 use Rattle.std.specs.Prelude.{Option, Some, None, codes, option_and_then}
+use Rattle.std.specs.Str.{bytes_eq}
+use Rattle.std.proofs.lemmas.Slice.Eq.{bytes_eq-Decides}
 use Rattle.clap.specs.Lexer.{long_of, long_of_rest, name_and_value, strip_byte}
 use Rattle.clap.specs.Walk.{Text}
 use Rattle.clap.proofs.CutLemmas.{Lacks}
@@ -56,9 +58,42 @@ long_is word p e = first (strip_byte 45 word) refl e
     third : (rest : Text) → word ≡ 45 ∷ 45 ∷ rest → long_of_rest rest ≡ Some p → word ≡ spelled p.0 p.1
     third [] is h = absurd (none_is_some h)
     third (x ∷ xs) is h = let same : name_and_value (x ∷ xs) ≡ p = cc in is ∙ cut_is (x ∷ xs) p (cut (x ∷ xs)) same
+
     second : (behind : Text) (o : Option Text) → word ≡ 45 ∷ behind → strip_byte 45 behind ≡ o → option_and_then long_of_rest o ≡ Some p → word ≡ spelled p.0 p.1
     second behind None is got h = absurd (none_is_some h)
     second behind (Some rest) is got h = third rest (is ∙ ap (λ t. 45 ∷ t) (stripped 45 behind rest got)) h
+
     first : (o : Option Text) → strip_byte 45 word ≡ o → option_and_then long_of_rest (option_and_then (strip_byte 45) o) ≡ Some p → word ≡ spelled p.0 p.1
     first None got h = absurd (none_is_some h)
     first (Some behind) got h = second behind (strip_byte 45 behind) (stripped 45 word behind got) refl h
+
+-- ---- names that `clap` reads back
+
+pub record IsName (long : Text) : Type 0 where
+  pub alone : long_of (spelled long None) ≡ Some (long, None)
+  pub valued : (value : Text) → long_of (spelled long (Some value)) ≡ Some (long, Some value)
+
+-- ---- words that are not `--`
+
+-- no hyphen begins the text
+abbrev pub IsBare : Text → Type 0
+IsBare text = strip_byte 45 text ≡ None
+
+pub same_text : (a b : Text) → bytes_eq a b ≡ true → a ≡ b
+same_text a b e = (bytes_eq-Decides a b).0 e
+
+pub same_true : (text : Text) → bytes_eq text text ≡ true
+same_true text = (bytes_eq-Decides text text).1 refl
+
+no_dashes : (word : Text) → (word ≡ codes "--" → ⊥) → bytes_eq word (codes "--") ≡ false
+no_dashes word differs = go (bytes_eq word (codes "--")) refl
+  where
+    go : (t : Bool) → bytes_eq word (codes "--") ≡ t → t ≡ false
+    go true is = absurd (differs (same_text word (codes "--") is))
+    go false is = refl
+
+pub long_has_no_dashes : (word : Text) (p : Text × Option Text) → long_of word ≡ Some p → bytes_eq word (codes "--") ≡ false
+long_has_no_dashes word p e = no_dashes word (λ is. let none : long_of word ≡ None = ap long_of is in none_is_some (sym none ∙ e))
+
+pub bare_has_no_dashes : (word : Text) → IsBare word → bytes_eq word (codes "--") ≡ false
+bare_has_no_dashes word e = no_dashes word (λ is. let some : strip_byte 45 word ≡ Some (45 ∷ []) = ap (strip_byte 45) is in none_is_some (sym e ∙ some))

@@ -1,13 +1,12 @@
-//! The words of the command line, and the plan that they are.
+//! The words of the command line: the plan that they are, or that they are none.
 #![tactic(auto)]
 
 mod command_line;
 mod numbers;
 mod plans;
 mod reading;
-
 #[cfg(test)]
 mod tests;
 
-pub use plans::{MOST_WORKERS, Plan, PlanError, one_plan};
+pub use plans::{Plan, PlanError, one_plan};
 pub use reading::plan_of;

@@ -3,7 +3,8 @@ ghost use Rattle.dsc_words.specs.Words.{IsNumber};
 
 use itoa::Buffer;
 
-/// The number that the text spells in plain decimal digits, where it is from 1 to `most`.
+/// The number from 1 to `most` that the text spells in plain decimal digits. A sign, a leading zero or any other byte
+/// gives none.
 pub fn number(text: &str, most: u16) -> Option<u16>
     ensures some { IfSome result (IsNumber most text.now) }
     ensures none { IsNone result → (n : ℕ) → IsNumber most text.now n → ⊥ }

@@ -4,24 +4,21 @@ ghost use Rattle.dsc_words.specs.declared.plans.Plan.{Plan};
 
 use std::alloc::AllocError;
 
-/// The most workers that a command may be given.
-pub const MOST_WORKERS: u16 = 64;
-
-/// What the words of the command line ask for: a command, with its options.
+/// What the words of the command line ask for: a command and its options.
 #[derive(Clone, Copy, Debug, PartialEq, Eq)]
 pub enum Plan {
-    /// `join [--workers N]`: the answers of each group; by 1 to 64 workers.
+    /// `join [--workers N]`: what the facts of each group say. 1 to 64 workers, 1 where none are given.
     Join { workers: u8 },
-    /// `evidence [--workers N]`: the facts of each group; by 1 to 64 workers.
+    /// `evidence [--workers N]`: the facts of each group. 1 to 64 workers, 1 where none are given.
     Evidence { workers: u8 },
 }
 
-/// Why words give no plan.
+/// Why words gave no plan.
 #[derive(Clone, Copy, Debug, PartialEq, Eq)]
 pub enum PlanError {
     /// The words are no plan.
     Refused,
-    /// There was no memory to read them.
+    /// No memory was found to read them.
     Memory,
 }
 
@@ -35,7 +32,7 @@ impl From<AllocError> for PlanError {
     }
 }
 
-/// Words are one plan at most.
+/// The law that words are one plan at most. It does nothing.
 pub fn one_plan()
     ensures { (words : List (List ℕ)) (a b : Plan) → IsPlan words a → IsPlan words b → a ≡ b }
 {}

@@ -1,5 +1,5 @@
 -- What a command and the text of its number ask for: this project's profile.
-use Rattle.std.specs.Prelude.{◌≡◌, ℕ, Option, codes}
+use Rattle.std.specs.Prelude.{◌≡◌, Option, codes}
 use Rattle.dsc_words.specs.Words.{Text, IsWorkers}
 use Rattle.dsc_words.specs.declared.plans.Plan.{Plan}
 use Rattle.dsc_words.specs.declared.plans.Plan.TheVariants.{Join, Evidence}

@@ -1,15 +1,15 @@
 -- The command line as `clap` sees it: this project's profile.
-use Rattle.std.specs.Prelude.{List, [], ◌∷◌, Some, true, codes}
+use Rattle.std.specs.Prelude.{[], ◌∷◌, Some, true, codes}
 use Rattle.clap.specs.Words.{App, Rule, Shape, Text, new_app, new_rule, with_subcommand}
 use Rattle.clap.specs.Simple.{new_shape, on_top}
 
 -- an option that takes a number
-abbrev pub number_rule : Text → Rule
-number_rule option = record (new_rule (codes "number")) { long = Some option }
+abbrev pub option_rule : Text → Rule
+option_rule long = record (new_rule (codes "number")) { long = Some long }
 
 -- a command with one option, which takes a number
-abbrev pub numbered : Text → Text → Shape
-numbered name option = record (new_shape name) { rules = number_rule option ∷ [] }
+abbrev pub with_option : Text → Text → Shape
+with_option name long = record (new_shape name) { rules = option_rule long ∷ [] }
 
 -- the program without its commands
 abbrev pub program : App
@@ -21,6 +21,7 @@ program = on_top (λ s. record s {
 
 -- the program: its commands, one a line
 abbrev pub dsc : App
-dsc = with_subcommand (with_subcommand program
-    (numbered (codes "join") (codes "workers")))
-    (numbered (codes "evidence") (codes "workers"))
+dsc =
+    with_subcommand (with_subcommand program
+    (with_option (codes "join") (codes "workers")))
+    (with_option (codes "evidence") (codes "workers"))

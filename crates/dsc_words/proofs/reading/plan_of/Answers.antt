@@ -1,12 +1,13 @@
-use Rattle.std.proofs.Common.{◌≡◌, ◌∙◌, ap, sym, subst, refl, List, ℕ, map, Err, Option, Some, None, Result, Ok}
+use Rattle.std.proofs.Common.{◌≡◌, ◌∙◌, ap, sym, subst, refl, List, map, Err, Option, Some, None, Result, Ok}
 use Rattle.std.specs.Prelude.{string_bytes, IfOk, IfSome, IsErrAnd, IsErrOf, IsNone}
 use Rattle.std.specs.Option.{ok_or}
+use Rattle.std.proofs.lemmas.Result.{IfOk-weaker}
 use Rattle.clap.specs.Words.{Text}
-use Rattle.dsc_words.specs.Words.{IsPlan}
+use Rattle.dsc_words.specs.Words.{IsInRange, IsPlan}
 use Rattle.dsc_words.specs.declared.plans.Plan.{Plan}
 use Rattle.dsc_words.specs.declared.plans.PlanError.{PlanError}
 use Rattle.dsc_words.specs.declared.plans.PlanError.TheVariants.{Refused}
-use Rattle.dsc_words.proofs.PlanWords.{asked_is_plan, behind_dashed, behind_undashed, plan_is_taken}
+use Rattle.dsc_words.proofs.PlanWords.{asked_is_plan, behind_dashed, behind_undashed, plan_in_range, plan_is_taken}
 use Rattle.dsc_words.proofs.reading.plan_of.Goals as goal
 
 pub returns-then-has_dashes-clause-refused : goal.returns-then-has_dashes-clause-refused
@@ -33,6 +34,9 @@ returns-clause-planned c =
     subst (λ (r : Result Plan PlanError). IfOk r (IsPlan words)) (sym c.ok_or.ensures.value)
     (read_is words c.read.result _ (λ plan got. asked_is_plan words undashed c.in_ok-matches.ensures.passed got.0 got.1 plan (sym c.in_ok-matches.ensures.rows ∙ got.2) got.3) c.read.ensures.some)
 
+pub returns-clause-range : goal.returns-clause-range
+returns-clause-range c = IfOk-weaker c.ok_or.result _ IsInRange (plan_in_range (map string_bytes c.args.words.now)) (returns-clause-planned c)
+
 none_read : (r : Option Plan) → IsErrOf (ok_or r Refused) Refused → IsNone r
 none_read None refused = refl
 none_read (Some plan) refused = let bad : ⊥ = cc in absurd bad
@@ -41,4 +45,4 @@ pub returns-clause-refused : goal.returns-clause-refused
 returns-clause-refused c refused plan is =
     let taken = plan_is_taken _ plan is in
     c.read.ensures.none (none_read c.read.result (subst (λ (r : Result Plan PlanError). IsErrOf r Refused) c.ok_or.ensures.value refused))
-    taken.command taken.rows plan (c.in_ok-matches.ensures.rows ∙ taken.found) taken.asked
+    taken.found taken.rows plan (c.in_ok-matches.ensures.rows ∙ taken.gives) taken.asked

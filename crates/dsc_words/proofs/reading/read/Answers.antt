@@ -1,9 +1,8 @@
-use Rattle.std.proofs.Common.{◌≡◌, ◌∙◌, ap, ap₂, sym, subst, Option, Some, None, option_map, List, codes}
+use Rattle.std.proofs.Common.{◌≡◌, ◌∙◌, ap₂, sym, subst, Option, Some, None, option_map, List, codes}
 use Rattle.std.proofs.lemmas.Option.{IfSome_then}
 use Rattle.clap.specs.Words.{Row, Text, found_of, first_of, rows_of, subcommand_rows_of}
 use Rattle.clap.proofs.WalkLemmas.{first_value-rows}
 use Rattle.dsc_words.specs.inside.Asked.{IsAsked}
-use Rattle.dsc_words.specs.declared.plans.Plan.{Plan}
 use Rattle.dsc_words.proofs.LongWords.{none_is_some}
 use Rattle.dsc_words.proofs.PlanWords.{same_pair, some_same}
 use Rattle.dsc_words.proofs.reading.read.Goals as goal
@@ -19,8 +18,12 @@ returns-clause-some c =
     let values = c.in_ok-command.values.now in
     let given = c.get_str.ensures ∙ first_value-rows (found_of values) (codes "number") in
     let found : subcommand_rows_of c.args.matches.now ≡ Some (c.in_ok-command.command.now, rows_of (found_of values)) = entry_is _ _ _ _ _ c.in_ok-command.ensures.name c.in_ok-command.ensures.rows in
-    IfSome_then c.asked.result c.asked.ensures.some (λ plan asked. (c.in_ok-command.command.now, rows_of (found_of values), found,
-    subst (λ (g : Option Text). IsAsked c.in_ok-command.command.now g plan) given asked))
+    IfSome_then c.asked.result c.asked.ensures.some (λ plan asked. (
+      c.in_ok-command.command.now,
+      rows_of (found_of values),
+      found,
+      subst (λ (g : Option Text). IsAsked c.in_ok-command.command.now g plan) given asked,
+    ))
 
 pub returns-clause-none : goal.returns-clause-none
 returns-clause-none c none command rows plan found asked =

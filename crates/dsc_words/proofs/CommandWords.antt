@@ -1,19 +1,17 @@
 -- The walk over the program's words, up to its command.
-use Rattle.std.proofs.Common.{◌≡◌, ◌∙◌, ◌&&◌, ◌||◌, ◌⊎◌, inl, inr, Bool, true, false, not, ℕ, zero, suc, List, [], ◌∷◌, ◌++◌, map, refl, ap, ap₂, sym, subst, length, fold, cond, is_some, option_map}
-use Rattle.std.specs.Prelude.{Option, Some, None, codes, find, slice_get, if◌then◌else◌}
-use Rattle.std.specs.Option.{option_map_or}
-use Rattle.std.specs.List.{list_all, list_any}
-use Rattle.std.specs.Str.{bytes_eq, chars}
+use Rattle.std.proofs.Common.{◌≡◌, ◌∙◌, ◌&&◌, ◌||◌, Bool, true, false, List, [], ◌∷◌, ◌++◌, map, refl, ap, sym, subst, fold, cond, is_some, option_map}
+use Rattle.std.specs.Prelude.{Option, Some, None, codes, find, if◌then◌else◌}
+use Rattle.std.specs.Str.{bytes_eq}
 use Rattle.std.proofs.lemmas.List.{append_assoc, append-nil}
-use Rattle.clap.specs.Lexer.{long_of, short_of}
+use Rattle.clap.specs.Lexer.{long_of}
 use Rattle.clap.specs.Kinds.{Kinds, or_else}
-use Rattle.clap.specs.Walk.{Held, Names, Row, Text, Walk, answers_to, is_empty, idle, nothing_held, walk, walk_from, walked, settled, finished, rows_after, subcommand_met, subcommand_or_other, after_step, after_flag, bundle_met, bundle_step, short_or_plain, plain}
-use Rattle.clap.specs.Simple.{App, Shape, built, entered, label_of, names_of, rows_at, subcommand_of}
-use Rattle.clap.specs.Faults.{fault_of, walk_fault, turn_fault, settle_fault, defaults_fault, check_fault, other_fault, step_fault, flag_word_fault, bundle_fault, bundle_step_fault, flags_fault, entered_fault}
+use Rattle.clap.specs.Walk.{Names, Text, Walk, answers_to, idle, nothing_held, walk, walk_from, walked, settled, finished, subcommand_met, subcommand_or_other, after_step}
+use Rattle.clap.specs.Simple.{App, built, entered, names_of, subcommand_of}
+use Rattle.clap.specs.Faults.{fault_of, walk_fault, turn_fault, settle_fault, defaults_fault, check_fault, other_fault, step_fault, entered_fault}
 use Rattle.dsc_words.specs.inside.CommandLine.{dsc}
 use Rattle.dsc_words.proofs.Refusals.{some_kind, first_passes, second_passes, both_pass}
-use Rattle.dsc_words.proofs.OptionWalk.{HasNoDashes, turn_by, short_by, char_by, same_name}
-use Rattle.dsc_words.proofs.LongWords.{none_is_some}
+use Rattle.dsc_words.proofs.Turns.{HasNoDashes, bare, stray_word, turn_by}
+use Rattle.dsc_words.proofs.LongWords.{none_is_some, same_text}
 use Rattle.clap.specs.declared.error.kind.ErrorKind.TheVariants as kind
 use Rattle.std.specs.Prelude.{drop}
 
@@ -40,20 +38,6 @@ IsMet word = subcommand_met names idle word ≡ Some word
 
 -- ---- the first word
 
-stray_char : (word flags : Text) (k : ℕ) (first : Option ℕ) → char_by app.top start word flags first k ≡ [] → ⊥
-stray_char word flags k None e = some_kind e
-stray_char word flags k (Some x) e = some_kind e
-
-stray_short : (word : Text) (short : Option Text) → short_by app.top start word short ≡ [] → ⊥
-unfolding bundle_met flags_fault
-stray_short word None e = some_kind e
-stray_short word (Some []) e = some_kind e
-stray_short word (Some (x ∷ xs)) e = stray_char word (x ∷ xs) (length xs) (slice_get (chars (x ∷ xs)) 0) e
-
-stray_long : (word : Text) (long : Option (Text × Option Text)) → turn_by app.top start word false long ≡ [] → ⊥
-stray_long word None e = stray_short word (short_of word) e
-stray_long word (Some p) e = some_kind e
-
 abbrev first_fault : Option Text → Text → Kinds
 first_fault met word =
     let step = subcommand_or_other [] met idle 1 word nothing_held in
@@ -63,7 +47,7 @@ first_fault_is : (word : Text) → turn_fault app.top names start word ≡ first
 first_fault_is word = refl
 
 first_known : (word : Text) (met : Option Text) → bytes_eq word (codes "--") ≡ false → first_fault met word ≡ [] → (command : Text) × (met ≡ Some command)
-first_known word None undashed e = absurd (stray_long word (long_of word) (subst (λ (d : Bool). turn_by app.top start word d (long_of word) ≡ []) undashed e))
+first_known word None undashed e = absurd (stray_word app.top word (long_of word) (subst (λ (d : Bool). turn_by (bare app.top) start word d (long_of word) ≡ []) undashed e))
 first_known word (Some command) undashed e = (command, refl)
 
 -- a command's word passes, be it help or not
@@ -84,7 +68,7 @@ met_word word (n ∷ ns) command e = go (bytes_eq n word) refl e (met_word word 
   where
     go : (t : Bool) → bytes_eq n word ≡ t → option_map (λ s. s.0) (cond (t || false) (Some (n, [])) (find (answers_to word) (plain_names ns))) ≡ Some command
         → (option_map (λ s. s.0) (find (answers_to word) (plain_names ns)) ≡ Some command → command ≡ word) → command ≡ word
-    go true is h rest = let same : n ≡ command = cc in sym same ∙ same_name n word is
+    go true is h rest = let same : n ≡ command = cc in sym same ∙ same_text n word is
     go false is h rest = rest h
 
 -- ---- the words behind the command
