@@ -16,3 +16,4 @@ pub mod Steps
 pub mod Apart
 pub mod Written
 pub mod NumeralSteps
+pub mod Repeats
