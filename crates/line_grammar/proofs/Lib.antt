@@ -17,3 +17,4 @@ pub mod Apart
 pub mod Written
 pub mod NumeralSteps
 pub mod Repeats
+pub mod Decimals
