@@ -18,3 +18,4 @@ pub mod Written
 pub mod NumeralSteps
 pub mod Repeats
 pub mod Decimals
+pub mod Chains
