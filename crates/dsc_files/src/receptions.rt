@@ -64,15 +64,18 @@ fn element_of(sign: u8) -> Element
     }
 }
 
+/// The list of the elements of signs.
+fn list_of(alloc: Global, signs: &[u8]) -> Result<Vec<Element>, AllocError>
+    ensures { IfOk result (λ elements. elements.items ≡ map reading.element_of signs.now) }
+{
+    signs.iter().map(|sign| element_of(*sign)).collect(alloc)
+}
+
 /// The elements of signs.
 fn elements_of(alloc: Global, signs: &[u8]) -> Result<Reception, AllocError>
     ensures { IfOk result (λ elements. elements ≡ map reading.element_of signs.now) }
 {
-    let elements: Vec<Element> = signs
-        .iter()
-        .map(|sign| element_of(*sign))
-        .collect(alloc)?;
-    Ok(Reception::from(elements))
+    Ok(Reception::from(list_of(alloc, signs)?))
 }
 
 /// Reads a reception, which is this line behind its `r`.

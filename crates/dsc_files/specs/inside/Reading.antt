@@ -1,12 +1,12 @@
 -- The grammars by which lines are read, and what their parts say: this project's profile.
-use Rattle.std.specs.Prelude.{◌≡◌, ℕ, suc, ◌≤◌, List, [], ◌∷◌, map, length, ◌==◌, if◌then◌else◌, codes, Err}
+use Rattle.std.specs.Prelude.{◌≡◌, ℕ, suc, ◌==◌, true, if◌then◌else◌, List, ◌∷◌, length, codes, Err}
 use Rattle.ten_unit.specs.declared.character.Element.{Element}
 use Rattle.ten_unit.specs.declared.character.Element.TheVariants.{Y, B, Lost}
-use Rattle.line_grammar.specs.Tokens.{run, free_number, value_after}
-use Rattle.line_grammar.specs.Grammar.{Grammar, finish, anything, word, field, either, Parts, none, part, first, second}
+use Rattle.line_grammar.specs.Tokens.{run, free_number}
+use Rattle.line_grammar.specs.Grammar.{Grammar, finish, anything, word, field, either}
 use Rattle.line_grammar.specs.Repeats.{repeated}
 use Rattle.line_grammar.specs.inside.Reading.{read}
-use Rattle.dsc_files.specs.JoinLine.{JoinLine, nothing, reception, evidence}
+use Rattle.line_grammar.specs.inside.Soundness.{is_sound}
 
 -- the end of the line, or a blank and what stands behind it
 abbrev pub behind_blank : Grammar → Grammar
@@ -39,7 +39,7 @@ join_lines n = either finish (either (word (codes "#") anything) (either recepti
 abbrev pub element_of : ℕ → Element
 element_of sign = if sign == 89 then Y else (if sign == 66 then B else Lost)
 
--- what a reader of the rest behind a blank keeps to: it leaves no more bytes than there are, and stops at once at a g
+-- the rest behind a blank can be told from a group: it stops at once at a g
 pub record IsBehindBlank (rest : Grammar) : Type 0 where
-  pub within : (bytes : List ℕ) (left : ℕ) → read rest bytes ≡ Err left → left ≤ length bytes
+  pub sound : is_sound rest ≡ true
   pub no_group : (bytes : List ℕ) → read rest (103 ∷ bytes) ≡ Err (suc (length bytes))

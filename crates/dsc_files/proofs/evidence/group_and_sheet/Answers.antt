@@ -1,0 +1,22 @@
+use Rattle.std.proofs.Common.{◌≡◌, ◌<◌, ℕ, List, length, Err}
+use Rattle.line_grammar.specs.Repeats.{repeated}
+use Rattle.line_grammar.specs.inside.Reading.{read}
+use Rattle.line_grammar.proofs.Chains.{passed}
+use Rattle.dsc_files.specs.inside.Reading.{grouped, pair}
+use Rattle.dsc_files.proofs.Pairs.{no_group, no_pairs}
+use Rattle.dsc_files.proofs.evidence.group_and_sheet.Goals as goal
+
+IsMissed : List ℕ → ℕ → Type 0
+IsMissed bytes left = (n : ℕ) → length bytes < n → read (grouped (repeated pair n)) bytes ≡ Err left
+
+pub returns-in_err-group-clause-left : goal.returns-in_err-group-clause-left
+unfolding IsMissed
+returns-in_err-group-clause-left c =
+    passed (IsMissed c.args.bytes.now) c.from_residual.result _ c.from_residual.ensures.1 (no_group _ _ c.in_err-group.ensures.left)
+
+pub returns-in_err-sheet-clause-left : goal.returns-in_err-sheet-clause-left
+unfolding IsMissed
+returns-in_err-sheet-clause-left c =
+    let named = c.in_ok-group.ensures.named in
+    passed (IsMissed c.args.bytes.now) c.from_residual-in_err-sheet.result _ c.from_residual-in_err-sheet.ensures.1
+    (no_pairs _ _ named.0 _ named.1.1 c.in_ok-group.ensures.goes_on c.in_err-sheet.ensures.left)
