@@ -1,12 +1,11 @@
 -- reading bodies of signs
-use Rattle.std.proofs.Common.{◌≡◌, ◌≢◌, ℕ, suc, ◌≤◌, ◌==◌, ◌||◌, min, true, false, List, [], ◌∷◌, ◌++◌, length, map, codes, Result, Ok, Err, inl, inr, refl, sym, ◌∙◌, ap, subst, append-nil, arith}
+use Rattle.std.proofs.Common.{◌≡◌, ◌≢◌, ℕ, suc, ◌≤◌, ◌==◌, ◌||◌, true, false, List, [], ◌∷◌, ◌++◌, length, map, codes, Ok, Err, inl, inr, refl, sym, ◌∙◌, ap, subst, append-nil, arith}
 use Rattle.std.specs.List.{list_all}
 use Rattle.std.proofs.lemmas.Bool.{or_cases, eqb-true, and_parts, and_from}
-use Rattle.std.proofs.lemmas.List.{nil_from_length}
 use Rattle.ten_unit.specs.declared.character.Element.{Element}
 use Rattle.ten_unit.specs.declared.character.Element.TheVariants.{Y, B, Lost}
 use Rattle.line_grammar.specs.Tokens.{run, is_one_of}
-use Rattle.line_grammar.specs.Grammar.{Grammar, finish, word, field, none}
+use Rattle.line_grammar.specs.Grammar.{Grammar, finish, word, none}
 use Rattle.line_grammar.specs.inside.Reading.{after, ended, read_token, read}
 use Rattle.line_grammar.specs.inside.Soundness.{is_sound}
 use Rattle.line_grammar.proofs.Chains.{after_list, run_list, word_missed, word_on, token_missed, token_on, end_missed, fault_within, both_miss, no_end}

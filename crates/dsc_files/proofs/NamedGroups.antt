@@ -1,10 +1,9 @@
 -- reading the group that a line names
-use Rattle.std.proofs.Common.{◌≡◌, ℕ, suc, ◌≤◌, ◌<◌, ◌^◌, min, Bool, true, false, ◌==◌, if◌then◌else◌, List, [], ◌∷◌, ◌++◌, length, codes, decimal, Result, Ok, Err, ◌⊎◌, inl, inr, refl, sym, ◌∙◌, ap, subst, append_assoc, length-append, arith}
-use Rattle.std.proofs.lemmas.Bool.{eqb-true, eqb-false, cond-false, ne_eqb}
+use Rattle.std.proofs.Common.{◌≡◌, ℕ, suc, ◌≤◌, min, Bool, true, false, ◌==◌, if◌then◌else◌, List, [], ◌∷◌, ◌++◌, length, codes, decimal, Result, Ok, Err, ◌⊎◌, inl, inr, refl, sym, ◌∙◌, ap, subst, length-append, arith}
+use Rattle.std.proofs.lemmas.Bool.{eqb-true}
 use Rattle.line_grammar.specs.Tokens.{free_number, value_after}
-use Rattle.line_grammar.specs.Grammar.{Grammar, finish, word, field, either, Parts, none, first, second}
+use Rattle.line_grammar.specs.Grammar.{Grammar, finish, word, field, Parts, second}
 use Rattle.line_grammar.specs.inside.Reading.{after, ended, read_token, named, further, read}
-use Rattle.line_grammar.specs.inside.Soundness.{is_sound}
 use Rattle.line_grammar.proofs.Chains.{after_list, word_missed, word_on, token_missed, token_on, fault_within, both_miss, no_end}
 use Rattle.line_grammar.proofs.Decimals.{number_read}
 use Rattle.dsc_files.specs.JoinLine.{NamesGroup}

@@ -1,5 +1,5 @@
 -- reading pairs of a place and a symbol
-use Rattle.std.proofs.Common.{◌≡◌, ℕ, zero, suc, ◌+◌, ◌-◌, ◌≤◌, ◌<◌, ◌==◌, ◌&&◌, ◌||◌, Bool, true, false, List, [], ◌∷◌, ◌++◌, length, codes, decimal, Result, Ok, Err, refl, sym, ◌∙◌, ap, subst, append_assoc, append-nil, length-append, arith}
+use Rattle.std.proofs.Common.{◌≡◌, ℕ, zero, suc, ◌+◌, ◌-◌, ◌≤◌, ◌<◌, ◌==◌, ◌&&◌, ◌||◌, Bool, true, false, List, [], ◌∷◌, ◌++◌, length, codes, decimal, Ok, Err, refl, sym, ◌∙◌, ap, subst, append_assoc, append-nil, length-append, arith}
 use Rattle.std.specs.List.{flat_map, list_any, All}
 use Rattle.std.proofs.lemmas.List.{length_push, nil_from_length}
 use Rattle.std.proofs.lemmas.List.Elements.{All-append}
@@ -9,11 +9,11 @@ use Rattle.slot_evidence.specs.declared.places.Seen.{Seen}
 use Rattle.slot_evidence.specs.Facts.{Facts, no_facts, one_fact, union}
 use Rattle.slot_evidence.specs.Sheet.{IsEnds}
 use Rattle.line_grammar.specs.Tokens.{free_number, value_after}
-use Rattle.line_grammar.specs.Grammar.{Grammar, finish, word, field}
+use Rattle.line_grammar.specs.Grammar.{Grammar, word, field}
 use Rattle.line_grammar.specs.Repeats.{repeated}
-use Rattle.line_grammar.specs.inside.Reading.{after, ended, read_token, read_number, read}
+use Rattle.line_grammar.specs.inside.Reading.{after, read_token, read_number, read}
 use Rattle.line_grammar.specs.inside.Soundness.{is_sound}
-use Rattle.line_grammar.proofs.Repeats.{repeated_sound, repeated_follows, read_one_less}
+use Rattle.line_grammar.proofs.Repeats.{read_one_less}
 use Rattle.line_grammar.proofs.Chains.{after_list, word_missed, word_on, token_missed, token_on, fault_within}
 use Rattle.line_grammar.proofs.Decimals.{number_read}
 use Rattle.dsc_files.specs.JoinLine.{IsPair, pair_text}

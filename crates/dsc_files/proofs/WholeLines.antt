@@ -1,14 +1,14 @@
 -- whole lines: the grammars have the lines of join's input
-use Rattle.std.proofs.Common.{◌≡◌, ℕ, zero, suc, ◌+◌, ◌-◌, ◌≤◌, ◌<◌, ◌^◌, ◌&&◌, Bool, true, List, [], ◌∷◌, ◌++◌, length, map, codes, decimal, inl, inr, refl, sym, ◌∙◌, ap, subst, append_assoc, append-nil, arith}
+use Rattle.std.proofs.Common.{◌≡◌, ℕ, zero, suc, ◌+◌, ◌≤◌, ◌<◌, true, List, [], ◌∷◌, ◌++◌, length, map, codes, decimal, inl, inr, refl, sym, ◌∙◌, ap, subst, append_assoc, append-nil, arith}
 use Rattle.std.specs.List.{flat_map, All}
 use Rattle.std.proofs.lemmas.Bool.{and_from}
 use Rattle.std.proofs.lemmas.List.Elements.{All-append}
 use Rattle.ten_unit.specs.declared.character.Element.{Element}
-use Rattle.line_grammar.specs.Tokens.{Token, run, free_number, value_after, IsNumber, IsToken}
+use Rattle.line_grammar.specs.Tokens.{run, free_number, value_after, IsNumber}
 use Rattle.line_grammar.specs.Grammar.{Grammar, finish, anything, word, field, either, Parts, none, part, first, second, Spells}
 use Rattle.line_grammar.specs.Repeats.{repeated}
 use Rattle.line_grammar.specs.inside.Soundness.{is_sound, is_unambiguous}
-use Rattle.line_grammar.proofs.Fields.{IsField, field_of}
+use Rattle.line_grammar.proofs.Fields.{field_of}
 use Rattle.line_grammar.proofs.Grammars.{choice_back}
 use Rattle.line_grammar.proofs.Apart.{one_reading}
 use Rattle.line_grammar.proofs.Repeats.{IsLimit}
@@ -19,24 +19,24 @@ use Rattle.dsc_files.proofs.Bodies.{body_of, are_signs, elements_again}
 use Rattle.dsc_files.proofs.Pairs.{pairs_sound, one_pair, pair_text_is}
 
 -- what the parts of a line say
-group_in : Parts → ℕ
+pub group_in : Parts → ℕ
 group_in (second (part digits rest)) = value_after 0 digits
 group_in _ = 0
 
-rest_in : Parts → Parts
+pub rest_in : Parts → Parts
 rest_in (first rest) = rest
 rest_in (second (part digits rest)) = rest
 rest_in _ = none
 
-elements_in : Parts → List Element
+pub elements_in : Parts → List Element
 elements_in (second (part front rest)) = map element_of front
 elements_in _ = []
 
-pairs_in : Parts → List (ℕ × ℕ)
+pub pairs_in : Parts → List (ℕ × ℕ)
 pairs_in (second (part place (part symbol rest))) = (value_after 0 place, value_after 0 symbol) ∷ pairs_in rest
 pairs_in _ = []
 
-line_in : Parts → JoinLine
+pub line_in : Parts → JoinLine
 line_in (second (second (first parts))) = reception (group_in parts) (elements_in (rest_in parts))
 line_in (second (second (second parts))) = evidence (group_in parts) (pairs_in (rest_in parts))
 line_in _ = nothing
@@ -71,9 +71,18 @@ pairs_spelled (suc n) (x ∷ pairs) few all =
     let place = decimal x.0 ++ (codes ":" ++ symbol) in
     record {
       parts = second (part (decimal x.0) (part (decimal x.1) more.parts));
-      spelled = (place, pair_text_is x text ∙ ap (λ (l : List ℕ). codes " " ++ l) (append_assoc (decimal x.0) (codes ":" ++ decimal x.1) text),
-          (decimal_number 0 63 x.0 (omega arith) (omega (arith, is.0)) (omega arith), (codes ":" ++ symbol, refl,
-          (symbol, refl, (decimal_number 0 127 x.1 (omega arith) (omega (arith, is.1)) (omega arith), (text, refl, more.spelled))))));
+      spelled = (
+        place,
+        pair_text_is x text ∙ ap (λ (l : List ℕ). codes " " ++ l) (append_assoc (decimal x.0) (codes ":" ++ decimal x.1) text),
+        (
+          decimal_number 0 63 x.0 (omega arith) (omega (arith, is.0)) (omega arith),
+          (
+            codes ":" ++ symbol,
+            refl,
+            (symbol, refl, (decimal_number 0 127 x.1 (omega arith) (omega (arith, is.1)) (omega arith), (text, refl, more.spelled))),
+          ),
+        ),
+      );
       is = ap (λ (p : ℕ). (p, value_after 0 (decimal x.1)) ∷ pairs_in more.parts) (decimal_value x.0 (omega (arith, is.0)))
           ∙ ap (λ (v : ℕ). (x.0, v) ∷ pairs_in more.parts) (decimal_value x.1 (omega (arith, is.1)))
           ∙ ap (λ (l : List (ℕ × ℕ)). x ∷ l) more.is;
@@ -96,14 +105,17 @@ group_spelled G group name body rest (inl h) spelled = record {
 }
 group_spelled G group name body rest (inr h) spelled = record {
   parts = second (part (decimal group) rest);
-  spelled = (decimal group ++ body, ap (λ (l : List ℕ). l ++ body) h.1 ∙ append_assoc (codes " g") (decimal group) body,
-      (decimal_number 0 4294967295 group (omega arith) (omega (arith, h.0)) (omega arith), (body, refl, spelled)));
+  spelled = (
+    decimal group ++ body,
+    ap (λ (l : List ℕ). l ++ body) h.1 ∙ append_assoc (codes " g") (decimal group) body,
+    (decimal_number 0 4294967295 group (omega arith) (omega (arith, h.0)) (omega arith), (body, refl, spelled)),
+  );
   group_is = decimal_value group (omega (arith, h.0));
   rest_is = refl;
 }
 
 -- how many pairs a line has
-pairs_of : JoinLine → List (ℕ × ℕ)
+pub pairs_of : JoinLine → List (ℕ × ℕ)
 pairs_of (evidence group pairs) = pairs
 pairs_of _ = []
 

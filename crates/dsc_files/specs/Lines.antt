@@ -1,8 +1,6 @@
 -- What is read of a line: this project's profile.
-use Rattle.std.specs.Prelude.{◌≡◌, ℕ, Bool, ◌&&◌, ◌==◌, List, Result, Ok, Err}
+use Rattle.std.specs.Prelude.{◌≡◌, ℕ, ◌&&◌, ◌==◌, List, Result, Ok, Err}
 use Rattle.std.specs.List.{list_any}
-use Rattle.ten_unit.specs.declared.character.Element.{Element}
-use Rattle.ten_unit.specs.declared.character.Element.TheVariants.{Y, B, Lost}
 use Rattle.slot_evidence.specs.Facts.{Facts}
 use Rattle.slot_evidence.specs.Sheet.{IsEnds}
 use Rattle.line_grammar.specs.Columns.{IsColumn}

@@ -5,8 +5,8 @@ ghost use Rattle.slot_evidence.specs.Sheet.{IsEnds};
 ghost use Rattle.line_grammar.specs.Grammar.{Grammar, word as behind};
 ghost use Rattle.line_grammar.specs.Repeats.{repeated};
 ghost use Rattle.line_grammar.specs.inside.Reading.{read};
-ghost use Rattle.dsc_files.specs.JoinLine.{NamesGroup, IsPair, pair_text};
-ghost use Rattle.dsc_files.specs.Lines.{ReadsJoin, facts_of_pairs};
+ghost use Rattle.dsc_files.specs.JoinLine.{JoinLine, IsLine, IsPair, pair_text};
+ghost use Rattle.dsc_files.specs.Lines.{ReadsJoin, Says, facts_of_pairs};
 ghost use Rattle.dsc_files.specs.inside.Reading as reading;
 ghost use Rattle.dsc_files.specs.inside.Reading.{grouped};
 
@@ -43,15 +43,14 @@ fn pairs(bytes: &[u8]) -> Result<Sheet, usize>
     Ok(sheet)
 }
 
-/// The group and the sheet of evidence, behind its `e`. An error is how many bytes are left at the fault.
-fn group_and_sheet(bytes: &[u8]) -> Result<(u32, Sheet), usize>
-    ensures line { IfOk result (λ parts. (name : List ℕ) × (pairs : List (ℕ × ℕ)) × (NamesGroup parts.0 name × (All IsPair pairs
-        × ((bytes.now ≡ name ++ flat_map pair_text pairs) × IsEnds (facts_of_pairs pairs) parts.1)))) }
+/// What a line of evidence says, by the bytes behind its `e`. An error is how many bytes are left at the fault.
+fn evidence(bytes: &[u8]) -> Result<Line, usize>
+    ensures line { IfOk result (λ read. (says : JoinLine) × (IsLine says (101 ∷ bytes.now) × Says says read)) }
     ensures left { IfErr result (λ left. (n : ℕ) → length bytes.now < n → read (grouped (repeated reading.pair n)) bytes.now ≡ Err left) }
 {
     let (group, rest) = group(bytes)?;
     let sheet = pairs(rest)?;
-    Ok((group, sheet))
+    Ok(Line::Evidence { group, sheet })
 }
 
 /// Reads evidence, which is this line behind its `e`.
@@ -59,8 +58,8 @@ pub(crate) fn evidence_line(line: &[u8], rest: &[u8]) -> Result<Line, LineFault>
     requires { line.now ≡ 101 ∷ rest.now }
     ensures { ReadsJoin line.now result }
 {
-    match group_and_sheet(rest) {
-        Ok((group, sheet)) => Ok(Line::Evidence { group, sheet }),
+    match evidence(rest) {
+        Ok(read) => Ok(read),
         Err(left) => Err(LineFault::Column(column(line, left))),
     }
 }

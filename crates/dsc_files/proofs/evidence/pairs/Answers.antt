@@ -4,7 +4,7 @@ use Rattle.line_grammar.specs.Repeats.{repeated}
 use Rattle.line_grammar.specs.inside.Reading.{read}
 use Rattle.line_grammar.proofs.Chains.{passed}
 use Rattle.dsc_files.specs.inside.Reading.{pair}
-use Rattle.dsc_files.proofs.Pairs.{taken_more, taken_fault, taken_all}
+use Rattle.dsc_files.proofs.Pairs.{taken_more, taken_fault}
 use Rattle.dsc_files.proofs.evidence.pairs.Goals as goal
 
 IsMissed : List ℕ → ℕ → Type 0

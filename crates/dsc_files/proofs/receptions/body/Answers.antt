@@ -3,7 +3,7 @@ use Rattle.std.proofs.lemmas.Bool.{eqb-false}
 use Rattle.line_grammar.specs.inside.Reading.{read}
 use Rattle.line_grammar.proofs.Chains.{passed}
 use Rattle.dsc_files.specs.inside.Reading.{behind_blank, signs}
-use Rattle.dsc_files.proofs.Bodies.{no_body, checked_body, run_body, no_blank, no_sign, no_line_end}
+use Rattle.dsc_files.proofs.Bodies.{checked_body, run_body, no_blank, no_sign, no_line_end}
 use Rattle.dsc_files.proofs.receptions.body.Goals as goal
 
 pub returns-in_err-signs-clause-left : goal.returns-in_err-signs-clause-left
