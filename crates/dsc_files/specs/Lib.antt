@@ -1,0 +1,3 @@
+pub mod JoinLine
+pub mod Lines
+pub mod inside

@@ -1,0 +1,113 @@
+use crate::{FileKind, Line, LineFault, line_of};
+use slot_evidence::Seen;
+use std::test::Fail;
+use ten_unit::Element;
+
+// Lines of join's input, and the column at which each is ill-formed.
+const COLUMNS: [(&str, usize); 28] = [
+    ("x", 1),
+    (" r", 1),
+    ("\r", 1),
+    ("r ", 3),
+    ("rY", 2),
+    ("r YBX", 5),
+    ("r YB ", 5),
+    ("r  Y", 3),
+    ("r g", 4),
+    ("r gY", 4),
+    ("r g07 Y", 5),
+    ("r g0Y", 5),
+    ("r g0 ", 6),
+    ("r g1 g2", 6),
+    ("r g4294967296", 13),
+    ("r g42949672950", 14),
+    ("e ", 3),
+    ("e 5", 4),
+    ("e 05:1", 4),
+    ("e 64:1", 4),
+    ("e 0:128", 7),
+    ("e 7:130", 7),
+    ("e 7:200", 7),
+    ("e g5 ", 6),
+    ("e g5 64:1", 7),
+    ("e 1:2  3:4", 7),
+    ("e 1:2 ", 7),
+    ("e 1:2 3:4 g1", 11),
+];
+
+#[test]
+fn ill_formed_lines_have_columns(rt: HostRuntime) -> Result<(), Fail> {
+    for (text, column) in COLUMNS {
+        let Err(fault) = line_of(rt.alloc(), FileKind::Join, text.as_bytes()) else {
+            return Err("a line")?;
+        };
+        assert_eq!(rt; fault, LineFault::Column(column), "{text}");
+    }
+    Ok(())
+}
+
+#[test]
+fn comments_say_nothing(rt: HostRuntime) -> Result<(), Fail> {
+    for text in ["", "#", "# r YB", "#\r\n"] {
+        let Line::Nothing = line_of(rt.alloc(), FileKind::Join, text.as_bytes())? else {
+            return Err("something")?;
+        };
+    }
+    Ok(())
+}
+
+// Lines of receptions, their groups and their signs.
+const RECEPTIONS: [(&str, u32, &str); 5] = [
+    ("r", 0, ""),
+    ("r g0", 0, ""),
+    ("r g4294967295", 4_294_967_295, ""),
+    ("r YB-", 0, "YB-"),
+    ("r g17 -Y", 17, "-Y"),
+];
+
+#[test]
+fn receptions_have_elements(rt: HostRuntime) -> Result<(), Fail> {
+    for (text, wanted, signs) in RECEPTIONS {
+        let Line::Reception { group, elements } = line_of(
+            rt.alloc(),
+            FileKind::Join,
+            text.as_bytes(),
+        )?
+        else {
+            return Err("no reception")?;
+        };
+        assert_eq!(rt; group, wanted, "{text}");
+        assert_eq!(rt; elements.elements().len(), signs.len(), "{text}");
+        for (element, sign) in elements.elements().iter().zip(signs.as_bytes()) {
+            let wanted = match *sign {
+                b'Y' => Element::Y,
+                b'B' => Element::B,
+                _ => Element::Lost,
+            };
+            assert_eq!(rt; *element, wanted, "{text}");
+        }
+    }
+    Ok(())
+}
+
+#[test]
+fn evidence_has_pairs(rt: HostRuntime) -> Result<(), Fail> {
+    let text = b"e g9 63:127 0:120 8:22 8:14 8:14 8:17";
+    let Line::Evidence { group, sheet } = line_of(rt.alloc(), FileKind::Join, text)? else {
+        return Err("no evidence")?;
+    };
+    assert_eq!(rt; group, 9);
+    assert_eq!(rt; sheet.at(0), Seen::One(120));
+    assert_eq!(rt; sheet.at(8), Seen::Differ(14, 22));
+    assert_eq!(rt; sheet.at(9), Seen::None);
+    assert_eq!(rt; sheet.at(63), Seen::One(127));
+    for text in ["e", "e g0"] {
+        let Line::Evidence { group, sheet } = line_of(rt.alloc(), FileKind::Join, text.as_bytes())?
+        else {
+            return Err("no evidence")?;
+        };
+        assert_eq!(rt; group, 0);
+        assert_eq!(rt; sheet.at(0), Seen::None);
+    }
+    Ok(())
+}
