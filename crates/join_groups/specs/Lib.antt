@@ -1,0 +1,4 @@
+pub mod Groups
+pub mod Output
+pub mod Meanings
+pub mod inside

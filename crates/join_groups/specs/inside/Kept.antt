@@ -1,0 +1,31 @@
+-- What is kept of the groups that lines named.
+use Rattle.std.specs.Prelude.{◌≡◌, ℕ, true, false, List, Option, Some, None}
+use Rattle.std.specs.Ordering.{nat_cmp, is_eq}
+use Rattle.std.specs.Map.{lookup}
+use Rattle.line_grammar.specs.Columns.{IsColumn}
+use Rattle.line_engine.specs.declared.command.Refusal.{Refusal}
+use Rattle.line_engine.specs.declared.command.Refusal.TheVariants.{Column, TooManyGroups, Memory}
+use Rattle.slot_evidence.specs.declared.places.Seen.{Seen}
+use Rattle.slot_evidence.specs.Sheet.{IsEnds}
+use Rattle.dsc_files.specs.JoinLine.{JoinLine, IsLine}
+use Rattle.join_groups.specs.Groups.{is_named, group_facts}
+use Rattle.join_groups.specs.Meanings.{BringsTooMany}
+
+-- the groups that are kept, each with its sheet
+abbrev pub Entries : Type 0
+Entries = List (ℕ × List Seen)
+
+-- what is kept of a group: nothing where no line named it, and else the ends of its facts
+abbrev pub Kept : List JoinLine → ℕ → Option (List Seen) → Type 0
+Kept said k None = is_named said k ≡ false
+Kept said k (Some sheet) = (is_named said k ≡ true) × IsEnds (group_facts said k) sheet
+
+-- of each group what is kept
+abbrev pub Keeps : Entries → List JoinLine → Type 0
+Keeps entries said = (k : ℕ) → Kept said k (lookup (λ n. is_eq (nat_cmp k n)) entries)
+
+-- why a line isn't taken behind what was said
+abbrev pub IsRefused : List JoinLine → List ℕ → Refusal → Type 0
+IsRefused said text (Column n) = IsColumn IsLine text n
+IsRefused said text TooManyGroups = (line : JoinLine) × (IsLine line text × BringsTooMany said line)
+IsRefused said text Memory = Unit {0}
