@@ -1,5 +1,5 @@
 -- What is kept of the groups that lines named.
-use Rattle.std.specs.Prelude.{◌≡◌, ℕ, true, false, List, Option, Some, None}
+use Rattle.std.specs.Prelude.{◌≡◌, ℕ, true, false, List, [], Option, Some, None}
 use Rattle.std.specs.Ordering.{nat_cmp, is_eq}
 use Rattle.std.specs.Map.{lookup}
 use Rattle.line_grammar.specs.Columns.{IsColumn}
@@ -8,7 +8,8 @@ use Rattle.line_engine.specs.declared.command.Refusal.TheVariants.{Column, TooMa
 use Rattle.slot_evidence.specs.declared.places.Seen.{Seen}
 use Rattle.slot_evidence.specs.Sheet.{IsEnds}
 use Rattle.dsc_files.specs.JoinLine.{JoinLine, IsLine}
-use Rattle.join_groups.specs.Groups.{is_named, group_facts}
+use Rattle.line_engine.specs.Lines.{Lines}
+use Rattle.join_groups.specs.Groups.{AreLines, is_named, group_facts}
 use Rattle.join_groups.specs.Meanings.{BringsTooMany}
 
 -- the groups that are kept, each with its sheet
@@ -29,3 +30,10 @@ abbrev pub IsRefused : List JoinLine → List ℕ → Refusal → Type 0
 IsRefused said text (Column n) = IsColumn IsLine text n
 IsRefused said text TooManyGroups = (line : JoinLine) × (IsLine line text × BringsTooMany said line)
 IsRefused said text Memory = Unit {0}
+
+-- what a command over groups stands for: these lines, and no text before their end
+pub record StandsFor (entries : Entries) (lines : Lines) (text : List ℕ) : Type 0 where
+  pub text_is : text ≡ []
+  pub said : List JoinLine
+  pub are_lines : AreLines said lines
+  pub keeps : Keeps entries said
