@@ -3,6 +3,7 @@
 
 mod answers;
 mod calls;
+mod evidence;
 mod fields;
 mod forms;
 mod laws;
@@ -14,5 +15,6 @@ mod values;
 
 pub use answers::{put_answer, put_answer_line};
 pub use calls::put_call;
+pub use evidence::{evidence_is_read, put_evidence, put_evidence_line};
 pub use laws::{call_texts_are_read, texts_tell_calls_apart};
 pub use reading::read_call;
