@@ -5,11 +5,9 @@ use Rattle.call_values.specs.declared.calls.Call.{Call}
 use Rattle.call_values.specs.Calls.{IsCall}
 use Rattle.call_grammar.specs.Spelling.{spell}
 use Rattle.slot_join.specs.declared.joined.Joined.{Joined}
-use Rattle.slot_join.specs.declared.joined.Joined.TheVariants.{Reported}
-use Rattle.slot_join.specs.declared.joined.Extra.TheVariants.{Absent}
 use Rattle.slot_join.specs.Answer.{IsAnswer}
 use Rattle.slot_join.specs.Heard.{IsHeard}
-use Rattle.slot_join.specs.Intact.{IsSentOrLostPlace, ArrivesInParts}
+use Rattle.slot_join.specs.Intact.{IsSent, IsSentOrLostPlace, ArrivesInParts}
 use Rattle.join_lines.specs.Lines.{lines_of}
 use Rattle.join_lines.specs.Receptions.{receptions_of, facts_of_all}
 use Rattle.dsc_cmd.specs.Output.{answer_status, answer_line, IsAnswered}
@@ -22,17 +20,22 @@ SentLaw = (receptions : List (List Element)) (call : Call) (tail : List ℕ) (an
 
 abbrev pub WholeLaw : Type 0
 WholeLaw = (receptions : List (List Element)) (call : Call) (tail : List ℕ) (answer : Joined) → IsCall call → All (λ reception. IsHeard reception (spell call ++ tail)) receptions
-    → ArrivesInParts receptions call tail → IsAnswer (facts_of_all receptions) answer → answer ≡ Reported call Absent
+    → ArrivesInParts receptions call tail → IsAnswer (facts_of_all receptions) answer → IsSent receptions call tail answer
 
 -- the line of the call
-call_text : (call : Call) (answer : Joined) (text : List ℕ) (status : ℕ) → answer ≡ Reported call Absent → text ≡ answer_line answer → status ≡ answer_status answer
-    → TellsCall call text status
-call_text call answer text status is e f = record { text_is = e ∙ ap answer_line is; status_is = f ∙ ap answer_status is }
+call_text : (receptions : List (List Element)) (call : Call) (tail : List ℕ) (answer : Joined) (text : List ℕ) (status : ℕ) → IsSent receptions call tail answer
+    → text ≡ answer_line answer → status ≡ answer_status answer → TellsCall receptions call tail text status
+call_text receptions call tail answer text status is e f = record {
+  extra = is.extra;
+  tells = is.tells;
+  text_is = e ∙ ap answer_line is.answer_is;
+  status_is = f ∙ ap answer_status is.answer_is;
+}
 
 -- the text of the answer
 text_of : (input : List ℕ) (call : Call) (tail : List ℕ) (answer : Joined) (text : List ℕ) (status : ℕ) → IsSentOrLostPlace (receptions_of (lines_of input)) call tail answer
     → text ≡ answer_line answer → status ≡ answer_status answer → IsSentText input call tail text status
-text_of input call tail answer text status (inl is) e f = inl (call_text call answer text status is e f)
+text_of input call tail answer text status (inl is) e f = inl (call_text (receptions_of (lines_of input)) call tail answer text status is e f)
 text_of input call tail answer text status (inr lost) e f = inr (record {
   place = lost.place;
   inside = lost.inside;
@@ -49,11 +52,11 @@ answered_text law input call tail text status of (inr some) =
     text_of input call tail a.0 text status (law (receptions_of (lines_of input)) call tail a.0 of.lawful of.heard a.1.0) a.1.1 a.1.2
 
 whole_text : WholeLaw → (input : List ℕ) (call : Call) (tail text : List ℕ) (status : ℕ) → IsOfCall input call tail → ArrivesInParts (receptions_of (lines_of input)) call tail
-    → IsAnswered (receptions_of (lines_of input)) text status → TellsCall call text status
+    → IsAnswered (receptions_of (lines_of input)) text status → TellsCall (receptions_of (lines_of input)) call tail text status
 whole_text law input call tail text status of arrives (inl none) = absurd (of.some none.0)
 whole_text law input call tail text status of arrives (inr some) =
     let a = some.1 in
-    call_text call a.0 text status (law (receptions_of (lines_of input)) call tail a.0 of.lawful of.heard arrives a.1.0) a.1.1 a.1.2
+    call_text (receptions_of (lines_of input)) call tail a.0 text status (law (receptions_of (lines_of input)) call tail a.0 of.lawful of.heard arrives a.1.0) a.1.1 a.1.2
 
 -- a run that answers its input reports the call
 pub reports_sent : SentLaw → WholeLaw → (left_before left_after before after : Option (List ℕ)) (flushed status : ℕ) → TellsAnswers left_before left_after before after flushed status → ReportsSent left_before left_after before after flushed status

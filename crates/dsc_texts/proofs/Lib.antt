@@ -2,6 +2,9 @@ mod SymbolTexts
 mod FieldTexts
 mod CallSections
 mod CallTexts
+mod ExpansionTexts
 mod FieldSteps
+mod FormLaws
 mod CallLaws
 mod SectionSteps
+mod ExpansionSteps

@@ -4,6 +4,8 @@
 mod answers;
 mod calls;
 mod evidence;
+mod expansions;
+mod extras;
 mod fields;
 mod forms;
 mod laws;
@@ -11,10 +13,11 @@ mod line;
 mod pieces;
 mod reading;
 mod sections;
+mod tails;
 mod values;
 
 pub use answers::{put_answer, put_answer_line};
 pub use calls::put_call;
 pub use evidence::{evidence_is_read, put_evidence, put_evidence_line};
-pub use laws::{call_texts_are_read, texts_tell_calls_apart};
-pub use reading::read_call;
+pub use laws::{bare_call_texts_are_read, call_texts_are_read, texts_tell_calls_apart};
+pub use reading::{read_bare_call, read_call};

@@ -1,6 +1,7 @@
 //! The answer to what receivers showed of one call.
 #![tactic(auto)]
 
+mod extras;
 mod gate;
 mod hearing;
 mod joined;
