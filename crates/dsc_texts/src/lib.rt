@@ -3,7 +3,6 @@
 
 mod answers;
 mod calls;
-mod evidence;
 mod expansions;
 mod extras;
 mod fields;
@@ -18,6 +17,5 @@ mod values;
 
 pub use answers::{put_answer, put_answer_line};
 pub use calls::put_call;
-pub use evidence::{evidence_is_read, put_evidence, put_evidence_line};
 pub use laws::{bare_call_texts_are_read, call_texts_are_read, texts_tell_calls_apart};
 pub use reading::{read_bare_call, read_call};

@@ -1,17 +1,9 @@
-ghost use Rattle.std.specs.Prelude.{◌≡◌, ◌+◌, ◌<◌, ◌≤◌, ◌^◌, ◌++◌, ◌∷◌, [], ◌⊎◌, ℕ, List, Result, Ok, Err};
+ghost use Rattle.std.specs.Prelude.{◌≡◌, ◌+◌, ◌≤◌, ◌<◌, ◌++◌, ◌∷◌, []};
 ghost use Rattle.std.specs.List.{flat_map};
 ghost use Rattle.arrayvec.specs.ArrayVec.{array_vec_len};
-ghost use Rattle.slot_evidence.specs.declared.places.Seen.{Seen as Shown};
 ghost use Rattle.slot_evidence.specs.Seen.{IsLawful};
-ghost use Rattle.slot_evidence.specs.Sheet.{IsSheet, IsEnds};
-ghost use Rattle.dsc_files.specs.declared.lines.FileKind.TheVariants.{Join};
-ghost use Rattle.dsc_files.specs.declared.lines.Line.{Line};
-ghost use Rattle.dsc_files.specs.declared.lines.Line.TheVariants.{Evidence};
-ghost use Rattle.dsc_files.specs.declared.lines.LineFault.{LineFault};
-ghost use Rattle.dsc_files.specs.declared.lines.LineFault.TheVariants.{NoMemory};
-ghost use Rattle.dsc_files.specs.JoinLine.{pair_text, IsLine, evidence as evidence_of};
-ghost use Rattle.dsc_files.specs.Lines.{ReadsLine, facts_of_pairs};
-ghost use Rattle.dsc_texts.specs.Evidence.{pairs_at, pairs_below, evidence_text};
+ghost use Rattle.dsc_files.specs.JoinLine.{pair_text};
+ghost use Rattle.evidence_texts.specs.Evidence.{pairs_at, evidence_text};
 
 use arrayvec::ArrayVec;
 use slot_evidence::{Seen, Sheet};
@@ -81,12 +73,3 @@ fn append_pair<const N: usize>(out: &mut ArrayVec<u8, N>, place: u8, symbol: u8)
     append(out, b":");
     append_number(out, u64::from(symbol));
 }
-
-/// The law that the text of evidence is a line of join's input, whose facts have the same ends: read, it gives the same group and
-/// the same sheet. It does nothing.
-pub fn evidence_is_read()
-    ensures line { (group : ℕ) (sheet : List Shown) → group < 2 ^ 32 → IsSheet sheet → IsLine (evidence_of group (pairs_below 64 sheet)) (evidence_text group sheet) }
-    ensures ends { (sheet : List Shown) → IsSheet sheet → IsEnds (facts_of_pairs (pairs_below 64 sheet)) sheet }
-    ensures read { (group : ℕ) (sheet : List Shown) (answer : Result Line LineFault) → group < 2 ^ 32 → IsSheet sheet
-        → ReadsLine Join (evidence_text group sheet) answer → (answer ≡ Ok (Evidence group sheet)) ⊎ (answer ≡ Err NoMemory) }
-{}
