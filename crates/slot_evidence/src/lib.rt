@@ -12,7 +12,7 @@ pub use laws::{ends_are_kept, meet_forgets_order, one_seen, one_sheet, unions_fo
 pub use places::Seen;
 pub use reading::read_sheet;
 pub use receptions::Reception;
-pub use sheets::{Sheet, sheet_has_facts};
+pub use sheets::{Sheet, sheet_has_facts, sheet_is_lawful};
 
 #[cfg(test)]
 mod plain;
