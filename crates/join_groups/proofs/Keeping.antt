@@ -1,17 +1,22 @@
 -- What is kept after one line more.
-use Rattle.std.proofs.Common.{◌≡◌, ℕ, ◌<◌, ◌≤◌, Bool, true, false, cond, ◌==◌, List, [], ◌∷◌, ◌++◌, length, Option, Some, None, refl, sym, ap, subst, ◌∙◌, arith}
-use Rattle.std.specs.Prelude.{is_some}
+use Rattle.std.proofs.Common.{◌≡◌, ℕ, ◌<◌, ◌≤◌, Bool, true, false, cond, ◌&&◌, ◌==◌, List, [], ◌∷◌, ◌++◌, length, Option, Some, None, refl, sym, ap, subst, ◌∙◌, inl, inr, length-append, arith}
+use Rattle.std.specs.Prelude.{is_some, codes, map, Result, Ok, Err, OnOk, IfErr}
 use Rattle.std.specs.Map.{lookup, keys_of}
+use Rattle.std.proofs.lemmas.List.{length-map}
 use Rattle.std.specs.Ordering.{nat_cmp, is_eq}
 use Rattle.std.specs.List.Sorted.{IsStrictlySortedBy}
 use Rattle.slot_evidence.specs.declared.places.Seen.{Seen}
-use Rattle.slot_evidence.specs.Facts.{Facts, union}
+use Rattle.slot_evidence.specs.Facts.{Facts, union, facts_of}
 use Rattle.slot_evidence.specs.Sheet.{IsEnds, IsMeet}
-use Rattle.dsc_files.specs.JoinLine.{JoinLine}
+use Rattle.ten_unit.specs.declared.character.Element.{Element}
+use Rattle.dsc_files.specs.JoinLine.{JoinLine, nothing, reception, evidence, IsLine, body_text, sign_of}
+use Rattle.dsc_files.specs.Lines.{Says, facts_of_pairs}
+use Rattle.dsc_files.specs.declared.lines.Line.{Line}
+use Rattle.dsc_files.specs.declared.lines.Line.TheVariants as got
 use Rattle.join_groups.specs.Groups.{names, is_named, facts_of_line, group_facts, AreGroups, IsRising, is_among}
 use Rattle.join_groups.specs.Meanings.{BringsTooMany}
-use Rattle.join_groups.specs.inside.Kept.{Entries, Kept, Keeps}
-use Rattle.join_groups.proofs.Naming.{named_of_others, named_by_line, facts_of_others, facts_of_first, facts_push, unnamed_facts}
+use Rattle.join_groups.specs.inside.Kept.{Entries, Kept, Keeps, IsShort}
+use Rattle.join_groups.proofs.Naming.{same_facts, named_of_others, named_by_line, facts_of_others, facts_of_first, facts_push, unnamed_facts}
 use Rattle.join_groups.proofs.Rising.{at_test, found, among_keys, rising_keys, same_rising}
 
 -- a line that doesn't name the group leaves what is kept of it
@@ -87,3 +92,60 @@ known_brings_none said line group named known b =
     let same : group ≡ b.group = eq_is group b.group (sym (named b.group) ∙ b.named) in
     let new : is_named said group ≡ false = subst (λ (k : ℕ). is_named said k ≡ false) (sym same) b.is_new in
     absurd (cc (new, known))
+
+-- a line of at most 4,200 bytes has no more elements
+pub short_read : (says : JoinLine) (read : Line) (text : List ℕ) → IsLine says text → Says says read → length text ≤ 4200 → IsShort read
+short_read says got.Nothing text is read few = tt
+short_read says (got.Evidence group sheet) text is read few = tt
+short_read nothing (got.Reception group e) text is read few = absurd read
+short_read (evidence g pairs) (got.Reception group e) text is read few = absurd read
+short_read (reception g heard) (got.Reception group e) text is read few =
+    let count : length text ≡ length (codes "r" ++ is.0 ++ body_text heard) = ap length is.1.1 in
+    let same : length e ≡ length heard = ap length read.1 in
+    omega (arith, count, same, length-append (codes "r" ++ is.0) (body_text heard), body_long heard)
+  where
+    body_long : (e : List Element) → length e ≤ length (body_text e)
+    body_long [] = omega arith
+    body_long (x ∷ rest) =
+        let m : length (map sign_of (x ∷ rest)) ≡ length (x ∷ rest) = length-map (x ∷ rest) sign_of in
+        omega (arith, length-append (codes " ") (map sign_of (x ∷ rest)), m)
+
+pub eq_one : (k : ℕ) → (k == k) ≡ true
+eq_one k = grind arith
+
+-- what a line says, once it is read
+pub says_reception : (line : JoinLine) (group : ℕ) (e : List Element) → Says line (got.Reception group e) → ((k : ℕ) → names k line ≡ (group == k)) × (facts_of_line group line ≡ facts_of e)
+says_reception nothing group e is = absurd is
+says_reception (evidence g pairs) group e is = absurd is
+says_reception (reception g heard) group e is =
+    let same : (g == group) ≡ true = ap (λ (n : ℕ). g == n) is.0 ∙ eq_one g in (
+      λ k. ap (λ (n : ℕ). n == k) (sym is.0),
+      same_facts (facts_of_line group (reception g heard)) (facts_of heard) (λ p v. ap (λ (b : Bool). b && facts_of heard p v) same) ∙ ap facts_of (sym is.1),
+    )
+
+pub says_evidence : (line : JoinLine) (group : ℕ) (sheet : List Seen) → Says line (got.Evidence group sheet)
+    → ((k : ℕ) → names k line ≡ (group == k)) × IsEnds (facts_of_line group line) sheet
+says_evidence nothing group sheet is = absurd is
+says_evidence (reception g heard) group sheet is = absurd is
+says_evidence (evidence g pairs) group sheet is =
+    let same : (g == group) ≡ true = ap (λ (n : ℕ). g == n) is.0 ∙ eq_one g in
+    let facts : facts_of_line group (evidence g pairs) ≡ facts_of_pairs pairs =
+    same_facts (facts_of_line group (evidence g pairs)) (facts_of_pairs pairs) (λ p v. ap (λ (b : Bool). b && facts_of_pairs pairs p v) same) in (
+      λ k. ap (λ (n : ℕ). n == k) (sym is.0),
+      subst (λ (F : Facts). IsEnds F sheet) (sym facts) is.1,
+    )
+
+pub says_nothing : (said : List JoinLine) (line : JoinLine) (entries : Entries) → Keeps entries said → Says line got.Nothing → (BringsTooMany said line → ⊥) × Keeps entries (said ++ line ∷ [])
+says_nothing said (reception g heard) entries keeps is = absurd is
+says_nothing said (evidence g pairs) entries keeps is = absurd is
+says_nothing said nothing entries keeps is =
+    (λ b. (let never : false ≡ true = b.named in absurd cc), λ k. kept_of_others said nothing k (found entries k) refl (keeps k))
+
+-- what holds of an answer where another thing does
+pub map_ok : {X E : Type 0} {P Q : Type 0} (r : Result X E) → (P → Q) → OnOk r P → OnOk r Q
+map_ok (Ok x) f h = f h
+map_ok (Err e) f h = tt
+
+pub map_err : {X E : Type 0} {P Q : E → Type 0} (r : Result X E) → ((e : E) → P e → Q e) → IfErr r P → IfErr r Q
+map_err (Ok x) f h = tt
+map_err (Err e) f h = f e h

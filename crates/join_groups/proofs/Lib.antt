@@ -1,3 +1,5 @@
 pub mod Naming
 pub mod Rising
 pub mod Keeping
+pub mod TellingLemmas
+pub mod Taking

@@ -9,6 +9,7 @@ ghost use Rattle.join_groups.specs.inside.Kept.{StandsFor};
 
 use crate::groups::Groups;
 use crate::telling::{Teller, tell_all};
+use dsc_files::one_line;
 use dsc_streams::Status;
 use line_engine::{Command, Refusal};
 use std::alloc::{AllocError, Global};
@@ -38,6 +39,7 @@ impl<T: Teller> Command for TellGroups<T> {
     ghost stands_for = { λ command lines text. StandsFor command.groups.sheets.entries lines text };
 
     fn take(&mut self, line: &[u8], _out: &mut Vec<u8>) -> Result<(), Refusal> {
+        one_line();
         self.groups.take(line)
     }
 

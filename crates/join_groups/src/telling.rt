@@ -67,10 +67,8 @@ pub(crate) fn tell_all<T: Teller>(groups: &Groups, out: &mut Vec<u8>) -> Result<
         → (text : List ℕ) × ((out.new.items ≡ out.old.items ++ text) × IsGroupsText T.tells said text (if is_well then 0 else 1))) }
 {
     let mut is_well = true;
-    for (group, sheet) in &groups.sheets {
-        if !T::tell(*group, sheet, out)? {
-            is_well = false;
-        }
+    for (group, sheet) in groups.sheets.iter() {
+        is_well &= T::tell(*group, sheet, out)?;
     }
     Ok(is_well)
 }

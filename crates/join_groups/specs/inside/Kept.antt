@@ -1,5 +1,5 @@
 -- What is kept of the groups that lines named.
-use Rattle.std.specs.Prelude.{◌≡◌, ℕ, true, false, List, [], Option, Some, None}
+use Rattle.std.specs.Prelude.{◌≡◌, ℕ, ◌≤◌, true, false, List, [], length, Option, Some, None}
 use Rattle.std.specs.Ordering.{nat_cmp, is_eq}
 use Rattle.std.specs.Map.{lookup}
 use Rattle.line_grammar.specs.Columns.{IsColumn}
@@ -8,6 +8,9 @@ use Rattle.line_engine.specs.declared.command.Refusal.TheVariants.{Column, TooMa
 use Rattle.slot_evidence.specs.declared.places.Seen.{Seen}
 use Rattle.slot_evidence.specs.Sheet.{IsEnds}
 use Rattle.dsc_files.specs.JoinLine.{JoinLine, IsLine}
+use Rattle.dsc_files.specs.declared.lines.Line.{Line}
+use Rattle.dsc_files.specs.declared.lines.Line.TheVariants as got
+use Rattle.phasing.specs.declared.reception.TheConstants.{LONGEST}
 use Rattle.line_engine.specs.Lines.{Lines}
 use Rattle.join_groups.specs.Groups.{AreLines, is_named, group_facts}
 use Rattle.join_groups.specs.Meanings.{BringsTooMany}
@@ -37,3 +40,9 @@ pub record StandsFor (entries : Entries) (lines : Lines) (text : List ℕ) : Typ
   pub said : List JoinLine
   pub are_lines : AreLines said lines
   pub keeps : Keeps entries said
+
+-- what was read of a line has no more elements than a reception may have
+abbrev pub IsShort : Line → Type 0
+IsShort got.Nothing = Unit {0}
+IsShort (got.Reception group e) = length e ≤ LONGEST
+IsShort (got.Evidence group sheet) = Unit {0}
