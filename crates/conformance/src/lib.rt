@@ -7,6 +7,8 @@ mod expansions;
 #[cfg(test)]
 mod forms;
 #[cfg(test)]
+mod groups;
+#[cfg(test)]
 mod joins;
 #[cfg(test)]
 mod receptions;

@@ -1,22 +1,22 @@
 -- What is kept after one line more.
-use Rattle.std.proofs.Common.{◌≡◌, ℕ, ◌<◌, ◌≤◌, Bool, true, false, cond, ◌&&◌, ◌==◌, List, [], ◌∷◌, ◌++◌, length, Option, Some, None, refl, sym, ap, subst, ◌∙◌, inl, inr, length-append, arith}
+use Rattle.std.proofs.Common.{◌≡◌, ℕ, ◌≤◌, Bool, true, false, cond, ◌&&◌, ◌==◌, List, [], ◌∷◌, ◌++◌, length, Option, Some, None, refl, sym, ap, subst, ◌∙◌, length-append, arith}
 use Rattle.std.specs.Prelude.{is_some, codes, map, Result, Ok, Err, OnOk, IfErr}
-use Rattle.std.specs.Map.{lookup, keys_of}
+use Rattle.std.specs.Map.{keys_of}
 use Rattle.std.proofs.lemmas.List.{length-map}
 use Rattle.std.specs.Ordering.{nat_cmp, is_eq}
 use Rattle.std.specs.List.Sorted.{IsStrictlySortedBy}
 use Rattle.slot_evidence.specs.declared.places.Seen.{Seen}
-use Rattle.slot_evidence.specs.Facts.{Facts, union, facts_of}
+use Rattle.slot_evidence.specs.Facts.{Facts, facts_of}
 use Rattle.slot_evidence.specs.Sheet.{IsEnds, IsMeet}
 use Rattle.ten_unit.specs.declared.character.Element.{Element}
 use Rattle.dsc_files.specs.JoinLine.{JoinLine, nothing, reception, evidence, IsLine, body_text, sign_of}
 use Rattle.dsc_files.specs.Lines.{Says, facts_of_pairs}
 use Rattle.dsc_files.specs.declared.lines.Line.{Line}
 use Rattle.dsc_files.specs.declared.lines.Line.TheVariants as got
-use Rattle.join_groups.specs.Groups.{names, is_named, facts_of_line, group_facts, AreGroups, IsRising, is_among}
+use Rattle.join_groups.specs.Groups.{names, is_named, facts_of_line, group_facts, AreGroups}
 use Rattle.join_groups.specs.Meanings.{BringsTooMany}
 use Rattle.join_groups.specs.inside.Kept.{Entries, Kept, Keeps, IsShort}
-use Rattle.join_groups.proofs.Naming.{same_facts, named_of_others, named_by_line, facts_of_others, facts_of_first, facts_push, unnamed_facts}
+use Rattle.join_groups.proofs.Naming.{same_facts, named_of_others, named_by_line, facts_of_others, facts_of_first, facts_push}
 use Rattle.join_groups.proofs.Rising.{at_test, found, among_keys, rising_keys, same_rising}
 
 -- a line that doesn't name the group leaves what is kept of it

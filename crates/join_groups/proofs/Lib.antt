@@ -3,3 +3,4 @@ pub mod Rising
 pub mod Keeping
 pub mod TellingLemmas
 pub mod Taking
+pub mod TextLaws

@@ -6,7 +6,7 @@ use Rattle.std.specs.Prelude.{is_some}
 use Rattle.std.specs.declared.cmp.Ordering.TheVariants.{Less, Equal, Greater}
 use Rattle.std.specs.Map.{lookup, keys_of}
 use Rattle.std.specs.Ordering.{nat_cmp, is_eq}
-use Rattle.std.proofs.lemmas.Bool.{cases_lt, cond-true, cond-false, lt-ltb, lt-leb}
+use Rattle.std.proofs.lemmas.Bool.{cases_lt, cond-true, cond-false, lt-ltb}
 use Rattle.std.proofs.lemmas.Map.Keys.{sorted_head, sorted_tail}
 use Rattle.join_groups.specs.Groups.{AreAbove, IsRising, is_among}
 
@@ -49,9 +49,9 @@ same_rising (x ∷ a) (y ∷ b) ra rb same =
     let heads : x ≡ y = elim (cases_lt x y) [
       | inl lt ↦ (let never : true ≡ false = sym (first_among x a) ∙ same x ∙ below_not_among x x (y ∷ b) (lt, above_more x y b (omega arith) rb.0) (omega arith) in absurd cc)
       | inr le ↦ elim (cases_lt y x) [
-          | inl lt ↦ (let never : true ≡ false = sym (first_among y b) ∙ sym (same y) ∙ below_not_among y y (x ∷ a) (lt, above_more y x a (omega arith) ra.0) (omega arith) in absurd cc)
-          | inr ge ↦ omega arith
-        ]
+        | inl lt ↦ (let never : true ≡ false = sym (first_among y b) ∙ sym (same y) ∙ below_not_among y y (x ∷ a) (lt, above_more y x a (omega arith) ra.0) (omega arith) in absurd cc)
+        | inr ge ↦ omega arith
+      ]
     ] in
     let rests : (k : ℕ) → is_among a k ≡ is_among b k = λ k. elim (cases_lt x k) [
       | inl lt ↦ sym (rest_among x k a (λ e. absurd (omega (arith, lt, e)))) ∙ same k ∙ rest_among y k b (λ e. absurd (omega (arith, lt, e, heads)))
@@ -113,11 +113,12 @@ none_above (e ∷ es) k a =
 -- what holds of all that is found holds of each entry
 pub each_found : {X : Type 0} (P : ℕ → X → Type 0) (es : List (ℕ × X)) → IsRising (keys_of es) → ((k : ℕ) (x : X) → found es k ≡ Some x → P k x) → AllByRecursion (λ e. P e.0 e.1) es
 each_found P [] rising all = tt
-each_found P (e ∷ es) rising all =
-    (all e.0 e.1 (cond-true (is_eq (nat_cmp e.0 e.0)) (Some e.1) (found es e.0) (at_test e.0 e.0 ∙ eq_same e.0)),
-    each_found P es rising.1 (λ k x is. all k x
-    (elim (cases_lt e.0 k) [
-      | inl lt ↦ cond-false (is_eq (nat_cmp k e.0)) (Some e.1) (found es k) (at_test k e.0 ∙ eq_not k e.0 (λ same. absurd (omega (arith, lt, same)))) ∙ is
-      | inr le ↦ (let none : found es k ≡ None = none_above es k (above_more k e.0 (keys_of es) le rising.0) in
-          let never : None ≡ Some x = sym none ∙ is in absurd cc)
-    ])))
+each_found P (e ∷ es) rising all = (
+  all e.0 e.1 (cond-true (is_eq (nat_cmp e.0 e.0)) (Some e.1) (found es e.0) (at_test e.0 e.0 ∙ eq_same e.0)),
+  each_found P es rising.1 (λ k x is. all k x
+      (elim (cases_lt e.0 k) [
+        | inl lt ↦ cond-false (is_eq (nat_cmp k e.0)) (Some e.1) (found es k) (at_test k e.0 ∙ eq_not k e.0 (λ same. absurd (omega (arith, lt, same)))) ∙ is
+        | inr le ↦ (let none : found es k ≡ None = none_above es k (above_more k e.0 (keys_of es) le rising.0) in
+            let never : None ≡ Some x = sym none ∙ is in absurd cc)
+      ])),
+)

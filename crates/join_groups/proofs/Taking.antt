@@ -1,6 +1,5 @@
 -- A command over groups stands for the lines that it took.
-use Rattle.std.proofs.Common.{◌≡◌, ℕ, List, [], ◌∷◌, ◌++◌, refl, sym, ap, subst, ◌∙◌}
-use Rattle.line_grammar.specs.Columns.{IsColumn}
+use Rattle.std.proofs.Common.{◌≡◌, ℕ, List, [], ◌∷◌, ◌++◌, refl, ap, subst, ◌∙◌}
 use Rattle.line_engine.specs.declared.command.Refusal.{Refusal}
 use Rattle.line_engine.specs.declared.command.Refusal.TheVariants.{Column, TooManyGroups, Memory}
 use Rattle.line_engine.specs.Lines.{Lines}
@@ -8,7 +7,7 @@ use Rattle.line_engine.specs.Commands.{IsTakenBehind, IsRefusedBehind}
 use Rattle.dsc_files.specs.JoinLine.{JoinLine, IsLine}
 use Rattle.join_groups.specs.Groups.{AreLines}
 use Rattle.join_groups.specs.Output.{Telling}
-use Rattle.join_groups.specs.Meanings.{BringsTooMany, IsOverfull, groups_meaning}
+use Rattle.join_groups.specs.Meanings.{BringsTooMany, groups_meaning}
 use Rattle.join_groups.specs.inside.Kept.{Entries, Keeps, IsRefused, StandsFor}
 
 -- a line says one thing

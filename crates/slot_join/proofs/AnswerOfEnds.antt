@@ -131,7 +131,7 @@ behind_head_too laws F G seen.None answer alike is = is
 behind_head_too laws F G (seen.Differ a b) answer alike is = is
 behind_head_too laws F G (seen.One f) answer alike is = behind_format_too laws F G f answer alike is
 
-answer_too : Laws → (F G : Facts) (answer : Joined) → Alike F G → IsAnswer F answer → IsAnswer G answer
+pub answer_too : Laws → (F G : Facts) (answer : Joined) → Alike F G → IsAnswer F answer → IsAnswer G answer
 answer_too laws F G answer alike a = record {
   head = a.head;
   seen = laws.kept (head_of F) (head_of G) a.head (heads_alike laws F G alike) a.seen;

@@ -10,6 +10,7 @@ ghost use Rattle.phasing.specs.Start.{IsIntactStart};
 ghost use Rattle.slot_evidence.specs.declared.places.Seen.{Seen};
 ghost use Rattle.slot_evidence.specs.Facts.{Facts, facts_of, union};
 ghost use Rattle.slot_evidence.specs.Sheet.{IsEnds, facts_in};
+ghost use Rattle.slot_evidence.specs.Alike.{AreAlike};
 ghost use Rattle.slot_join.specs.declared.joined.Joined.{Joined};
 ghost use Rattle.slot_join.specs.declared.joined.Joined.TheVariants.{Reported};
 ghost use Rattle.slot_join.specs.declared.joined.Extra.TheVariants.{Absent, Whole};
@@ -39,6 +40,13 @@ pub fn one_answer()
 pub fn ends_give_the_answer()
     ensures { (F G : Facts) (sheet : List Seen) (answer : Joined) → IsEnds F sheet
         → (IsAnswer (union F G) answer ↔ IsAnswer (union (facts_in sheet) G) answer) }
+{
+    ends_are_kept();
+}
+
+/// The law that facts which are alike at each place have the same answers. It does nothing.
+pub fn alike_facts_have_one_answer()
+    ensures { (F G : Facts) (answer : Joined) → ((p : ℕ) → AreAlike (F p) (G p)) → IsAnswer F answer → IsAnswer G answer }
 {
     ends_are_kept();
 }

@@ -1,7 +1,7 @@
-use Rattle.std.proofs.Common.{List, ◌≡◌, sym, ap, subst, ◌∙◌, refl, Option, None}
+use Rattle.std.proofs.Common.{List, ◌≡◌, sym, ap, subst, ◌∙◌, refl, None}
 use Rattle.ten_unit.specs.declared.character.Element.{Element}
 use Rattle.phasing.specs.Origin.{lead_of}
-use Rattle.slot_evidence.specs.Facts.{Facts, facts_of, facts_at, no_facts}
+use Rattle.slot_evidence.specs.Facts.{Facts, facts_of, facts_at}
 use Rattle.slot_evidence.specs.Sheet.{IsEnds}
 use Rattle.join_groups.proofs.groups.shown_by.Goals as goal
 

@@ -1,5 +1,4 @@
-use Rattle.std.proofs.Common.{[], ◌&&◌, ◌∷◌, ◌++◌, refl, sym, ap, subst, ◌∙◌, append-nil, List, ℕ}
-use Rattle.slot_evidence.specs.declared.places.Seen.{Seen}
+use Rattle.std.proofs.Common.{[], ◌&&◌, ◌++◌, refl, sym, ap, subst, ◌∙◌, append-nil, List, ℕ}
 use Rattle.join_groups.specs.inside.Kept.{Entries}
 use Rattle.join_groups.specs.inside.Progress.{HasTold, Progress}
 use Rattle.join_groups.proofs.TellingLemmas.{progress_push, groups_text}
@@ -29,6 +28,10 @@ returns g c = λ said keeps.
     let tells = g.T.Teller.tells in
     let entries : Entries = c.args.groups.now.sheets.entries in
     let p = c.loop-group.invariant in
-    let whole = sym (p.split ∙ ap (λ (left : Entries). p.done ++ left) c.in-None.ensures.steps.0 ∙ append-nil p.done) in
-    (p.text, (p.written,
-    groups_text tells said entries p.text c.loop-group.is_well c.iter-group-items.ensures.ordered keeps (subst (λ (es : Entries). HasTold tells es p.text c.loop-group.is_well) whole p.has_told)))
+    let whole = sym (p.split ∙ ap (λ (left : Entries). p.done ++ left) c.in-None.ensures.steps.0 ∙ append-nil p.done) in (
+      p.text,
+      (
+        p.written,
+        groups_text tells said entries p.text c.loop-group.is_well c.iter-group-items.ensures.ordered keeps (subst (λ (es : Entries). HasTold tells es p.text c.loop-group.is_well) whole p.has_told),
+      ),
+    )

@@ -12,7 +12,8 @@ returns-in-Ok-clause-ok c = λ said line keeps named ends.
     let entries = c.args.self.now.sheets.entries in
     let here : names c.args.group line ≡ true = named c.args.group ∙ eq_one c.args.group in
     let known : found entries c.args.group ≡ Some c.in-Some.known.now = sym c.get.ensures.value ∙ ap option_copied c.in-Some.is in
-    let kept : Kept said c.args.group (Some c.in-Some.known.now) = subst (λ (o : Option (List Seen)). Kept said c.args.group o) known (keeps c.args.group) in
-    (known_brings_none said line c.args.group named kept.0,
-    keeps_with said line entries c.insert.new.self.entries c.args.group c.meet.new.self named c.in-Ok.ensures.updates.0 keeps
-    (kept_met said line c.args.group c.in-Some.known.now c.args.shown.now c.meet.new.self here kept ends c.meet.ensures))
+    let kept : Kept said c.args.group (Some c.in-Some.known.now) = subst (λ (o : Option (List Seen)). Kept said c.args.group o) known (keeps c.args.group) in (
+      known_brings_none said line c.args.group named kept.0,
+      keeps_with said line entries c.insert.new.self.entries c.args.group c.meet.new.self named c.in-Ok.ensures.updates.0 keeps
+          (kept_met said line c.args.group c.in-Some.known.now c.args.shown.now c.meet.new.self here kept ends c.meet.ensures),
+    )

@@ -1,8 +1,6 @@
-use Rattle.std.proofs.Common.{sym, ap, subst, ◌∙◌, inl, inr}
-use Rattle.std.specs.Prelude.{◌⊎◌}
+use Rattle.std.proofs.Common.{sym, subst, inl, inr}
 use Rattle.slot_evidence.specs.Facts.{Facts}
 use Rattle.slot_evidence.specs.Sheet.{IsEnds}
-use Rattle.dsc_files.specs.JoinLine.{JoinLine}
 use Rattle.dsc_files.specs.declared.lines.Line.{Line}
 use Rattle.dsc_files.specs.Lines.{Says}
 use Rattle.join_groups.proofs.Keeping.{says_nothing, says_reception, says_evidence, map_ok, map_err}
