@@ -16,5 +16,5 @@ mod window;
 pub use command::{Command, Determined, Refusal};
 pub use driving::drive;
 pub use faults::Fault;
-pub use laws::limits;
+pub use laws::{limits, one_first_fault, one_output, said_lines};
 pub use bounds::{LONGEST_LINE, MOST_LINES, MOST_TAKEN};
