@@ -18,3 +18,6 @@ pub use driving::drive;
 pub use faults::Fault;
 pub use laws::{limits, one_first_fault, one_output, said_lines};
 pub use bounds::{LONGEST_LINE, MOST_LINES, MOST_TAKEN};
+
+#[cfg(test)]
+mod tests;

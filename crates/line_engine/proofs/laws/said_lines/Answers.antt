@@ -1,6 +1,6 @@
 use Rattle.std.proofs.Common.{refl}
 use Rattle.line_engine.specs.Said.{said_behind}
-use Rattle.line_engine.specs.inside.Saying.{said_push}
+use Rattle.line_engine.specs.Saying.{said_push}
 use Rattle.line_engine.proofs.laws.said_lines.Goals as goal
 
 pub returns-clause-none : goal.returns-clause-none
