@@ -5,7 +5,8 @@ ghost use Rattle.line_engine.specs.Saying.{said_determined};
 ghost use Rattle.std.proofs.Common.{sym, ◌∙◌};
 
 use crate::{
-    Command, Determined, LONGEST_LINE, Refusal, drive, limits, one_first_fault, one_output, said_lines,
+    Command, Determined, LONGEST_LINE, Refusal, drive, limits, one_first_fault, one_output,
+    said_lines,
 };
 use dsc_streams::{ByteSink, ByteSource, Failed, Source, Status, SureSink};
 use std::alloc::{AllocError, Global};
@@ -27,10 +28,10 @@ fn first_byte(line: &[u8]) -> u8
 
 impl Command for Echo {
     ghost meaning = { record {
-        IsIllFormed = λ _ line n. (slice_index line 0 ≡ 33) × (n ≡ 1);
-        IsOverfull = λ earlier line. (slice_index line 0 ≡ 43) × (3 ≤ length earlier);
-        Gives = λ lines text. text ≡ said (λ _ line. line ++ 10 ∷ []) lines;
-        Ends = λ lines text status. (text ≡ said (λ _ line. line ++ 10 ∷ []) lines) × (status ≡ 0);
+      IsIllFormed = λ _ line n. (slice_index line 0 ≡ 33) × (n ≡ 1);
+      IsOverfull = λ earlier line. (slice_index line 0 ≡ 43) × (3 ≤ length earlier);
+      Gives = λ lines text. text ≡ said (λ _ line. line ++ 10 ∷ []) lines;
+      Ends = λ lines text status. (text ≡ said (λ _ line. line ++ 10 ∷ []) lines) × (status ≡ 0);
     } };
 
     ghost stands_for = { λ echo lines text. (text ≡ said (λ _ line. line ++ 10 ∷ []) lines) × (echo.count ≡ length lines) };
@@ -68,10 +69,10 @@ struct Seen {
 
 impl Command for Seen {
     ghost meaning = { record {
-        IsIllFormed = λ _ _ _. ⊥;
-        IsOverfull = λ _ _. ⊥;
-        Gives = λ _ text. text ≡ [];
-        Ends = λ lines text status. (text ≡ (if nat_lt 0 (length lines) then codes "some\n" else [])) × (status ≡ (if nat_lt 0 (length lines) then 1 else 0));
+      IsIllFormed = λ _ _ _. ⊥;
+      IsOverfull = λ _ _. ⊥;
+      Gives = λ _ text. text ≡ [];
+      Ends = λ lines text status. (text ≡ (if nat_lt 0 (length lines) then codes "some\n" else [])) × (status ≡ (if nat_lt 0 (length lines) then 1 else 0));
     } };
 
     ghost stands_for = { λ seen lines text. (text ≡ []) × (seen.any ≡ nat_lt 0 (length lines)) };
@@ -131,12 +132,7 @@ fn echoed(
 /// What the sink has of a run over an endless source of one byte.
 fn of_endless(alloc: Global, byte: u8) -> Result<(u8, Vec<u8>), AllocError> {
     let mut sink = SureSink::new(alloc, 100_000, 1000)?;
-    let status = drive(
-        alloc,
-        Echo { count: 0 },
-        &mut Endless { byte },
-        &mut sink,
-    );
+    let status = drive(alloc, Echo { count: 0 }, &mut Endless { byte }, &mut sink);
     Ok((status.number(), sink.bytes().to_vec(alloc)?))
 }
 
@@ -160,8 +156,16 @@ fn lines_are_told(rt: HostRuntime) -> Result<(), Fail> {
         (b"ab\n\ncd", 0, b"ab\n\ncd\n"),
         (b"ab\n!\ncd\n", 3, b"ab\ndsc: line 2 column 1\n"),
         (b"!", 3, b"dsc: line 1 column 1\n"),
-        (b"+a\n+b\n\n+c", 7, b"+a\n+b\n\ndsc: line 4 too many groups\n"),
-        (b"a\n+\n\n+\n!\n", 7, b"a\n+\n\ndsc: line 4 too many groups\n"),
+        (
+            b"+a\n+b\n\n+c",
+            7,
+            b"+a\n+b\n\ndsc: line 4 too many groups\n",
+        ),
+        (
+            b"a\n+\n\n+\n!\n",
+            7,
+            b"a\n+\n\ndsc: line 4 too many groups\n",
+        ),
     ];
     for (input, status, text) in rows {
         for piece in [1, 2, 1000] {
@@ -181,7 +185,10 @@ fn endless_sources_end(rt: HostRuntime) -> Result<(), Fail> {
     let (status, text) = of_endless(rt.alloc(), b'\n')?;
     assert_eq!(rt; status, 7);
     assert_eq!(rt; text.len(), 4096 + 30);
-    assert!(rt; text.as_slice().ends_with(b"\n\ndsc: line 4097 too many lines\n"));
+    assert!(rt;
+        text.as_slice()
+            .ends_with(b"\n\ndsc: line 4097 too many lines\n")
+    );
     Ok(())
 }
 
@@ -229,7 +236,10 @@ fn lines_are_counted(rt: HostRuntime) -> Result<(), Fail> {
     input.push(b'!')?;
     let (status, told) = echoed(rt.alloc(), &input, 3, &[], &[])?;
     assert_eq!(rt; status, 7);
-    assert!(rt; told.as_slice().ends_with(b"a\na\ndsc: line 4097 too many lines\n"));
+    assert!(rt;
+        told.as_slice()
+            .ends_with(b"a\na\ndsc: line 4097 too many lines\n")
+    );
     Ok(())
 }
 
@@ -251,18 +261,9 @@ fn quiet_commands_write_at_the_end(rt: HostRuntime) -> Result<(), Fail> {
         (b"a\nb", &[2], 4, b""),
     ];
     for (input, fail, status, text) in rows {
-        let mut source = ByteSource::new(
-            input.to_vec(rt.alloc())?,
-            2,
-            fail.to_vec(rt.alloc())?,
-        );
+        let mut source = ByteSource::new(input.to_vec(rt.alloc())?, 2, fail.to_vec(rt.alloc())?);
         let mut sink = ByteSink::new(rt.alloc(), 100, 100, Vec::new(rt.alloc()))?;
-        let was = drive(
-            rt.alloc(),
-            Seen { any: false },
-            &mut source,
-            &mut sink,
-        );
+        let was = drive(rt.alloc(), Seen { any: false }, &mut source, &mut sink);
         assert_eq!(rt; was.number(), status);
         assert_eq!(rt; sink.bytes(), text);
     }
