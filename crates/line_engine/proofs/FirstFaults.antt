@@ -1,5 +1,5 @@
 -- the first fault of lines: there is at most one, and it can be found
-use Rattle.std.proofs.Common.{◌≡◌, ℕ, ◌+◌, ◌<◌, ◌≤◌, List, [], ◌∷◌, ◌++◌, length, refl, sym, ◌∙◌, ap, subst, arith, append_assoc, append-nil, ◌⊎◌, inl, inr}
+use Rattle.std.proofs.Common.{◌≡◌, ℕ, ◌+◌, List, [], ◌∷◌, ◌++◌, length, refl, sym, ◌∙◌, ap, subst, arith, append_assoc, append-nil, ◌⊎◌, inl, inr}
 use Rattle.std.proofs.lemmas.Bool.{cases_lt}
 use Rattle.line_engine.specs.declared.faults.Fault.{Fault}
 use Rattle.line_engine.specs.declared.faults.Fault.TheVariants.{TooManyLines, TooLong, Column, TooManyGroups}
@@ -7,7 +7,7 @@ use Rattle.line_engine.specs.Lines.{Lines, lines_of, IsCutInto}
 use Rattle.line_engine.specs.Meaning.{Meaning}
 use Rattle.line_engine.specs.Faults.{IsWithin, IsFault, IsFaultless, IsFirstFault}
 use Rattle.line_engine.specs.Determined.{HasOneColumn, IsDecided}
-use Rattle.line_engine.proofs.Faultless.{none_yet, one_more, never_empty}
+use Rattle.line_engine.proofs.Faultless.{none_yet, one_more}
 
 -- a line has one fault
 one_fault : (meaning : Meaning) → HasOneColumn meaning → (earlier : Lines) (line : List ℕ) (a b : Fault) → IsFault meaning earlier line a → IsFault meaning earlier line b → a ≡ b

@@ -1,10 +1,10 @@
 -- lines that determine their output
-use Rattle.std.proofs.Common.{◌≡◌, ℕ, ◌+◌, List, [], ◌∷◌, ◌++◌, length, refl, sym, ◌∙◌, ap, subst, append_assoc, append-nil, ◌⊎◌, inl, inr}
+use Rattle.std.proofs.Common.{◌≡◌, ℕ, List, [], ◌∷◌, ◌++◌, refl, sym, ◌∙◌, ap, subst, append_assoc, append-nil, ◌⊎◌, inl, inr}
 use Rattle.line_engine.specs.declared.faults.Fault.{Fault}
 use Rattle.line_engine.specs.Lines.{Lines}
 use Rattle.line_engine.specs.Meaning.{Meaning}
 use Rattle.line_engine.specs.Faults.{IsFaultless, IsFirstFault, fault_line, fault_status}
-use Rattle.line_engine.specs.Output.{IsWhole, IsFaulty, IsSoFar, IsOutput, Asks}
+use Rattle.line_engine.specs.Output.{IsFaulty, IsSoFar, IsOutput, Asks}
 use Rattle.line_engine.specs.Determined.{IsDetermined, BeginsWith}
 use Rattle.line_engine.proofs.FirstFaults.{one_first, none_first, split_twice}
 

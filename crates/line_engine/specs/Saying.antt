@@ -1,5 +1,5 @@
 -- Lines that say something of their own determine their output: this project's profile.
-use Rattle.std.specs.Prelude.{◌≡◌, ℕ, List, [], ◌∷◌, ◌++◌, refl}
+use Rattle.std.specs.Prelude.{◌≡◌, ℕ, List, [], ◌∷◌, ◌++◌}
 use Rattle.std.proofs.Common.{sym, ◌∙◌, ap, append_assoc, append-nil}
 use Rattle.line_engine.specs.Lines.{Lines}
 use Rattle.line_engine.specs.Meaning.{Meaning}
