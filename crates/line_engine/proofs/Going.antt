@@ -1,5 +1,5 @@
 -- a run from one line to the next
-use Rattle.std.proofs.Common.{◌≡◌, ◌≢◌, ℕ, ◌+◌, ◌-◌, ◌<◌, ◌≤◌, Bool, true, List, [], ◌∷◌, ◌++◌, length, Option, Some, None, refl, sym, ◌∙◌, ap, subst, arith, append_assoc, append-nil, ◌⊎◌, inl, inr}
+use Rattle.std.proofs.Common.{◌≡◌, ◌≢◌, ℕ, ◌+◌, ◌<◌, ◌≤◌, true, List, [], ◌∷◌, ◌++◌, length, Option, refl, sym, ◌∙◌, ap, subst, arith, append-nil, inl, inr}
 use Rattle.std.proofs.lemmas.List.{length_push}
 use Rattle.dsc_streams.specs.Streams.{Loses, IsEnded}
 use Rattle.line_engine.specs.declared.faults.Fault.{Fault}
@@ -11,7 +11,7 @@ use Rattle.line_engine.specs.Meaning.{Meaning}
 use Rattle.line_engine.specs.Faults.{IsFault, IsFaultless}
 use Rattle.line_engine.specs.Endings.{IsRest}
 use Rattle.line_engine.specs.inside.Progress.{HasWritten, IsOn, IsThrough, IsNextFault, Stops, StopsInRead, StopsAtLine, PassesLimit, IsLimitPassed, IsCounted, TakesLines, PendingFails, RunsInto}
-use Rattle.line_engine.proofs.Cutting.{is_text, last_line, IsOpenLine, open_line, none_taken, read_more, next_line, line_taken, at_end}
+use Rattle.line_engine.proofs.Cutting.{is_text, IsOpenLine, open_line, none_taken, read_more, next_line, line_taken, at_end}
 use Rattle.line_engine.proofs.Faultless.{none_yet}
 
 -- what a command stands for is what its lines give

@@ -5,3 +5,5 @@ pub mod Writing
 pub mod Rooms
 pub mod Pieces
 pub mod Told
+pub mod FirstFaults
+pub mod Outputs

@@ -1,17 +1,16 @@
 -- from one read to the next
-use Rattle.std.proofs.Common.{◌≡◌, ℕ, zero, suc, ◌+◌, ◌-◌, ◌*◌, ◌<◌, ◌≤◌, true, List, [], ◌∷◌, ◌++◌, length, drop, Option, Result, Ok, Err, IfErr, IsErrAnd, refl, sym, ◌∙◌, ap, subst, arith, append-nil, length-append}
+use Rattle.std.proofs.Common.{◌≡◌, ℕ, zero, suc, ◌+◌, ◌*◌, ◌<◌, ◌≤◌, true, List, [], ◌++◌, length, Option, Result, Ok, Err, IsErrAnd, refl, sym, ◌∙◌, ap, subst, arith, append-nil, length-append}
 use Rattle.std.proofs.lemmas.List.{nil_from_length}
-use Rattle.std.proofs.lemmas.Result.{IfErr-at_err}
 use Rattle.dsc_streams.specs.Streams.{Loses, IsEnded}
 use Rattle.dsc_streams.proofs.Runs.{Loses-none, Loses-more}
 use Rattle.line_engine.specs.declared.halts.Halt.{Halt}
 use Rattle.line_engine.specs.declared.halts.Halt.TheVariants as halt
 use Rattle.line_engine.specs.Lines.{Lines, lines_of}
 use Rattle.line_engine.specs.Meaning.{Meaning}
-use Rattle.line_engine.specs.inside.Progress.{HasWritten, IsOn, IsThrough, RunsThrough, RunsInto, Stops, StopsAtLine, TakesLines}
+use Rattle.line_engine.specs.inside.Progress.{HasWritten, IsOn, RunsThrough, RunsInto, Stops, StopsAtLine, TakesLines}
 use Rattle.line_engine.proofs.Cutting.{is_text, cut_all}
 use Rattle.line_engine.proofs.Faultless.{none_yet}
-use Rattle.line_engine.proofs.Going.{GivesLaw, on_read, on_written, on_left, on_through, stopped, stops_last}
+use Rattle.line_engine.proofs.Going.{GivesLaw, on_read, on_written, on_through, stopped, stops_last}
 use Rattle.line_engine.proofs.Writing.{nothing_written}
 
 -- what the exit of a `?` returns is the error

@@ -1,5 +1,5 @@
 -- the bytes of a window
-use Rattle.std.proofs.Common.{◌≡◌, ℕ, ◌+◌, ◌-◌, ◌<◌, ◌≤◌, min, List, [], ◌∷◌, ◌++◌, length, take, drop, Vec, Global, refl, sym, ◌∙◌, ap, arith, length-drop, length-append, append_assoc}
+use Rattle.std.proofs.Common.{◌≡◌, ℕ, ◌+◌, ◌-◌, ◌≤◌, List, ◌++◌, length, take, drop, Vec, Global, sym, ◌∙◌, ap, arith, length-drop, length-append}
 use Rattle.std.specs.Vec.{with_items}
 use Rattle.std.specs.List.{copy_within}
 use Rattle.std.proofs.lemmas.List.{length-take, length-take-le, take-append-le, with_items_is, take_at, drop-take}

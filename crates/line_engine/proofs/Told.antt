@@ -1,16 +1,15 @@
 -- how a run ends
-use Rattle.std.proofs.Common.{◌≡◌, ◌≢◌, ℕ, ◌+◌, List, [], ◌∷◌, ◌++◌, length, Option, refl, sym, ◌∙◌, ap, subst, arith, append-nil, append_assoc, ◌⊎◌, inl, inr}
-use Rattle.dsc_streams.specs.Streams.{Loses, Gains, IsEnded}
-use Rattle.line_engine.specs.declared.faults.Fault.{Fault}
+use Rattle.std.proofs.Common.{◌≡◌, ◌≢◌, ℕ, List, [], ◌++◌, Option, refl, sym, ◌∙◌, ap, subst, arith, append-nil, ◌⊎◌, inl, inr}
+use Rattle.dsc_streams.specs.Streams.{IsEnded}
 use Rattle.line_engine.specs.declared.faults.FirstFault.{FirstFault}
 use Rattle.line_engine.specs.declared.halts.Halt.{Halt}
 use Rattle.line_engine.specs.declared.halts.Halt.TheVariants as halt
 use Rattle.line_engine.specs.Lines.{Lines, lines_of}
 use Rattle.line_engine.specs.Meaning.{Meaning}
 use Rattle.line_engine.specs.Faults.{IsFaultless, fault_line, fault_status}
-use Rattle.line_engine.specs.Output.{IsWhole, IsFaulty, IsSoFar, Asks}
+use Rattle.line_engine.specs.Output.{IsFaulty, IsSoFar, Asks}
 use Rattle.line_engine.specs.Endings.{IsOfFault, IsRest, Writes, WritesFront, TellsFault, TellsFront, CutsOff}
-use Rattle.line_engine.specs.inside.Progress.{HasWritten, Fails, RunsThrough, RunsInto, StopsAtFault, IsNextFault, AreFirst}
+use Rattle.line_engine.specs.inside.Progress.{HasWritten, Fails, RunsThrough, RunsInto, StopsAtFault}
 use Rattle.line_engine.proofs.Going.{GivesLaw, no_rest}
 
 -- a write that fails behind what was written

@@ -6,4 +6,5 @@ pub mod Output
 pub mod Endings
 pub mod Determined
 pub mod Said
+pub mod Saying
 pub mod inside

@@ -8,7 +8,7 @@ ghost use Rattle.line_engine.specs.Endings.{IsFinished};
 
 use crate::bounds::{LONGEST_LINE, MOST_LINES};
 use dsc_streams::Status;
-use std::alloc::AllocError;
+use std::alloc::{AllocError, AllocFailed};
 
 /// Why a command doesn't take a line.
 #[derive(Clone, Copy, Debug, PartialEq, Eq)]
@@ -25,6 +25,14 @@ impl From<AllocError> for Refusal {
     ghost from_gives = { λ _ e. e ≡ memory };
 
     fn from(_: AllocError) -> Self {
+        Refusal::Memory
+    }
+}
+
+impl<T: Drop> From<AllocFailed<T>> for Refusal {
+    ghost from_gives = { λ _ e. e ≡ memory };
+
+    fn from(_: AllocFailed<T>) -> Self {
         Refusal::Memory
     }
 }

@@ -5,10 +5,10 @@ ghost use Rattle.line_engine.specs.Meaning.{IsQuiet};
 ghost use Rattle.line_engine.specs.Endings.{IsFinished, IsOfFault, TakesAtMost, TellsWhole, TellsFault, TellsSoFar, CutsOff, TellsFront};
 ghost use Rattle.line_engine.specs.inside.Progress.{RunsThrough, RunsInto};
 
+use crate::bounds::MOST_TAKEN;
 use crate::command::Command;
 use crate::faults::{fault_status, put_fault};
 use crate::halts::Halt;
-use crate::bounds::MOST_TAKEN;
 use crate::telling::{tell, write_pending};
 use crate::walk::{check_open, take_last, take_lines};
 use crate::window::Window;
@@ -100,12 +100,7 @@ pub fn drive<C: Command, S: Source, K: Sink>(
             Ok(status) => tell(sink, &out, b"", status),
             Err(AllocError) => Status::new(6),
         },
-        Err(Halt::Fault(first)) => tell(
-            sink,
-            &out,
-            &put_fault(&first),
-            fault_status(&first.fault),
-        ),
+        Err(Halt::Fault(first)) => tell(sink, &out, &put_fault(&first), fault_status(&first.fault)),
         Err(Halt::Read) => Status::new(4),
         Err(Halt::Write) => Status::new(5),
         Err(Halt::Memory) => Status::new(6),

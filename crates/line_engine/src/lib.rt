@@ -8,13 +8,15 @@ mod driving;
 mod faults;
 mod halts;
 mod laws;
-
 mod telling;
 mod walk;
 mod window;
 
+pub use bounds::{LONGEST_LINE, MOST_LINES, MOST_TAKEN};
 pub use command::{Command, Determined, Refusal};
 pub use driving::drive;
 pub use faults::Fault;
-pub use laws::limits;
-pub use bounds::{LONGEST_LINE, MOST_LINES, MOST_TAKEN};
+pub use laws::{limits, one_first_fault, one_output, said_lines};
+
+#[cfg(test)]
+mod tests;

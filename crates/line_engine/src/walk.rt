@@ -3,10 +3,10 @@ ghost use Rattle.std.specs.List.{list_all};
 ghost use Rattle.line_engine.specs.Lines.{Lines, lines_of, is_inside};
 ghost use Rattle.line_engine.specs.inside.Progress.{IsCounted, PassesLimit, TakesLines, StopsAtLine, IsOn, Stops};
 
+use crate::bounds::{LONGEST_LINE, MOST_LINES, MOST_PENDING};
 use crate::command::{Command, Refusal};
 use crate::faults::{Fault, FirstFault};
 use crate::halts::Halt;
-use crate::bounds::{LONGEST_LINE, MOST_LINES, MOST_PENDING};
 use crate::telling::write_pending;
 use dsc_streams::Sink;
 use memchr::memchr;

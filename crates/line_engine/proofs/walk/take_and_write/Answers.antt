@@ -1,6 +1,4 @@
-use Rattle.std.proofs.Common.{◌≡◌, ◌+◌, length, sym, ◌∙◌, ap}
 use Rattle.std.proofs.lemmas.Result.{MatchResult-weaker, on_ok_weaker}
-use Rattle.std.proofs.lemmas.List.{length_push}
 use Rattle.line_engine.proofs.Going.{on_line, on_written, counted_line, counted_written, stops_at_line, stops_in_write}
 use Rattle.line_engine.proofs.Writing.{exit, on_ok_both}
 use Rattle.line_engine.proofs.walk.take_and_write.Goals as goal

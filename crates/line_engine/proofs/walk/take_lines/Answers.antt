@@ -1,4 +1,4 @@
-use Rattle.std.proofs.Common.{◌≡◌, ◌+◌, ◌-◌, List, ℕ, length, take, drop, true, refl, sym, ◌∙◌, ap, subst, arith}
+use Rattle.std.proofs.Common.{◌≡◌, ◌+◌, List, ℕ, drop, true, refl, sym, subst, arith}
 use Rattle.line_engine.proofs.Cutting.{is_text, behind_feed, still_left, length_behind, is_line, text_first, text_all}
 use Rattle.line_engine.proofs.Going.{on_left}
 use Rattle.line_engine.proofs.Writing.{exit}

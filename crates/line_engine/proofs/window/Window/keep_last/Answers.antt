@@ -1,5 +1,4 @@
-use Rattle.std.proofs.Common.{◌≡◌, ◌≤◌, length, take, arith}
-use Rattle.std.specs.Prelude.{vec_len}
+use Rattle.std.proofs.Common.{◌≡◌, ◌≤◌, arith}
 use Rattle.line_engine.proofs.Rooms.{kept_last}
 use Rattle.line_engine.proofs.window.Window.keep_last.Goals as goal
 
