@@ -19,3 +19,6 @@ pub use answers::{put_answer, put_answer_line};
 pub use calls::put_call;
 pub use laws::{bare_call_texts_are_read, call_texts_are_read, texts_tell_calls_apart};
 pub use reading::{read_bare_call, read_call};
+
+#[cfg(test)]
+mod tests;
