@@ -21,7 +21,7 @@ use Rattle.dsc_texts.proofs.ExpansionTexts.{extra_section}
 use Rattle.dsc_texts.proofs.FormLaws.{Texts, one_value}
 
 -- the texts of calls with nothing behind them
-bare_is : (c : Call) → call_text c ≡ written (calls finish) (call_parts c none)
+pub bare_is : (c : Call) → call_text c ≡ written (calls finish) (call_parts c none)
 unfolding call_text
 bare_is (Alert casualty) = refl
 bare_is (Ack from casualty) = refl
