@@ -6,8 +6,8 @@ use Rattle.call_values.specs.declared.calls.Call.{Call}
 use Rattle.call_values.specs.Calls.{IsCall}
 use Rattle.expansion.specs.declared.values.Sets.{Sets}
 use Rattle.slot_join.specs.declared.joined.Extra.TheVariants.{Whole}
-use Rattle.line_grammar.specs.Columns.{Begins, IsColumn, Answers}
-use Rattle.line_grammar.specs.Grammar.{Grammar, finish, anything, word, either, Parts, none, first, second, Spells, written}
+use Rattle.line_grammar.specs.Columns.{IsColumn, Answers}
+use Rattle.line_grammar.specs.Grammar.{Grammar, finish, anything, word, either, none, first, second, Spells, written}
 use Rattle.line_grammar.specs.inside.Reading.{fits}
 use Rattle.line_grammar.specs.inside.Soundness.{is_sound, is_unambiguous}
 use Rattle.line_grammar.proofs.Apart.{one_reading}

@@ -47,7 +47,7 @@ fn set(line: &mut Cursor, label: &[u8], width: usize, most: u32) -> Result<Part,
     requires width { width ≤ 8 }
     requires most { most < 10 ^ width }
     ensures lawful { IfOk result (λ set. IsSet most set) }
-    ensures reads { ReadsSection (labelled label.now (grammar.set width most)) (inside.set_parts width) line.old result line.new }
+    ensures reads { ReadsSection (labelled label.now (grammar.set width most)) (inside.set_part width) line.old result line.new }
 {
     word(line, label)?;
     take(line, &set_value(width, most, line.rest()))
