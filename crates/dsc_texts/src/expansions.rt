@@ -1,4 +1,4 @@
-ghost use Rattle.std.specs.Prelude.{◌≡◌, ◌<◌, ◌≤◌, ◌^◌, ◌∷◌, [], IfOk, IfErr, Ok, Err, codes};
+ghost use Rattle.std.specs.Prelude.{◌≡◌, ◌<◌, ◌≤◌, ◌^◌, ◌∷◌, [], IfOk, IfErr, Ok, Err};
 ghost use Rattle.line_grammar.specs.Grammar.{finish, first, second};
 ghost use Rattle.line_grammar.specs.Shapes as shape;
 ghost use Rattle.line_grammar.specs.inside.Reading.{read_shape};
