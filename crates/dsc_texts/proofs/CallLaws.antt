@@ -1,5 +1,5 @@
 -- the texts of calls, with and without an expansion
-use Rattle.std.proofs.Common.{◌≡◌, ℕ, true, List, [], ◌++◌, Result, refl, sym, ◌∙◌, ap}
+use Rattle.std.proofs.Common.{◌≡◌, ℕ, true, List, ◌++◌, refl, sym, ◌∙◌, ap}
 use Rattle.call_values.specs.declared.calls.Call.{Call}
 use Rattle.call_values.specs.declared.calls.Call.TheVariants.{Alert, Ack, Relay, RelayAck, AllShips, AreaCall, GroupCall, Individual, Service}
 use Rattle.call_values.specs.declared.parts.Kind.TheVariants.{Test, AskPosition, Position}
@@ -8,8 +8,7 @@ use Rattle.slot_join.specs.declared.joined.Extra.{Extra}
 use Rattle.slot_join.specs.declared.joined.Extra.TheVariants.{Absent, Whole, Broken}
 use Rattle.line_grammar.specs.Grammar.{Grammar, finish, none, written}
 use Rattle.line_grammar.specs.inside.Reading.{fits}
-use Rattle.line_grammar.specs.inside.Soundness.{is_sound, is_unambiguous}
-use Rattle.line_grammar.proofs.Written.{tells_all}
+use Rattle.line_grammar.specs.inside.Soundness.{is_sound}
 use Rattle.dsc_texts.specs.CallGrammar.{calls, expansion, perhaps}
 use Rattle.dsc_texts.specs.CallParts.{call_text, expansion_text}
 use Rattle.dsc_texts.specs.Texts.{IsWholeOrAbsent, extra_text, reported_text}
@@ -21,7 +20,7 @@ use Rattle.dsc_texts.proofs.ExpansionTexts.{extra_section}
 use Rattle.dsc_texts.proofs.FormLaws.{Texts, one_value}
 
 -- the texts of calls with nothing behind them
-bare_is : (c : Call) → call_text c ≡ written (calls finish) (call_parts c none)
+pub bare_is : (c : Call) → call_text c ≡ written (calls finish) (call_parts c none)
 unfolding call_text
 bare_is (Alert casualty) = refl
 bare_is (Ack from casualty) = refl

@@ -1,7 +1,7 @@
 -- sections of call texts: fields one after the other, and what follows them
 use Rattle.std.proofs.Common.{◌≡◌, ℕ, List, ◌++◌, ◌⊎◌, inl, inr, refl, sym, ◌∙◌, ap, subst, append-nil, append_assoc}
 use Rattle.line_grammar.specs.Tokens.{Token, IsToken}
-use Rattle.line_grammar.specs.Grammar.{Grammar, finish, word, field, either, Parts, none, part, first, second, AreParts, written}
+use Rattle.line_grammar.specs.Grammar.{Grammar, finish, word, field, either, Parts, none, part, first, second, Spells, AreParts, written}
 use Rattle.dsc_texts.proofs.SymbolTexts.{Told}
 
 -- the parts of a field, of one of two, and of the end
@@ -24,12 +24,13 @@ finish_is (first q) h = absurd h
 finish_is (second q) h = absurd h
 
 -- a section has the parts of the lawful values, each value its own, and then those of what follows; and it is written alike
--- whatever follows it
+-- whatever follows it, and spelled so
 pub record Section {V : Type 0} (G : Grammar → Grammar) (Lawful : V → Type 0) (parts : V → Parts → Parts) : Type 0 where
   pub is : (v : V) → Lawful v → (rest : Grammar) (q : Parts) → AreParts rest q → AreParts (G rest) (parts v q)
   pub of : (rest : Grammar) (p : Parts) → AreParts (G rest) p → (v : V) × (q : Parts) × Lawful v × (p ≡ parts v q) × AreParts rest q
   pub one : (u v : V) (p q : Parts) → Lawful u → Lawful v → parts u p ≡ parts v q → (u ≡ v) × (p ≡ q)
   pub split : (v : V) → Lawful v → (rest : Grammar) (q : Parts) → written (G rest) (parts v q) ≡ written (G finish) (parts v none) ++ written rest q
+  pub front : (v : V) → Lawful v → (rest : Grammar) (q : Parts) (back : List ℕ) → Spells rest q back → Spells (G rest) (parts v q) (written (G finish) (parts v none) ++ back)
 
 -- a form has the parts of the lawful values, each value its own
 pub record Form {V : Type 0} (G : Grammar) (Lawful : V → Type 0) (parts : V → Parts) : Type 0 where
@@ -47,6 +48,7 @@ fielded {V = V} {token = token} {Lawful = Lawful} {text = text} told = record {
   of = λ rest p h. (let f = field_is token rest p h in let v = told.of f.0 f.3 in (v.0, f.1, v.1, f.2 ∙ ap (λ (l : List ℕ). part l f.1) v.2, f.4));
   one = λ u v p q h k e. (let both = part_is (text u) (text v) p q e in (told.one u v h k both.0, both.1));
   split = λ v h rest q. ap (λ (l : List ℕ). l ++ written rest q) (sym (append-nil (text v)));
+  front = λ v h rest q back k. (told.is v h, (back, ap (λ (l : List ℕ). l ++ back) (append-nil (text v)), k));
 }
 
 -- a section behind a word, which has no part
@@ -56,6 +58,7 @@ worded {G = G} {parts = parts} label s = record {
   of = s.of;
   one = s.one;
   split = λ v h rest q. ap (λ (l : List ℕ). label ++ l) (s.split v h rest q) ∙ sym (append_assoc label (written (G finish) (parts v none)) (written rest q));
+  front = λ v h rest q back k. (let line = written (G finish) (parts v none) in (line ++ back, append_assoc label line back, s.front v h rest q back k));
 }
 
 -- a field behind its label
@@ -69,6 +72,7 @@ nothing = record {
   of = λ rest p h. (tt, p, tt, refl, h);
   one = λ u v p q h k e. (refl, e);
   split = λ v h rest q. refl;
+  front = λ v h rest q back k. k;
 }
 
 -- one section and then another
@@ -89,6 +93,11 @@ followed {U = U} {V = V} {G = G} {H = H} {P = P} {Q = Q} {f = f} {g = g} s t = r
       let back = written (H finish) (g w.1 none) in
       s.split w.0 h.0 (H rest) (g w.1 q) ∙ ap (λ (l : List ℕ). front ++ l) (t.split w.1 h.1 rest q) ∙ sym (append_assoc front back (written rest q))
       ∙ ap (λ (l : List ℕ). l ++ written rest q) (sym (s.split w.0 h.0 (H finish) (g w.1 none)));
+  front = λ w h rest q back k.
+      let one = written (G finish) (f w.0 none) in
+      let two = written (H finish) (g w.1 none) in
+      subst (Spells (G (H rest)) (f w.0 (g w.1 q))) (sym (append_assoc one two back) ∙ ap (λ (l : List ℕ). l ++ back) (sym (s.split w.0 h.0 (H finish) (g w.1 none))))
+      (s.front w.0 h.0 (H rest) (g w.1 q) (two ++ back) (t.front w.1 h.1 rest q back k));
 }
 
 -- one of two sections
@@ -127,6 +136,12 @@ side_split : {U V : Type 0} {G H : Grammar → Grammar} {P : U → Type 0} {Q : 
 side_split s t (inl u) h rest q = s.split u h rest q
 side_split s t (inr v) h rest q = t.split v h rest q
 
+side_front : {U V : Type 0} {G H : Grammar → Grammar} {P : U → Type 0} {Q : V → Type 0} {f : U → Parts → Parts} {g : V → Parts → Parts} → Section G P f → Section H Q g
+    → (w : U ⊎ V) → LawfulSide P Q w → (rest : Grammar) (q : Parts) (back : List ℕ) → Spells rest q back
+    → Spells (either (G rest) (H rest)) (side_parts f g w q) (written (either (G finish) (H finish)) (side_parts f g w none) ++ back)
+side_front s t (inl u) h rest q back k = s.front u h rest q back k
+side_front s t (inr v) h rest q back k = t.front v h rest q back k
+
 pub sided : {U V : Type 0} {G H : Grammar → Grammar} {P : U → Type 0} {Q : V → Type 0} {f : U → Parts → Parts} {g : V → Parts → Parts} → Section G P f → Section H Q g
     → Section (λ rest. either (G rest) (H rest)) (LawfulSide P Q) (side_parts f g)
 sided {G = G} {H = H} s t = record {
@@ -138,6 +153,7 @@ sided {G = G} {H = H} s t = record {
       ];
   one = side_one s t;
   split = side_split s t;
+  front = side_front s t;
 }
 
 -- a section under other names of its values
@@ -153,6 +169,9 @@ renamed {V = V} {G = G} {f = f} {g = g} s told back lawful lawful_back again the
   split = λ v h rest q.
       ap (written (G rest)) (there v h q) ∙ s.split (told v) (lawful v h) rest q
       ∙ ap (λ (p : Parts). written (G finish) p ++ written rest q) (sym (there v h none));
+  front = λ v h rest q back k.
+      subst (λ (p : Parts). Spells (G rest) p (written (G finish) (g v none) ++ back)) (sym (there v h q))
+      (subst (λ (p : Parts). Spells (G rest) (f (told v) q) (written (G finish) p ++ back)) (sym (there v h none)) (s.front (told v) (lawful v h) rest q back k));
 }
 
 -- a section and no more

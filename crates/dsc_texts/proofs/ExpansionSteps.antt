@@ -13,7 +13,7 @@ use Rattle.dsc_texts.specs.CallGrammar as grammar
 use Rattle.dsc_texts.specs.CallGrammar.{labelled, perhaps}
 use Rattle.dsc_texts.specs.CallParts as parts
 use Rattle.dsc_texts.specs.CallParts.{perhaps_parts, expansion_text}
-use Rattle.dsc_texts.specs.inside.Expansions.{set_parts, label_and_set}
+use Rattle.dsc_texts.specs.inside.Expansions.{set_part, label_and_set}
 use Rattle.dsc_texts.specs.inside.Reading.{ReadsForm, ReadsTail}
 
 -- the end
@@ -33,19 +33,19 @@ settled G parts bytes (Ok v) h = h.1 ∙ ap (λ (p : Parts). Ok p) (sym h.2)
 settled G parts bytes (Err left) h = h
 
 -- the parts of a set that is there
-pub there_parts : (width : ℕ) (x : PartKind) (q : Parts) → IsThere x → perhaps_parts width x q ≡ second (set_parts width x q)
+pub there_parts : (width : ℕ) (x : PartKind) (q : Parts) → IsThere x → perhaps_parts width x q ≡ second (set_part width x q)
 there_parts width LeftOut q h = absurd h
 there_parts width NoInformation q h = refl
 there_parts width (Digits n) q h = refl
 
-pub from_enhanced_parts : (e s c : PartKind) (q : Parts) → IsThere e → parts.set_parts e s c q ≡ first (set_parts 8 e (perhaps_parts 4 s (perhaps_parts 4 c q)))
+pub from_enhanced_parts : (e s c : PartKind) (q : Parts) → IsThere e → parts.set_parts e s c q ≡ first (set_part 8 e (perhaps_parts 4 s (perhaps_parts 4 c q)))
 from_enhanced_parts LeftOut s c q h = absurd h
 from_enhanced_parts NoInformation s c q h = refl
 from_enhanced_parts (Digits n) s c q h = refl
 
 -- how sets are written: each behind its label, and nothing where it is left out
 there_written : (label : List ℕ) (token : Token) (width : ℕ) (x : PartKind) (rest : Grammar) (q : Parts) → IsThere x
-    → written (labelled label token rest) (set_parts width x q) ≡ label_and_set label width x ++ written rest q
+    → written (labelled label token rest) (set_part width x q) ≡ label_and_set label width x ++ written rest q
 there_written label token width LeftOut rest q h = absurd h
 there_written label token width NoInformation rest q h = sym (append_assoc label (codes "none") (written rest q))
 there_written label token width (Digits n) rest q h = sym (append_assoc label (digits width n) (written rest q))
@@ -68,13 +68,13 @@ sets_words e s c = label_and_set (codes " enh=") 8 e ++ speed_words s c
 course_written : (c : PartKind) → written (perhaps grammar.course finish) (perhaps_parts 4 c none) ≡ course_word c
 course_written c = perhaps_written (codes " course=") (grammar.set 4 3599) 4 c finish none
 
-speed_written : (s c : PartKind) → IsThere s → written (grammar.speed (perhaps grammar.course finish)) (set_parts 4 s (perhaps_parts 4 c none)) ≡ speed_words s c
+speed_written : (s c : PartKind) → IsThere s → written (grammar.speed (perhaps grammar.course finish)) (set_part 4 s (perhaps_parts 4 c none)) ≡ speed_words s c
 speed_written s c h =
     there_written (codes " speed=") (grammar.set 4 9999) 4 s (perhaps grammar.course finish) (perhaps_parts 4 c none) h
     ∙ ap (λ (l : List ℕ). label_and_set (codes " speed=") 4 s ++ l) (course_written c)
 
 enhanced_written : (e s c : PartKind) → IsThere e
-    → written (grammar.enhanced (perhaps grammar.speed (perhaps grammar.course finish))) (set_parts 8 e (perhaps_parts 4 s (perhaps_parts 4 c none))) ≡ sets_words e s c
+    → written (grammar.enhanced (perhaps grammar.speed (perhaps grammar.course finish))) (set_part 8 e (perhaps_parts 4 s (perhaps_parts 4 c none))) ≡ sets_words e s c
 enhanced_written e s c h =
     there_written (codes " enh=") (grammar.set 8 99999999) 8 e (perhaps grammar.speed (perhaps grammar.course finish)) (perhaps_parts 4 s (perhaps_parts 4 c none)) h
     ∙ ap (λ (l : List ℕ). label_and_set (codes " enh=") 8 e ++ l)

@@ -1,5 +1,5 @@
 -- expansions and the parts of their texts
-use Rattle.std.proofs.Common.{◌≡◌, ℕ, ◌<◌, ◌≤◌, ◌^◌, List, ◌⊎◌, inl, inr, codes, slice_index_or, refl, sym, ◌∙◌, ap, arith}
+use Rattle.std.proofs.Common.{◌≡◌, ℕ, ◌<◌, ◌^◌, List, ◌⊎◌, inl, inr, codes, slice_index_or, refl, sym, ap, arith}
 use Rattle.expansion.specs.declared.parts.PartKind.{PartKind}
 use Rattle.expansion.specs.declared.parts.PartKind.TheVariants.{LeftOut, NoInformation, Digits}
 use Rattle.expansion.specs.declared.values.Sets.{Sets}
@@ -16,7 +16,7 @@ use Rattle.dsc_texts.specs.CallGrammar.{set, perhaps}
 use Rattle.dsc_texts.specs.CallParts as parts
 use Rattle.dsc_texts.specs.CallParts.{set_text, perhaps_parts, expansion_parts}
 use Rattle.dsc_texts.specs.Texts.{IsWholeOrAbsent}
-use Rattle.dsc_texts.specs.inside.Expansions.{IsSet, set_parts, extra_parts}
+use Rattle.dsc_texts.specs.inside.Expansions.{IsSet, set_part, extra_parts}
 use Rattle.dsc_texts.proofs.SymbolTexts.{Told}
 use Rattle.dsc_texts.proofs.FieldTexts.{up_to, most_of}
 use Rattle.dsc_texts.proofs.CallSections.{Section, worded, labelled, nothing, followed, LawfulSide, side_parts, sided, renamed}
@@ -53,13 +53,13 @@ set_told : (width most : ℕ) → most < 10 ^ width → ((n : ℕ) → digits wi
 set_told width most below apart = record { is = set_is width most; of = set_of width most; one = set_one width most below apart }
 
 -- the sets, as sections
-enhanced_section : Section {V = PartKind} grammar.enhanced (IsSet 99999999) (set_parts 8)
+enhanced_section : Section {V = PartKind} grammar.enhanced (IsSet 99999999) (set_part 8)
 enhanced_section = labelled (codes " enh=") (set_told 8 99999999 (omega arith) eight_apart)
 
-speed_section : Section {V = PartKind} grammar.speed (IsSet 9999) (set_parts 4)
+speed_section : Section {V = PartKind} grammar.speed (IsSet 9999) (set_part 4)
 speed_section = labelled (codes " speed=") (set_told 4 9999 (omega arith) four_apart)
 
-course_section : Section {V = PartKind} grammar.course (IsSet 3599) (set_parts 4)
+course_section : Section {V = PartKind} grammar.course (IsSet 3599) (set_part 4)
 course_section = labelled (codes " course=") (set_told 4 3599 (omega arith) four_apart)
 
 -- a set that may be left out
@@ -76,7 +76,7 @@ abbrev IsOne : ℕ → Unit {0} ⊎ PartKind → Type 0
 IsOne most = LawfulSide (λ (u : Unit {0}). Unit {0}) (IsSet most)
 
 abbrev one_parts : ℕ → Unit {0} ⊎ PartKind → Parts → Parts
-one_parts width = side_parts (λ (u : Unit {0}) (q : Parts). q) (set_parts width)
+one_parts width = side_parts (λ (u : Unit {0}) (q : Parts). q) (set_part width)
 
 one_lawful : (most : ℕ) (x : PartKind) → IsUpTo most x → IsOne most (one_told x)
 one_lawful most LeftOut h = tt
@@ -103,7 +103,7 @@ one_here width most (inr LeftOut) h q = absurd h.0
 one_here width most (inr NoInformation) h q = refl
 one_here width most (inr (Digits n)) h q = refl
 
-perhaps_set : {G : Grammar → Grammar} (width most : ℕ) → Section {V = PartKind} G (IsSet most) (set_parts width) → Section {V = PartKind} (perhaps G) (IsUpTo most) (perhaps_parts width)
+perhaps_set : {G : Grammar → Grammar} (width most : ℕ) → Section {V = PartKind} G (IsSet most) (set_part width) → Section {V = PartKind} (perhaps G) (IsUpTo most) (perhaps_parts width)
 perhaps_set width most s =
     renamed (sided nothing s) one_told one_back (one_lawful most) (one_lawful_back most) (λ x h. one_again x) (λ x h. one_there width x) (one_here width most)
 
@@ -118,8 +118,8 @@ AreSome =
 
 abbrev some_parts : Some → Parts → Parts
 some_parts =
-    side_parts (λ (w : PartKind × (PartKind × PartKind)) (q : Parts). set_parts 8 w.0 (perhaps_parts 4 w.1.0 (perhaps_parts 4 w.1.1 q))) (
-    side_parts (λ (w : PartKind × PartKind) (q : Parts). set_parts 4 w.0 (perhaps_parts 4 w.1 q)) (set_parts 4))
+    side_parts (λ (w : PartKind × (PartKind × PartKind)) (q : Parts). set_part 8 w.0 (perhaps_parts 4 w.1.0 (perhaps_parts 4 w.1.1 q))) (
+    side_parts (λ (w : PartKind × PartKind) (q : Parts). set_part 4 w.0 (perhaps_parts 4 w.1 q)) (set_part 4))
 
 some_section : Section {V = Some} grammar.sets AreSome some_parts
 some_section =

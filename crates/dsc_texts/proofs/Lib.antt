@@ -6,5 +6,6 @@ mod ExpansionTexts
 mod FieldSteps
 mod FormLaws
 mod CallLaws
+mod BareTexts
 mod SectionSteps
 mod ExpansionSteps

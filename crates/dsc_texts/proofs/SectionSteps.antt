@@ -1,8 +1,8 @@
 -- the steps of the readers of sections
 use Rattle.std.proofs.Common.{◌≡◌, ℕ, List, Result, Ok, Err, IfOk, IsOkAnd, IfErr, IsErrAnd, refl, sym, ◌∙◌, ap, subst}
 use Rattle.line_grammar.specs.Tokens.{Token}
-use Rattle.line_grammar.specs.Grammar.{Grammar, finish, word, field, either, Parts, none, part, first, second}
-use Rattle.line_grammar.specs.inside.Reading.{after, read_token, and_then, and_part, named, further, ended, read}
+use Rattle.line_grammar.specs.Grammar.{Grammar, word, field, either, Parts, part, first, second}
+use Rattle.line_grammar.specs.inside.Reading.{after, read_token, and_then, and_part, named, further, read}
 use Rattle.dsc_texts.specs.CallGrammar.{labelled}
 use Rattle.dsc_texts.specs.inside.Reading.{ReadsSection, ReadsForm}
 

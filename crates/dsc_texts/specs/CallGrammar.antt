@@ -7,7 +7,7 @@ use Rattle.dsc_symbols.specs.declared.notices.TheConstants.{SECONDS}
 use Rattle.dsc_symbols.specs.declared.telecommands.TheConstants.{COMMS, FIRSTS}
 use Rattle.line_grammar.specs.Shapes.{Shape, letters, fixed_number, pair, choice}
 use Rattle.line_grammar.specs.Tokens.{Token, shaped}
-use Rattle.line_grammar.specs.Grammar.{Grammar, finish, word, field, either}
+use Rattle.line_grammar.specs.Grammar.{Grammar, word, field, either}
 
 -- the nine digits of an identity
 abbrev pub identity_shape : Shape

@@ -31,7 +31,7 @@ IsWholeOrAbsent (Broken n) = ⊥
 
 -- the bytes are the text of a call whose parts are in their ranges, and of such an expansion where one follows
 abbrev pub IsCallText : Call × Extra → List ℕ → Type 0
-IsCallText told bytes = (IsCall told.0 × IsWholeOrAbsent told.1) × (bytes ≡ reported_text told.0 told.1)
+IsCallText (call, extra) bytes = (IsCall call × IsWholeOrAbsent extra) × (bytes ≡ reported_text call extra)
 
 -- what an answer says, with the places and symbols that it names as plain numbers
 abbrev pub verdict_text : Joined → List ℕ

@@ -1,4 +1,4 @@
-ghost use Rattle.std.specs.Prelude.{◌≡◌, ◌<◌, ◌≤◌, ◌^◌, ◌∷◌, [], IfOk, IfErr, Ok, Err, codes};
+ghost use Rattle.std.specs.Prelude.{◌≡◌, ◌<◌, ◌≤◌, ◌^◌, ◌∷◌, [], IfOk, IfErr, Ok, Err};
 ghost use Rattle.line_grammar.specs.Grammar.{finish, first, second};
 ghost use Rattle.line_grammar.specs.Shapes as shape;
 ghost use Rattle.line_grammar.specs.inside.Reading.{read_shape};
@@ -47,7 +47,7 @@ fn set(line: &mut Cursor, label: &[u8], width: usize, most: u32) -> Result<Part,
     requires width { width ≤ 8 }
     requires most { most < 10 ^ width }
     ensures lawful { IfOk result (λ set. IsSet most set) }
-    ensures reads { ReadsSection (labelled label.now (grammar.set width most)) (inside.set_parts width) line.old result line.new }
+    ensures reads { ReadsSection (labelled label.now (grammar.set width most)) (inside.set_part width) line.old result line.new }
 {
     word(line, label)?;
     take(line, &set_value(width, most, line.rest()))

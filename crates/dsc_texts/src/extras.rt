@@ -1,6 +1,5 @@
 ghost use Rattle.std.specs.Prelude.{◌≡◌, ◌+◌, ◌≤◌, ◌++◌, length};
 ghost use Rattle.arrayvec.specs.ArrayVec.{array_vec_len};
-ghost use Rattle.expansion.specs.Parts.{IsUpTo};
 ghost use Rattle.dsc_texts.specs.CallParts.{expansion_text};
 ghost use Rattle.dsc_texts.specs.Texts.{extra_text};
 ghost use Rattle.dsc_texts.specs.inside.Expansions.{label_and_set};

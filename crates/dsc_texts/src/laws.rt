@@ -1,7 +1,9 @@
-ghost use Rattle.std.specs.Prelude.{◌≡◌, ℕ, Result, Ok};
+ghost use Rattle.std.specs.Prelude.{◌≡◌, ℕ, ◌+◌, length, Result, Ok, Err};
 ghost use Rattle.call_values.specs.declared.calls.Call.{Call};
 ghost use Rattle.call_values.specs.Calls.{IsCall};
+ghost use Rattle.expansion.specs.declared.values.Sets.{Sets};
 ghost use Rattle.slot_join.specs.declared.joined.Extra.{Extra};
+ghost use Rattle.slot_join.specs.declared.joined.Extra.TheVariants.{Whole};
 ghost use Rattle.line_grammar.specs.Columns.{Answers};
 ghost use Rattle.dsc_texts.specs.CallParts.{call_text};
 ghost use Rattle.dsc_texts.specs.Texts.{IsBareCallText, IsCallText, IsWholeOrAbsent, reported_text};
@@ -16,6 +18,12 @@ pub fn call_texts_are_read()
 /// The law that of a call's text, where no expansion may follow, reading can answer nothing but this call. It does nothing.
 pub fn bare_call_texts_are_read()
     ensures { (call : Call) (answer : Result Call ℕ) → IsCall call → Answers IsBareCallText (call_text call) answer → answer ≡ Ok call }
+{}
+
+/// The law that an expansion is refused at the blank in front of it, where none may follow. It does nothing.
+pub fn expansions_are_refused_at_their_blank()
+    ensures { (call : Call) (x : Sets) (answer : Result Call ℕ) → IsCall call
+        → Answers IsBareCallText (reported_text call (Whole x)) answer → answer ≡ Err (length (call_text call) + 1) }
 {}
 
 /// The law that no two calls have one text, whatever expansion follows them. It does nothing.

@@ -17,5 +17,11 @@ mod values;
 
 pub use answers::{put_answer, put_answer_line};
 pub use calls::put_call;
-pub use laws::{bare_call_texts_are_read, call_texts_are_read, texts_tell_calls_apart};
+pub use laws::{
+    bare_call_texts_are_read, call_texts_are_read, expansions_are_refused_at_their_blank,
+    texts_tell_calls_apart,
+};
 pub use reading::{read_bare_call, read_call};
+
+#[cfg(test)]
+mod tests;

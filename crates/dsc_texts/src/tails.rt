@@ -1,4 +1,3 @@
-ghost use Rattle.std.specs.Prelude.{◌≡◌};
 ghost use Rattle.line_grammar.specs.Grammar as line;
 ghost use Rattle.line_grammar.specs.Grammar.{Grammar, Parts};
 ghost use Rattle.dsc_texts.specs.CallGrammar as grammar;

@@ -14,19 +14,19 @@ abbrev pub IsSet : ℕ → PartKind → Type 0
 IsSet most set = IsThere set × IsUpTo most set
 
 -- the part of a set that is there, and of what stands behind it
-abbrev pub set_parts : ℕ → PartKind → Parts → Parts
-set_parts width set rest = part (set_text width set) rest
+abbrev pub set_part : ℕ → PartKind → Parts → Parts
+set_part width set rest = part (set_text width set) rest
 
 -- the parts of the course to the end
 abbrev pub course : PartKind → Parts
-course set = set_parts 4 set none
+course set = set_part 4 set none
 
 abbrev pub perhaps_course : PartKind → Parts
 perhaps_course set = perhaps_parts 4 set none
 
 -- the parts of the speed and of what may follow it to the end
 abbrev pub speed : PartKind × PartKind → Parts
-speed sets = set_parts 4 sets.0 (perhaps_course sets.1)
+speed sets = set_part 4 sets.0 (perhaps_course sets.1)
 
 abbrev pub perhaps_speed : PartKind × PartKind → Parts
 perhaps_speed sets = perhaps_parts 4 sets.0 (perhaps_course sets.1)

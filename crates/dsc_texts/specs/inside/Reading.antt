@@ -27,8 +27,8 @@ ReadsTail G parts bytes (Err left) = read G bytes ≡ Err left
 
 -- the parts of a call, and of what stands behind it
 abbrev pub parts_with : {T : Type 0} → (T → Parts) → Call × T → Parts
-parts_with tail told = call_parts told.0 (tail told.1)
+parts_with tail (call, behind) = call_parts call (tail behind)
 
 -- the parts of what a call to one station ends with, and of what stands behind it
 abbrev pub ending_with : {T : Type 0} → (T → Parts) → Ending × T → Parts
-ending_with tail told = message_parts told.0.message (end_parts (end_symbol told.0.end) (tail told.1))
+ending_with tail (ending, behind) = message_parts ending.message (end_parts (end_symbol ending.end) (tail behind))

@@ -16,6 +16,6 @@ pub returns-clause-reads : goal.returns-clause-reads
 returns-clause-reads c = (
   _,
   ap (read (grammar.course finish)) (sym c.new-line.ensures)
-      ∙ whole grammar.course finish (inside.set_parts 4 c.in_ok-course.course) _ _ _ _ c.in_ok-course.ensures.reads refl (ended_read _ _ c.in_ok-end.ensures.end),
+      ∙ whole grammar.course finish (inside.set_part 4 c.in_ok-course.course) _ _ _ _ c.in_ok-course.ensures.reads refl (ended_read _ _ c.in_ok-end.ensures.end),
   refl,
 )

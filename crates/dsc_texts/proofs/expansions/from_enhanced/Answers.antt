@@ -18,7 +18,7 @@ returns c =
     let rest = perhaps grammar.speed (perhaps grammar.course finish) in (
       _,
       ap (read (grammar.enhanced rest)) (sym c.new-line.ensures)
-          ∙ whole grammar.enhanced rest (inside.set_parts 8 enhanced) _ _ _ _ c.in_ok-enhanced.ensures.reads c.rest.ensures c.in_ok-speed.ensures.reads.1,
+          ∙ whole grammar.enhanced rest (inside.set_part 8 enhanced) _ _ _ _ c.in_ok-enhanced.ensures.reads c.rest.ensures c.in_ok-speed.ensures.reads.1,
       ap inside.sets value ∙ from_enhanced_parts enhanced speed course none c.in_ok-enhanced.ensures.lawful.0
-          ∙ ap (λ (p : Parts). first (inside.set_parts 8 enhanced p)) c.in_ok-speed.ensures.reads.2,
+          ∙ ap (λ (p : Parts). first (inside.set_part 8 enhanced p)) c.in_ok-speed.ensures.reads.2,
     )
