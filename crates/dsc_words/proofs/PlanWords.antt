@@ -13,12 +13,12 @@ use Rattle.clap.proofs.SimpleLemmas.{is_nil}
 use Rattle.clap.proofs.WalkLemmas.{both}
 use Rattle.dsc_words.specs.Words.{HasWorkers, IsCommand, IsInRange, IsNumber, IsOption, IsPlan, IsWorkers}
 use Rattle.dsc_words.specs.inside.Asked.{IsAsked}
-use Rattle.dsc_words.specs.inside.CommandLine.{dsc}
+use Rattle.dsc_words.specs.inside.CommandLine.{dsc, with_option}
 use Rattle.dsc_words.specs.declared.plans.Plan.{Plan}
 use Rattle.dsc_words.specs.declared.plans.Plan.TheVariants.{Join, Evidence}
 use Rattle.dsc_words.proofs.LongWords.{IsBare, IsName, none_is_some, same_text}
 use Rattle.dsc_words.proofs.Turns.{HasNoDashes}
-use Rattle.dsc_words.proofs.OptionTurns.{command}
+use Rattle.dsc_words.proofs.OptionTurns.{leaf}
 use Rattle.dsc_words.proofs.OptionWords.{option_passes, option_taken}
 use Rattle.dsc_words.proofs.CommandWords.{Enters, IsMet, app, entered_passes, enters}
 
@@ -80,12 +80,12 @@ workers_in_range words n (Some text, is, number) = (number.1, number.2)
 
 -- ---- the command that the words enter
 
--- `clap` has the command of this name, with this option
-record Has (name long : Text) : Type 0 where
+-- `clap` has this command under its name
+record Has (name : Text) (s : Shape) : Type 0 where
   undashed : bytes_eq name (codes "--") ≡ false
   met : IsMet name
-  fault : (ws : List Text) → entered_fault app (Some (name, ws)) ≡ level_fault (command name long) [] nothing_held ws false []
-  rows : (ws : List Text) → entered app (Some (name, ws)) ≡ Some (rows_at (command name long) ws)
+  fault : (ws : List Text) → entered_fault app (Some (name, ws)) ≡ level_fault (leaf s) [] nothing_held ws false []
+  rows : (ws : List Text) → entered app (Some (name, ws)) ≡ Some (name, rows_after (leaf s).rules [] ws)
 
 pub some_same : {X : Type 0} (x y : X) → Some x ≡ Some y → x ≡ y
 some_same x y e = cc
@@ -109,16 +109,23 @@ entered_name word ws (s ∷ subs) plain name rows e =
     go false true is none h rest = absurd (true≢false none)
     go false false is none h rest = rest h
 
--- the words that entered a command with an option are the option's, with what was found of it
-option_entered : (name long : Text) → Has name long → (words : List Text) (e : Enters words) → HasNoDashes e.rest → (found : Text) (rows : List Row)
+-- words that pass and give a command passed for it
+entered_as : (name : Text) (s : Shape) → Has name s → (words : List Text) (e : Enters words) (found : Text) (rows : List Row) → subcommand_of dsc words ≡ Some (found, rows) → found ≡ name
+    → (e.command ≡ name) × (level_fault (leaf s) [] nothing_held e.rest false [] ≡ []) × (rows ≡ rows_after (leaf s).rules [] e.rest)
+entered_as name s has words e found rows gives is =
+    let entry = sym e.finds ∙ gives in
+    let named = entered_name e.command e.rest app.subs refl found rows entry ∙ is in
+    let same = same_pair (sym entry ∙ ap (λ (n : Text). entered app (Some (n, e.rest))) named ∙ has.rows e.rest) in
+    (named, sym (has.fault e.rest) ∙ ap (λ (n : Text). entered_fault app (Some (n, e.rest))) (sym named) ∙ e.passes, same.1)
+
+-- they are its option's, with what was found of it
+option_entered : (name long : Text) → Has name (with_option name long) → (words : List Text) (e : Enters words) → HasNoDashes e.rest → (found : Text) (rows : List Row)
     → subcommand_of dsc words ≡ Some (found, rows) → found ≡ name
     → (e.command ≡ name) × ((given : Option Text) × IsOption long e.rest given × (first_of (codes "number") rows ≡ given))
 option_entered name long has words e undashed found rows gives is =
-    let entry = sym e.finds ∙ gives in
-    let named = entered_name e.command e.rest app.subs refl found rows entry ∙ is in
-    let passes = option_passes name long e.rest undashed (sym (has.fault e.rest) ∙ ap (λ (n : Text). entered_fault app (Some (n, e.rest))) (sym named) ∙ e.passes) in
-    let same : Some (rows_at (command name long) e.rest) ≡ Some (found, rows) = sym (has.rows e.rest) ∙ ap (λ (n : Text). entered app (Some (n, e.rest))) (sym named) ∙ entry in
-    (named, (passes.0, passes.1, ap (first_of (codes "number")) (sym (same_pair same).1) ∙ passes.2))
+    let entry = entered_as name (with_option name long) has words e found rows gives is in
+    let passes = option_passes name long e.rest undashed entry.1 in
+    (entry.0, (passes.0, passes.1, ap (first_of (codes "number")) entry.2 ∙ passes.2))
 
 -- what `clap` makes of a plan's words
 pub record Taken (words : List Text) (plan : Plan) : Type 0 where
@@ -129,27 +136,36 @@ pub record Taken (words : List Text) (plan : Plan) : Type 0 where
   pub gives : subcommand_of dsc words ≡ Some (found, rows)
   pub asked : IsAsked found (first_of (codes "number") rows) plan
 
--- a command and its option's words are taken
-option_words_taken : (name long : Text) → Has name long → IsName long → (plan : Plan) (program word : Text) (ws : List Text) (given : Option Text)
+-- words that pass for a command pass behind its name
+command_taken : (name : Text) (s : Shape) → Has name s → (plan : Plan) (program word : Text) (ws : List Text) → word ≡ name → HasNoDashes ws
+    → level_fault (leaf s) [] nothing_held ws false [] ≡ [] → IsAsked name (first_of (codes "number") (rows_after (leaf s).rules [] ws)) plan → Taken (program ∷ word ∷ ws) plan
+command_taken name s has plan program word ws at undashed passes asked =
+    let whole = entered_passes program name ws has.met (ap is_some (has.rows ws)) (has.fault ws ∙ passes) in
+    subst (λ (w : Text). Taken (program ∷ w ∷ ws) plan) (sym at) (record {
+      undashed = (has.undashed, undashed);
+      passes = whole.0;
+      found = name;
+      rows = rows_after (leaf s).rules [] ws;
+      gives = whole.1 ∙ has.rows ws;
+      asked = asked;
+    })
+
+option_words_taken : (name long : Text) → Has name (with_option name long) → IsName long → (plan : Plan) (program word : Text) (ws : List Text) (given : Option Text)
     → word ≡ name → IsOption long ws given → IfSome given IsBare → IsAsked name given plan → Taken (program ∷ word ∷ ws) plan
 option_words_taken name long has named plan program word ws given at is bare asked =
     let taken = option_taken name long named ws given is bare in
-    let passes = entered_passes program name ws has.met (ap is_some (has.rows ws)) (has.fault ws ∙ taken.1) in
-    subst (λ (w : Text). Taken (program ∷ w ∷ ws) plan) (sym at) (record {
-      undashed = (has.undashed, taken.0);
-      passes = passes.0;
-      found = name;
-      rows = rows_after (command name long).rules [] ws;
-      gives = passes.1 ∙ has.rows ws;
-      asked = subst (λ (g : Option Text). IsAsked name g plan) (sym taken.2) asked;
-    })
+    command_taken name (with_option name long) has plan program word ws at taken.0 taken.1 (subst (λ (g : Option Text). IsAsked name g plan) (sym taken.2) asked)
 
 -- ---- plans, one command a line
 
-has_join : Has (codes "join") (codes "workers")
+-- the command of this name takes the number of workers
+abbrev HasCommandWithWorkers : Text → Type 0
+HasCommandWithWorkers name = Has name (with_option name (codes "workers"))
+
+has_join : HasCommandWithWorkers (codes "join")
 has_join = record { undashed = refl; met = refl; fault = λ ws. refl; rows = λ ws. refl }
 
-has_evidence : Has (codes "evidence") (codes "workers")
+has_evidence : HasCommandWithWorkers (codes "evidence")
 has_evidence = record { undashed = refl; met = refl; fault = λ ws. refl; rows = λ ws. refl }
 
 -- words that `clap` takes for what a plan asks are the plan
@@ -160,7 +176,7 @@ asked_is_plan words undashed passes found rows plan gives asked =
     let behind = subst (λ (ws : List Text). HasNoDashes (drop 1 ws)) e.words_are undashed in
     record { name = e.name; command = e.command; rest = e.rest; words_are = e.words_are; is_command = go e behind.1 plan asked }
   where
-    with_workers : (name : Text) → Has name (codes "workers") → (e : Enters words) → HasNoDashes e.rest → (n : ℕ)
+    with_workers : (name : Text) → HasCommandWithWorkers name → (e : Enters words) → HasNoDashes e.rest → (n : ℕ)
         → (found ≡ name) × IsWorkers (first_of (codes "number") rows) n → (e.command ≡ name) × HasWorkers e.rest n
     with_workers name has e behind n asked =
         let got = option_entered name (codes "workers") has words e behind found rows gives asked.0 in
@@ -174,7 +190,7 @@ asked_is_plan words undashed passes found rows plan gives asked =
 pub plan_is_taken : (words : List Text) (plan : Plan) → IsPlan words plan → Taken words plan
 plan_is_taken words plan is = subst (λ (ws : List Text). Taken ws plan) (sym is.words_are) (go is.command is.rest plan is.is_command)
   where
-    with_workers : (name : Text) → Has name (codes "workers") → (plan : Plan) (word : Text) (ws : List Text) (n : ℕ) → ((given : Option Text) → IsWorkers given n → IsAsked name given plan)
+    with_workers : (name : Text) → HasCommandWithWorkers name → (plan : Plan) (word : Text) (ws : List Text) (n : ℕ) → ((given : Option Text) → IsWorkers given n → IsAsked name given plan)
         → (word ≡ name) × HasWorkers ws n → Taken (is.name ∷ word ∷ ws) plan
     with_workers name has plan word ws n asks (at, (given, words_are, workers)) =
         option_words_taken name (codes "workers") has workers_name plan is.name word ws given at words_are (workers_bare given n workers) (asks given workers)

@@ -1,7 +1,7 @@
 ghost use Rattle.std.specs.Prelude.{◌≡◌, IfOk, false};
 ghost use Rattle.clap.specs.Words.{app_of, shape_of};
 ghost use Rattle.clap.specs.declared.builder.command.Command.TheViews.{out-Command as fields_of};
-ghost use Rattle.dsc_words.specs.inside.CommandLine.{dsc, with_option};
+ghost use Rattle.dsc_words.specs.inside.CommandLine.{dsc, program, with_option};
 
 use clap::{Arg, Command};
 use std::alloc::{AllocError, Global};
@@ -10,13 +10,20 @@ use std::alloc::{AllocError, Global};
 pub fn command_line<'a>(alloc: Global) -> Result<Command<'a>, AllocError>
     ensures { IfOk result (λ r. app_of r ≡ dsc) }
 {
-    let program = Command::new(alloc, "dsc")
-        .disable_help_flag(true)
-        .disable_help_subcommand(true)
-        .subcommand_required(true);
+    let program = without_commands(alloc);
     let program = program.subcommand(with_option(alloc, "join", "workers")?)?;
     let program = program.subcommand(with_option(alloc, "evidence", "workers")?)?;
     Ok(program)
+}
+
+/// The program without its commands. Help is no command, and no words but a command's are taken.
+fn without_commands<'a>(alloc: Global) -> Command<'a>
+    ensures { app_of result ≡ program }
+{
+    Command::new(alloc, "dsc")
+        .disable_help_flag(true)
+        .disable_help_subcommand(true)
+        .subcommand_required(true)
 }
 
 /// A command with one option, which takes a number. The option's id is `number` whatever its name, so that one function

@@ -3,6 +3,7 @@
 
 mod command_line;
 mod numbers;
+mod options;
 mod plans;
 mod reading;
 #[cfg(test)]

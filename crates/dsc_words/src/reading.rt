@@ -1,21 +1,18 @@
-ghost use Rattle.std.specs.Prelude.{◌≡◌, ◌↔◌, ℕ, List, [], IfOk, IfSome, IsNone, IsErrOf, drop, map, codes, string_bytes, option_map};
+ghost use Rattle.std.specs.Prelude.{◌≡◌, ◌↔◌, List, [], IfOk, IfSome, IsNone, IsErrOf, drop, map, codes, string_bytes, option_map};
 ghost use Rattle.std.specs.List.{list_any};
 ghost use Rattle.std.specs.Str.{bytes_eq};
 ghost use Rattle.clap.specs.Words.{Row, Text, fault_of, first_of, kind_of, subcommand_of, subcommand_rows_of};
-ghost use Rattle.dsc_words.specs.Words.{IsInRange, IsPlan, IsWorkers};
+ghost use Rattle.dsc_words.specs.Words.{IsInRange, IsPlan};
 ghost use Rattle.dsc_words.specs.inside.Asked.{IsAsked};
 ghost use Rattle.dsc_words.specs.inside.CommandLine.{dsc};
 ghost use Rattle.dsc_words.specs.declared.plans.Plan.{Plan};
 
 use crate::command_line::command_line;
-use crate::numbers::number;
+use crate::options::workers;
 use crate::plans::{Plan, PlanError};
 use clap::error::ErrorKind;
 use clap::{ArgMatches, Error};
 use std::alloc::Global;
-
-/// The most workers that a command takes.
-const MOST_WORKERS: u16 = 64;
 
 /// The plan that the words are; the first of them is the program's name. `Refused` where they are none, and `Memory` where
 /// no memory was found to read them.
@@ -82,16 +79,5 @@ fn asked(command: &str, given: Option<&str>) -> Option<Plan>
             workers: workers(given)?,
         }),
         _ => None,
-    }
-}
-
-/// The number of workers: 1 where none is given.
-fn workers(given: Option<&str>) -> Option<u8>
-    ensures some { IfSome result (IsWorkers (option_map (λ s. s.now) given.entry)) }
-    ensures none { IsNone result → (n : ℕ) → IsWorkers (option_map (λ s. s.now) given.entry) n → ⊥ }
-{
-    match given {
-        None => Some(1),
-        Some(text) => Some(number(text, MOST_WORKERS)? as u8),
     }
 }

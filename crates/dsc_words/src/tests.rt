@@ -32,7 +32,7 @@ static PLANS: [(&str, Plan); 15] = [
 ];
 
 /// Word lists that are no plan.
-static REFUSED: [&str; 46] = [
+static REFUSED: [&str; 48] = [
     // No command, or none that there is.
     "dsc",
     "",
@@ -43,6 +43,8 @@ static REFUSED: [&str; 46] = [
     "dsc|joi",
     "dsc|joins",
     "dsc| join",
+    "dsc|encode",
+    "dsc|sentences",
     "dsc|replay",
     "dsc|make|7",
     // Help and version are no plans.
