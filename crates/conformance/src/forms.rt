@@ -199,7 +199,11 @@ fn every_form_and_address(rt: HostRuntime) {
             text.as_bytes(),
             "{text}"
         );
-        assert_eq!(rt; read_call(text.as_bytes()), Ok((call, Extra::Absent)), "{text}");
+        assert_eq!(rt;
+            read_call(text.as_bytes()),
+            Ok((call, Extra::Absent)),
+            "{text}"
+        );
         assert_eq!(rt; read_bare_call(text.as_bytes()), Ok(call), "{text}");
     }
 }

@@ -5,7 +5,8 @@ use slot_join::Open;
 use std::test::Fail;
 
 // The evidence of a clean reception of the worked alert.
-const EVIDENCE: &str = "e g0 0:112 1:112 2:33 3:80 4:40 5:7 6:90 7:106 8:14 9:23 10:10 11:83 12:12 13:20 14:19 15:100 16:127 17:78 18:127 19:127\n";
+const EVIDENCE: &str =
+    "e g0 0:112 1:112 2:33 3:80 4:40 5:7 6:90 7:106 8:14 9:23 10:10 11:83 12:12 13:20 14:19 15:100 16:127 17:78 18:127 19:127\n";
 
 #[test]
 fn groups_by_rising_number(rt: HostRuntime) -> Result<(), Fail> {
@@ -25,7 +26,12 @@ fn groups_by_rising_number(rt: HostRuntime) -> Result<(), Fail> {
             "g0 missing 1\ng1 missing 0\ng3 missing 0\n",
             1,
         ),
-        ("dsc evidence", "r g3\ne 8:22 8:14 8:20\n", "e g0 8:14 8:22\ne g3\n", 0),
+        (
+            "dsc evidence",
+            "r g3\ne 8:22 8:14 8:20\n",
+            "e g0 8:14 8:22\ne g3\n",
+            0,
+        ),
         ("dsc evidence --workers 3", EVIDENCE, EVIDENCE, 0),
         ("dsc evidence", "e 0:1\ne g\n", "dsc: line 2 column 4\n", 3),
         ("dsc evidence", "", "", 0),
@@ -57,7 +63,12 @@ fn evidence_beside_a_reception(rt: HostRuntime) -> Result<(), Fail> {
         ..WHOLE
     };
     let heard = line(alloc, &ALERT_SLOTS, &damaged)?;
-    let (told, _) = joined(&rt, alloc, "dsc evidence", line(alloc, &ALERT_SLOTS, &damaged)?)?;
+    let (told, _) = joined(
+        &rt,
+        alloc,
+        "dsc evidence",
+        line(alloc, &ALERT_SLOTS, &damaged)?,
+    )?;
     let other = b"e 7:106 19:127 18:127\n".as_slice();
     for (first, second) in [(heard.as_slice(), other), (other, told.as_slice())] {
         let mut input = Vec::from_slice(alloc, first)?;
@@ -75,7 +86,10 @@ fn as_many_groups_as_an_input_may_have(rt: HostRuntime) -> Result<(), Fail> {
     for (groups, status) in [(1_024u32, 1), (1_025, 7)] {
         let mut input = Vec::new(alloc);
         for group in 0..groups {
-            input.extend_from_slice(format!(in alloc; "e g{group}\nr g{}\n", group / 2)?.as_bytes())?;
+            input.extend_from_slice(format!(in alloc;
+                "e g{group}\nr g{}\n",
+                group / 2
+            )?.as_bytes())?;
         }
         let words = words_of(alloc, "dsc join")?;
         let mut source = SureSource::new(input, 4096);
