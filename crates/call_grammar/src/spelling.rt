@@ -9,7 +9,7 @@ use call_values::{
     Message, Mmsi, Position, Second, To,
 };
 use dsc_symbols::messages::{NO_INFORMATION, POSITION_FOLLOWS, UNKNOWN_POSITION, UNKNOWN_TIME};
-use dsc_symbols::{categories, ends, formats, telecommands};
+use dsc_symbols::{categories, formats, telecommands};
 use symbol_reader::{check, eight_digits, six_digits, ten_digits};
 
 /// A call's list: the format specifier twice, the fields, the end of sequence, the error check character, and the
@@ -58,17 +58,24 @@ fn format_to(to: &To) -> u8
     }
 }
 
-/// The call's end of sequence.
+/// The call's end of sequence: acknowledgement wanted, acknowledgement given, or neither (ITU-R M.493, end of sequence).
+pub fn own_end(call: &Call) -> End
+    ensures { sequence.end_symbol result ≡ sequence.end_of call.now }
+{
+    match call {
+        Call::Relay { ask: true, .. } => End::Ask,
+        Call::RelayAck { .. } => End::Reply,
+        Call::Individual { end, .. } => *end,
+        Call::Service { kind, .. } => kind_end(kind),
+        _ => End::Plain,
+    }
+}
+
+/// The symbol of the call's end of sequence.
 pub fn end_of(call: &Call) -> u8
     ensures { result ≡ sequence.end_of call.now }
 {
-    match call {
-        Call::Relay { ask: true, .. } => ends::ACKNOWLEDGE_RQ,
-        Call::RelayAck { .. } => ends::ACKNOWLEDGE_BQ,
-        Call::Individual { end, .. } => end_symbol(end),
-        Call::Service { kind, .. } => kind_end(kind),
-        _ => ends::EOS,
-    }
+    own_end(call).symbol()
 }
 
 /// The symbol of an end of sequence (ITU-R M.493, end of sequence).
@@ -78,12 +85,13 @@ pub fn end_symbol(end: &End) -> u8
     end.symbol()
 }
 
-fn kind_end(kind: &Kind) -> u8
-    ensures { result ≡ sequence.kind_end kind.now }
+/// The end of sequence of a test, of its reply, and of a position that is asked for or told.
+fn kind_end(kind: &Kind) -> End
+    ensures { sequence.end_symbol result ≡ sequence.kind_end kind.now }
 {
     match kind {
-        Kind::Test { reply: false } | Kind::AskPosition => ends::ACKNOWLEDGE_RQ,
-        Kind::Test { reply: true } | Kind::Position(..) => ends::ACKNOWLEDGE_BQ,
+        Kind::Test { reply: false } | Kind::AskPosition => End::Ask,
+        Kind::Test { reply: true } | Kind::Position(..) => End::Reply,
     }
 }
 

@@ -192,8 +192,17 @@ fn faults_of_lines(rt: HostRuntime) -> Result<(), Fail> {
         ("r \n", "dsc: line 1 column 3\n", 3),
         ("r YBX\n", "dsc: line 1 column 5\n", 3),
         ("r YB\r\n", "dsc: line 1 column 5\n", 3),
-        ("#\n\nr g0\n", "dsc: line 3 column 3\n", 3),
-        ("r Y\ne 0:1\nx\n", "dsc: line 2 column 1\n", 3),
+        ("#\n\nr h0\n", "dsc: line 3 column 3\n", 3),
+        ("r g07 Y\n", "dsc: line 1 column 5\n", 3),
+        ("r g4294967296\n", "dsc: line 1 column 13\n", 3),
+        ("r g42949672950\n", "dsc: line 1 column 14\n", 3),
+        ("e 5\n", "dsc: line 1 column 4\n", 3),
+        ("e 64:1\n", "dsc: line 1 column 4\n", 3),
+        ("e 0:128\n", "dsc: line 1 column 7\n", 3),
+        ("e 7:130\n", "dsc: line 1 column 7\n", 3),
+        ("e g5 64:1\n", "dsc: line 1 column 7\n", 3),
+        ("e g5 \n", "dsc: line 1 column 6\n", 3),
+        ("r Y\ne 0:1\nx\n", "dsc: line 3 column 1\n", 3),
     ] {
         let bytes = Vec::from_slice(alloc, input.as_bytes())?;
         let (written, ended) = joined(&rt, alloc, "dsc join", bytes)?;
@@ -209,7 +218,10 @@ fn refused_words(rt: HostRuntime) -> Result<(), Fail> {
     for words in [
         "dsc listen",
         "dsc join --",
-        "dsc join --workers 1",
+        "dsc join --workers 0",
+        "dsc join --workers 65",
+        "dsc join evidence",
+        "dsc encode",
         "join",
         "dsc",
         "",

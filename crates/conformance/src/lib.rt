@@ -3,7 +3,11 @@
 #![tactic(auto)]
 
 #[cfg(test)]
+mod expansions;
+#[cfg(test)]
 mod forms;
+#[cfg(test)]
+mod groups;
 #[cfg(test)]
 mod joins;
 #[cfg(test)]

@@ -89,8 +89,8 @@ struct Endless {
 }
 
 impl Source for Endless {
-    ghost use Rattle.dsc_files.specs.Standard.{untold};
-    ghost use Rattle.dsc_files.specs.Sure.{no_faults};
+    ghost use Rattle.dsc_streams.specs.Standard.{untold};
+    ghost use Rattle.dsc_streams.specs.Sure.{no_faults};
 
     ghost left = { λ _. untold };
 

@@ -1,2 +1,2 @@
-pub mod Reading
-pub mod SentCalls
+pub mod Behind
+pub mod SentGroups

@@ -1,4 +1,3 @@
-pub mod Words
-pub mod Output
-pub mod Endings
+pub mod Plans
+pub mod Heard
 pub mod Sent

@@ -1,51 +1,41 @@
--- What is written where all receptions are of one call: ITU-R M.493, the error-detecting code and time diversity; the rule is this project's profile.
-use Rattle.std.specs.Prelude.{◌≡◌, ◌≢◌, ℕ, ◌<◌, ◌⊎◌, List, [], ◌++◌, length, Option, All}
+-- What is written of a group whose receptions are all of one call: ITU-R M.493, the error-detecting code and time diversity; the rule is this project's profile.
+use Rattle.std.specs.Prelude.{◌≡◌, ℕ, List, Option, Contains}
 use Rattle.ten_unit.specs.declared.character.Element.{Element}
 use Rattle.call_values.specs.declared.calls.Call.{Call}
-use Rattle.call_values.specs.Calls.{IsCall}
-use Rattle.call_grammar.specs.Spelling.{spell, through_check}
-use Rattle.slot_evidence.specs.Seen.{ShowsNone}
-use Rattle.slot_join.specs.declared.joined.Joined.TheVariants.{Reported, Missing}
-use Rattle.slot_join.specs.declared.joined.Extra.TheVariants.{Absent}
-use Rattle.slot_join.specs.Heard.{IsHeard}
-use Rattle.slot_join.specs.Intact.{CameNowhere, ArrivesInParts}
-use Rattle.join_lines.specs.Lines.{lines_of}
-use Rattle.join_lines.specs.Receptions.{receptions_of, facts_of_all}
-use Rattle.dsc_files.specs.Streams.{Loses, IsEnded}
-use Rattle.dsc_cmd.specs.Output.{answer_line}
-use Rattle.dsc_cmd.specs.Endings.{Writes}
+use Rattle.slot_join.specs.declared.joined.Joined.{Joined}
+use Rattle.slot_join.specs.Intact.{IsSent, IsSentOrLostPlace, ArrivesInParts}
+use Rattle.dsc_streams.specs.Streams.{Loses, IsEnded}
+use Rattle.line_engine.specs.Lines.{lines_of}
+use Rattle.line_engine.specs.Endings.{Writes}
+use Rattle.dsc_files.specs.JoinLine.{JoinLine}
+use Rattle.join_groups.specs.Groups.{AreLines}
+use Rattle.join_groups.specs.Output.{Told, answer_line, is_reported, IsJoinText}
+use Rattle.dsc_cmd.specs.Heard.{IsOfCall}
 
--- an input has receptions, all of them of this call and what follows it: truly phased, and in each character wrong in one
--- sense alone
-pub record IsOfCall (input : List ℕ) (call : Call) (tail : List ℕ) : Type 0 where
-  pub lawful : IsCall call
-  pub some : receptions_of (lines_of input) ≢ []
-  pub heard : All (λ reception. IsHeard reception (spell call ++ tail)) (receptions_of (lines_of input))
+-- the group's line tells this answer
+pub record TellsThis (told : Told) (k : ℕ) (answer : Joined) : Type 0 where
+  pub group : told.group ≡ k
+  pub line_is : told.line ≡ answer_line k answer
+  pub well_is : told.is_well ≡ is_reported answer
 
--- the line that reports the call
-pub record TellsCall (call : Call) (text : List ℕ) (status : ℕ) : Type 0 where
-  pub text_is : text ≡ answer_line (Reported call Absent)
-  pub status_is : status ≡ 0
+-- one of the lines that are told is the group's, and tells the call that was sent, or names as missing a place of it no copy of which came
+-- intact; and it tells the call where each of its places came intact at some receiver
+pub record TellsSent (all : List Told) (k : ℕ) (call : Call) (tail : List ℕ) (receptions : List (List Element)) : Type 0 where
+  pub told : Told
+  pub is_one : Contains all told
+  pub answer : Joined
+  pub tells : TellsThis told k answer
+  pub sent : IsSentOrLostPlace receptions call tail answer
+  pub whole : ArrivesInParts receptions call tail → IsSent receptions call tail answer
 
--- the line of a place of the call, up to its error check character, at which no reception showed a symbol and no copy came intact
-pub record TellsLostPlace (receptions : List (List Element)) (call : Call) (tail text : List ℕ) (status : ℕ) : Type 0 where
-  pub place : ℕ
-  pub inside : place < length (through_check call)
-  pub blank : ShowsNone (facts_of_all receptions place)
-  pub nowhere : CameNowhere receptions (spell call ++ tail) place
-  pub text_is : text ≡ answer_line (Missing place)
-  pub status_is : status ≡ 1
-
--- what is written of the receptions of this call and what follows it
-abbrev pub IsSentText : List ℕ → Call → List ℕ → List ℕ → ℕ → Type 0
-IsSentText input call tail text status = TellsCall call text status ⊎ TellsLostPlace (receptions_of (lines_of input)) call tail text status
-
--- 0 and 1: where the input, read to its end, has receptions of one call alone, its line was written or that of a place of it no copy of
--- which came intact; and its line, where each of its places came intact at some receiver
+-- 0 and 1: the input was read to its end, and of each group whose receptions are all of one call the text tells this call, or a lost place of it
 pub record ReportsSent (left_before left_after before after : Option (List ℕ)) (flushed status : ℕ) : Type 0 where
   pub input : List ℕ
   pub lost : Loses left_before left_after input
   pub ended : IsEnded left_after
-  pub sent : (call : Call) (tail : List ℕ) → IsOfCall input call tail → (text : List ℕ) × IsSentText input call tail text status × Writes before after flushed text
-  pub whole : (call : Call) (tail : List ℕ) → IsOfCall input call tail → ArrivesInParts (receptions_of (lines_of input)) call tail
-      → (text : List ℕ) × TellsCall call text status × Writes before after flushed text
+  pub said : List JoinLine
+  pub are_lines : AreLines said (lines_of input)
+  pub text : List ℕ
+  pub is_text : IsJoinText said text status
+  pub writes : Writes before after flushed text
+  pub sent : (k : ℕ) (call : Call) (tail : List ℕ) (receptions : List (List Element)) → IsOfCall said k call tail receptions → TellsSent is_text.all k call tail receptions

@@ -1,13 +1,14 @@
 //! The commands of `dsc`.
 #![tactic(auto)]
 
-mod faults;
 mod running;
-mod words;
 
-pub use dsc_files::{
+pub use dsc_streams::{
     ByteSink, ByteSource, Failed, NoMemory, Sink, Source, Status, StdSink, StdSource, SureSink,
     SureSource,
 };
+pub use dsc_words::Plan;
 pub use running::run;
-pub use slot_join::{intact_copies_report_the_call, sent_call_is_answered};
+pub use slot_join::{
+    alike_facts_have_one_answer, intact_copies_report_the_call, sent_call_is_answered,
+};

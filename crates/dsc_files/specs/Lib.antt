@@ -1,4 +1,3 @@
-pub mod Streams
-pub mod Sure
-pub mod Failing
-pub mod Standard
+pub mod JoinLine
+pub mod Lines
+pub mod inside

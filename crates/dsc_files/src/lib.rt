@@ -1,21 +1,17 @@
-//! Where a program reads from and writes to: sources and sinks of bytes with faults of their own, in
-//! memory and over the standard streams, and the exit status.
+//! Lines of files: what they say, and the column at which they are ill-formed.
 #![tactic(auto)]
 
-mod exits;
-mod failing;
-mod standard;
-mod streams;
-mod sure;
-mod whole;
+mod evidence;
+mod groups;
+mod join;
+mod laws;
+mod lines;
+mod reading;
+mod receptions;
 
-pub use exits::Status;
-pub use failing::{ByteSink, ByteSource};
-pub use standard::{StdSink, StdSource};
-pub use std::alloc::AllocError as NoMemory;
-pub use streams::{Failed, Sink, Source};
-pub use sure::{SureSink, SureSource};
-pub use whole::{ReadError, read_at_most, write_all};
+pub use laws::one_line;
+pub use lines::{FileKind, Line, LineFault};
+pub use reading::line_of;
 
 #[cfg(test)]
 mod tests;

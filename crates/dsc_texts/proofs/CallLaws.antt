@@ -1,89 +1,82 @@
--- call texts are read by their grammar
-use Rattle.std.proofs.Common.{◌≡◌, ℕ, ◌+◌, ◌≤◌, true, List, length, Result, Ok, Err, refl, sym, ◌∙◌, ap, subst}
+-- the texts of calls, with and without an expansion
+use Rattle.std.proofs.Common.{◌≡◌, ℕ, true, List, ◌++◌, refl, sym, ◌∙◌, ap}
 use Rattle.call_values.specs.declared.calls.Call.{Call}
 use Rattle.call_values.specs.declared.calls.Call.TheVariants.{Alert, Ack, Relay, RelayAck, AllShips, AreaCall, GroupCall, Individual, Service}
 use Rattle.call_values.specs.declared.parts.Kind.TheVariants.{Test, AskPosition, Position}
 use Rattle.call_values.specs.Calls.{IsCall}
-use Rattle.line_grammar.specs.Columns.{IsColumn}
-use Rattle.line_grammar.specs.Grammar.{Parts, Spells, written}
-use Rattle.line_grammar.specs.inside.Reading.{read, fits}
-use Rattle.line_grammar.specs.inside.Soundness.{is_sound, is_unambiguous}
-use Rattle.line_grammar.proofs.Stops.{Reads, Stops, IsAlike, Stops-alike, left_le, IsColumn-stops}
-use Rattle.line_grammar.proofs.Grammars.{reads}
-use Rattle.line_grammar.proofs.Written.{tells_all, written_spells, spelled_parts, one_line, written_is_read}
-use Rattle.dsc_texts.specs.CallGrammar.{calls}
-use Rattle.dsc_texts.specs.CallParts.{call_text, IsCallText}
+use Rattle.slot_join.specs.declared.joined.Extra.{Extra}
+use Rattle.slot_join.specs.declared.joined.Extra.TheVariants.{Absent, Whole, Broken}
+use Rattle.line_grammar.specs.Grammar.{Grammar, finish, none, written}
+use Rattle.line_grammar.specs.inside.Reading.{fits}
+use Rattle.line_grammar.specs.inside.Soundness.{is_sound}
+use Rattle.dsc_texts.specs.CallGrammar.{calls, expansion, perhaps}
+use Rattle.dsc_texts.specs.CallParts.{call_text, expansion_text}
+use Rattle.dsc_texts.specs.Texts.{IsWholeOrAbsent, extra_text, reported_text}
+use Rattle.dsc_texts.specs.inside.Expansions.{extra_parts}
 use Rattle.dsc_texts.specs.inside.Places.{call_parts}
-use Rattle.dsc_texts.proofs.CallTexts.{call_is, call_of, call_one}
+use Rattle.dsc_texts.proofs.CallSections.{followed, closed}
+use Rattle.dsc_texts.proofs.CallTexts.{calls_section}
+use Rattle.dsc_texts.proofs.ExpansionTexts.{extra_section}
+use Rattle.dsc_texts.proofs.FormLaws.{Texts, one_value}
 
-pub calls_sound : is_sound calls ≡ true
-unfolding fits
-calls_sound = refl
-
-pub calls_plain : is_unambiguous calls ≡ true
-calls_plain = refl
-
-calls_told : tells_all calls ≡ true
-calls_told = refl
-
--- a call's text is the line that the grammar of all forms writes
-text_is : (c : Call) → call_text c ≡ written calls (call_parts c)
+-- the texts of calls with nothing behind them
+pub bare_is : (c : Call) → call_text c ≡ written (calls finish) (call_parts c none)
 unfolding call_text
-text_is (Alert casualty) = refl
-text_is (Ack from casualty) = refl
-text_is (Relay to from casualty ask) = refl
-text_is (RelayAck to from casualty) = refl
-text_is (AllShips category from one two f1 f2) = refl
-text_is (AreaCall area category from one two f1 f2) = refl
-text_is (GroupCall group category from one two f1 f2) = refl
-text_is (Individual to category from one two message end) = refl
-text_is (Service to category from (Test reply)) = refl
-text_is (Service to category from AskPosition) = refl
-text_is (Service to category from (Position position time)) = refl
+bare_is (Alert casualty) = refl
+bare_is (Ack from casualty) = refl
+bare_is (Relay to from casualty ask) = refl
+bare_is (RelayAck to from casualty) = refl
+bare_is (AllShips category from one two f1 f2) = refl
+bare_is (AreaCall area category from one two f1 f2) = refl
+bare_is (GroupCall group category from one two f1 f2) = refl
+bare_is (Individual to category from one two message end) = refl
+bare_is (Service to category from (Test reply)) = refl
+bare_is (Service to category from AskPosition) = refl
+bare_is (Service to category from (Position position time)) = refl
 
--- a call's text is read as its parts
-pub call_read : (c : Call) → IsCall c → read calls (call_text c) ≡ Ok (call_parts c)
-call_read c h = ap (read calls) (text_is c) ∙ written_is_read calls (call_parts c) calls_sound calls_plain (call_is c h)
+bare_sound : is_sound (calls finish) ≡ true
+unfolding fits
+bare_sound = refl
 
-ok_is : (p q : Parts) (r : Result Parts ℕ) → r ≡ Ok p → r ≡ Ok q → p ≡ q
-ok_is p q r e f = cc
+pub bare_texts : Texts {V = Call} (calls finish) IsCall (λ c. call_parts c none) call_text
+bare_texts = record {
+  form = closed calls_section;
+  sound = bare_sound;
+  plain = refl;
+  all = refl;
+  text_is = λ c h. bare_is c;
+}
 
--- two calls have two texts
-pub one_call : (a b : Call) → IsCall a → IsCall b → call_text a ≡ call_text b → a ≡ b
-one_call a b h k e = call_one a b h k (ok_is (call_parts a) (call_parts b) (read calls (call_text a)) (call_read a h) (ap (read calls) e ∙ call_read b k))
+-- the texts of calls that an expansion may follow
+abbrev pub with_expansion : Grammar
+with_expansion = calls (perhaps expansion finish)
 
--- the lines of the grammar are the texts of calls
-spelled_call : (p : Parts) (bytes : List ℕ) → Spells calls p bytes → (c : Call) × IsCallText c bytes
-spelled_call p bytes h =
-    let all = spelled_parts calls p bytes calls_told h in
-    let c = call_of p all.0 in
-    (c.0, (c.1, all.1 ∙ ap (written calls) c.2 ∙ sym (text_is c.0)))
+extra_is : (x : Extra) → IsWholeOrAbsent x → extra_text x ≡ written (perhaps expansion finish) (extra_parts x none)
+unfolding expansion_text
+extra_is Absent h = refl
+extra_is (Whole x) h = refl
+extra_is (Broken n) h = absurd h
 
-call_spelled : (c : Call) (bytes : List ℕ) → IsCallText c bytes → (p : Parts) × Spells calls p bytes
-call_spelled c bytes h =
-    (call_parts c, subst (Spells calls (call_parts c)) (sym (h.1 ∙ text_is c)) (written_spells calls (call_parts c) (call_is c h.0)))
+text_is : (c : Call) (x : Extra) → IsCall c → IsWholeOrAbsent x → reported_text c x ≡ written with_expansion (call_parts c (extra_parts x none))
+text_is c x h k =
+    ap (λ (l : List ℕ). l ++ extra_text x) (bare_is c) ∙ ap (λ (l : List ℕ). written (calls finish) (call_parts c none) ++ l) (extra_is x k)
+    ∙ sym (calls_section.split c h (perhaps expansion finish) (extra_parts x none))
 
-calls_alike : IsAlike (Spells calls) IsCallText
-calls_alike = record { to = spelled_call; back = call_spelled }
+sound : is_sound with_expansion ≡ true
+unfolding fits
+sound = refl
 
--- what was read is a call's text, and no other call has it
-pub text_of : (c : Call) (bytes : List ℕ) → IsCall c → read calls bytes ≡ Ok (call_parts c) → IsCallText c bytes
-text_of c bytes h e =
-    let spelled : Spells calls (call_parts c) bytes = subst (λ (r : Result Parts ℕ). Reads (Spells calls) bytes r) e (reads calls bytes calls_sound) in
-    (h, one_line calls (call_parts c) bytes (call_is c h) spelled ∙ sym (text_is c))
+pub texts : Texts {V = Call × Extra} with_expansion (λ w. IsCall w.0 × IsWholeOrAbsent w.1) (λ w. call_parts w.0 (extra_parts w.1 none)) (λ w. reported_text w.0 w.1)
+texts = record {
+  form = closed (followed calls_section extra_section);
+  sound = sound;
+  plain = refl;
+  all = refl;
+  text_is = λ w h. text_is w.0 w.1 h.0 h.1;
+}
 
-pub text_read : (c : Call) (bytes : List ℕ) → IsCall c → read calls bytes ≡ Ok (call_parts c) → IsCallText c bytes × ((u : Call) → IsCallText u bytes → u ≡ c)
-text_read c bytes h e =
-    let text = text_of c bytes h e in
-    (text, λ u k. one_call u c k.0 h (sym k.1 ∙ text.1))
-
--- where the bytes are no call's text, they leave the texts where the reader says
-pub text_stops : (bytes : List ℕ) (left : ℕ) → read calls bytes ≡ Err left → Stops IsCallText bytes left
-text_stops bytes left e =
-    Stops-alike (Spells calls) IsCallText bytes left calls_alike (subst (λ (r : Result Parts ℕ). Reads (Spells calls) bytes r) e (reads calls bytes calls_sound))
-
-pub text_left : (bytes : List ℕ) (left : ℕ) → read calls bytes ≡ Err left → left ≤ length bytes
-text_left bytes left e = left_le IsCallText bytes left (text_stops bytes left e)
-
-pub text_column : (bytes : List ℕ) (left n : ℕ) → read calls bytes ≡ Err left → n + left ≡ length bytes + 1 → IsColumn IsCallText bytes n
-text_column bytes left n e k = IsColumn-stops IsCallText bytes left n (text_stops bytes left e) k
+-- two texts are of two calls or of two expansions
+pub one_call : (a b : Call) (x y : Extra) → IsCall a → IsCall b → IsWholeOrAbsent x → IsWholeOrAbsent y → reported_text a x ≡ reported_text b y → (a ≡ b) × (x ≡ y)
+one_call a b x y h k m n e =
+    let same = one_value texts (a, x) (b, y) (h, m) (k, n) e in
+    (ap (λ (w : Call × Extra). w.0) same, ap (λ (w : Call × Extra). w.1) same)

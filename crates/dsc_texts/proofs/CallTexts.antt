@@ -1,6 +1,6 @@
 -- calls and the parts of their texts
-use Rattle.std.proofs.Common.{◌≡◌, ℕ, Bool, List, [], ◌∷◌, ◌⊎◌, inl, inr, Option, codes, refl, sym, ◌∙◌, ap, subst}
-use Rattle.line_grammar.specs.Grammar.{Grammar, word, field, Parts, none, part, AreParts}
+use Rattle.std.proofs.Common.{◌≡◌, ℕ, Bool, [], ◌∷◌, ◌⊎◌, inl, inr, Option, codes, refl, ap}
+use Rattle.line_grammar.specs.Grammar.{word, field, Parts, part}
 use Rattle.call_values.specs.declared.places.Fix.{Fix}
 use Rattle.call_values.specs.declared.calls.Casualty.{Casualty}
 use Rattle.call_values.specs.declared.calls.Call.{Call}
@@ -29,7 +29,7 @@ use Rattle.dsc_texts.specs.CallParts.{position_text, time_text, area_text, frequ
 use Rattle.dsc_texts.specs.inside.Places.{nth, call_parts}
 use Rattle.dsc_texts.proofs.SymbolTexts.{identity_told, nature_told, comm_told, first_told, second_told, category_told, end_told, relay_end_told, test_end_told}
 use Rattle.dsc_texts.proofs.FieldTexts.{time_told, position_told, area_told, frequency_told, address_told}
-use Rattle.dsc_texts.proofs.CallSections.{Section, Form, fielded, labelled, followed, LawfulSide, side_parts, side_whole, sided, closed, formed}
+use Rattle.dsc_texts.proofs.CallSections.{Section, fielded, worded, labelled, followed, LawfulSide, side_parts, sided, renamed}
 
 -- the sections, their values and their parts
 abbrev Casualties : Type 0
@@ -130,10 +130,6 @@ identity_section = fielded identity_told
 area_section : Section {V = Rectangle} (λ rest. field grammar.area rest) IsArea (λ a q. part (area_text a) q)
 area_section = fielded area_told
 
--- a word in front of a form has no part
-worded : {V : Type 0} {G : Grammar} {Lawful : V → Type 0} {parts : V → Parts} (label : List ℕ) → Form G Lawful parts → Form (word label G) Lawful parts
-worded label f = record { is = f.is; of = f.of; one = f.one }
-
 -- the forms
 abbrev Alerts : Type 0
 Alerts = ℕ × Casualties
@@ -141,11 +137,11 @@ Alerts = ℕ × Casualties
 abbrev AreAlerts : Alerts → Type 0
 AreAlerts w = IsMmsi w.0 × AreCasualties w.1
 
-abbrev alerts : Alerts → Parts
-alerts w = part (digits 9 w.0) (casualties w.1 none)
+abbrev alerts : Alerts → Parts → Parts
+alerts w q = part (digits 9 w.0) (casualties w.1 q)
 
-alert_form : Form {V = Alerts} grammar.alert AreAlerts alerts
-alert_form = worded (codes "alert") (closed (followed from_section casualty_section))
+alert_call : Section {V = Alerts} grammar.alert AreAlerts alerts
+alert_call = worded (codes "alert") (followed from_section casualty_section)
 
 abbrev Acks : Type 0
 Acks = Distresses
@@ -153,11 +149,11 @@ Acks = Distresses
 abbrev AreAcks : Acks → Type 0
 AreAcks w = AreDistresses w
 
-abbrev acks : Acks → Parts
-acks w = distresses w none
+abbrev acks : Acks → Parts → Parts
+acks w q = distresses w q
 
-ack_form : Form {V = Acks} grammar.ack AreAcks acks
-ack_form = worded (codes "ack") (closed distress_section)
+ack_call : Section {V = Acks} grammar.ack AreAcks acks
+ack_call = worded (codes "ack") distress_section
 
 abbrev Relays : Type 0
 Relays = To × (Distresses × Bool)
@@ -165,11 +161,11 @@ Relays = To × (Distresses × Bool)
 abbrev AreRelays : Relays → Type 0
 AreRelays w = IsTo w.0 × (AreDistresses w.1.0 × Unit {0})
 
-abbrev relays : Relays → Parts
-relays w = part (address_text w.0) (distresses w.1.0 (part (digits 3 (relay_end w.1.1)) none))
+abbrev relays : Relays → Parts → Parts
+relays w q = part (address_text w.0) (distresses w.1.0 (part (digits 3 (relay_end w.1.1)) q))
 
-relay_form : Form {V = Relays} grammar.relay AreRelays relays
-relay_form = worded (codes "relay to=") (closed (followed address_section (followed distress_section relay_end_section)))
+relay_call : Section {V = Relays} grammar.relay AreRelays relays
+relay_call = worded (codes "relay to=") (followed address_section (followed distress_section relay_end_section))
 
 abbrev RelayAcks : Type 0
 RelayAcks = To × Distresses
@@ -177,11 +173,11 @@ RelayAcks = To × Distresses
 abbrev AreRelayAcks : RelayAcks → Type 0
 AreRelayAcks w = IsTo w.0 × AreDistresses w.1
 
-abbrev relay_acks : RelayAcks → Parts
-relay_acks w = part (address_text w.0) (distresses w.1 none)
+abbrev relay_acks : RelayAcks → Parts → Parts
+relay_acks w q = part (address_text w.0) (distresses w.1 q)
 
-relay_ack_form : Form {V = RelayAcks} grammar.relay_ack AreRelayAcks relay_acks
-relay_ack_form = worded (codes "relayack to=") (closed (followed address_section distress_section))
+relay_ack_call : Section {V = RelayAcks} grammar.relay_ack AreRelayAcks relay_acks
+relay_ack_call = worded (codes "relayack to=") (followed address_section distress_section)
 
 abbrev ToAll : Type 0
 ToAll = Requests × Frequencies
@@ -189,11 +185,11 @@ ToAll = Requests × Frequencies
 abbrev AreToAll : ToAll → Type 0
 AreToAll w = AreRequests w.0 × AreFrequencies w.1
 
-abbrev to_all : ToAll → Parts
-to_all w = requests w.0 (frequencies w.1 none)
+abbrev to_all : ToAll → Parts → Parts
+to_all w q = requests w.0 (frequencies w.1 q)
 
-all_ships_form : Form {V = ToAll} grammar.all_ships AreToAll to_all
-all_ships_form = worded (codes "all") (closed (followed request_section frequencies_section))
+all_ships_call : Section {V = ToAll} grammar.all_ships AreToAll to_all
+all_ships_call = worded (codes "all") (followed request_section frequencies_section)
 
 abbrev ToAreas : Type 0
 ToAreas = Rectangle × (Requests × Frequencies)
@@ -201,11 +197,11 @@ ToAreas = Rectangle × (Requests × Frequencies)
 abbrev AreToAreas : ToAreas → Type 0
 AreToAreas w = IsArea w.0 × (AreRequests w.1.0 × AreFrequencies w.1.1)
 
-abbrev to_areas : ToAreas → Parts
-to_areas w = part (area_text w.0) (requests w.1.0 (frequencies w.1.1 none))
+abbrev to_areas : ToAreas → Parts → Parts
+to_areas w q = part (area_text w.0) (requests w.1.0 (frequencies w.1.1 q))
 
-area_form : Form {V = ToAreas} grammar.area_call AreToAreas to_areas
-area_form = worded (codes "area to=") (closed (followed area_section (followed request_section frequencies_section)))
+area_call : Section {V = ToAreas} grammar.area_call AreToAreas to_areas
+area_call = worded (codes "area to=") (followed area_section (followed request_section frequencies_section))
 
 abbrev ToGroups : Type 0
 ToGroups = ℕ × (Requests × Frequencies)
@@ -213,11 +209,11 @@ ToGroups = ℕ × (Requests × Frequencies)
 abbrev AreToGroups : ToGroups → Type 0
 AreToGroups w = IsMmsi w.0 × (AreRequests w.1.0 × AreFrequencies w.1.1)
 
-abbrev to_groups : ToGroups → Parts
-to_groups w = part (digits 9 w.0) (requests w.1.0 (frequencies w.1.1 none))
+abbrev to_groups : ToGroups → Parts → Parts
+to_groups w q = part (digits 9 w.0) (requests w.1.0 (frequencies w.1.1 q))
 
-group_form : Form {V = ToGroups} grammar.group_call AreToGroups to_groups
-group_form = worded (codes "group to=") (closed (followed identity_section (followed request_section frequencies_section)))
+group_call : Section {V = ToGroups} grammar.group_call AreToGroups to_groups
+group_call = worded (codes "group to=") (followed identity_section (followed request_section frequencies_section))
 
 abbrev ToOne : Type 0
 ToOne = ℕ × (Requests × (Messages × End))
@@ -225,11 +221,11 @@ ToOne = ℕ × (Requests × (Messages × End))
 abbrev AreToOne : ToOne → Type 0
 AreToOne w = IsMmsi w.0 × (AreRequests w.1.0 × (AreMessages w.1.1.0 × Unit {0}))
 
-abbrev to_one : ToOne → Parts
-to_one w = part (digits 9 w.0) (requests w.1.0 (messages w.1.1.0 (part (digits 3 (end_symbol w.1.1.1)) none)))
+abbrev to_one : ToOne → Parts → Parts
+to_one w q = part (digits 9 w.0) (requests w.1.0 (messages w.1.1.0 (part (digits 3 (end_symbol w.1.1.1)) q)))
 
-individual_form : Form {V = ToOne} grammar.individual AreToOne to_one
-individual_form = worded (codes "one to=") (closed (followed identity_section (followed request_section (followed message_section end_section))))
+individual_call : Section {V = ToOne} grammar.individual AreToOne to_one
+individual_call = worded (codes "one to=") (followed identity_section (followed request_section (followed message_section end_section)))
 
 abbrev Tests : Type 0
 Tests = ℕ × (Senders × Bool)
@@ -237,11 +233,11 @@ Tests = ℕ × (Senders × Bool)
 abbrev AreTests : Tests → Type 0
 AreTests w = IsMmsi w.0 × (AreSenders w.1.0 × Unit {0})
 
-abbrev tests : Tests → Parts
-tests w = part (digits 9 w.0) (senders w.1.0 (part (digits 3 (test_end w.1.1)) none))
+abbrev tests : Tests → Parts → Parts
+tests w q = part (digits 9 w.0) (senders w.1.0 (part (digits 3 (test_end w.1.1)) q))
 
-test_form : Form {V = Tests} grammar.test AreTests tests
-test_form = worded (codes "test to=") (closed (followed identity_section (followed sender_section test_end_section)))
+test_call : Section {V = Tests} grammar.test AreTests tests
+test_call = worded (codes "test to=") (followed identity_section (followed sender_section test_end_section))
 
 abbrev Askings : Type 0
 Askings = ℕ × Senders
@@ -249,11 +245,11 @@ Askings = ℕ × Senders
 abbrev AreAskings : Askings → Type 0
 AreAskings w = IsMmsi w.0 × AreSenders w.1
 
-abbrev askings : Askings → Parts
-askings w = part (digits 9 w.0) (senders w.1 none)
+abbrev askings : Askings → Parts → Parts
+askings w q = part (digits 9 w.0) (senders w.1 q)
 
-position_request_form : Form {V = Askings} grammar.position_request AreAskings askings
-position_request_form = worded (codes "askpos to=") (closed (followed identity_section sender_section))
+position_request_call : Section {V = Askings} grammar.position_request AreAskings askings
+position_request_call = worded (codes "askpos to=") (followed identity_section sender_section)
 
 abbrev Tellings : Type 0
 Tellings = ℕ × (Senders × (Option Fix × Option (ℕ × ℕ)))
@@ -261,12 +257,12 @@ Tellings = ℕ × (Senders × (Option Fix × Option (ℕ × ℕ)))
 abbrev AreTellings : Tellings → Type 0
 AreTellings w = IsMmsi w.0 × (AreSenders w.1.0 × (IsPosition w.1.1.0 × IsHourMinute w.1.1.1))
 
-abbrev tellings : Tellings → Parts
-tellings w = part (digits 9 w.0) (senders w.1.0 (part (position_text w.1.1.0) (part (time_text w.1.1.1) none)))
+abbrev tellings : Tellings → Parts → Parts
+tellings w q = part (digits 9 w.0) (senders w.1.0 (part (position_text w.1.1.0) (part (time_text w.1.1.1) q)))
 
-position_answer_form : Form {V = Tellings} grammar.position_answer AreTellings tellings
-position_answer_form =
-    worded (codes "pos to=") (closed (followed identity_section (followed sender_section (followed (labelled (codes " pos=") position_told) (labelled (codes " time=") time_told)))))
+position_answer_call : Section {V = Tellings} grammar.position_answer AreTellings tellings
+position_answer_call =
+    worded (codes "pos to=") (followed identity_section (followed sender_section (followed (labelled (codes " pos=") position_told) (labelled (codes " time=") time_told))))
 
 -- the calls, one of the forms each
 abbrev Calls : Type 0
@@ -275,11 +271,11 @@ Calls = Alerts ⊎ (Acks ⊎ (Relays ⊎ (RelayAcks ⊎ (ToAll ⊎ (ToAreas ⊎ 
 abbrev AreCalls : Calls → Type 0
 AreCalls = LawfulSide AreAlerts (LawfulSide AreAcks (LawfulSide AreRelays (LawfulSide AreRelayAcks (LawfulSide AreToAll (LawfulSide AreToAreas (LawfulSide AreToGroups (LawfulSide AreToOne (LawfulSide AreTests (LawfulSide AreAskings AreTellings)))))))))
 
-abbrev calls : Calls → Parts
-calls = side_whole alerts (side_whole acks (side_whole relays (side_whole relay_acks (side_whole to_all (side_whole to_areas (side_whole to_groups (side_whole to_one (side_whole tests (side_whole askings tellings)))))))))
+abbrev calls : Calls → Parts → Parts
+calls = side_parts alerts (side_parts acks (side_parts relays (side_parts relay_acks (side_parts to_all (side_parts to_areas (side_parts to_groups (side_parts to_one (side_parts tests (side_parts askings tellings)))))))))
 
-calls_form : Form {V = Calls} grammar.calls AreCalls calls
-calls_form = formed alert_form (formed ack_form (formed relay_form (formed relay_ack_form (formed all_ships_form (formed area_form (formed group_form (formed individual_form (formed test_form (formed position_request_form position_answer_form)))))))))
+line_section : Section {V = Calls} grammar.calls AreCalls calls
+line_section = sided alert_call (sided ack_call (sided relay_call (sided relay_ack_call (sided all_ships_call (sided area_call (sided group_call (sided individual_call (sided test_call (sided position_request_call position_answer_call)))))))))
 
 abbrev message_told : Message → Messages
 message_told (Fields f1 f2) = inl (f1, f2)
@@ -343,31 +339,31 @@ message_here : (w : Messages) (q : Parts) → message_parts (message_back w) q �
 message_here (inl f) q = refl
 message_here (inr position) q = refl
 
-there : (c : Call) → call_parts c ≡ calls (told c)
-there (Alert casualty) = refl
-there (Ack from casualty) = refl
-there (Relay to from casualty ask) = refl
-there (RelayAck to from casualty) = refl
-there (AllShips category from one two f1 f2) = refl
-there (AreaCall area category from one two f1 f2) = refl
-there (GroupCall group category from one two f1 f2) = refl
-there (Individual to category from one two message end) = ap (λ (x : Parts). nth 7 (part (digits 9 to) (requests ((category, from), (one, two)) x))) (message_there message (part (digits 3 (end_symbol end)) none))
-there (Service to category from (Test reply)) = refl
-there (Service to category from AskPosition) = refl
-there (Service to category from (Position position time)) = refl
+there : (c : Call) (q : Parts) → call_parts c q ≡ calls (told c) q
+there (Alert casualty) q = refl
+there (Ack from casualty) q = refl
+there (Relay to from casualty ask) q = refl
+there (RelayAck to from casualty) q = refl
+there (AllShips category from one two f1 f2) q = refl
+there (AreaCall area category from one two f1 f2) q = refl
+there (GroupCall group category from one two f1 f2) q = refl
+there (Individual to category from one two message end) q = ap (λ (x : Parts). nth 7 (part (digits 9 to) (requests ((category, from), (one, two)) x))) (message_there message (part (digits 3 (end_symbol end)) q))
+there (Service to category from (Test reply)) q = refl
+there (Service to category from AskPosition) q = refl
+there (Service to category from (Position position time)) q = refl
 
-here : (w : Calls) → call_parts (back w) ≡ calls w
-here (inl w) = refl
-here (inr (inl w)) = refl
-here (inr (inr (inl w))) = refl
-here (inr (inr (inr (inl w)))) = refl
-here (inr (inr (inr (inr (inl w))))) = refl
-here (inr (inr (inr (inr (inr (inl w)))))) = refl
-here (inr (inr (inr (inr (inr (inr (inl w))))))) = refl
-here (inr (inr (inr (inr (inr (inr (inr (inl w)))))))) = ap (λ (x : Parts). nth 7 (part (digits 9 w.0) (requests w.1.0 x))) (message_here w.1.1.0 (part (digits 3 (end_symbol w.1.1.1)) none))
-here (inr (inr (inr (inr (inr (inr (inr (inr (inl w))))))))) = refl
-here (inr (inr (inr (inr (inr (inr (inr (inr (inr (inl w)))))))))) = refl
-here (inr (inr (inr (inr (inr (inr (inr (inr (inr (inr (w))))))))))) = refl
+here : (w : Calls) (q : Parts) → call_parts (back w) q ≡ calls w q
+here (inl w) q = refl
+here (inr (inl w)) q = refl
+here (inr (inr (inl w))) q = refl
+here (inr (inr (inr (inl w)))) q = refl
+here (inr (inr (inr (inr (inl w))))) q = refl
+here (inr (inr (inr (inr (inr (inl w)))))) q = refl
+here (inr (inr (inr (inr (inr (inr (inl w))))))) q = refl
+here (inr (inr (inr (inr (inr (inr (inr (inl w)))))))) q = ap (λ (x : Parts). nth 7 (part (digits 9 w.0) (requests w.1.0 x))) (message_here w.1.1.0 (part (digits 3 (end_symbol w.1.1.1)) q))
+here (inr (inr (inr (inr (inr (inr (inr (inr (inl w))))))))) q = refl
+here (inr (inr (inr (inr (inr (inr (inr (inr (inr (inl w)))))))))) q = refl
+here (inr (inr (inr (inr (inr (inr (inr (inr (inr (inr (w))))))))))) q = refl
 
 message_is : (m : Message) → IsMessage m → AreMessages (message_told m)
 message_is (Fields f1 f2) h = h
@@ -409,14 +405,6 @@ lawful_back (inr (inr (inr (inr (inr (inr (inr (inr (inl w))))))))) h = (h.0, h.
 lawful_back (inr (inr (inr (inr (inr (inr (inr (inr (inr (inl w)))))))))) h = (h.0, h.1.1, tt)
 lawful_back (inr (inr (inr (inr (inr (inr (inr (inr (inr (inr (w))))))))))) h = (h.0, h.1.0.1, h.1.1)
 
--- a call's parts are those of a line, each line's parts are those of a call, and of one call
-pub call_is : (c : Call) → IsCall c → AreParts grammar.calls (call_parts c)
-call_is c h = subst (AreParts grammar.calls) (sym (there c)) (calls_form.is (told c) (lawful c h))
-
-pub call_of : (p : Parts) → AreParts grammar.calls p → (c : Call) × IsCall c × (p ≡ call_parts c)
-call_of p h = let w = calls_form.of p h in (back w.0, lawful_back w.0 w.1, w.2 ∙ sym (here w.0))
-
-pub call_one : (a b : Call) → IsCall a → IsCall b → call_parts a ≡ call_parts b → a ≡ b
-call_one a b h k e =
-    let same = calls_form.one (told a) (told b) (lawful a h) (lawful b k) (sym (there a) ∙ e ∙ there b) in
-    sym (again a) ∙ ap back same ∙ again b
+-- a call, as a section
+pub calls_section : Section {V = Call} grammar.calls IsCall call_parts
+calls_section = renamed line_section told back lawful lawful_back (λ c h. again c) (λ c h. there c) (λ w h. here w)

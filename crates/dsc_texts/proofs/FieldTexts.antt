@@ -21,10 +21,10 @@ use Rattle.dsc_texts.specs.CallParts.{time_text, position_text, area_text, frequ
 use Rattle.dsc_texts.proofs.SymbolTexts.{Told, identity_told}
 
 -- a number up to the most in so many digits
-up_to : (width most n : ℕ) → n ≤ most → IsShaped (fixed_number width ((0, most) ∷ [])) (digits width n)
+pub up_to : (width most n : ℕ) → n ≤ most → IsShaped (fixed_number width ((0, most) ∷ [])) (digits width n)
 up_to width most n h = (n, grind (arith, nat_tests), refl)
 
-most_of : (width most : ℕ) (bytes : List ℕ) (h : IsShaped (fixed_number width ((0, most) ∷ [])) bytes) → h.0 ≤ most
+pub most_of : (width most : ℕ) (bytes : List ℕ) (h : IsShaped (fixed_number width ((0, most) ∷ [])) bytes) → h.0 ≤ most
 most_of width most bytes h = let e = h.1 in grind (arith, nat_tests)
 
 -- times

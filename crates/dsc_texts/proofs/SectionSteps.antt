@@ -1,8 +1,8 @@
 -- the steps of the readers of sections
 use Rattle.std.proofs.Common.{◌≡◌, ℕ, List, Result, Ok, Err, IfOk, IsOkAnd, IfErr, IsErrAnd, refl, sym, ◌∙◌, ap, subst}
 use Rattle.line_grammar.specs.Tokens.{Token}
-use Rattle.line_grammar.specs.Grammar.{Grammar, finish, word, field, either, Parts, none, part, first, second}
-use Rattle.line_grammar.specs.inside.Reading.{after, read_token, and_then, and_part, named, further, ended, read}
+use Rattle.line_grammar.specs.Grammar.{Grammar, word, field, either, Parts, part, first, second}
+use Rattle.line_grammar.specs.inside.Reading.{after, read_token, and_then, and_part, named, further, read}
 use Rattle.dsc_texts.specs.CallGrammar.{labelled}
 use Rattle.dsc_texts.specs.inside.Reading.{ReadsSection, ReadsForm}
 
@@ -64,14 +64,12 @@ pub word_left : (text old : List ℕ) (left : ℕ) → after text old ≡ Err le
 unfolding read
 word_left text old left h rest = ap (λ (r : Result (List ℕ) ℕ). and_then r (read rest)) h
 
--- the end of a form
-pub whole : (G : Grammar → Grammar) (f : Parts → Parts) (old mid : List ℕ) → IsRead G f old mid → ended mid ≡ Ok none → read (G finish) old ≡ Ok (f none)
-unfolding read
-whole G f old mid h k = h finish ∙ ap (named f) k
+-- what stands behind a form to the end
+pub whole : (G : Grammar → Grammar) (K : Grammar) (f : Parts → Parts) (old mid at : List ℕ) (own : Parts) → IsRead G f old mid → at ≡ mid → read K at ≡ Ok own → read (G K) old ≡ Ok (f own)
+whole G K f old mid at own h s k = h K ∙ ap (λ (l : List ℕ). named f (read K l)) (sym s) ∙ ap (named f) k
 
-pub no_end : (G : Grammar → Grammar) (f : Parts → Parts) (old mid : List ℕ) (left : ℕ) → IsRead G f old mid → ended mid ≡ Err left → read (G finish) old ≡ Err left
-unfolding read
-no_end G f old mid left h k = h finish ∙ ap (named f) k
+pub no_tail : (G : Grammar → Grammar) (K : Grammar) (f : Parts → Parts) (old mid at : List ℕ) (left : ℕ) → IsRead G f old mid → at ≡ mid → read K at ≡ Err left → read (G K) old ≡ Err left
+no_tail G K f old mid at left h s k = h K ∙ ap (λ (l : List ℕ). named f (read K l)) (sym s) ∙ ap (named f) k
 
 -- the exit of ? from a form
 pub leaves_form : {V : Type 0} (G : Grammar) (place : Parts → Parts) (parts : V → Parts) (old bytes : List ℕ) (r : Result V ℕ) (left : ℕ) → old ≡ bytes → IsErrAnd r (λ y. y ≡ left)

@@ -7,7 +7,7 @@ use Rattle.dsc_symbols.specs.declared.notices.TheConstants.{SECONDS}
 use Rattle.dsc_symbols.specs.declared.telecommands.TheConstants.{COMMS, FIRSTS}
 use Rattle.line_grammar.specs.Shapes.{Shape, letters, fixed_number, pair, choice}
 use Rattle.line_grammar.specs.Tokens.{Token, shaped}
-use Rattle.line_grammar.specs.Grammar.{Grammar, finish, word, field, either}
+use Rattle.line_grammar.specs.Grammar.{Grammar, word, field, either}
 
 -- the nine digits of an identity
 abbrev pub identity_shape : Shape
@@ -128,60 +128,89 @@ test_ends = TEST_ENDS
 abbrev pub all_ends : List (ℕ × ℕ)
 all_ends = ENDS
 
--- one of these ends of sequence, and no more
-abbrev pub end : List (ℕ × ℕ) → Grammar
-end ends = labelled (codes " end=") (symbol ends) finish
+-- one of these ends of sequence
+abbrev pub end : List (ℕ × ℕ) → Grammar → Grammar
+end ends rest = labelled (codes " end=") (symbol ends) rest
 
 -- a distress alert, whose sender is the casualty
-abbrev pub alert : Grammar
-alert = word (codes "alert") (from (casualty finish))
+abbrev pub alert : Grammar → Grammar
+alert rest = word (codes "alert") (from (casualty rest))
 
 -- a distress acknowledgement
-abbrev pub ack : Grammar
-ack = word (codes "ack") (distress finish)
+abbrev pub ack : Grammar → Grammar
+ack rest = word (codes "ack") (distress rest)
 
 -- a distress relay
-abbrev pub relay : Grammar
-relay = labelled (codes "relay to=") address (distress (end relay_ends))
+abbrev pub relay : Grammar → Grammar
+relay rest = labelled (codes "relay to=") address (distress (end relay_ends rest))
 
 -- a relay acknowledgement
-abbrev pub relay_ack : Grammar
-relay_ack = labelled (codes "relayack to=") address (distress finish)
+abbrev pub relay_ack : Grammar → Grammar
+relay_ack rest = labelled (codes "relayack to=") address (distress rest)
 
 -- a call to all ships
-abbrev pub all_ships : Grammar
-all_ships = word (codes "all") (request (frequencies finish))
+abbrev pub all_ships : Grammar → Grammar
+all_ships rest = word (codes "all") (request (frequencies rest))
 
 -- a call to an area
-abbrev pub area_call : Grammar
-area_call = labelled (codes "area to=") area (request (frequencies finish))
+abbrev pub area_call : Grammar → Grammar
+area_call rest = labelled (codes "area to=") area (request (frequencies rest))
 
 -- a call to a group
-abbrev pub group_call : Grammar
-group_call = labelled (codes "group to=") identity (request (frequencies finish))
+abbrev pub group_call : Grammar → Grammar
+group_call rest = labelled (codes "group to=") identity (request (frequencies rest))
 
 -- a call to one station
-abbrev pub individual : Grammar
-individual = labelled (codes "one to=") identity (request (message (end all_ends)))
+abbrev pub individual : Grammar → Grammar
+individual rest = labelled (codes "one to=") identity (request (message (end all_ends rest)))
 
 -- a test or its acknowledgement
-abbrev pub test : Grammar
-test = labelled (codes "test to=") identity (sender (end test_ends))
+abbrev pub test : Grammar → Grammar
+test rest = labelled (codes "test to=") identity (sender (end test_ends rest))
 
 -- a position is asked for
-abbrev pub position_request : Grammar
-position_request = labelled (codes "askpos to=") identity (sender finish)
+abbrev pub position_request : Grammar → Grammar
+position_request rest = labelled (codes "askpos to=") identity (sender rest)
 
 -- a position is told
-abbrev pub position_answer : Grammar
-position_answer = labelled (codes "pos to=") identity (sender (labelled (codes " pos=") position (labelled (codes " time=") time finish)))
+abbrev pub position_answer : Grammar → Grammar
+position_answer rest = labelled (codes "pos to=") identity (sender (labelled (codes " pos=") position (labelled (codes " time=") time rest)))
 
--- one of several, the first first
-abbrev pub one_of : Grammar → List Grammar → Grammar
-one_of grammar [] = grammar
-one_of grammar (next ∷ more) = either grammar (one_of next more)
+-- a call of the last three forms, of the last seven, and of any form
+abbrev pub services : Grammar → Grammar
+services rest = either (test rest) (either (position_request rest) (position_answer rest))
 
--- the texts of calls
-abbrev pub calls : Grammar
-calls =
-    one_of alert (ack ∷ relay ∷ relay_ack ∷ all_ships ∷ area_call ∷ group_call ∷ individual ∷ test ∷ position_request ∷ position_answer ∷ [])
+abbrev pub other_calls : Grammar → Grammar
+other_calls rest = either (all_ships rest) (either (area_call rest) (either (group_call rest) (either (individual rest) (services rest))))
+
+abbrev pub calls : Grammar → Grammar
+calls rest = either (alert rest) (either (ack rest) (either (relay rest) (either (relay_ack rest) (other_calls rest))))
+
+-- a set's value: none, or a number up to the most in so many digits
+abbrev pub set_shape : ℕ → ℕ → Shape
+set_shape width most = choice (letters (codes "none")) (fixed_number width ((0, most) ∷ []))
+
+abbrev pub set : ℕ → ℕ → Token
+set width most = shaped (set_shape width most)
+
+-- the enhanced position, the speed and the course of an expansion
+abbrev pub enhanced : Grammar → Grammar
+enhanced rest = labelled (codes " enh=") (set 8 99999999) rest
+
+abbrev pub speed : Grammar → Grammar
+speed rest = labelled (codes " speed=") (set 4 9999) rest
+
+abbrev pub course : Grammar → Grammar
+course rest = labelled (codes " course=") (set 4 3599) rest
+
+-- what may stand there or be left out
+abbrev pub perhaps : (Grammar → Grammar) → Grammar → Grammar
+perhaps section rest = either rest (section rest)
+
+-- one or more of the sets, in this order
+abbrev pub sets : Grammar → Grammar
+sets rest = either (enhanced (perhaps speed (perhaps course rest))) (either (speed (perhaps course rest)) (course rest))
+
+-- an expansion
+abbrev pub expansion : Grammar → Grammar
+expansion rest = word (codes " exp") (sets rest)

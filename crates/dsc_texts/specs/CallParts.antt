@@ -1,5 +1,5 @@
 -- The parts of call texts: this project's profile.
-use Rattle.std.specs.Prelude.{◌≡◌, ℕ, ◌+◌, Bool, if◌then◌else◌, List, ◌++◌, Option, Some, None, codes}
+use Rattle.std.specs.Prelude.{ℕ, ◌+◌, Bool, if◌then◌else◌, List, [], ◌++◌, Option, Some, None, codes}
 use Rattle.dsc_symbols.specs.declared.ends.TheConstants.{ACKNOWLEDGE_RQ, ACKNOWLEDGE_BQ, EOS}
 use Rattle.call_values.specs.declared.places.Fix.{Fix}
 use Rattle.call_values.specs.Areas.{Rectangle}
@@ -15,10 +15,12 @@ use Rattle.call_values.specs.declared.parts.Message.{Message}
 use Rattle.call_values.specs.declared.parts.Message.TheVariants.{Fields, At}
 use Rattle.call_values.specs.declared.parts.Kind.{Kind}
 use Rattle.call_values.specs.declared.parts.Kind.TheVariants.{Test, AskPosition, Position}
-use Rattle.call_values.specs.Calls.{IsCall}
 use Rattle.call_grammar.specs.Spelling.{category_symbol, end_symbol}
+use Rattle.expansion.specs.declared.parts.PartKind.{PartKind}
+use Rattle.expansion.specs.declared.parts.PartKind.TheVariants.{LeftOut, NoInformation, Digits}
+use Rattle.expansion.specs.declared.values.Sets.{Sets}
 use Rattle.line_grammar.specs.Shapes.{digits}
-use Rattle.line_grammar.specs.Grammar.{Parts, none, part, first, second, written}
+use Rattle.line_grammar.specs.Grammar.{Grammar, finish, Parts, none, part, first, second, written}
 use Rattle.dsc_texts.specs.CallGrammar as grammar
 
 -- the digits of a position; nines where it is not known
@@ -84,45 +86,69 @@ abbrev pub test_end : Bool → ℕ
 test_end reply = if reply then ACKNOWLEDGE_BQ else ACKNOWLEDGE_RQ
 
 -- an end of sequence
-abbrev pub end_parts : ℕ → Parts
-end_parts symbol = part (digits 3 symbol) none
+abbrev pub end_parts : ℕ → Parts → Parts
+end_parts symbol rest = part (digits 3 symbol) rest
 
 -- the parts of a test, of a call that asks for a position, and of one that tells it
-abbrev pub service_parts : ℕ → Category → ℕ → Kind → Parts
-service_parts to category from (Test reply) = part (digits 9 to) (sender_parts category from (end_parts (test_end reply)))
-service_parts to category from AskPosition = part (digits 9 to) (sender_parts category from none)
-service_parts to category from (Position position time) =
-    part (digits 9 to) (sender_parts category from (part (position_text position) (part (time_text time) none)))
+abbrev pub service_parts : ℕ → Category → ℕ → Kind → Parts → Parts
+service_parts to category from (Test reply) rest = part (digits 9 to) (sender_parts category from (end_parts (test_end reply) rest))
+service_parts to category from AskPosition rest = part (digits 9 to) (sender_parts category from rest)
+service_parts to category from (Position position time) rest =
+    part (digits 9 to) (sender_parts category from (part (position_text position) (part (time_text time) rest)))
 
--- the parts of a call's text
-abbrev pub parts_of : Call → Parts
-parts_of (Alert casualty) = part (digits 9 casualty.mmsi) (casualty_parts casualty none)
-parts_of (Ack from casualty) = distress_parts from casualty none
-parts_of (Relay to from casualty ask) = part (address_text to) (distress_parts from casualty (end_parts (relay_end ask)))
-parts_of (RelayAck to from casualty) = part (address_text to) (distress_parts from casualty none)
-parts_of (AllShips category from one two f1 f2) = request_parts category from one two (frequencies_parts f1 f2 none)
-parts_of (AreaCall area category from one two f1 f2) =
-    part (area_text area) (request_parts category from one two (frequencies_parts f1 f2 none))
-parts_of (GroupCall group category from one two f1 f2) =
-    part (digits 9 group) (request_parts category from one two (frequencies_parts f1 f2 none))
-parts_of (Individual to category from one two message end) =
-    part (digits 9 to) (request_parts category from one two (message_parts message (end_parts (end_symbol end))))
-parts_of (Service to category from kind) = service_parts to category from kind
+-- the parts of a call's text, and of what stands behind it
+abbrev pub parts_of : Call → Parts → Parts
+parts_of (Alert casualty) rest = part (digits 9 casualty.mmsi) (casualty_parts casualty rest)
+parts_of (Ack from casualty) rest = distress_parts from casualty rest
+parts_of (Relay to from casualty ask) rest = part (address_text to) (distress_parts from casualty (end_parts (relay_end ask) rest))
+parts_of (RelayAck to from casualty) rest = part (address_text to) (distress_parts from casualty rest)
+parts_of (AllShips category from one two f1 f2) rest = request_parts category from one two (frequencies_parts f1 f2 rest)
+parts_of (AreaCall area category from one two f1 f2) rest =
+    part (area_text area) (request_parts category from one two (frequencies_parts f1 f2 rest))
+parts_of (GroupCall group category from one two f1 f2) rest =
+    part (digits 9 group) (request_parts category from one two (frequencies_parts f1 f2 rest))
+parts_of (Individual to category from one two message end) rest =
+    part (digits 9 to) (request_parts category from one two (message_parts message (end_parts (end_symbol end) rest)))
+parts_of (Service to category from kind) rest = service_parts to category from kind rest
+
+-- the grammar of a call's form, and of what stands behind it
+abbrev pub form_of : Call → Grammar → Grammar
+form_of (Alert casualty) = grammar.alert
+form_of (Ack from casualty) = grammar.ack
+form_of (Relay to from casualty ask) = grammar.relay
+form_of (RelayAck to from casualty) = grammar.relay_ack
+form_of (AllShips category from one two f1 f2) = grammar.all_ships
+form_of (AreaCall area category from one two f1 f2) = grammar.area_call
+form_of (GroupCall group category from one two f1 f2) = grammar.group_call
+form_of (Individual to category from one two message end) = grammar.individual
+form_of (Service to category from (Test reply)) = grammar.test
+form_of (Service to category from AskPosition) = grammar.position_request
+form_of (Service to category from (Position position time)) = grammar.position_answer
 
 -- a call's text: the parts as the grammar of its form writes them
 unfoldable pub call_text : Call → List ℕ
-call_text (Alert casualty) = written grammar.alert (parts_of (Alert casualty))
-call_text (Ack from casualty) = written grammar.ack (parts_of (Ack from casualty))
-call_text (Relay to from casualty ask) = written grammar.relay (parts_of (Relay to from casualty ask))
-call_text (RelayAck to from casualty) = written grammar.relay_ack (parts_of (RelayAck to from casualty))
-call_text (AllShips category from one two f1 f2) = written grammar.all_ships (parts_of (AllShips category from one two f1 f2))
-call_text (AreaCall area category from one two f1 f2) = written grammar.area_call (parts_of (AreaCall area category from one two f1 f2))
-call_text (GroupCall group category from one two f1 f2) = written grammar.group_call (parts_of (GroupCall group category from one two f1 f2))
-call_text (Individual to category from one two message end) = written grammar.individual (parts_of (Individual to category from one two message end))
-call_text (Service to category from (Test reply)) = written grammar.test (parts_of (Service to category from (Test reply)))
-call_text (Service to category from AskPosition) = written grammar.position_request (parts_of (Service to category from AskPosition))
-call_text (Service to category from (Position position time)) = written grammar.position_answer (parts_of (Service to category from (Position position time)))
+call_text call = written (form_of call finish) (parts_of call none)
 
--- the bytes are the text of a call whose parts are in their ranges
-abbrev pub IsCallText : Call → List ℕ → Type 0
-IsCallText call bytes = IsCall call × (bytes ≡ call_text call)
+-- a set's value: its digits, or none
+abbrev pub set_text : ℕ → PartKind → List ℕ
+set_text width LeftOut = []
+set_text width NoInformation = codes "none"
+set_text width (Digits n) = digits width n
+
+-- a set that may be left out
+abbrev pub perhaps_parts : ℕ → PartKind → Parts → Parts
+perhaps_parts width LeftOut rest = first rest
+perhaps_parts width kind rest = second (part (set_text width kind) rest)
+
+-- the parts of an expansion's text, from its first set on, and of what stands behind it
+abbrev pub set_parts : PartKind → PartKind → PartKind → Parts → Parts
+set_parts LeftOut LeftOut course rest = second (second (part (set_text 4 course) rest))
+set_parts LeftOut speed course rest = second (first (part (set_text 4 speed) (perhaps_parts 4 course rest)))
+set_parts enhanced speed course rest = first (part (set_text 8 enhanced) (perhaps_parts 4 speed (perhaps_parts 4 course rest)))
+
+abbrev pub expansion_parts : Sets → Parts → Parts
+expansion_parts x rest = set_parts x.enhanced x.speed x.course rest
+
+-- an expansion's text: the parts as its grammar writes them
+unfoldable pub expansion_text : Sets → List ℕ
+expansion_text x = written (grammar.expansion finish) (expansion_parts x none)

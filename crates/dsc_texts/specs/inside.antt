@@ -1,2 +1,3 @@
+pub mod Expansions
 pub mod Places
 pub mod Reading

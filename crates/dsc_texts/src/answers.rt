@@ -3,9 +3,9 @@ ghost use Rattle.arrayvec.specs.ArrayVec.{array_vec_len};
 ghost use Rattle.dsc_texts.specs.Texts.{verdict_text, answer_text};
 
 use crate::calls::append_reported;
-use crate::pieces::{append, append_number};
 use arrayvec::ArrayVec;
 use slot_join::Joined;
+use text_pieces::{append, append_number};
 
 /// A group's answer, without the end of its line: `g0 reported ..`, `g0 missing 7`, `g0 differ 8 14 22`,
 /// `g0 outside 6 91` or `g0 check 17 78 79`.
@@ -29,9 +29,9 @@ pub fn put_answer_line(group: u32, answer: &Joined) -> ArrayVec<u8, 289>
 
 #[tactic(auto, unfolding(crate::specs::Texts::answer_text))]
 fn append_answer<const N: usize>(out: &mut ArrayVec<u8, N>, group: u32, answer: &Joined)
-    requires { array_vec_len out.old + 142 ≤ N }
+    requires { array_vec_len out.old + 182 ≤ N }
     ensures items { out.new.items ≡ out.old.items ++ answer_text group answer.now }
-    ensures len { array_vec_len out.new ≤ array_vec_len out.old + 142 }
+    ensures len { array_vec_len out.new ≤ array_vec_len out.old + 182 }
 {
     append(out, b"g");
     append_number(out, u64::from(group));
@@ -39,9 +39,9 @@ fn append_answer<const N: usize>(out: &mut ArrayVec<u8, N>, group: u32, answer: 
 }
 
 fn append_verdict<const N: usize>(out: &mut ArrayVec<u8, N>, answer: &Joined)
-    requires { array_vec_len out.old + 121 ≤ N }
+    requires { array_vec_len out.old + 161 ≤ N }
     ensures items { out.new.items ≡ out.old.items ++ verdict_text answer.now }
-    ensures len { array_vec_len out.new ≤ array_vec_len out.old + 121 }
+    ensures len { array_vec_len out.new ≤ array_vec_len out.old + 161 }
 {
     match answer {
         Joined::Reported { call, expansion } => {

@@ -5,7 +5,8 @@ ghost use Rattle.dsc_texts.specs.CallParts as parts;
 ghost use Rattle.call_values.specs.declared.calls.Call.TheVariants.{Alert, Service};
 ghost use Rattle.dsc_texts.specs.Texts.{reported_text};
 
-use crate::pieces::{append, append_digits};
+use crate::extras::append_extra;
+use crate::pieces::append_digits;
 use crate::values::{
     append_address, append_area, append_casualty, append_distress, append_end, append_frequencies,
     append_from, append_message, append_position, append_request, append_sender, append_time,
@@ -15,6 +16,7 @@ use call_grammar::end_of;
 use call_values::{Call, Casualty, Category, Kind, Mmsi};
 use dsc_symbols::ends::{ACKNOWLEDGE_BQ, ACKNOWLEDGE_RQ};
 use slot_join::Extra;
+use text_pieces::append;
 
 /// The text of a call and of what follows it on air.
 pub fn put_call(call: &Call, extra: &Extra) -> ArrayVec<u8, 256>
@@ -25,16 +27,14 @@ pub fn put_call(call: &Call, extra: &Extra) -> ArrayVec<u8, 256>
     out
 }
 
-/// Appends the text of a call and of what follows it on air, which takes at most 111 bytes.
+/// Appends the text of a call and of what follows it on air, which takes at most 151 bytes.
 pub fn append_reported<const N: usize>(out: &mut ArrayVec<u8, N>, call: &Call, extra: &Extra)
-    requires { array_vec_len out.old + 111 ≤ N }
+    requires { array_vec_len out.old + 151 ≤ N }
     ensures items { out.new.items ≡ out.old.items ++ reported_text call.now extra.now }
-    ensures len { array_vec_len out.new ≤ array_vec_len out.old + 111 }
+    ensures len { array_vec_len out.new ≤ array_vec_len out.old + 151 }
 {
     append_call(out, call);
-    match extra {
-        Extra::Absent => {}
-    }
+    append_extra(out, extra);
 }
 
 /// Appends a call's text, which takes at most 111 bytes.

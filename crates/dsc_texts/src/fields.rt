@@ -68,7 +68,7 @@ pub fn further<T: Copy>(first: &Result<T, usize>, second: &Result<T, usize>) -> 
 
 /// The value that letters at the front of these bytes stand for, and what follows them. An error is how many bytes
 /// are left at the fault.
-fn spelled<'a, T: Drop>(text: &[u8], value: T, bytes: &'a [u8]) -> Result<(T, &'a [u8]), usize>
+pub fn spelled<'a, T: Drop>(text: &[u8], value: T, bytes: &'a [u8]) -> Result<(T, &'a [u8]), usize>
     ensures value { IfOk result (λ parts. parts.0 ≡ value) }
     ensures rest { IfOk result (λ parts. read_shape (shape.letters text.now) bytes.now ≡ Ok (text.now, parts.1.now)) }
     ensures left { IfErr result (λ left. read_shape (shape.letters text.now) bytes.now ≡ Err left) }

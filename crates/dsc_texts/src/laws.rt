@@ -1,17 +1,32 @@
-ghost use Rattle.std.specs.Prelude.{◌≡◌, Ok};
+ghost use Rattle.std.specs.Prelude.{◌≡◌, ℕ, ◌+◌, length, Result, Ok, Err};
 ghost use Rattle.call_values.specs.declared.calls.Call.{Call};
 ghost use Rattle.call_values.specs.Calls.{IsCall};
-ghost use Rattle.line_grammar.specs.inside.Reading.{read};
-ghost use Rattle.dsc_texts.specs.CallGrammar.{calls};
+ghost use Rattle.expansion.specs.declared.values.Sets.{Sets};
+ghost use Rattle.slot_join.specs.declared.joined.Extra.{Extra};
+ghost use Rattle.slot_join.specs.declared.joined.Extra.TheVariants.{Whole};
+ghost use Rattle.line_grammar.specs.Columns.{Answers};
 ghost use Rattle.dsc_texts.specs.CallParts.{call_text};
-ghost use Rattle.dsc_texts.specs.inside.Places.{call_parts};
+ghost use Rattle.dsc_texts.specs.Texts.{IsBareCallText, IsCallText, IsWholeOrAbsent, reported_text};
 
-/// The law that the plain reader of the grammar of call texts reads a call's text back as its parts. It does nothing.
+/// The law that of a call's text, and of an expansion's where one follows, reading can answer nothing but this call and
+/// this expansion. It does nothing.
 pub fn call_texts_are_read()
-    ensures { (call : Call) → IsCall call → read calls (call_text call) ≡ Ok (call_parts call) }
+    ensures { (call : Call) (extra : Extra) (answer : Result (Call × Extra) ℕ)
+        → IsCall call → IsWholeOrAbsent extra → Answers IsCallText (reported_text call extra) answer → answer ≡ Ok (call, extra) }
 {}
 
-/// The law that no two calls have one text. It does nothing.
+/// The law that of a call's text, where no expansion may follow, reading can answer nothing but this call. It does nothing.
+pub fn bare_call_texts_are_read()
+    ensures { (call : Call) (answer : Result Call ℕ) → IsCall call → Answers IsBareCallText (call_text call) answer → answer ≡ Ok call }
+{}
+
+/// The law that an expansion is refused at the blank in front of it, where none may follow. It does nothing.
+pub fn expansions_are_refused_at_their_blank()
+    ensures { (call : Call) (x : Sets) (answer : Result Call ℕ) → IsCall call
+        → Answers IsBareCallText (reported_text call (Whole x)) answer → answer ≡ Err (length (call_text call) + 1) }
+{}
+
+/// The law that no two calls have one text, whatever expansion follows them. It does nothing.
 pub fn texts_tell_calls_apart()
-    ensures { (a b : Call) → IsCall a → IsCall b → call_text a ≡ call_text b → a ≡ b }
+    ensures { (a b : Call) (x y : Extra) → IsCall a → IsCall b → IsWholeOrAbsent x → IsWholeOrAbsent y → reported_text a x ≡ reported_text b y → (a ≡ b) × (x ≡ y) }
 {}

@@ -3,6 +3,8 @@
 
 mod answers;
 mod calls;
+mod expansions;
+mod extras;
 mod fields;
 mod forms;
 mod laws;
@@ -10,10 +12,16 @@ mod line;
 mod pieces;
 mod reading;
 mod sections;
+mod tails;
 mod values;
 
 pub use answers::{put_answer, put_answer_line};
 pub use calls::put_call;
-pub use laws::{call_texts_are_read, texts_tell_calls_apart};
-pub use pieces::{append, append_number};
-pub use reading::read_call;
+pub use laws::{
+    bare_call_texts_are_read, call_texts_are_read, expansions_are_refused_at_their_blank,
+    texts_tell_calls_apart,
+};
+pub use reading::{read_bare_call, read_call};
+
+#[cfg(test)]
+mod tests;

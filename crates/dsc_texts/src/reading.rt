@@ -1,17 +1,51 @@
-ghost use Rattle.dsc_texts.specs.CallParts.{IsCallText};
+ghost use Rattle.std.specs.Prelude.{◌≡◌};
+ghost use Rattle.line_grammar.specs.Grammar.{none};
+ghost use Rattle.dsc_texts.specs.Texts.{IsBareCallText, IsCallText, IsWholeOrAbsent};
+ghost use Rattle.dsc_texts.specs.inside.Expansions.{expansion_or_end, extra_parts};
 ghost use Rattle.line_grammar.specs.Columns.{Answers};
 
 use crate::forms::any_call;
 use call_values::Call;
+use expansion::Expansion;
 use line_grammar::column;
+use slot_join::Extra;
 
-/// The call whose text this is (ITU-R M.493, composition of the calls). An error is the column: the least n for which the
-/// first n bytes begin no call's text, and the length plus one where the text ends too early.
-pub fn read_call(text: &[u8]) -> Result<Call, usize>
+/// The call whose text this is (ITU-R M.493, composition of the calls), and the expansion that follows it, or `Absent`
+/// where none does. An error is the column: the least n for which the first n bytes begin no call's text with or without
+/// an expansion, and the length plus one where the text ends too early.
+pub fn read_call(text: &[u8]) -> Result<(Call, Extra), usize>
     ensures { Answers IsCallText text.now result }
 {
-    match any_call(text) {
-        Ok(call) => {
+    match any_call::<Option<Expansion>>(text) {
+        Ok((call, tail)) => {
+            call.lawful();
+            Ok((call, extra_of(tail)))
+        }
+        Err(left) => Err(column(text, left)),
+    }
+}
+
+/// What follows a call, where an expansion may follow.
+fn extra_of(tail: Option<Expansion>) -> Extra
+    ensures lawful { IsWholeOrAbsent result }
+    ensures parts { extra_parts result none ≡ expansion_or_end tail }
+{
+    match tail {
+        None => Extra::Absent,
+        Some(expansion) => {
+            expansion.lawful();
+            Extra::Whole(expansion)
+        }
+    }
+}
+
+/// The call whose text this is, where no expansion may follow. An error is the column: the least n for which the first
+/// n bytes begin no call's text, and the length plus one where the text ends too early.
+pub fn read_bare_call(text: &[u8]) -> Result<Call, usize>
+    ensures { Answers IsBareCallText text.now result }
+{
+    match any_call::<()>(text) {
+        Ok((call, _nothing)) => {
             call.lawful();
             Ok(call)
         }

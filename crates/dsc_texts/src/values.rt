@@ -5,13 +5,14 @@ ghost use Rattle.line_grammar.specs.Grammar.{finish, none, part, written};
 ghost use Rattle.dsc_texts.specs.CallGrammar as grammar;
 ghost use Rattle.dsc_texts.specs.CallParts.{position_text, time_text, area_text, frequency_text, address_text, casualty_parts, distress_parts, sender_parts, frequencies_parts, message_parts, request_parts, end_parts};
 
-use crate::pieces::{append, append_digits};
+use crate::pieces::append_digits;
 use arrayvec::ArrayVec;
 use call_grammar::category_symbol;
 use call_values::{
     Area, Casualty, Category, Field, FieldKind, First, Fix, HourMinute, Message, Mmsi, Position,
     Second, To,
 };
+use text_pieces::append;
 
 /// Appends a position's ten digits, nines where it isn't known.
 pub fn append_position<const N: usize>(out: &mut ArrayVec<u8, N>, position: &Position)
@@ -200,7 +201,7 @@ pub fn append_request<const N: usize>(
 /// Appends the symbol of an end of sequence.
 pub fn append_end<const N: usize>(out: &mut ArrayVec<u8, N>, symbol: u8)
     requires { array_vec_len out.old + 8 ≤ N }
-    ensures items { out.new.items ≡ out.old.items ++ written (grammar.end []) (end_parts symbol) }
+    ensures items { out.new.items ≡ out.old.items ++ written (grammar.end [] finish) (end_parts symbol none) }
     ensures len { array_vec_len out.new ≡ array_vec_len out.old + 8 }
 {
     append(out, b" end=");

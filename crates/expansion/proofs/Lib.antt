@@ -4,3 +4,4 @@ pub mod SetParts
 pub mod Lengths
 pub mod WholeLists
 pub mod OneList
+pub mod CheckedLists

@@ -87,7 +87,7 @@ lists_good e = alike_good _ _ (whole_alike e) (whole_good e)
 pub part_of : (e : End) (l : List ℕ) → Wants (Lists e) l → IsPart e l
 part_of e l w = record { expansion = w.value; next = w.next; rest = w.rest; lawful = w.word.is_lawful; list = sym w.word.list }
 
-never_viable : (e : End) (l : List ℕ) → (Begins (Lists e) l → ⊥) → IsViable e l → ⊥
+pub never_viable : (e : End) (l : List ℕ) → (Begins (Lists e) l → ⊥) → IsViable e l → ⊥
 never_viable e l never v = never (record { value = v.expansion; rest = v.rest; word = record { is_lawful = v.lawful; list = sym v.list } })
 
 -- a part of an expansion's list is short
@@ -200,7 +200,7 @@ same_front (x ∷ a) b (y ∷ c) d e h =
     let tails : a ≡ c = same_front a b c d rest (omega arith) in
     cc
 
-checked_length : (e : End) (x : Sets) (l rest : List ℕ) → l ≡ covered x e ++ rest → length l - length rest ≡ length (covered x e)
+pub checked_length : (e : End) (x : Sets) (l rest : List ℕ) → l ≡ covered x e ++ rest → length l - length rest ≡ length (covered x e)
 checked_length e x l rest list = let k : length l ≡ length (covered x e ++ rest) = ap length list in omega (arith, length-append (covered x e) rest)
 
 -- the list is left at the place of the check

@@ -6,7 +6,7 @@ use Rattle.symbol_reader.specs.declared.refusals.ReadRefusal.TheVariants.{Short,
 use Rattle.call_values.specs.declared.choices.End.{End}
 use Rattle.expansion.specs.declared.values.Sets.{Sets}
 use Rattle.expansion.specs.Expansions.{IsExpansion}
-use Rattle.expansion.specs.Spelling.{covered, spell}
+use Rattle.expansion.specs.Spelling.{covered, through_check, spell}
 
 -- the list begins some expansion's list with this end of sequence
 pub record IsViable (last : End) (l : List ℕ) : Type 0 where
@@ -22,6 +22,14 @@ pub record IsPart (last : End) (l : List ℕ) : Type 0 where
   pub rest : List ℕ
   pub lawful : IsExpansion expansion
   pub list : spell expansion last ≡ l ++ (next ∷ rest)
+
+-- the list begins some expansion's list up to its check, and ends before it
+pub record IsOpen (last : End) (l : List ℕ) : Type 0 where
+  pub expansion : Sets
+  pub next : ℕ
+  pub rest : List ℕ
+  pub lawful : IsExpansion expansion
+  pub list : through_check expansion last ≡ l ++ (next ∷ rest)
 
 -- the next place is that of some expansion's check
 pub record IsAtCheck (last : End) (l : List ℕ) : Type 0 where
@@ -67,3 +75,24 @@ IsReading last l (Ok read) = BeginsWith last l read.0 read.1
 IsReading last l (Err (Short n)) = EndsShort last l n
 IsReading last l (Err (Outside n x)) = EndsOutside last l n x
 IsReading last l (Err (Check n want got)) = EndsWrong last l n want got
+
+-- the list begins with this expansion's list up to its check
+pub record BeginsChecked (last : End) (l : List ℕ) (expansion : Sets) : Type 0 where
+  pub rest : List ℕ
+  pub lawful : IsExpansion expansion
+  pub list : l ≡ through_check expansion last ++ rest
+
+-- place n is the first at which no expansion's list goes on, none being at its check before it: the list ends there, or has a symbol there
+-- with which none goes on
+pub record StopsOpen (last : End) (l : List ℕ) (n : ℕ) : Type 0 where
+  pub front : List ℕ
+  pub rest : List ℕ
+  pub list : l ≡ front ++ rest
+  pub place : n ≡ length front
+  pub open_ : IsOpen last front
+  pub never : (x : ℕ) (more : List ℕ) → rest ≡ x ∷ more → IsViable last (front ++ (x ∷ [])) → ⊥
+
+-- what reading up to the check answers: the expansion, or the first place at which none goes on
+abbrev pub IsCheckedReading : End → List ℕ → Result Sets ℕ → Type 0
+IsCheckedReading last l (Ok expansion) = BeginsChecked last l expansion
+IsCheckedReading last l (Err n) = StopsOpen last l n

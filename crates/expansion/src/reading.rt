@@ -1,7 +1,7 @@
 ghost use Rattle.std.specs.Prelude.{◌≡◌, ◌++◌};
 ghost use Rattle.expansion.specs.Expansions.{IsExpansion};
 ghost use Rattle.expansion.specs.Spelling as sequence;
-ghost use Rattle.expansion.specs.Reading.{IsReading};
+ghost use Rattle.expansion.specs.Reading.{IsReading, IsCheckedReading};
 ghost use Rattle.symbol_reader.specs.declared.refusals.ReadRefusal.TheVariants as ReadRefusal;
 
 use crate::readers::checked_sets;
@@ -59,5 +59,36 @@ fn refusal(place: usize, n: u8, want: u8, got: u8) -> ReadRefusal
         ReadRefusal::Check { n, want, got }
     } else {
         ReadRefusal::Outside(n, got)
+    }
+}
+
+/// Reads the expansion whose list with this end of sequence, up to its check, begins the given one: what stands behind the check
+/// isn't looked at. An error is the first place, counted from the expansion's first symbol, at which no expansion's list goes on,
+/// which is the length of the given list where that ends too early.
+pub fn read_checked(list: &[u8], end: End) -> Result<Expansion, usize>
+    ensures { IsCheckedReading end list.now result }
+{
+    let mut cursor = Cursor::new(list);
+    match checked_sets(&mut cursor, end) {
+        Ok(expansion) => behind_end(list, cursor.rest(), expansion, end),
+        Err(_) => Err(list.len() - cursor.rest().len()),
+    }
+}
+
+/// Compares the symbol after this expansion's end of sequence with its check.
+fn behind_end(list: &[u8], rest: &[u8], expansion: Expansion, end: End) -> Result<Expansion, usize>
+    requires lawful { IsExpansion expansion }
+    requires list { list.now ≡ sequence.covered expansion end ++ rest.now }
+    ensures { IsCheckedReading end list.now result }
+{
+    let place = list.len() - rest.len();
+    let want = check(&list[..place]);
+    let Some((symbol, _)) = rest.split_first() else {
+        return Err(place);
+    };
+    if *symbol == want {
+        Ok(expansion)
+    } else {
+        Err(place)
     }
 }

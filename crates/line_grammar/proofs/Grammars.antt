@@ -99,7 +99,7 @@ token_step token rest bytes (Ok (front, back)) follow sound m h = munched token 
 token_step token rest bytes (Err left) follow sound m h = let x = example rest sound in Stops-miss token rest bytes left x.0 x.1 x.2 m
 
 -- a choice
-choice_back : (left right : Grammar) (parts : Parts) (bytes : List ℕ) → Spells (either left right) parts bytes → ((u : Parts) × Spells left u bytes) ⊎ ((v : Parts) × Spells right v bytes)
+pub choice_back : (left right : Grammar) (parts : Parts) (bytes : List ℕ) → Spells (either left right) parts bytes → ((u : Parts) × Spells left u bytes) ⊎ ((v : Parts) × Spells right v bytes)
 choice_back left right (first parts) bytes h = inl (parts, h)
 choice_back left right (second parts) bytes h = inr (parts, h)
 choice_back left right none bytes h = absurd h

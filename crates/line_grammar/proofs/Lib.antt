@@ -16,3 +16,6 @@ pub mod Steps
 pub mod Apart
 pub mod Written
 pub mod NumeralSteps
+pub mod Repeats
+pub mod Decimals
+pub mod Chains

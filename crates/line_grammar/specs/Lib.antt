@@ -1,5 +1,6 @@
 pub mod Columns
 pub mod Grammar
+pub mod Repeats
 pub mod Shapes
 pub mod Tokens
 pub mod inside

@@ -42,9 +42,10 @@ fn more_digits(least: u64, most: u64, first: u64, bytes: &[u8]) -> (u64, &[u8])
     requires most { most < 2 ^ 60 }
     requires least { least ≤ most }
     requires first { first ≤ most }
-    ensures { (front : List ℕ) → (all : List ℕ)
+    ensures digits { (front : List ℕ) → (all : List ℕ)
         × (read_digits least most first front bytes.now ≡ judged least result.0 all result.1.now)
         × (value_after 0 front ≡ first → value_after 0 all ≡ result.0) }
+    ensures most { result.0 ≤ most }
 {
     let mut number = first;
     let mut rest = bytes;
@@ -66,6 +67,7 @@ pub fn free_number(least: u64, most: u64, bytes: &[u8]) -> Result<(u64, &[u8]), 
     requires most { most < 2 ^ 60 }
     requires least { least ≤ most }
     ensures number { IfOk result (λ parts. (front : List ℕ) × (read_token (tokens.free_number least most) bytes.now ≡ Ok (front, parts.1.now)) × (value_after 0 front ≡ parts.0)) }
+    ensures most { IfOk result (λ parts. parts.0 ≤ most) }
     ensures left { IfErr result (λ left. read_token (tokens.free_number least most) bytes.now ≡ Err left) }
 {
     let Some((first, rest)) = bytes.split_first() else {

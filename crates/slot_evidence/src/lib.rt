@@ -4,13 +4,15 @@
 mod laws;
 mod places;
 mod reading;
+mod receptions;
 mod sheets;
 mod slots;
 
 pub use laws::{ends_are_kept, meet_forgets_order, one_seen, one_sheet, unions_forget_order};
 pub use places::Seen;
 pub use reading::read_sheet;
-pub use sheets::{Sheet, sheet_has_facts};
+pub use receptions::Reception;
+pub use sheets::{Sheet, sheet_has_facts, sheet_is_lawful};
 
 #[cfg(test)]
 mod plain;

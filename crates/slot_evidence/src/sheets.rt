@@ -2,7 +2,7 @@ ghost use Rattle.std.specs.Prelude.{◌≡◌, ℕ, ◌||◌, ◌<◌, ◌≤◌
 ghost use Rattle.slot_evidence.specs.Facts.{Facts, Symbols, no_facts, one_fact, union};
 ghost use Rattle.slot_evidence.specs.inside.Kept.{AreKept, seen_of};
 ghost use Rattle.slot_evidence.specs.Seen.{IsSeen, IsLawful};
-ghost use Rattle.slot_evidence.specs.Sheet.{IsEnds, IsMeet, seen_at, facts_in};
+ghost use Rattle.slot_evidence.specs.Sheet.{IsEnds, IsMeet, IsSheet, seen_at, facts_in};
 
 use crate::places::Seen;
 use std::marker::Model;
@@ -107,6 +107,13 @@ fn greatest(ours: &[u8; 64], theirs: &[u8; 64]) -> [u8; 64]
 /// Every sheet keeps the ends of its own facts, so what is said of all facts with a sheet speaks of some.
 pub fn sheet_has_facts(sheet: &Sheet)
     ensures { IsEnds (facts_in sheet.now) sheet.now }
+{
+    let _places = &sheet.leasts;
+}
+
+/// Every sheet has 64 places, and what it says of each is lawful, so what is said of lawful sheets speaks of all.
+pub fn sheet_is_lawful(sheet: &Sheet)
+    ensures { IsSheet sheet.now }
 {
     let _places = &sheet.leasts;
 }

@@ -1,4 +1,4 @@
-use crate::{Seen, Sheet, plain, read_sheet};
+use crate::{Reception, Seen, Sheet, plain, read_sheet};
 use dsc_symbols::worked::{ALERT, ALERT_SLOTS};
 use std::alloc::{AllocError, Global};
 use std::process::Abort;
@@ -48,6 +48,25 @@ fn two_receptions_together(rt: HostRuntime) -> Result<(), Fail> {
     group.meet(&sheet(&rt, rt.alloc(), &changed, &[])?);
     assert_eq!(rt; group.at(7), Seen::One(106));
     assert_eq!(rt; group.at(8), Seen::Differ(14, 22));
+    Ok(())
+}
+
+#[test]
+fn elements_stand_in_their_order(rt: HostRuntime) -> Result<(), Fail> {
+    let mut reception = Reception::new(rt.alloc());
+    assert_eq!(rt; reception.elements().len(), 0);
+    for e in [Element::B, Element::Lost, Element::Y] {
+        reception.push(e)?;
+    }
+    assert_eq!(rt;
+        reception.elements(),
+        [Element::B, Element::Lost, Element::Y].as_slice()
+    );
+    let elements = [Element::Y; 3].to_vec(rt.alloc())?;
+    assert_eq!(rt;
+        Reception::from(elements).elements(),
+        [Element::Y; 3].as_slice()
+    );
     Ok(())
 }
 

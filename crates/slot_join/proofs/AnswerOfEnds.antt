@@ -1,5 +1,5 @@
 -- Facts that are alike at each place have the same answers.
-use Rattle.std.proofs.Common.{ℕ, ◌||◌, ◌⊎◌, List, length, take, get_or, inl, inr}
+use Rattle.std.proofs.Common.{ℕ, ◌+◌, ◌||◌, ◌⊎◌, List, length, take, get_or, inl, inr}
 use Rattle.std.specs.Prelude.{◌↔◌}
 use Rattle.call_grammar.specs.Spelling.{through_check}
 use Rattle.slot_evidence.specs.declared.places.Seen.{Seen}
@@ -9,7 +9,12 @@ use Rattle.slot_evidence.specs.Seen.{IsSeen, ShowsNone}
 use Rattle.slot_evidence.specs.Sheet.{IsEnds, facts_in}
 use Rattle.slot_evidence.specs.Alike.{AreAlike}
 use Rattle.slot_join.specs.declared.joined.Joined.{Joined}
+use Rattle.slot_join.specs.declared.joined.Extra.{Extra}
+use Rattle.slot_join.specs.declared.joined.Extra.TheVariants.{Absent, Whole, Broken}
 use Rattle.slot_join.specs.Shown.{head_of, Gives, IsShown}
+use Rattle.slot_join.specs.Extra.{IsBlankFrom, IsShownFrom, IsBroken, IsExtra, Follows}
+use Rattle.call_values.specs.declared.choices.End.{End}
+use Rattle.call_values.specs.declared.calls.Call.{Call}
 use Rattle.slot_join.specs.Answer.{HasFormat, IsAnswer, IsReported, IsStopped, StopsAt, StopsWith, BehindFormat, BehindHead}
 
 -- the laws of sets of symbols with the same ends
@@ -44,9 +49,42 @@ shown_too laws F G l alike a = record {
   places = λ p least below. gives_too laws F G (take p l) p (get_or l p 0) alike (a.places p least below);
 }
 
+blank_from_too : Laws → (F G : Facts) (from : ℕ) → Alike F G → IsBlankFrom F from → IsBlankFrom G from
+blank_from_too laws F G from alike blank p least below = none_too laws F G p alike (blank p least below)
+
+shown_from_too : Laws → (F G : Facts) (from : ℕ) (l : List ℕ) → Alike F G → IsShownFrom F from l → IsShownFrom G from l
+shown_from_too laws F G from l alike shown k below = laws.kept (F (from + k)) (G (from + k)) (seen.One (get_or l k 0)) (alike.at (from + k)) (shown k below)
+
+broken_too : Laws → (F G : Facts) (from : ℕ) (last : End) (n : ℕ) → Alike F G → IsBroken F from last n → IsBroken G from last n
+broken_too laws F G from last n alike b = record {
+  some = λ blank. b.some (blank_from_too laws G F from (flip F G alike) blank);
+  unfinished = λ x lawful shown. b.unfinished x lawful (shown_from_too laws G F from _ (flip F G alike) shown);
+  list = b.list;
+  longest = record {
+    shown = shown_from_too laws F G from b.list alike b.longest.shown;
+    viable = b.longest.viable;
+    longest = λ other shown viable. b.longest.longest other (shown_from_too laws G F from other (flip F G alike) shown) viable;
+  };
+  place = b.place;
+}
+
+extra_too : Laws → (F G : Facts) (from : ℕ) (last : End) (extra : Extra) → Alike F G → IsExtra F from last extra → IsExtra G from last extra
+extra_too laws F G from last Absent alike blank = blank_from_too laws F G from alike blank
+extra_too laws F G from last (Whole x) alike whole = (whole.0, shown_from_too laws F G from _ alike whole.1)
+extra_too laws F G from last (Broken n) alike broken = broken_too laws F G from last n alike broken
+
+follows_too : Laws → (F G : Facts) (call : Call) (extra : Extra) → Alike F G → Follows F call extra → Follows G call extra
+follows_too laws F G call extra alike f = record { last = f.last; own = f.own; is = extra_too laws F G _ f.last extra alike f.is }
+
 reported_too : Laws → (F G : Facts) (answer : Joined) → Alike F G → IsReported F answer → IsReported G answer
-reported_too laws F G answer alike r =
-    record { call = r.call; lawful = r.lawful; shown = shown_too laws F G (through_check r.call) alike r.shown; answer_is = r.answer_is }
+reported_too laws F G answer alike r = record {
+  call = r.call;
+  extra = r.extra;
+  lawful = r.lawful;
+  shown = shown_too laws F G (through_check r.call) alike r.shown;
+  follows = follows_too laws F G r.call r.extra alike r.follows;
+  answer_is = r.answer_is;
+}
 
 stops_at_too : (F G : Facts) (l : List ℕ) (v : ℕ) (answer : Joined) → StopsAt F l v answer → StopsAt G l v answer
 stops_at_too F G l v answer stops = stops
@@ -93,7 +131,7 @@ behind_head_too laws F G seen.None answer alike is = is
 behind_head_too laws F G (seen.Differ a b) answer alike is = is
 behind_head_too laws F G (seen.One f) answer alike is = behind_format_too laws F G f answer alike is
 
-answer_too : Laws → (F G : Facts) (answer : Joined) → Alike F G → IsAnswer F answer → IsAnswer G answer
+pub answer_too : Laws → (F G : Facts) (answer : Joined) → Alike F G → IsAnswer F answer → IsAnswer G answer
 answer_too laws F G answer alike a = record {
   head = a.head;
   seen = laws.kept (head_of F) (head_of G) a.head (heads_alike laws F G alike) a.seen;

@@ -15,7 +15,7 @@ use Rattle.slot_evidence.specs.Facts.{Facts}
 use Rattle.slot_evidence.specs.Seen.{IsSeen, ShowsNone, ShowsOne}
 use Rattle.slot_join.specs.declared.joined.Joined.{Joined}
 use Rattle.slot_join.specs.declared.joined.Joined.TheVariants.{Reported}
-use Rattle.slot_join.specs.declared.joined.Extra.TheVariants.{Absent}
+use Rattle.slot_join.specs.Extra.{Follows}
 use Rattle.slot_join.specs.Shown.{head_of, Gives, IsShown}
 use Rattle.slot_join.specs.Answer.{IsAnswer, IsReported, IsStopped, StopsWith, BehindFormat, BehindHead}
 use Rattle.slot_join.specs.OneCall.{ShowsNoOther, IsCallOrMissing}
@@ -77,7 +77,12 @@ this_call differ F c d lc ld only shown = elim (cases_lt (length (through_check 
 
 call_reported : FrontsDiffer → (F : Facts) (c : Call) (answer : Joined) → IsCall c → ShowsNoOther F (through_check c) → IsReported F answer → IsCallOrMissing F c answer
 call_reported differ F c answer lawful only r =
-    inl (r.answer_is ∙ ap (λ (d : Call). Reported d Absent) (this_call differ F c r.call lawful r.lawful only r.shown))
+    let same : r.call ≡ c = this_call differ F c r.call lawful r.lawful only r.shown in
+    inl (record {
+      extra = r.extra;
+      follows = subst (λ (d : Call). Follows F d r.extra) same r.follows;
+      answer_is = r.answer_is ∙ ap (λ (d : Call). Reported d r.extra) same;
+    })
 
 -- a call is shown with each list that is as long
 shown_within : (F : Facts) (c : Call) (k : List ℕ) → ShowsNoOther F (through_check c) → IsShown F k → length (through_check c) ≤ length k → IsShown F (through_check c)

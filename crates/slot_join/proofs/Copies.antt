@@ -11,20 +11,24 @@ use Rattle.call_values.specs.declared.calls.Call.{Call}
 use Rattle.call_values.specs.Calls.{IsCall}
 use Rattle.call_grammar.specs.Spelling.{spell, through_check, end_of, format_of}
 use Rattle.call_grammar.specs.Walk.{IsViable}
-use Rattle.slot_evidence.specs.declared.places.Seen.TheVariants as seen
 use Rattle.slot_evidence.specs.Facts.{facts_of, facts_at, facts_of_all}
 use Rattle.slot_evidence.specs.Seen.{ShowsNone, ShowsOne}
 use Rattle.slot_join.specs.declared.joined.Joined.{Joined}
 use Rattle.slot_join.specs.declared.joined.Joined.TheVariants.{Reported}
-use Rattle.slot_join.specs.declared.joined.Extra.TheVariants.{Absent}
+use Rattle.slot_join.specs.declared.joined.Joined.TheVariants.{Missing}
+use Rattle.slot_join.specs.declared.joined.Extra.{Extra}
+use Rattle.slot_join.specs.Extra.{Follows}
 use Rattle.slot_join.specs.Shown.{head_of, IsShown}
-use Rattle.slot_join.specs.Answer.{IsAnswer}
+use Rattle.slot_join.specs.Answer.{HasFormat, IsAnswer}
 use Rattle.slot_join.specs.Heard.{IsHeard}
-use Rattle.slot_join.specs.OneCall.{ShowsNoOther, IsCallOrMissing}
-use Rattle.slot_join.specs.Intact.{IsIntactAt, CameNowhere, CameSomewhere, IsSentOrLostPlace, ArrivesInParts}
+use Rattle.slot_join.specs.OneCall.{ShowsNoOther, IsCallReported, IsCallOrMissing}
+use Rattle.slot_join.specs.Intact.{IsIntactAt, CameNowhere, CameSomewhere, TellsTail, IsSent, IsSentOrLostPlace, ArrivesInParts}
 use Rattle.slot_join.proofs.ShownLists.{viable_front, front_viable}
 use Rattle.slot_join.proofs.CallOrMissing.{FormatsBegin, head_is}
 use Rattle.slot_join.proofs.OneWay.{in_call}
+use Rattle.slot_join.proofs.Stops.{FrontsDiffer}
+use Rattle.slot_join.proofs.OneAnswer.{OneSeen}
+use Rattle.slot_join.proofs.ShownCalls.{shown_is_reported}
 
 abbrev pub HeardLaw : Type 0
 HeardLaw = (call : Call) (tail : List ℕ) (reception : List Element) → IsCall call → IsHeard reception (spell call ++ tail) → ShowsNoOther (facts_of reception) (through_check call)
@@ -50,7 +54,7 @@ unfolding facts_of_all
 all_told law receptions call tail lawful heard p v below has = any_told law receptions call tail p v lawful heard below has
 
 -- what one of several shows, they show together
-any_shows : (f : List Element → Bool) (receptions : List (List Element)) (k : ℕ) (e : List Element) → k < length receptions → get_or receptions k e ≡ e → f e ≡ true
+pub any_shows : (f : List Element → Bool) (receptions : List (List Element)) (k : ℕ) (e : List Element) → k < length receptions → get_or receptions k e ≡ e → f e ≡ true
     → list_any f receptions ≡ true
 any_shows f [] k e below is has = absurd (omega arith)
 any_shows f (x ∷ receptions) zero e below is has = or_left (f x) (list_any f receptions) (ap f is ∙ has)
@@ -61,7 +65,7 @@ in_slots : (inside small dx rx : Bool) → inside ≡ true → small ≡ true �
 in_slots inside small dx rx a b (inl c) = and_from inside (small && (dx || rx)) a (and_from small (dx || rx) b (or_left dx rx c))
 in_slots inside small dx rx a b (inr c) = and_from inside (small && (dx || rx)) a (and_from small (dx || rx) b (or_right dx rx c))
 
-copy_shows : (e : List Element) (list : List ℕ) (lead p : ℕ) → p < 64 → get_or list p 0 < 128 → IsIntactAt e list lead p → facts_of e p (get_or list p 0) ≡ true
+pub copy_shows : (e : List Element) (list : List ℕ) (lead p : ℕ) → p < 64 → get_or list p 0 < 128 → IsIntactAt e list lead p → facts_of e p (get_or list p 0) ≡ true
 unfolding facts_of
 copy_shows e list lead p inside small intact =
     let v : ℕ = get_or list p 0 in
@@ -105,9 +109,10 @@ blank_nowhere lists receptions c tail p lawful below none k d inside = λ lead i
 
 -- the call that was sent, or a place of it no copy of which came intact
 pub sent_or_lost : Lists → (receptions : List (List Element)) (c : Call) (tail : List ℕ) (answer : Joined) → IsCall c
+    → ((extra : Extra) → Follows (facts_of_all receptions) c extra → TellsTail receptions c tail extra)
     → IsCallOrMissing (facts_of_all receptions) c answer → IsSentOrLostPlace receptions c tail answer
-sent_or_lost lists receptions c tail answer lawful (inl is) = inl is
-sent_or_lost lists receptions c tail answer lawful (inr missing) = inr (record {
+sent_or_lost lists receptions c tail answer lawful tells (inl is) = inl (record { extra = is.extra; tells = tells is.extra is.follows; answer_is = is.answer_is })
+sent_or_lost lists receptions c tail answer lawful tells (inr missing) = inr (record {
   place = missing.place;
   inside = missing.inside;
   blank = missing.blank;
@@ -142,19 +147,23 @@ module _ (law : HeardLaw) (lists : Lists) (formats : FormatsBegin) (receptions :
     places = λ p least below. (came p below (arrives.places p least below), λ v has. only p v below has);
   }
 
-  pub answered : IsAnswer (facts_of_all receptions) (Reported c Absent)
-  answered =
+  has : HasFormat (facts_of_all receptions) (format_of c)
+  has =
       let f : ℕ = format_of c in
       let begins : IsViable (f ∷ f ∷ []) = viable_front (f ∷ f ∷ []) (drop 2 (through_check c)) (front_viable c lawful) in
       record {
-        head = seen.One f;
-        seen = format_one;
-        answers = inr (inr (inr (
-          record {
-            is_one = (formats f).1 begins;
-            first = λ both none. absurd (cc (none f, came 0 (omega arith) (arrives.both both).0));
-            second = λ both none. absurd (cc (none f, came 1 (omega arith) (arrives.both both).1));
-          },
-          inl (record { call = c; lawful = lawful; shown = shown; answer_is = refl }),
-        )));
+        is_one = (formats f).1 begins;
+        first = λ both none. absurd (cc (none f, came 0 (omega arith) (arrives.both both).0));
+        second = λ both none. absurd (cc (none f, came 1 (omega arith) (arrives.both both).1));
       }
+
+  reported : OneSeen → FrontsDiffer → (answer : Joined) → IsAnswer (facts_of_all receptions) answer → IsCallReported (facts_of_all receptions) c answer
+  reported one differ answer is = shown_is_reported differ (facts_of_all receptions) c answer lawful shown has one format_one is
+
+  -- so it isn't a lost place
+  pub sent : OneSeen → FrontsDiffer → (answer : Joined) → IsAnswer (facts_of_all receptions) answer → IsSentOrLostPlace receptions c tail answer → IsSent receptions c tail answer
+  sent one differ answer is (inl told) = told
+  sent one differ answer is (inr lost) =
+      let r = reported one differ answer is in
+      let apart : Missing lost.place ≡ Reported c r.extra = sym lost.answer_is ∙ r.answer_is in
+      absurd (cc)

@@ -8,3 +8,6 @@ pub mod OneWay
 pub mod CallOrMissing
 pub mod AnswerOfEnds
 pub mod Copies
+pub mod Followers
+pub mod ShownCalls
+pub mod Tails

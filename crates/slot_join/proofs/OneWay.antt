@@ -81,6 +81,11 @@ in_call c tail p below =
     let ends = end_of c ∷ end_of c ∷ [] in
     ap (λ (l : List ℕ). get_or l p 0) (append_assoc (through_check c) ends tail) ∙ get_or_append_left (through_check c) (ends ++ tail) 0 p below
 
+-- what is heard of a list's transmission is the list's, at the places of which both copies are sent
+pub heard_list : Laws → (list : List ℕ) (e : List Element) (p v : ℕ) → All (λ symbol. symbol < 128) list → IsHeard e list → p + 2 < length list → facts_of e p v ≡ true → v ≡ get_or list p 0
+heard_list laws list e p v characters heard below has =
+    told laws e list p v heard below (All-get_or (λ symbol. symbol < 128) list p 0 (omega arith) characters) has
+
 pub heard_call : Laws → (c : Call) (tail : List ℕ) (e : List Element) → IsCall c → IsHeard e (spell c ++ tail) → ShowsNoOther (facts_of e) (through_check c)
 heard_call laws c tail e lawful heard p v below has =
     let ends = end_of c ∷ end_of c ∷ [] in

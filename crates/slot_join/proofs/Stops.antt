@@ -11,7 +11,8 @@ use Rattle.slot_evidence.specs.Seen.{IsSeen, ShowsNone, ShowsOne, ShowsSeveral}
 use Rattle.slot_evidence.specs.Sheet.{IsEnds, seen_at}
 use Rattle.slot_join.specs.declared.joined.Joined.{Joined}
 use Rattle.slot_join.specs.declared.joined.Joined.TheVariants.{Reported, Missing, Differ, Outside, Check}
-use Rattle.slot_join.specs.declared.joined.Extra.TheVariants.{Absent}
+use Rattle.slot_join.specs.declared.joined.Extra.{Extra}
+use Rattle.slot_join.specs.Extra.{Follows}
 use Rattle.slot_join.specs.Shown.{Gives, IsShown, IsLongest}
 use Rattle.slot_join.specs.Answer.{IsReported, IsStopped, StopsWith}
 use Rattle.slot_join.proofs.ShownLists.{agree, push_shown, after_shown, open_viable, front_viable, longest_from, only_one}
@@ -68,11 +69,12 @@ stops_check differ F l n v want got len o shown one not at want_is got_is =
     stopped differ F l (seen.One v) (Check n want got) o shown here (one_stops F l v shown here not) (inl (at, answer))
 
 -- a shown list and the one symbol behind it that end a call report it
-pub reports : (F : Facts) (l : List ℕ) (n v : ℕ) (c : Call) → length l ≡ n → IsShown F l → ShowsOne (F n) v → IsCall c → after l v ≡ through_check c → IsReported F (Reported c Absent)
-reports F l n v c len shown one lawful ends =
+pub reports : (F : Facts) (l : List ℕ) (n v : ℕ) (c : Call) (extra : Extra) → length l ≡ n → IsShown F l → ShowsOne (F n) v → IsCall c → after l v ≡ through_check c
+    → Follows F c extra → IsReported F (Reported c extra)
+reports F l n v c extra len shown one lawful ends follows =
     let here : ShowsOne (F (length l)) v = subst (λ (k : ℕ). ShowsOne (F k) v) (sym len) one in
     let all : IsShown F (through_check c) = subst (λ (x : List ℕ). IsShown F x) (sym (after_shown F l v shown) ∙ ends) (push_shown F l v shown here) in
-    record { call = c; lawful = lawful; shown = all; answer_is = refl }
+    record { call = c; extra = extra; lawful = lawful; shown = all; follows = follows; answer_is = refl }
 
 -- a shown list and one more symbol
 pub goes_on : (F : Facts) (l : List ℕ) (n v : ℕ) → length l ≡ n → IsShown F l → ShowsOne (F n) v → IsShown F (after l v)
@@ -96,3 +98,10 @@ open_short short l o =
     let part : length (through_check o.call) ≡ length l + length (o.next ∷ o.rest) = ap length o.list ∙ length-append l (o.next ∷ o.rest) in
     let most : length (spell o.call) ≤ 32 = (short o.call o.lawful).1 in
     omega arith
+
+-- the list of a call whose check stands at place n
+pub whole_length : (l : List ℕ) (v n : ℕ) (c : Call) → length l ≡ n → 1 ≤ length l → after l v ≡ through_check c → length (spell c) ≡ n + 3
+whole_length l v n c len some ends =
+    let whole : length (spell c) ≡ length (through_check c) + 2 = length-append (through_check c) (end_of c ∷ end_of c ∷ []) in
+    let counts : length (after l v) ≡ length (through_check c) = ap length ends in
+    omega (arith, after_long l v some)

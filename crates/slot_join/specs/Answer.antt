@@ -12,15 +12,18 @@ use Rattle.slot_evidence.specs.Facts.{Facts}
 use Rattle.slot_evidence.specs.Seen.{IsSeen, ShowsNone}
 use Rattle.slot_join.specs.declared.joined.Joined.{Joined}
 use Rattle.slot_join.specs.declared.joined.Joined.TheVariants.{Reported, Missing, Differ, Outside, Check}
-use Rattle.slot_join.specs.declared.joined.Extra.TheVariants.{Absent}
+use Rattle.slot_join.specs.declared.joined.Extra.{Extra}
 use Rattle.slot_join.specs.Shown.{head_of, IsShown, IsLongest}
+use Rattle.slot_join.specs.Extra.{Follows}
 
--- a call is shown up to its error check character
+-- a call is shown up to its error check character, and what follows it is told with it
 pub record IsReported (F : Facts) (answer : Joined) : Type 0 where
   pub call : Call
+  pub extra : Extra
   pub lawful : IsCall call
   pub shown : IsShown F (through_check call)
-  pub answer_is : answer ≡ Reported call Absent
+  pub follows : Follows F call extra
+  pub answer_is : answer ≡ Reported call extra
 
 -- the answer where no call goes on with the one symbol that the place behind the longest list showed
 abbrev pub StopsAt : Facts → List ℕ → ℕ → Joined → Type 0

@@ -1,5 +1,5 @@
 -- Characters that arrive intact: ITU-R M.493, time diversity; the definitions are this project's profile.
-use Rattle.std.specs.Prelude.{◌≡◌, ℕ, ◌+◌, ◌<◌, ◌≤◌, ◌⊎◌, true, List, ◌++◌, length, slice_index, Some, All}
+use Rattle.std.specs.Prelude.{◌≡◌, ℕ, ◌+◌, ◌*◌, ◌<◌, ◌≤◌, ◌⊎◌, true, List, [], ◌++◌, length, slice_index, Some, All}
 use Rattle.std.specs.List.{Any}
 use Rattle.ten_unit.specs.declared.character.Element.{Element}
 use Rattle.time_diversity.specs.Slots.{dx_slot, rx_slot}
@@ -7,12 +7,17 @@ use Rattle.time_diversity.specs.OnAir.{on_air}
 use Rattle.phasing.specs.Slot.{shows}
 use Rattle.phasing.specs.Origin.{lead_of}
 use Rattle.call_values.specs.declared.calls.Call.{Call}
-use Rattle.call_grammar.specs.Spelling.{format_of, through_check, spell}
+use Rattle.call_values.specs.declared.choices.End.{End}
+use Rattle.call_grammar.specs.Spelling.{format_of, through_check, end_symbol, end_of, spell}
+use Rattle.expansion.specs.declared.values.Sets.{Sets}
+use Rattle.expansion.specs.Expansions.{IsExpansion}
+use Rattle.expansion.specs.Spelling.{spell as expanded}
 use Rattle.slot_evidence.specs.Facts.{facts_of_all}
 use Rattle.slot_evidence.specs.Seen.{ShowsNone}
 use Rattle.slot_join.specs.declared.joined.Joined.{Joined}
 use Rattle.slot_join.specs.declared.joined.Joined.TheVariants.{Reported, Missing}
-use Rattle.slot_join.specs.declared.joined.Extra.TheVariants.{Absent}
+use Rattle.slot_join.specs.declared.joined.Extra.{Extra}
+use Rattle.slot_join.specs.declared.joined.Extra.TheVariants.{Absent, Whole, Broken}
 use Rattle.slot_join.specs.Answer.{needs_both}
 
 -- at the reception's origin each slot of the list's transmission shows the symbol that was sent
@@ -45,9 +50,38 @@ pub record NamesLostPlace (receptions : List (List Element)) (call : Call) (tail
   pub nowhere : CameNowhere receptions (spell call ++ tail) place
   pub answer_is : answer ≡ Missing place
 
+-- what was sent behind the call is this expansion's list, with the call's own end of sequence
+pub record IsExpandedBy (call : Call) (tail : List ℕ) (x : Sets) : Type 0 where
+  pub last : End
+  pub own : end_symbol last ≡ end_of call
+  pub lawful : IsExpansion x
+  pub list : tail ≡ expanded x last
+
+-- the reception ends with the list's transmission, or before
+abbrev pub EndsWithin : List Element → List ℕ → Type 0
+EndsWithin reception list = (lead : ℕ) → lead_of reception ≡ Some lead → length reception + 150 ≤ lead + 10 * length (on_air list)
+
+-- no copy of the list's character at this place came intact
+pub record IsLostAt (receptions : List (List Element)) (list : List ℕ) (place : ℕ) : Type 0 where
+  pub inside : place < length list
+  pub nowhere : CameNowhere receptions list place
+
+-- what is told of the tail: where it is an expansion's list, a whole expansion is this one, and a broken place is one no copy of which
+-- came intact; where nothing was sent behind the call, and each reception ends with the transmission, nothing follows
+pub record TellsTail (receptions : List (List Element)) (call : Call) (tail : List ℕ) (extra : Extra) : Type 0 where
+  pub whole : (x y : Sets) → IsExpandedBy call tail x → extra ≡ Whole y → y ≡ x
+  pub broken : (x : Sets) (n : ℕ) → IsExpandedBy call tail x → extra ≡ Broken n → IsLostAt receptions (spell call ++ tail) n
+  pub absent : tail ≡ [] → All (λ reception. EndsWithin reception (spell call)) receptions → extra ≡ Absent
+
+-- the answer reports the call that was sent, and tells of its tail
+pub record IsSent (receptions : List (List Element)) (call : Call) (tail : List ℕ) (answer : Joined) : Type 0 where
+  pub extra : Extra
+  pub tells : TellsTail receptions call tail extra
+  pub answer_is : answer ≡ Reported call extra
+
 -- the call that was sent, with this tail, or a place of it no copy of which came intact
 abbrev pub IsSentOrLostPlace : List (List Element) → Call → List ℕ → Joined → Type 0
-IsSentOrLostPlace receptions call tail answer = (answer ≡ Reported call Absent) ⊎ NamesLostPlace receptions call tail answer
+IsSentOrLostPlace receptions call tail answer = IsSent receptions call tail answer ⊎ NamesLostPlace receptions call tail answer
 
 -- each place of the call up to its error check character came intact at some receiver; of the two places of the format
 -- specifier one is enough, except in distress alerts and calls to all ships, which need both

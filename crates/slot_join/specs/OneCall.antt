@@ -6,7 +6,8 @@ use Rattle.slot_evidence.specs.Facts.{Facts}
 use Rattle.slot_evidence.specs.Seen.{ShowsNone}
 use Rattle.slot_join.specs.declared.joined.Joined.{Joined}
 use Rattle.slot_join.specs.declared.joined.Joined.TheVariants.{Reported, Missing}
-use Rattle.slot_join.specs.declared.joined.Extra.TheVariants.{Absent}
+use Rattle.slot_join.specs.declared.joined.Extra.{Extra}
+use Rattle.slot_join.specs.Extra.{Follows}
 
 -- a place of the list that showed a symbol showed that of the list and no other
 abbrev pub ShowsNoOther : Facts → List ℕ → Type 0
@@ -19,6 +20,12 @@ pub record IsMissing (F : Facts) (list : List ℕ) (answer : Joined) : Type 0 wh
   pub blank : ShowsNone (F place)
   pub answer_is : answer ≡ Missing place
 
+-- the answer reports the call, and what follows it
+pub record IsCallReported (F : Facts) (call : Call) (answer : Joined) : Type 0 where
+  pub extra : Extra
+  pub follows : Follows F call extra
+  pub answer_is : answer ≡ Reported call extra
+
 -- the call, or a place of it up to its error check character that showed nothing
 abbrev pub IsCallOrMissing : Facts → Call → Joined → Type 0
-IsCallOrMissing F call answer = (answer ≡ Reported call Absent) ⊎ IsMissing F (through_check call) answer
+IsCallOrMissing F call answer = IsCallReported F call answer ⊎ IsMissing F (through_check call) answer

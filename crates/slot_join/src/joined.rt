@@ -1,10 +1,15 @@
 use call_values::Call;
+use expansion::Expansion;
 
-/// What follows a reported call on air.
+/// What follows a reported call on air (this project's profile).
 #[derive(Clone, Copy, Debug, PartialEq, Eq)]
 pub enum Extra {
-    /// Nothing that is read: places past the error check character are not consulted yet.
+    /// No place behind the call showed a symbol.
     Absent,
+    /// The places behind the call showed this expansion, up to its error check character.
+    Whole(Expansion),
+    /// Places behind the call showed symbols, but no expansion: this is the first place at which none goes on.
+    Broken(u8),
 }
 
 /// The answer to a group's facts. A place is that of a character in the call's list, counted from 0 with

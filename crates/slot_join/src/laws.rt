@@ -1,20 +1,22 @@
-ghost use Rattle.std.specs.Prelude.{◌≡◌, ◌++◌, ◌↔◌, ℕ, Bool, List, Some, pos, ◌-ℤ◌};
+ghost use Rattle.std.specs.Prelude.{◌≡◌, ◌+◌, ◌<◌, ◌≤◌, ◌++◌, ◌↔◌, ℕ, Bool, true, false, List, length, slice_index, Some, All, pos, ◌-ℤ◌};
 ghost use Rattle.ten_unit.specs.declared.character.Element.{Element};
 ghost use Rattle.call_values.specs.declared.calls.Call.{Call};
 ghost use Rattle.call_values.specs.Calls.{IsCall};
 ghost use Rattle.call_grammar.specs.Spelling.{spell, through_check};
+ghost use Rattle.expansion.specs.declared.values.Sets.{Sets};
 ghost use Rattle.time_diversity.specs.OnAir.{on_air};
 ghost use Rattle.phasing.specs.Origin.{lead_of, origin_of};
 ghost use Rattle.phasing.specs.Start.{IsIntactStart};
 ghost use Rattle.slot_evidence.specs.declared.places.Seen.{Seen};
 ghost use Rattle.slot_evidence.specs.Facts.{Facts, facts_of, union};
 ghost use Rattle.slot_evidence.specs.Sheet.{IsEnds, facts_in};
+ghost use Rattle.slot_evidence.specs.Alike.{AreAlike};
 ghost use Rattle.slot_join.specs.declared.joined.Joined.{Joined};
 ghost use Rattle.slot_join.specs.declared.joined.Joined.TheVariants.{Reported};
-ghost use Rattle.slot_join.specs.declared.joined.Extra.TheVariants.{Absent};
+ghost use Rattle.slot_join.specs.declared.joined.Extra.TheVariants.{Absent, Whole};
 ghost use Rattle.slot_join.specs.Answer.{IsAnswer};
 ghost use Rattle.slot_join.specs.Heard.{IsOneWayAt, IsTrulyPhased, IsHeard};
-ghost use Rattle.slot_join.specs.Intact.{ArrivesIntact};
+ghost use Rattle.slot_join.specs.Intact.{ArrivesIntact, EndsWithin, IsExpandedBy};
 ghost use Rattle.slot_join.specs.OneCall.{ShowsNoOther, IsCallOrMissing};
 
 use call_grammar::{formats_begin_calls, fronts_differ, lists_are_characters, lists_are_short};
@@ -29,6 +31,8 @@ pub fn one_answer()
 {
     one_seen();
     fronts_differ();
+    expansion::fronts_differ();
+    lists_are_short();
 }
 
 /// The law that the ends that a sheet keeps of facts give the answer that the facts give, whatever other facts are known
@@ -40,16 +44,29 @@ pub fn ends_give_the_answer()
     ends_are_kept();
 }
 
-/// The law that a call whose slots all arrive intact at the origin is reported, and no other answer comes. It does
-/// nothing.
-pub fn intact_call_is_reported()
-    ensures { (call : Call) (reception : List Element) (answer : Joined) → IsCall call → ArrivesIntact reception (spell call)
-        → IsAnswer (facts_of reception) answer → answer ≡ Reported call Absent }
+/// The law that facts which are alike at each place have the same answers. It does nothing.
+pub fn alike_facts_have_one_answer()
+    ensures { (F G : Facts) (answer : Joined) → ((p : ℕ) → AreAlike (F p) (G p)) → IsAnswer F answer → IsAnswer G answer }
 {
-    one_answer();
+    ends_are_kept();
+}
+
+/// The law that a call whose slots all arrive intact at the origin is reported: alone, where the reception ends with its transmission,
+/// and with its expansion, where one was sent behind it. No other answer comes. It does nothing.
+pub fn intact_call_is_reported()
+    ensures alone { (call : Call) (reception : List Element) (answer : Joined) → IsCall call → ArrivesIntact reception (spell call)
+        → EndsWithin reception (spell call) → IsAnswer (facts_of reception) answer → answer ≡ Reported call Absent }
+    ensures expanded { (call : Call) (tail : List ℕ) (x : Sets) (reception : List Element) (answer : Joined) → IsCall call → IsExpandedBy call tail x
+        → ArrivesIntact reception (spell call ++ tail) → IsAnswer (facts_of reception) answer → answer ≡ Reported call (Whole x) }
+{
+    one_seen();
+    fronts_differ();
     formats_begin_calls();
     lists_are_short();
     lists_are_characters();
+    expansion::fronts_differ();
+    expansion::lists_are_short();
+    expansion::lists_are_characters();
     both_slots_show_the_character();
     words_tell_symbols_apart();
 }
@@ -74,10 +91,14 @@ pub fn unphased_receptions_are_heard()
 {}
 
 /// The law that the truly phased receptions of a call that went wrong in one sense alone, character by character, show of
-/// its places up to the error check character no other symbols than the call's. It does nothing.
+/// its places up to the error check character no other symbols than the call's; and those of any list's transmission no other
+/// symbols than the list's at the places of which both copies are sent, the last two excepted. It does nothing.
 pub fn heard_calls_show_no_other()
-    ensures { (call : Call) (tail : List ℕ) (reception : List Element) → IsCall call → IsHeard reception (spell call ++ tail)
+    ensures call { (call : Call) (tail : List ℕ) (reception : List Element) → IsCall call → IsHeard reception (spell call ++ tail)
         → ShowsNoOther (facts_of reception) (through_check call) }
+    ensures list { (list : List ℕ) (reception : List Element) (p v : ℕ) → All (λ symbol. symbol < 128) list → IsHeard reception list
+        → p + 2 < length list → facts_of reception p v ≡ true → v ≡ slice_index list p }
+    ensures past { (list : List ℕ) (reception : List Element) (p v : ℕ) → EndsWithin reception list → length list ≤ p → facts_of reception p v ≡ false }
 {
     words_tell_symbols_apart();
     one_way_errors_are_seen();

@@ -1,6 +1,7 @@
 //! The answer to what receivers showed of one call.
 #![tactic(auto)]
 
+mod extras;
 mod gate;
 mod hearing;
 mod joined;
@@ -11,8 +12,9 @@ pub use gate::{Gate, Open};
 pub use hearing::{intact_copies_report_the_call, sent_call_is_answered};
 pub use joined::{Extra, Joined};
 pub use laws::{
-    call_or_missing_place, ends_give_the_answer, heard_calls_show_no_other,
-    intact_call_is_reported, late_calls_are_found, one_answer, unphased_receptions_are_heard,
+    alike_facts_have_one_answer, call_or_missing_place, ends_give_the_answer,
+    heard_calls_show_no_other, intact_call_is_reported, late_calls_are_found, one_answer,
+    unphased_receptions_are_heard,
 };
 pub use reading::report;
 pub use slot_evidence::{Seen, Sheet, read_sheet};

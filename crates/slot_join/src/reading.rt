@@ -8,7 +8,8 @@ ghost use Rattle.slot_join.specs.Shown.{head_of, IsShown};
 ghost use Rattle.slot_join.specs.Answer as answers;
 ghost use Rattle.slot_join.specs.Answer.{IsAnswer, IsReported, IsStopped, BehindFormat};
 
-use crate::joined::{Extra, Joined};
+use crate::extras::read_extra;
+use crate::joined::Joined;
 use call_grammar::{
     Step, Walk, formats_begin_calls, fronts_differ, lists_are_short, open_is_not_done,
 };
@@ -113,7 +114,7 @@ fn follow(sheet: &Sheet, mut walk: Walk) -> Joined
         match walk.take(symbol) {
             Step::More => {}
             Step::Done(call) => {
-                let expansion = Extra::Absent;
+                let expansion = read_extra(sheet, &call, n);
                 return Joined::Reported { call, expansion };
             }
             Step::Outside => return Joined::Outside(n, symbol),

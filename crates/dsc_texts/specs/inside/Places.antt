@@ -30,6 +30,6 @@ place_of (Service to category from (Test reply)) = nth 8
 place_of (Service to category from AskPosition) = nth 9
 place_of (Service to category from (Position position time)) = last 10
 
--- the parts of a call's text among those of the other forms
-abbrev pub call_parts : Call → Parts
-call_parts call = place_of call (parts_of call)
+-- the parts of a call's text among those of the other forms, and of what stands behind it
+abbrev pub call_parts : Call → Parts → Parts
+call_parts call rest = place_of call (parts_of call rest)

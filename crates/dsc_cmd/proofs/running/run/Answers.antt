@@ -1,48 +1,32 @@
-use Rattle.std.proofs.Common.{List, ℕ, inr, subst}
-use Rattle.dsc_cmd.specs.Endings.{WritesAnswers, WritesFault, WritesSome}
-use Rattle.dsc_cmd.proofs.Reading.{EarlyFault, within, still_writes_fault, still_writes_some}
-use Rattle.dsc_cmd.proofs.SentCalls.{reports_sent}
+use Rattle.std.proofs.Common.{Err, inl, ap, subst}
+use Rattle.dsc_words.specs.declared.plans.PlanError.{PlanError}
+use Rattle.dsc_words.specs.declared.plans.Plan.{Plan}
+use Rattle.dsc_words.specs.declared.plans.Plan.TheVariants.{Join}
+use Rattle.line_engine.specs.Endings.{TellsWhole}
+use Rattle.dsc_cmd.specs.Plans.{meaning_of}
+use Rattle.dsc_cmd.proofs.SentGroups.{Laws, reports_sent}
 use Rattle.dsc_cmd.proofs.running.run.Goals as goal
 
-pub returns-in-Ok-clause-answered : goal.returns-in-Ok-clause-answered
-returns-in-Ok-clause-answered g c = λ is.
-    let early : EarlyFault = record { has_one = c.early_fault.ensures.has_one; keeps = c.early_fault.ensures.keeps } in
-    let before = g.K.Sink.written c.args.sink.now in
-    let after = g.K.Sink.written c.write_output.new.sink in
-    let flushed = g.K.Sink.flushed c.write_output.new.sink in
-    let writes = subst (λ (input : List ℕ). WritesAnswers input before after flushed c.write_output.result) c.deref.ensures.value (c.write_output.ensures.finished is) in
-    record {
-      input = c.in-Ok.input.items;
-      lost = c.in-Ok.ensures.bytes;
-      ended = c.in-Ok.ensures.end (within early c.in-Ok.input.items writes.joined.faultless);
-      writes = writes;
-    }
-
 pub returns-in-Ok-clause-sent : goal.returns-in-Ok-clause-sent
-returns-in-Ok-clause-sent g c = λ is. reports_sent c.sent_call_is_answered.ensures c.intact_copies_report_the_call.ensures _ _ _ _ _ _ (returns-in-Ok-clause-answered g c is)
+returns-in-Ok-clause-sent g c = λ n planned finished.
+    let sets = c.ends_are_kept.ensures in
+    let laws : Laws = record {
+      sets = record { itself = sets.itself; unions = sets.unions; sheet = sets.sheet };
+      alike = c.alike_facts_have_one_answer.ensures;
+      sent = c.sent_call_is_answered.ensures;
+      whole = c.intact_copies_report_the_call.ensures;
+    } in
+    let same = c.one_plan.ensures _ c.in-Ok.plan (Join n) c.in-Ok.ensures.planned planned in
+    reports_sent laws _ _ _ _ _ _
+    (subst (λ (plan : Plan). TellsWhole (meaning_of plan) (g.S.Source.left c.args.source.now) (g.S.Source.left c.execute.new.source)
+    (g.K.Sink.written c.args.sink.now) (g.K.Sink.written c.execute.new.sink) (g.K.Sink.flushed c.execute.new.sink) c.execute.result) same (c.execute.ensures.whole finished))
 
-pub returns-in-Ok-clause-faulty : goal.returns-in-Ok-clause-faulty
-returns-in-Ok-clause-faulty g c = λ is.
-    let early : EarlyFault = record { has_one = c.early_fault.ensures.has_one; keeps = c.early_fault.ensures.keeps } in
-    let before = g.K.Sink.written c.args.sink.now in
-    let after = g.K.Sink.written c.write_output.new.sink in
-    let flushed = g.K.Sink.flushed c.write_output.new.sink in
-    let writes = subst (λ (input : List ℕ). WritesFault input before after flushed c.write_output.result) c.deref.ensures.value (c.write_output.ensures.faulty is) in
-    record {
-      taken = c.in-Ok.input.items;
-      lost = c.in-Ok.ensures.bytes;
-      writes = λ rest left. still_writes_fault early c.in-Ok.input.items rest _ c.in-Ok.ensures.end left before after flushed c.write_output.result writes;
-    }
+pub returns-in-Err-Refused-clause-unplanned : goal.returns-in-Err-Refused-clause-unplanned
+returns-in-Err-Refused-clause-unplanned g c = λ _. c.in-Err-Refused.ensures.refused (ap (λ (e : PlanError). Err e) c.in-Err-Refused.field-0-is)
 
-pub returns-in-Ok-clause-cut : goal.returns-in-Ok-clause-cut
-returns-in-Ok-clause-cut g c = λ is.
-    let early : EarlyFault = record { has_one = c.early_fault.ensures.has_one; keeps = c.early_fault.ensures.keeps } in
-    let before = g.K.Sink.written c.args.sink.now in
-    let after = g.K.Sink.written c.write_output.new.sink in
-    let writes = subst (λ (input : List ℕ). WritesSome input before after) c.deref.ensures.value (c.write_output.ensures.cut is) in
-    inr (record {
-      planned = c.is_join.ensures.0 c.if-not-is_join.false;
-      taken = c.in-Ok.input.items;
-      lost = c.in-Ok.ensures.bytes;
-      writes = λ rest left. still_writes_some early c.in-Ok.input.items rest _ c.in-Ok.ensures.end left before after writes;
-    })
+pub returns-in-Err-Refused-clause-cut : goal.returns-in-Err-Refused-clause-cut
+returns-in-Err-Refused-clause-cut g c = λ is.
+    inl (record { unplanned = c.in-Err-Refused.ensures.refused (ap (λ (e : PlanError). Err e) c.in-Err-Refused.field-0-is); writes = c.refuse.ensures.cut is })
+
+pub returns-in-Err-Refused-clause-completes : goal.returns-in-Err-Refused-clause-completes
+returns-in-Err-Refused-clause-completes g c = λ plan planned read write. absurd (c.in-Err-Refused.ensures.refused (ap (λ (e : PlanError). Err e) c.in-Err-Refused.field-0-is) plan planned)

@@ -1,13 +1,14 @@
 use Rattle.line_grammar.specs.Grammar.{either}
 use Rattle.dsc_texts.specs.CallGrammar as grammar
-use Rattle.dsc_texts.specs.inside.Places.{last, call_parts}
+use Rattle.dsc_texts.specs.inside.Places.{last}
+use Rattle.dsc_texts.specs.inside.Reading.{parts_with}
 use Rattle.dsc_texts.proofs.SectionSteps.{further_form}
 use Rattle.dsc_texts.proofs.forms.any_call.Goals as goal
 
 pub returns : goal.returns
-returns c =
-    further_form grammar.alert (either grammar.ack (either grammar.relay (either grammar.relay_ack (either grammar.all_ships (either grammar.area_call (either grammar.group_call (either grammar.individual (either grammar.test (either grammar.position_request grammar.position_answer))))))))) (last 0) call_parts _ _ _ _ c.further.ensures c.alert.ensures
-    (further_form grammar.ack (either grammar.relay (either grammar.relay_ack (either grammar.all_ships (either grammar.area_call (either grammar.group_call (either grammar.individual (either grammar.test (either grammar.position_request grammar.position_answer)))))))) (last 1) call_parts _ _ _ _ c.further-answers.ensures c.ack.ensures
-    (further_form grammar.relay (either grammar.relay_ack (either grammar.all_ships (either grammar.area_call (either grammar.group_call (either grammar.individual (either grammar.test (either grammar.position_request grammar.position_answer))))))) (last 2) call_parts _ _ _ _ c.further-relays.ensures c.relay.ensures
-    (further_form grammar.relay_ack (either grammar.all_ships (either grammar.area_call (either grammar.group_call (either grammar.individual (either grammar.test (either grammar.position_request grammar.position_answer)))))) (last 3) call_parts _ _ _ _ c.further-others.ensures c.relay_ack.ensures
+returns g c =
+    further_form (grammar.alert g.T.Tail.grammar) (either (grammar.ack g.T.Tail.grammar) (either (grammar.relay g.T.Tail.grammar) (either (grammar.relay_ack g.T.Tail.grammar) (either (grammar.all_ships g.T.Tail.grammar) (either (grammar.area_call g.T.Tail.grammar) (either (grammar.group_call g.T.Tail.grammar) (either (grammar.individual g.T.Tail.grammar) (either (grammar.test g.T.Tail.grammar) (either (grammar.position_request g.T.Tail.grammar) (grammar.position_answer g.T.Tail.grammar)))))))))) (last 0) (parts_with g.T.Tail.parts) _ _ _ _ c.further.ensures c.alert.ensures
+    (further_form (grammar.ack g.T.Tail.grammar) (either (grammar.relay g.T.Tail.grammar) (either (grammar.relay_ack g.T.Tail.grammar) (either (grammar.all_ships g.T.Tail.grammar) (either (grammar.area_call g.T.Tail.grammar) (either (grammar.group_call g.T.Tail.grammar) (either (grammar.individual g.T.Tail.grammar) (either (grammar.test g.T.Tail.grammar) (either (grammar.position_request g.T.Tail.grammar) (grammar.position_answer g.T.Tail.grammar))))))))) (last 1) (parts_with g.T.Tail.parts) _ _ _ _ c.further-answers.ensures c.ack.ensures
+    (further_form (grammar.relay g.T.Tail.grammar) (either (grammar.relay_ack g.T.Tail.grammar) (either (grammar.all_ships g.T.Tail.grammar) (either (grammar.area_call g.T.Tail.grammar) (either (grammar.group_call g.T.Tail.grammar) (either (grammar.individual g.T.Tail.grammar) (either (grammar.test g.T.Tail.grammar) (either (grammar.position_request g.T.Tail.grammar) (grammar.position_answer g.T.Tail.grammar)))))))) (last 2) (parts_with g.T.Tail.parts) _ _ _ _ c.further-relays.ensures c.relay.ensures
+    (further_form (grammar.relay_ack g.T.Tail.grammar) (either (grammar.all_ships g.T.Tail.grammar) (either (grammar.area_call g.T.Tail.grammar) (either (grammar.group_call g.T.Tail.grammar) (either (grammar.individual g.T.Tail.grammar) (either (grammar.test g.T.Tail.grammar) (either (grammar.position_request g.T.Tail.grammar) (grammar.position_answer g.T.Tail.grammar))))))) (last 3) (parts_with g.T.Tail.parts) _ _ _ _ c.further-others.ensures c.relay_ack.ensures
     c.other_call.ensures)))

@@ -2,4 +2,4 @@ use Rattle.dsc_texts.proofs.SectionSteps.{further_form}
 use Rattle.dsc_texts.proofs.forms.message_and_end.Goals as goal
 
 pub returns : goal.returns
-returns c = further_form _ _ _ _ _ _ _ _ c.further.ensures c.frequencies_and_end.ensures c.position_and_end.ensures
+returns g c = further_form _ _ _ _ _ _ _ _ c.further.ensures c.frequencies_and_end.ensures c.position_and_end.ensures

@@ -1,33 +1,33 @@
 use Rattle.std.proofs.Common.{codes, refl, sym, ◌∙◌, ap}
-use Rattle.line_grammar.specs.Grammar.{finish}
 use Rattle.line_grammar.specs.inside.Reading.{read}
 use Rattle.dsc_texts.specs.CallGrammar as grammar
 use Rattle.dsc_texts.specs.CallGrammar.{labelled}
-use Rattle.dsc_texts.specs.inside.Places.{nth, call_parts}
-use Rattle.dsc_texts.proofs.SectionSteps.{both, behind, whole, no_end, leaves_form}
+use Rattle.dsc_texts.specs.inside.Places.{nth}
+use Rattle.dsc_texts.specs.inside.Reading.{parts_with}
+use Rattle.dsc_texts.proofs.SectionSteps.{both, behind, whole, no_tail, leaves_form}
 use Rattle.dsc_texts.proofs.forms.position_request.Goals as goal
 
 pub returns-in_err-to : goal.returns-in_err-to
-returns-in_err-to c =
-    leaves_form grammar.position_request (nth 9) call_parts _ _ _ _ c.new-line.ensures c.from_residual.ensures.1
-    (c.in_err-to.ensures (grammar.sender finish))
+returns-in_err-to g c =
+    leaves_form (grammar.position_request g.T.Tail.grammar) (nth 9) (parts_with g.T.Tail.parts) _ _ _ _ c.new-line.ensures c.from_residual.ensures.1
+    (c.in_err-to.ensures (grammar.sender g.T.Tail.grammar))
 
 pub returns-in_err-sender : goal.returns-in_err-sender
-returns-in_err-sender c =
-    leaves_form grammar.position_request (nth 9) call_parts _ _ _ _ c.new-line.ensures c.from_residual-in_err-sender.ensures.1
+returns-in_err-sender g c =
+    leaves_form (grammar.position_request g.T.Tail.grammar) (nth 9) (parts_with g.T.Tail.parts) _ _ _ _ c.new-line.ensures c.from_residual-in_err-sender.ensures.1
     ((behind (labelled (codes "askpos to=") grammar.identity) (λ rest. grammar.sender rest) _ _ _ _ c.in_ok-to.ensures
-    c.in_err-sender.ensures) finish)
+    c.in_err-sender.ensures) g.T.Tail.grammar)
 
-pub returns-in_err-end : goal.returns-in_err-end
-returns-in_err-end c =
-    leaves_form grammar.position_request (nth 9) call_parts _ _ _ _ c.new-line.ensures c.from_residual-in_err-end.ensures.1
-    (no_end (λ rest. (labelled (codes "askpos to=") grammar.identity) (grammar.sender rest)) _ _ _ _ (both (labelled (codes "askpos to=") grammar.identity) (λ rest. grammar.sender rest) _ _ _ _ _ c.in_ok-to.ensures
-    c.in_ok-sender.ensures) c.in_err-end.ensures.left)
+pub returns-in_err-tail : goal.returns-in_err-tail
+returns-in_err-tail g c =
+    leaves_form (grammar.position_request g.T.Tail.grammar) (nth 9) (parts_with g.T.Tail.parts) _ _ _ _ c.new-line.ensures c.from_residual-in_err-tail.ensures.1
+    (no_tail (λ rest. (labelled (codes "askpos to=") grammar.identity) (grammar.sender rest)) g.T.Tail.grammar _ _ _ _ _ (both (labelled (codes "askpos to=") grammar.identity) (λ rest. grammar.sender rest) _ _ _ _ _ c.in_ok-to.ensures
+    c.in_ok-sender.ensures) c.rest.ensures c.in_err-tail.ensures)
 
 pub returns : goal.returns
-returns c = (
+returns g c = (
   _,
-  ap (read grammar.position_request) (sym c.new-line.ensures) ∙ whole (λ rest. (labelled (codes "askpos to=") grammar.identity) (grammar.sender rest)) _ _ _ (both (labelled (codes "askpos to=") grammar.identity) (λ rest. grammar.sender rest) _ _ _ _ _ c.in_ok-to.ensures
-      c.in_ok-sender.ensures) c.in_ok-end.ensures.end,
+  ap (read (grammar.position_request g.T.Tail.grammar)) (sym c.new-line.ensures) ∙ whole (λ rest. (labelled (codes "askpos to=") grammar.identity) (grammar.sender rest)) g.T.Tail.grammar _ _ _ _ _ (both (labelled (codes "askpos to=") grammar.identity) (λ rest. grammar.sender rest) _ _ _ _ _ c.in_ok-to.ensures
+      c.in_ok-sender.ensures) c.rest.ensures c.in_ok-tail.ensures,
   refl,
 )

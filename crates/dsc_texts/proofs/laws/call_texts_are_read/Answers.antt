@@ -1,5 +1,8 @@
-use Rattle.dsc_texts.proofs.CallLaws.{call_read}
+use Rattle.call_values.specs.Calls.{IsCall}
+use Rattle.dsc_texts.specs.Texts.{IsWholeOrAbsent, reported_text}
+use Rattle.dsc_texts.proofs.FormLaws.{answered}
 use Rattle.dsc_texts.proofs.laws.call_texts_are_read.Goals as goal
 
 pub returns : goal.returns
-returns c = call_read
+returns c call extra answer h k told =
+    answered (λ w. IsCall w.0 × IsWholeOrAbsent w.1) (λ w. reported_text w.0 w.1) (call, extra) answer (h, k) told

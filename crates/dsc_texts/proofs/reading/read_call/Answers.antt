@@ -1,13 +1,18 @@
-use Rattle.std.proofs.Common.{Ok, sym, ◌∙◌, ap}
+use Rattle.std.proofs.Common.{sym, ◌∙◌, ap}
 use Rattle.line_grammar.specs.Grammar.{Parts}
-use Rattle.dsc_texts.proofs.CallLaws.{text_left, text_read, text_column}
+use Rattle.std.proofs.Common.{Ok}
+use Rattle.dsc_texts.proofs.CallLaws.{texts}
+use Rattle.dsc_texts.proofs.FormLaws.{text_left, text_read, text_column}
+use Rattle.dsc_texts.specs.inside.Places.{call_parts}
 use Rattle.dsc_texts.proofs.reading.read_call.Goals as goal
 
 pub column-requires-clause-left : goal.column-requires-clause-left
-column-requires-clause-left c = text_left _ _ c.in-Err.ensures
+column-requires-clause-left c = text_left texts _ _ c.in-Err.ensures
 
 pub returns-in-Ok : goal.returns-in-Ok
-returns-in-Ok c = text_read _ _ c.lawful.ensures (c.in-Ok.ensures.1 ∙ ap (λ (p : Parts). Ok p) (sym c.in-Ok.ensures.2))
+returns-in-Ok c =
+    text_read texts (c.in-Ok.call, c.extra_of.result) _ (c.lawful.ensures, c.extra_of.ensures.lawful)
+    (c.in-Ok.ensures.1 ∙ ap (λ (p : Parts). Ok p) (sym c.in-Ok.ensures.2 ∙ ap (call_parts c.in-Ok.call) (sym c.extra_of.ensures.parts)))
 
 pub returns-in-Err : goal.returns-in-Err
-returns-in-Err c = text_column _ _ _ c.in-Err.ensures c.column.ensures
+returns-in-Err c = text_column texts _ _ _ c.in-Err.ensures c.column.ensures

@@ -19,9 +19,9 @@ returns-in_default-with_digit-clause-left c =
 pub returns-then-number-least-clause-left : goal.returns-then-number-least-clause-left
 returns-then-number-least-clause-left c =
     let begun = c.in-Some-with_digit.ensures in
-    number_low _ _ _ _ _ _ _ _ c.in-Some.ensures.cases.0 c.if-first-eq48.false begun.1 begun.2 c.more_digits-number.ensures c.if-number-least.true
+    number_low _ _ _ _ _ _ _ _ c.in-Some.ensures.cases.0 c.if-first-eq48.false begun.1 begun.2 c.more_digits-number.ensures.digits c.if-number-least.true
 
 pub returns-clause-number : goal.returns-clause-number
 returns-clause-number c =
     let begun = c.in-Some-with_digit.ensures in
-    number_ok _ _ _ _ _ _ _ _ c.in-Some.ensures.cases.0 c.if-first-eq48.false begun.1 begun.2 c.more_digits-number.ensures c.if-number-least.false
+    number_ok _ _ _ _ _ _ _ _ c.in-Some.ensures.cases.0 c.if-first-eq48.false begun.1 begun.2 c.more_digits-number.ensures.digits c.if-number-least.false

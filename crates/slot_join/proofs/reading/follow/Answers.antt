@@ -1,7 +1,7 @@
 use Rattle.std.proofs.Common.{◌+◌, ℕ, length, sym, ap, ◌∙◌, inl, inr, subst, arith}
 use Rattle.slot_evidence.specs.declared.places.Seen.TheVariants as seen
 use Rattle.slot_join.specs.Shown.{IsShown}
-use Rattle.slot_join.proofs.Stops.{seen_there, after_long, open_short, stops_differ, stops_outside, stops_check, reports, goes_on}
+use Rattle.slot_join.proofs.Stops.{seen_there, after_long, open_short, stops_differ, stops_outside, stops_check, reports, goes_on, whole_length}
 use Rattle.slot_join.proofs.reading.follow.Goals as goal
 
 pub returns-in-None : goal.returns-in-None
@@ -18,12 +18,18 @@ returns-in-Differ c = λ F ends shown.
 pub take-requires-clause-open : goal.take-requires-clause-open
 take-requires-clause-open c = λ done. c.open_is_not_done.ensures c.loop-n.walk (inr c.loop-n.invariant.open_) done
 
+pub read_extra-expansion-requires-clause-place : goal.read_extra-expansion-requires-clause-place
+read_extra-expansion-requires-clause-place c =
+    let step = c.in-Done.ensures.step in
+    whole_length c.loop-n.walk c.in-One.symbol c.loop-n.n c.in-Done.call c.loop-n.invariant.taken (omega (arith, c.loop-n.invariant.taken)) (sym step.taken ∙ step.list)
+
 pub returns-in-Done : goal.returns-in-Done
 returns-in-Done c = λ F ends shown.
     let i = c.loop-n.invariant in
     let step = c.in-Done.ensures.step in
     let v = c.in-One.symbol in
-    inl (reports F c.loop-n.walk c.loop-n.n v c.in-Done.call i.taken (i.shown F ends shown) (seen_there F c.args.sheet.now c.loop-n.n (seen.One v) ends c.in-One.ensures.seen) step.lawful (sym step.taken ∙ step.list))
+    inl (reports F c.loop-n.walk c.loop-n.n v c.in-Done.call c.read_extra-expansion.result i.taken (i.shown F ends shown) (seen_there F c.args.sheet.now c.loop-n.n (seen.One v) ends c.in-One.ensures.seen) step.lawful
+    (sym step.taken ∙ step.list) (c.read_extra-expansion.ensures F ends))
 
 pub returns-in-Outside : goal.returns-in-Outside
 returns-in-Outside c = λ F ends shown.

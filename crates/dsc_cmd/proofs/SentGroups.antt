@@ -1,0 +1,99 @@
+-- Of a group whose receptions are all of one call the text tells this call, or a lost place of it.
+use Rattle.std.proofs.Common.{◌≡◌, ℕ, true, ◌==◌, suc, List, [], ◌∷◌, ◌++◌, All, Option, refl, ap, subst, ◌∙◌, inl, inr, arith}
+use Rattle.std.specs.Prelude.{map, Contains}
+use Rattle.std.specs.List.{AllByRecursion}
+use Rattle.std.proofs.lemmas.Bool.{or_cases}
+use Rattle.ten_unit.specs.declared.character.Element.{Element}
+use Rattle.call_values.specs.declared.calls.Call.{Call}
+use Rattle.call_values.specs.Calls.{IsCall}
+use Rattle.call_grammar.specs.Spelling.{spell}
+use Rattle.slot_evidence.specs.Facts.{Facts, facts_of_all}
+use Rattle.slot_evidence.specs.Alike.{AreAlike}
+use Rattle.slot_join.specs.declared.joined.Joined.{Joined}
+use Rattle.slot_join.specs.Answer.{IsAnswer}
+use Rattle.slot_join.specs.Heard.{IsHeard}
+use Rattle.slot_join.specs.Intact.{IsSent, IsSentOrLostPlace, ArrivesInParts}
+use Rattle.line_engine.specs.Endings.{TellsWhole}
+use Rattle.dsc_files.specs.JoinLine.{JoinLine}
+use Rattle.join_groups.specs.Groups.{is_among, group_facts}
+use Rattle.join_groups.specs.Output.{Told, TellsAnswer, answer_line, IsJoinText}
+use Rattle.join_groups.specs.Meanings.{groups_meaning}
+use Rattle.dsc_cmd.specs.Heard.{IsOfCall}
+use Rattle.dsc_cmd.specs.Sent.{TellsSent, ReportsSent}
+use Rattle.dsc_cmd.proofs.Behind as behind
+
+abbrev pub AlikeLaw : Type 0
+AlikeLaw = (F G : Facts) (answer : Joined) → ((p : ℕ) → AreAlike (F p) (G p)) → IsAnswer F answer → IsAnswer G answer
+
+abbrev pub SentLaw : Type 0
+SentLaw = (receptions : List (List Element)) (call : Call) (tail : List ℕ) (answer : Joined) → IsCall call → All (λ reception. IsHeard reception (spell call ++ tail)) receptions
+    → IsAnswer (facts_of_all receptions) answer → IsSentOrLostPlace receptions call tail answer
+
+abbrev pub WholeLaw : Type 0
+WholeLaw = (receptions : List (List Element)) (call : Call) (tail : List ℕ) (answer : Joined) → IsCall call → All (λ reception. IsHeard reception (spell call ++ tail)) receptions
+    → ArrivesInParts receptions call tail → IsAnswer (facts_of_all receptions) answer → IsSent receptions call tail answer
+
+pub record Laws : Type 0 where
+  pub sets : behind.Laws
+  pub alike : AlikeLaw
+  pub sent : SentLaw
+  pub whole : WholeLaw
+
+is_equal : (a b : ℕ) → (a == b) ≡ true → a ≡ b
+is_equal a b h = grind arith
+
+-- the line of a group that is named
+record Found (P : Told → Type 0) (all : List Told) (k : ℕ) : Type 0 where
+  told : Told
+  is_one : Contains all told
+  group : told.group ≡ k
+  holds : P told
+
+later : (P : Told → Type 0) (t : Told) (all : List Told) (k : ℕ) → Found P all k → Found P (t ∷ all) k
+later P t all k f = record {
+  told = f.told;
+  is_one = (suc f.is_one.0, omega (arith, f.is_one.1), f.is_one.2);
+  group = f.group;
+  holds = f.holds;
+}
+
+found : (P : Told → Type 0) (all : List Told) (k : ℕ) → AllByRecursion P all → is_among (map (λ told. told.group) all) k ≡ true → Found P all k
+found P [] k each among = absurd (cc)
+found P (t ∷ all) k each among = elim (or_cases (t.group == k) (is_among (map (λ told. told.group) all) k) among) [
+  | inl here ↦ record { told = t; is_one = (0, omega arith, refl); group = is_equal t.group k here; holds = each.0 }
+  | inr more ↦ later P t all k (found P all k each.1 more)
+]
+
+-- the line of a group whose receptions are of one call
+tells_sent : Laws → (said : List JoinLine) (text : List ℕ) (status : ℕ) (is_text : IsJoinText said text status) (k : ℕ) (call : Call) (tail : List ℕ) (receptions : List (List Element))
+    → IsOfCall said k call tail receptions → TellsSent is_text.all k call tail receptions
+tells_sent laws said text status is_text k call tail receptions of =
+    let one = found (λ told. TellsAnswer (group_facts said told.group) told) is_text.all k is_text.each (is_text.groups.named k ∙ of.named) in
+    let tells = one.holds in
+    let here : IsAnswer (group_facts said k) tells.answer = subst (λ (n : ℕ). IsAnswer (group_facts said n) tells.answer) one.group tells.is_answer in
+    let answers : IsAnswer (facts_of_all receptions) tells.answer =
+    laws.alike (group_facts said k) (facts_of_all receptions) tells.answer (behind.behind_alike laws.sets k said receptions of.behind) here in
+    record {
+      told = one.told;
+      is_one = one.is_one;
+      answer = tells.answer;
+      tells = record { group = one.group; line_is = tells.line_is ∙ ap (λ (n : ℕ). answer_line n tells.answer) one.group; well_is = tells.well_is };
+      sent = laws.sent receptions call tail tells.answer of.lawful of.heard answers;
+      whole = λ arrives. laws.whole receptions call tail tells.answer of.lawful of.heard arrives answers;
+    }
+
+-- a run that answers its input tells the calls that were sent
+pub reports_sent : Laws → (left_before left_after before after : Option (List ℕ)) (flushed status : ℕ)
+    → TellsWhole (groups_meaning TellsAnswer) left_before left_after before after flushed status → ReportsSent left_before left_after before after flushed status
+reports_sent laws left_before left_after before after flushed status w =
+    let ends = w.whole.ends in record {
+      input = w.input;
+      lost = w.lost;
+      ended = w.ended;
+      said = ends.said;
+      are_lines = ends.are_lines;
+      text = w.text;
+      is_text = ends.is_text;
+      writes = w.writes;
+      sent = tells_sent laws ends.said w.text status ends.is_text;
+    }

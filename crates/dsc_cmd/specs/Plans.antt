@@ -1,0 +1,33 @@
+-- What a run of each command promises: this project's profile.
+use Rattle.std.specs.Prelude.{ℕ, List, Option, codes}
+use Rattle.line_engine.specs.Meaning.{Meaning}
+use Rattle.line_engine.specs.Endings.{WritesFront, CutsOff}
+use Rattle.dsc_words.specs.declared.plans.Plan.{Plan}
+use Rattle.dsc_words.specs.declared.plans.Plan.TheVariants.{Join, Evidence}
+use Rattle.dsc_words.specs.Words.{IsPlan}
+use Rattle.join_groups.specs.Output.{TellsAnswer, TellsEvidence}
+use Rattle.join_groups.specs.Meanings.{groups_meaning}
+
+-- what the lines of each command's input mean: of receptions and evidence, the answer of each group, or its ends
+abbrev pub meaning_of : Plan → Meaning
+meaning_of (Join workers) = groups_meaning TellsAnswer
+meaning_of (Evidence workers) = groups_meaning TellsEvidence
+
+-- the line that refuses words
+abbrev pub words_refused : List ℕ
+words_refused = codes "dsc: words refused\n"
+
+-- the words are no plan
+abbrev pub IsUnplanned : List (List ℕ) → Type 0
+IsUnplanned words = (plan : Plan) → IsPlan words plan → ⊥
+
+-- 5: a front of the line that refuses the words was appended
+pub record CutsOffWords (words : List (List ℕ)) (before after : Option (List ℕ)) : Type 0 where
+  pub unplanned : IsUnplanned words
+  pub writes : WritesFront before after words_refused
+
+-- 5: a front of what the plan's lines ask for was appended
+pub record CutsOffPlan (words : List (List ℕ)) (left_before left_after before after : Option (List ℕ)) : Type 0 where
+  pub plan : Plan
+  pub planned : IsPlan words plan
+  pub cuts : CutsOff (meaning_of plan) left_before left_after before after

@@ -1,0 +1,15 @@
+use Rattle.std.proofs.Common.{refl}
+use Rattle.dsc_files.specs.JoinLine.{reception}
+use Rattle.dsc_files.proofs.Faults.{reception_fault, within_line, column_of, reception_read}
+use Rattle.dsc_files.proofs.receptions.reception_line.Goals as goal
+
+pub column-requires-clause-left : goal.column-requires-clause-left
+column-requires-clause-left c = within_line _ _ (reception_fault _ _ _ c.requires c.in-Err.ensures.left)
+
+pub returns-in_ok-elements-in-Ok : goal.returns-in_ok-elements-in-Ok
+returns-in_ok-elements-in-Ok c =
+    let line = c.in-Ok.ensures.line in
+    (reception _ _, (reception_read _ _ line.0 _ _ c.requires line.1.0 line.1.1, (refl, c.in_ok-elements-in-Ok.ensures)))
+
+pub returns-in-Err : goal.returns-in-Err
+returns-in-Err c = column_of _ _ _ (reception_fault _ _ _ c.requires c.in-Err.ensures.left) c.column.ensures

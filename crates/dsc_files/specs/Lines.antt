@@ -1,0 +1,34 @@
+-- What is read of a line: this project's profile.
+use Rattle.std.specs.Prelude.{◌≡◌, ℕ, ◌&&◌, ◌==◌, List, Result, Ok, Err}
+use Rattle.std.specs.List.{list_any}
+use Rattle.slot_evidence.specs.Facts.{Facts}
+use Rattle.slot_evidence.specs.Sheet.{IsEnds}
+use Rattle.line_grammar.specs.Columns.{IsColumn}
+use Rattle.dsc_files.specs.declared.lines.FileKind.{FileKind}
+use Rattle.dsc_files.specs.declared.lines.FileKind.TheVariants as kind
+use Rattle.dsc_files.specs.declared.lines.Line.{Line}
+use Rattle.dsc_files.specs.declared.lines.Line.TheVariants as line
+use Rattle.dsc_files.specs.declared.lines.LineFault.{LineFault}
+use Rattle.dsc_files.specs.declared.lines.LineFault.TheVariants as fault
+use Rattle.dsc_files.specs.JoinLine.{JoinLine, nothing, reception, evidence, IsLine}
+
+-- the facts of evidence: each pair's place showed its symbol
+abbrev pub facts_of_pairs : List (ℕ × ℕ) → Facts
+facts_of_pairs pairs p v = list_any (λ pair. p == pair.0 && v == pair.1) pairs
+
+-- what was read is what the line says, with the sheet of its facts in the place of pairs
+abbrev pub Says : JoinLine → Line → Type 0
+Says nothing line.Nothing = Unit {0}
+Says (reception group e) (line.Reception read elements) = (read ≡ group) × (elements ≡ e)
+Says (evidence group pairs) (line.Evidence read sheet) = (read ≡ group) × IsEnds (facts_of_pairs pairs) sheet
+Says _ _ = ⊥
+
+-- the answer for a line of join's input: what it says, or the column of bytes that are no line; want of memory may come at any line
+abbrev pub ReadsJoin : List ℕ → Result Line LineFault → Type 0
+ReadsJoin text (Ok read) = (says : JoinLine) × (IsLine says text × Says says read)
+ReadsJoin text (Err (fault.Column n)) = IsColumn IsLine text n
+ReadsJoin text (Err fault.NoMemory) = Unit {0}
+
+-- the answer for a line of a file of this kind
+abbrev pub ReadsLine : FileKind → List ℕ → Result Line LineFault → Type 0
+ReadsLine kind.Join text answer = ReadsJoin text answer

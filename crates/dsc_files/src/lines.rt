@@ -1,0 +1,44 @@
+ghost use Rattle.std.specs.Prelude.{◌≡◌};
+ghost use Rattle.dsc_files.specs.declared.lines.LineFault.TheVariants.{NoMemory};
+
+use slot_evidence::{Reception, Sheet};
+use std::alloc::AllocError;
+use thiserror::Error;
+
+/// Which lines a file has.
+#[derive(Clone, Copy, Debug, PartialEq, Eq)]
+pub enum FileKind {
+    /// Receptions and evidence, which are joined.
+    Join,
+}
+
+/// What a line says.
+#[derive(Debug, Drop)]
+pub enum Line {
+    /// The line is empty or a comment.
+    Nothing,
+    /// A receiver of this group heard these elements.
+    Reception { group: u32, elements: Reception },
+    /// Receivers of this group showed what this sheet keeps.
+    Evidence { group: u32, sheet: Sheet },
+}
+
+/// Why a line was not read.
+#[derive(Clone, Copy, Debug, PartialEq, Eq, Error)]
+pub enum LineFault {
+    /// The line is ill-formed. The column is the least n for which its first n bytes begin no well-formed line, and its
+    /// length plus one where it ends too early.
+    #[error("ill-formed at column {0}")]
+    Column(usize),
+    /// There was no memory for the line's elements.
+    #[error("out of memory")]
+    NoMemory,
+}
+
+impl From<AllocError> for LineFault {
+    ghost from_gives = { λ _ e. e ≡ NoMemory };
+
+    fn from(_: AllocError) -> LineFault {
+        LineFault::NoMemory
+    }
+}

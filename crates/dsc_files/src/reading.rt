@@ -1,0 +1,15 @@
+ghost use Rattle.dsc_files.specs.Lines.{ReadsLine};
+
+use crate::join::join_line;
+use crate::lines::{FileKind, Line, LineFault};
+use std::alloc::Global;
+
+/// Reads one line of a file of this kind, without its end. An error is the column of a line that is ill-formed, or want of
+/// memory.
+pub fn line_of(alloc: Global, kind: FileKind, bytes: &[u8]) -> Result<Line, LineFault>
+    ensures { ReadsLine kind bytes.now result }
+{
+    match kind {
+        FileKind::Join => join_line(alloc, bytes),
+    }
+}

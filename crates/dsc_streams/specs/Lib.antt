@@ -1,0 +1,4 @@
+pub mod Streams
+pub mod Sure
+pub mod Failing
+pub mod Standard

@@ -1,0 +1,45 @@
+ghost use Rattle.line_grammar.specs.Grammar as line;
+ghost use Rattle.line_grammar.specs.Grammar.{Grammar, Parts};
+ghost use Rattle.dsc_texts.specs.CallGrammar as grammar;
+ghost use Rattle.dsc_texts.specs.inside.Expansions as inside;
+ghost use Rattle.dsc_texts.specs.inside.Reading.{ReadsTail};
+
+use crate::expansions::expansion_or_end;
+use expansion::Expansion;
+use line_grammar::end;
+
+/// What may stand behind a call, to the end of its text.
+pub trait Tail: Copy {
+    /// Its grammar.
+    ghost grammar: { Grammar };
+
+    /// Its parts.
+    ghost parts: { Self → Parts };
+
+    /// Reads these bytes whole. An error is how many bytes are left at the fault.
+    fn read(bytes: &[u8]) -> Result<Self, usize>
+        ensures { ReadsTail grammar parts bytes.now result };
+}
+
+/// Nothing may follow.
+impl Tail for () {
+    ghost grammar = { line.finish };
+
+    ghost parts = { λ nothing. line.none };
+
+    #[tactic(auto, unfolding(line_grammar::specs::inside::Reading::read))]
+    fn read(bytes: &[u8]) -> Result<(), usize> {
+        end(bytes)
+    }
+}
+
+/// An expansion may follow.
+impl Tail for Option<Expansion> {
+    ghost grammar = { grammar.perhaps grammar.expansion line.finish };
+
+    ghost parts = { inside.expansion_or_end };
+
+    fn read(bytes: &[u8]) -> Result<Option<Expansion>, usize> {
+        expansion_or_end(bytes)
+    }
+}

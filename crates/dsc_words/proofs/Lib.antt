@@ -1,0 +1,7 @@
+pub mod Refusals
+pub mod LongWords
+pub mod Turns
+pub mod OptionTurns
+pub mod OptionWords
+pub mod CommandWords
+pub mod PlanWords

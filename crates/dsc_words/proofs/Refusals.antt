@@ -1,0 +1,19 @@
+-- Steps of a parse, each of which may refuse.
+use Rattle.std.proofs.Common.{◌≡◌, ◌∙◌, [], ◌∷◌, refl, ap}
+use Rattle.clap.specs.Kinds.{Kinds, or_else}
+use Rattle.clap.specs.declared.error.kind.ErrorKind.{ErrorKind}
+
+-- a list with an element isn't empty
+pub some_kind : {k : ErrorKind} {ks : Kinds} → k ∷ ks ≡ [] → ⊥
+some_kind e = cc
+
+pub first_passes : (a b : Kinds) → or_else a b ≡ [] → a ≡ []
+first_passes [] b e = refl
+first_passes (k ∷ ks) b e = absurd (some_kind e)
+
+pub second_passes : (a b : Kinds) → or_else a b ≡ [] → b ≡ []
+second_passes [] b e = e
+second_passes (k ∷ ks) b e = absurd (some_kind e)
+
+pub both_pass : (a b : Kinds) → a ≡ [] → b ≡ [] → or_else a b ≡ []
+both_pass a b e f = ap (λ x. or_else x b) e ∙ f

@@ -1,0 +1,44 @@
+-- The words of the command line: this project's profile.
+use Rattle.std.specs.Prelude.{◌≡◌, ◌⊎◌, ◌≤◌, ◌++◌, ◌∷◌, ℕ, List, [], Option, Some, None, codes, decimal}
+use Rattle.dsc_words.specs.declared.plans.Plan.{Plan}
+use Rattle.dsc_words.specs.declared.plans.Plan.TheVariants.{Join, Evidence}
+
+abbrev pub Text : Type 0
+Text = List ℕ
+
+-- the text is a number from 1 to `most` in plain decimal digits, without a sign or a leading zero
+abbrev pub IsNumber : ℕ → Text → ℕ → Type 0
+IsNumber most text n = (text ≡ decimal n) × (1 ≤ n) × (n ≤ most)
+
+-- nothing stands there, or the option's name and the text that it is given: two words, or one with `=` between them
+abbrev pub IsOption : Text → List Text → Option Text → Type 0
+IsOption name words None = words ≡ []
+IsOption name words (Some text) =
+    (words ≡ (codes "--" ++ name) ∷ text ∷ []) ⊎ (words ≡ (codes "--" ++ name ++ codes "=" ++ text) ∷ [])
+
+-- the number of workers: 1 to 64, and 1 where none is given
+abbrev pub IsWorkers : Option Text → ℕ → Type 0
+IsWorkers None n = n ≡ 1
+IsWorkers (Some text) n = IsNumber 64 text n
+
+-- nothing, `--workers N` or `--workers=N`
+abbrev pub HasWorkers : List Text → ℕ → Type 0
+HasWorkers words n = (given : Option Text) × IsOption (codes "workers") words given × IsWorkers given n
+
+-- the command's word, and the words behind it
+abbrev pub IsCommand : Text → List Text → Plan → Type 0
+IsCommand command words (Join n) = (command ≡ codes "join") × HasWorkers words n
+IsCommand command words (Evidence n) = (command ≡ codes "evidence") × HasWorkers words n
+
+-- the words are the program's name, a command, and the words of its option
+pub record IsPlan (words : List Text) (plan : Plan) : Type 0 where
+  pub name : Text
+  pub command : Text
+  pub rest : List Text
+  pub words_are : words ≡ name ∷ command ∷ rest
+  pub is_command : IsCommand command rest plan
+
+-- a plan's numbers are in their ranges
+abbrev pub IsInRange : Plan → Type 0
+IsInRange (Join n) = (1 ≤ n) × (n ≤ 64)
+IsInRange (Evidence n) = (1 ≤ n) × (n ≤ 64)

@@ -1,0 +1,36 @@
+ghost use Rattle.std.specs.Prelude.{◌≡◌, IfOk, false};
+ghost use Rattle.clap.specs.Words.{app_of, shape_of};
+ghost use Rattle.clap.specs.declared.builder.command.Command.TheViews.{out-Command as fields_of};
+ghost use Rattle.dsc_words.specs.inside.CommandLine.{dsc, program, with_option};
+
+use clap::{Arg, Command};
+use std::alloc::{AllocError, Global};
+
+/// The program's command line: its commands, one a line.
+pub fn command_line<'a>(alloc: Global) -> Result<Command<'a>, AllocError>
+    ensures { IfOk result (λ r. app_of r ≡ dsc) }
+{
+    let program = without_commands(alloc);
+    let program = program.subcommand(with_option(alloc, "join", "workers")?)?;
+    let program = program.subcommand(with_option(alloc, "evidence", "workers")?)?;
+    Ok(program)
+}
+
+/// The program without its commands. Help is no command, and no words but a command's are taken.
+fn without_commands<'a>(alloc: Global) -> Command<'a>
+    ensures { app_of result ≡ program }
+{
+    Command::new(alloc, "dsc")
+        .disable_help_flag(true)
+        .disable_help_subcommand(true)
+        .subcommand_required(true)
+}
+
+/// A command with one option, which takes a number. The option's id is `number` whatever its name, so that one function
+/// reads it.
+fn with_option<'a>(alloc: Global, name: &'a str, long: &'a str) -> Result<Command<'a>, AllocError>
+    ensures shape { IfOk result (λ r. shape_of r ≡ with_option name.now long.now) }
+    ensures local { IfOk result (λ r. (fields_of r).has_globals ≡ false) }
+{
+    Command::new(alloc, name).arg(Arg::new(alloc, "number").long(long))
+}

@@ -1,0 +1,38 @@
+ghost use Rattle.std.specs.Prelude.{◌≡◌, ℕ, List};
+ghost use Rattle.dsc_words.specs.Words.{IsPlan};
+ghost use Rattle.dsc_words.specs.declared.plans.Plan.{Plan};
+
+use std::alloc::AllocError;
+
+/// What the words of the command line ask for: a command and its options.
+#[derive(Clone, Copy, Debug, PartialEq, Eq)]
+pub enum Plan {
+    /// `join [--workers N]`: what the facts of each group say. 1 to 64 workers, 1 where none are given.
+    Join { workers: u8 },
+    /// `evidence [--workers N]`: the facts of each group. 1 to 64 workers, 1 where none are given.
+    Evidence { workers: u8 },
+}
+
+/// Why words gave no plan.
+#[derive(Clone, Copy, Debug, PartialEq, Eq)]
+pub enum PlanError {
+    /// The words are no plan.
+    Refused,
+    /// No memory was found to read them.
+    Memory,
+}
+
+impl From<AllocError> for PlanError {
+    ghost use Rattle.dsc_words.specs.declared.plans.PlanError.TheVariants.{Memory};
+
+    ghost from_gives = { λ _ e. e ≡ Memory };
+
+    fn from(_error: AllocError) -> PlanError {
+        PlanError::Memory
+    }
+}
+
+/// The law that words are one plan at most. It does nothing.
+pub fn one_plan()
+    ensures { (words : List (List ℕ)) (a b : Plan) → IsPlan words a → IsPlan words b → a ≡ b }
+{}

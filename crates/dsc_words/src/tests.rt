@@ -1,0 +1,115 @@
+use super::*;
+use std::alloc::{AllocError, Global};
+use std::test::Fail;
+
+/// The words of a line, parted by `|`, so that a word may be empty or hold a blank.
+fn words_of(alloc: Global, line: &str) -> Result<Vec<String>, AllocError> {
+    let mut words = Vec::new(alloc);
+    for word in line.split('|') {
+        words.push(String::from_str(alloc, word)?)?;
+    }
+    Ok(words)
+}
+
+/// Word lists, and the plan that each is.
+static PLANS: [(&str, Plan); 15] = [
+    ("dsc|join", Plan::Join { workers: 1 }),
+    ("dsc|evidence", Plan::Evidence { workers: 1 }),
+    ("dsc|join|--workers|1", Plan::Join { workers: 1 }),
+    ("dsc|join|--workers|9", Plan::Join { workers: 9 }),
+    ("dsc|join|--workers|10", Plan::Join { workers: 10 }),
+    ("dsc|join|--workers|64", Plan::Join { workers: 64 }),
+    ("dsc|join|--workers=1", Plan::Join { workers: 1 }),
+    ("dsc|join|--workers=64", Plan::Join { workers: 64 }),
+    ("dsc|evidence|--workers|64", Plan::Evidence { workers: 64 }),
+    ("dsc|evidence|--workers=2", Plan::Evidence { workers: 2 }),
+    // The program's name is any word.
+    ("|join", Plan::Join { workers: 1 }),
+    ("--|join", Plan::Join { workers: 1 }),
+    ("--help|evidence", Plan::Evidence { workers: 1 }),
+    ("join|join", Plan::Join { workers: 1 }),
+    ("/usr/bin/dsc|join|--workers=3", Plan::Join { workers: 3 }),
+];
+
+/// Word lists that are no plan.
+static REFUSED: [&str; 48] = [
+    // No command, or none that there is.
+    "dsc",
+    "",
+    "join",
+    "dsc|",
+    "dsc|listen",
+    "dsc|Join",
+    "dsc|joi",
+    "dsc|joins",
+    "dsc| join",
+    "dsc|encode",
+    "dsc|sentences",
+    "dsc|replay",
+    "dsc|make|7",
+    // Help and version are no plans.
+    "dsc|help",
+    "dsc|help|join",
+    "dsc|--help",
+    "dsc|-h",
+    "dsc|--version",
+    "dsc|-V",
+    "dsc|join|--help",
+    "dsc|join|-h",
+    "dsc|join|help",
+    "dsc|join|-V",
+    // `--` isn't passed over.
+    "dsc|--",
+    "dsc|--|join",
+    "dsc|join|--",
+    "dsc|join|--workers=2|--",
+    "dsc|join|--workers|--|2",
+    // Numbers out of their range, or not plain.
+    "dsc|join|--workers|0",
+    "dsc|join|--workers|65",
+    "dsc|join|--workers=01",
+    "dsc|join|--workers|+1",
+    "dsc|join|--workers|-1",
+    "dsc|join|--workers| 1",
+    "dsc|join|--workers=1 ",
+    "dsc|join|--workers=1.0",
+    "dsc|join|--workers=65537",
+    "dsc|join|--workers=",
+    "dsc|join|--workers|",
+    "dsc|join|--workers",
+    "dsc|join|--workers==1",
+    // Other options, an option twice, a word too many.
+    "dsc|join|--worker=1",
+    "dsc|join|-w|1",
+    "dsc|--workers=1|join",
+    "dsc|join|--workers=1|--workers=1",
+    "dsc|join|--workers|1|--workers|1",
+    "dsc|join|evidence",
+    "dsc|join|--workers=1|1",
+];
+
+#[test]
+fn words_at_the_edges_are_their_plan(rt: HostRuntime) -> Result<(), Fail> {
+    let alloc = rt.alloc();
+    for (line, plan) in PLANS {
+        let words = words_of(alloc, line)?;
+        assert_eq!(rt; plan_of(alloc, words.as_slice()), Ok(plan), "{line}");
+    }
+    Ok(())
+}
+
+#[test]
+fn other_words_are_refused(rt: HostRuntime) -> Result<(), Fail> {
+    let alloc = rt.alloc();
+    let none = Vec::new(alloc);
+    assert_eq!(rt; plan_of(alloc, none.as_slice()), Err(PlanError::Refused));
+    for line in REFUSED {
+        let words = words_of(alloc, line)?;
+        assert_eq!(rt;
+            plan_of(alloc, words.as_slice()),
+            Err(PlanError::Refused),
+            "{line}"
+        );
+    }
+    Ok(())
+}

@@ -1,0 +1,183 @@
+-- the texts of evidence: how long they are, and what is read of them
+use Rattle.std.proofs.Common.{◌≡◌, ℕ, zero, suc, ◌+◌, ◌≤◌, ◌<◌, ◌^◌, ◌==◌, ◌&&◌, ◌||◌, nat_lt, Bool, true, false, List, [], ◌∷◌, ◌++◌, length, codes, decimal, Result, Ok, Err, ◌⊎◌, inl, inr, refl, sym, ◌∙◌, ap, subst, append_assoc, append-nil, arith}
+use Rattle.std.specs.List.{flat_map, list_any, All}
+use Rattle.std.proofs.lemmas.Bool.{or_cases, or_left, or_right, eq-eqb, eqb-true, ne_eqb, lt-ltb, le-ltb, cases_lt}
+use Rattle.std.proofs.lemmas.List.{get_or_past}
+use Rattle.std.proofs.lemmas.List.Elements.{All-append}
+use Rattle.std.proofs.lemmas.List.Folds.{list_any-append}
+use Rattle.std.proofs.lemmas.Grind.{flat_map-append}
+use Rattle.std.proofs.lemmas.Fmt.{length-decimal-le}
+use Rattle.slot_evidence.specs.declared.places.Seen.{Seen}
+use Rattle.slot_evidence.specs.declared.places.Seen.TheVariants as seen
+use Rattle.slot_evidence.specs.Facts.{Facts, Symbols}
+use Rattle.slot_evidence.specs.Seen.{IsSeen, IsLawful, symbols_in}
+use Rattle.slot_evidence.specs.Sheet.{IsSheet, IsEnds, seen_at, facts_in}
+use Rattle.dsc_files.specs.JoinLine.{JoinLine, IsPair, pair_text, IsLine, evidence}
+use Rattle.dsc_files.specs.declared.lines.Line.{Line}
+use Rattle.dsc_files.specs.declared.lines.Line.TheVariants as line
+use Rattle.dsc_files.specs.declared.lines.LineFault.{LineFault}
+use Rattle.dsc_files.specs.declared.lines.LineFault.TheVariants as fault
+use Rattle.dsc_files.specs.Lines.{Says, ReadsJoin, facts_of_pairs}
+use Rattle.evidence_texts.specs.Evidence.{pairs_at, pairs_below, evidence_text}
+
+-- how long a number is
+pub number_length : (k n m : ℕ) → n ≡ m → 0 < k → m < 10 ^ k → m < 2 ^ 64 → length (decimal n) ≤ k
+number_length k n m e some small fits = omega (arith, ap (λ (x : ℕ). length (decimal x)) e, length-decimal-le k m some small fits)
+
+-- the text of no place, and of one place more
+pub text_begun : (old front new : List ℕ) (group n : ℕ) (sheet : List Seen) → front ≡ old ++ codes "e g" → n ≡ group → new ≡ front ++ decimal n
+    → new ≡ old ++ (codes "e g" ++ decimal group ++ flat_map pair_text (pairs_below 0 sheet))
+unfolding pairs_below
+text_begun old front new group n sheet e same h =
+    h ∙ ap (λ (k : ℕ). front ++ decimal k) same ∙ ap (λ (l : List ℕ). l ++ decimal group) e ∙ append_assoc old (codes "e g") (decimal group)
+    ∙ ap (λ (l : List ℕ). old ++ l) (sym (append-nil (codes "e g" ++ decimal group)))
+
+pub text_more : (old front out new : List ℕ) (n : ℕ) (sheet : List Seen) (s : Seen) → out ≡ old ++ (front ++ flat_map pair_text (pairs_below n sheet)) → s ≡ seen_at sheet n
+    → new ≡ out ++ flat_map pair_text (pairs_at n s) → new ≡ old ++ (front ++ flat_map pair_text (pairs_below (n + 1) sheet))
+unfolding pairs_below
+text_more old front out new n sheet s e seen h =
+    let before = flat_map pair_text (pairs_below n sheet) in
+    let here = flat_map pair_text (pairs_at n (seen_at sheet n)) in
+    let next : suc n ≡ n + 1 = omega arith in
+    h ∙ ap (λ (x : Seen). out ++ flat_map pair_text (pairs_at n x)) seen ∙ ap (λ (l : List ℕ). l ++ here) e
+    ∙ append_assoc old (front ++ before) here ∙ ap (λ (l : List ℕ). old ++ l) (append_assoc front before here)
+    ∙ ap (λ (l : List ℕ). old ++ (front ++ l)) (sym (flat_map-append pair_text (pairs_below n sheet) (pairs_at n (seen_at sheet n))))
+    ∙ ap (λ (k : ℕ). old ++ (front ++ flat_map pair_text (pairs_below k sheet))) next
+
+-- the pairs of a sheet are pairs
+one_pair : (x : ℕ × ℕ) → IsPair x → All IsPair (x ∷ [])
+one_pair x h zero d below = h
+one_pair x h (suc k) d below = absurd (omega (arith, below))
+
+are_pairs_at : (place : ℕ) (s : Seen) → place < 64 → IsLawful s → All IsPair (pairs_at place s)
+are_pairs_at place seen.None p h = λ k d below. absurd (omega (arith, below))
+are_pairs_at place (seen.One v) p h = one_pair (place, v) (p, h)
+are_pairs_at place (seen.Differ least greatest) p h =
+    All-append IsPair ((place, least) ∷ []) ((place, greatest) ∷ []) (one_pair (place, least) (p, omega (arith, h.0, h.1))) (one_pair (place, greatest) (p, h.1))
+
+are_pairs : (n : ℕ) (sheet : List Seen) → n ≤ 64 → IsSheet sheet → All IsPair (pairs_below n sheet)
+unfolding pairs_below
+are_pairs zero sheet few h = λ k d below. absurd (omega (arith, below))
+are_pairs (suc n) sheet few h =
+    All-append IsPair (pairs_below n sheet) (pairs_at n (seen_at sheet n)) (are_pairs n sheet (omega (arith, few)) h) (are_pairs_at n (seen_at sheet n) (omega (arith, few)) (h.lawful n))
+
+pub text_is_line : (group : ℕ) (sheet : List Seen) → group < 2 ^ 32 → IsSheet sheet → IsLine (evidence group (pairs_below 64 sheet)) (evidence_text group sheet)
+text_is_line group sheet small h = (codes " g" ++ decimal group, (inr (small, refl), (are_pairs 64 sheet (omega arith) h, refl)))
+
+-- the facts of a sheet's pairs are the sheet's
+or_nothing : (a : Bool) → (a || false) ≡ a
+or_nothing true = refl
+or_nothing false = refl
+
+and_never : (b : Bool) → false ≡ (b && false)
+and_never true = refl
+and_never false = refl
+
+spread : (b x y : Bool) → ((b && x) || ((b && y) || false)) ≡ (b && (x || y))
+spread true x y = ap (λ (c : Bool). x || c) (or_nothing y)
+spread false x y = refl
+
+here : (place p v : ℕ) (s : Seen) → facts_of_pairs (pairs_at place s) p v ≡ ((p == place) && symbols_in s v)
+here place p v seen.None = and_never (p == place)
+here place p v (seen.One w) = or_nothing ((p == place) && (v == w))
+here place p v (seen.Differ least greatest) = spread (p == place) (v == least) (v == greatest)
+
+-- of a place the tests tell whether it is one of those before, this one, or one behind
+IsEarlier : Bool → Bool → Bool → Type 0
+IsEarlier before at all = (before ≡ true) × (at ≡ false) × (all ≡ true)
+
+earlier : (before at all x y : Bool) → IsEarlier before at all → ((before && x) || (at && y)) ≡ (all && x)
+unfolding IsEarlier
+earlier before at all x y h =
+    ap (λ (t : Bool). (t && x) || (at && y)) h.0 ∙ ap (λ (t : Bool). x || (t && y)) h.1 ∙ or_nothing x ∙ ap (λ (t : Bool). t && x) (sym h.2)
+
+same_place : (before at all x y : Bool) → before ≡ false → at ≡ true → all ≡ true → x ≡ y → ((before && x) || (at && y)) ≡ (all && x)
+same_place before at all x y b a c e =
+    ap (λ (t : Bool). (t && x) || (at && y)) b ∙ ap (λ (t : Bool). t && y) a ∙ sym e ∙ ap (λ (t : Bool). t && x) (sym c)
+
+later : (before at all x y : Bool) → before ≡ false → at ≡ false → all ≡ false → ((before && x) || (at && y)) ≡ (all && x)
+later before at all x y b a c =
+    ap (λ (t : Bool). (t && x) || (at && y)) b ∙ ap (λ (t : Bool). t && y) a ∙ ap (λ (t : Bool). t && x) (sym c)
+
+one_more : (n : ℕ) (sheet : List Seen) (p v : ℕ)
+    → ((nat_lt p n && symbols_in (seen_at sheet p) v) || ((p == n) && symbols_in (seen_at sheet n) v)) ≡ (nat_lt p (suc n) && symbols_in (seen_at sheet p) v)
+unfolding IsEarlier
+one_more n sheet p v =
+    let x = symbols_in (seen_at sheet p) v in
+    let y = symbols_in (seen_at sheet n) v in
+    elim (cases_lt p n) [
+      | inl less ↦ earlier (nat_lt p n) (p == n) (nat_lt p (suc n)) x y (lt-ltb p n less, ne_eqb p n (λ e. omega (arith, less, e)), lt-ltb p (suc n) (omega (arith, less)))
+      | inr more ↦ (elim (cases_lt n p) [
+        | inl greater ↦ later (nat_lt p n) (p == n) (nat_lt p (suc n)) x y (le-ltb p n more) (ne_eqb p n (λ e. omega (arith, greater, e))) (le-ltb p (suc n) (omega (arith, greater)))
+        | inr less ↦
+            let same : p ≡ n = omega (arith, less, more) in
+            same_place (nat_lt p n) (p == n) (nat_lt p (suc n)) x y (le-ltb p n more) (eq-eqb p n same) (lt-ltb p (suc n) (omega (arith, same))) (ap (λ (k : ℕ). symbols_in (seen_at sheet k) v) same)
+      ])
+    ]
+
+facts_below : (n : ℕ) (sheet : List Seen) (p v : ℕ) → facts_of_pairs (pairs_below n sheet) p v ≡ (nat_lt p n && symbols_in (seen_at sheet p) v)
+unfolding pairs_below
+facts_below zero sheet p v = ap (λ (t : Bool). t && symbols_in (seen_at sheet p) v) (sym (le-ltb p 0 (omega arith)))
+facts_below (suc n) sheet p v =
+    let f : ℕ × ℕ → Bool = λ pair. p == pair.0 && v == pair.1 in
+    list_any-append f (pairs_below n sheet) (pairs_at n (seen_at sheet n))
+    ∙ ap (λ (t : Bool). t || list_any f (pairs_at n (seen_at sheet n))) (facts_below n sheet p v)
+    ∙ ap (λ (t : Bool). (nat_lt p n && symbols_in (seen_at sheet p) v) || t) (here n p v (seen_at sheet n))
+    ∙ one_more n sheet p v
+
+past_the_sheet : (sheet : List Seen) (p v : ℕ) → length sheet ≤ p → symbols_in (seen_at sheet p) v ≡ false
+past_the_sheet sheet p v past = ap (λ (s : Seen). symbols_in s v) (get_or_past sheet p seen.None past)
+
+pub facts_same : (sheet : List Seen) (p v : ℕ) → IsSheet sheet → facts_of_pairs (pairs_below 64 sheet) p v ≡ facts_in sheet p v
+facts_same sheet p v h =
+    elim (cases_lt p 64) [
+      | inl less ↦ facts_below 64 sheet p v ∙ ap (λ (t : Bool). t && symbols_in (seen_at sheet p) v) (lt-ltb p 64 less)
+      | inr more ↦ facts_below 64 sheet p v ∙ ap (λ (t : Bool). t && symbols_in (seen_at sheet p) v) (le-ltb p 64 more) ∙ sym (past_the_sheet sheet p v (omega (arith, h.places, more)))
+    ]
+
+seen_again : (s : Seen) → IsLawful s → IsSeen (symbols_in s) s
+seen_again seen.None h = λ v. refl
+seen_again (seen.One w) h = (eq-eqb w w refl, λ u e. eqb-true u w e)
+seen_again (seen.Differ least greatest) h = record {
+  has_least = or_left (least == least) (least == greatest) (eq-eqb least least refl);
+  has_greatest = or_right (greatest == least) (greatest == greatest) (eq-eqb greatest greatest refl);
+  apart = h.0;
+  between = λ w e.
+      elim (or_cases (w == least) (w == greatest) e) [
+        | inl low ↦ (let same = eqb-true w least low in (omega (arith, same), omega (arith, same, h.0)))
+        | inr high ↦ (let same = eqb-true w greatest high in (omega (arith, same, h.0), omega (arith, same)))
+      ];
+}
+
+seen_same : (S T : Symbols) (s : Seen) → ((v : ℕ) → T v ≡ S v) → IsSeen S s → IsSeen T s
+seen_same S T s same h =
+    let one : S ≡ T = λ i v. sym (same v) i in
+    subst (λ (U : Symbols). IsSeen U s) one h
+
+pub text_has_ends : (sheet : List Seen) → IsSheet sheet → IsEnds (facts_of_pairs (pairs_below 64 sheet)) sheet
+text_has_ends sheet h = record {
+  places = h.places;
+  each = λ p.
+      seen_same (symbols_in (seen_at sheet p)) (facts_of_pairs (pairs_below 64 sheet) p) (seen_at sheet p) (λ v. facts_same sheet p v h) (seen_again (seen_at sheet p) (h.lawful p));
+}
+
+-- what is read of the text
+abbrev pub OneLine : Type 0
+OneLine = (a b : JoinLine) (text : List ℕ) → IsLine a text → IsLine b text → a ≡ b
+
+abbrev pub OneSheet : Type 0
+OneSheet = (F : Facts) (s t : List Seen) → IsEnds F s → IsEnds F t → s ≡ t
+
+said : (group : ℕ) (sheet : List Seen) (read : Line) → OneSheet → IsSheet sheet → Says (evidence group (pairs_below 64 sheet)) read → read ≡ line.Evidence group sheet
+said group sheet line.Nothing one h says = absurd says
+said group sheet (line.Reception g e) one h says = absurd says
+said group sheet (line.Evidence g s) one h says =
+    ap (λ (k : ℕ). line.Evidence k s) says.0 ∙ ap (line.Evidence group) (one (facts_of_pairs (pairs_below 64 sheet)) s sheet says.1 (text_has_ends sheet h))
+
+pub text_is_read : (group : ℕ) (sheet : List Seen) (answer : Result Line LineFault) → OneLine → OneSheet → group < 2 ^ 32 → IsSheet sheet
+    → ReadsJoin (evidence_text group sheet) answer → (answer ≡ Ok (line.Evidence group sheet)) ⊎ (answer ≡ Err fault.NoMemory)
+text_is_read group sheet (Ok read) one_line one_sheet small h reads =
+    let same = one_line reads.0 (evidence group (pairs_below 64 sheet)) (evidence_text group sheet) reads.1.0 (text_is_line group sheet small h) in
+    inl (ap (λ (l : Line). Ok l) (said group sheet read one_sheet h (subst (λ (w : JoinLine). Says w read) same reads.1.1)))
+text_is_read group sheet (Err (fault.Column n)) one_line one_sheet small h reads = absurd (reads.is_none (evidence group (pairs_below 64 sheet)) (text_is_line group sheet small h))
+text_is_read group sheet (Err fault.NoMemory) one_line one_sheet small h reads = inr refl

@@ -1,0 +1,24 @@
+use Rattle.join_groups.specs.Output.{TellsAnswer, TellsEvidence}
+use Rattle.join_groups.proofs.TextLaws.{Laws, answers_go_over, evidence_goes_over, evidence_over}
+use Rattle.join_groups.proofs.laws.evidence_stands_for_lines.Goals as goal
+
+laws_of : goal.After-evidence_is_read → Laws
+laws_of c =
+    let sets = c.ends_are_kept.ensures in
+    record {
+      answers = c.alike_facts_have_one_answer.ensures;
+      kept = sets.kept;
+      itself = sets.itself;
+      unions = sets.unions;
+      sheet = sets.sheet;
+      pairs = c.evidence_is_read.ensures.facts;
+    }
+
+pub returns-clause-line : goal.returns-clause-line
+returns-clause-line c = c.evidence_is_read.ensures.line
+
+pub returns-clause-join : goal.returns-clause-join
+returns-clause-join c = λ heard rest k sheet text status lawful of ends. evidence_over (laws_of c) heard rest k sheet lawful of ends TellsAnswer (answers_go_over (laws_of c)) text status
+
+pub returns-clause-evidence : goal.returns-clause-evidence
+returns-clause-evidence c = λ heard rest k sheet text status lawful of ends. evidence_over (laws_of c) heard rest k sheet lawful of ends TellsEvidence (evidence_goes_over (laws_of c)) text status

@@ -1,0 +1,65 @@
+-- What is written of groups: this project's profile.
+use Rattle.std.specs.Prelude.{◌≡◌, ℕ, Bool, true, false, if◌then◌else◌, List, [], ◌∷◌, ◌++◌, map}
+use Rattle.std.specs.List.{list_all, flat_map, AllByRecursion}
+use Rattle.slot_evidence.specs.declared.places.Seen.{Seen}
+use Rattle.slot_evidence.specs.Facts.{Facts}
+use Rattle.slot_evidence.specs.Sheet.{IsEnds}
+use Rattle.slot_join.specs.declared.joined.Joined.{Joined}
+use Rattle.slot_join.specs.declared.joined.Joined.TheVariants.{Reported, Missing, Differ, Outside, Check}
+use Rattle.slot_join.specs.Answer.{IsAnswer}
+use Rattle.dsc_texts.specs.Texts.{answer_text}
+use Rattle.evidence_texts.specs.Evidence.{evidence_text}
+use Rattle.dsc_files.specs.JoinLine.{JoinLine}
+use Rattle.join_groups.specs.Groups.{group_facts, AreGroups}
+
+-- a call was reported
+abbrev pub is_reported : Joined → Bool
+is_reported (Reported call extra) = true
+is_reported (Missing n) = false
+is_reported (Differ n least greatest) = false
+is_reported (Outside n symbol) = false
+is_reported (Check n want got) = false
+
+-- the line of a group's answer
+abbrev pub answer_line : ℕ → Joined → List ℕ
+answer_line group answer = answer_text group answer ++ 10 ∷ []
+
+-- what is told of a group: its line, and whether the run may end with status 0
+pub record Told : Type 0 where
+  pub group : ℕ
+  pub line : List ℕ
+  pub is_well : Bool
+
+-- a way to tell of a group with these facts
+abbrev pub Telling : Type 1
+Telling = Facts → Told → Type 0
+
+-- by the line of the answer to its facts; all is well where a call was reported
+pub record TellsAnswer (F : Facts) (told : Told) : Type 0 where
+  pub answer : Joined
+  pub is_answer : IsAnswer F answer
+  pub line_is : told.line ≡ answer_line told.group answer
+  pub well_is : told.is_well ≡ is_reported answer
+
+-- by the line of the ends of its facts; all is well
+pub record TellsEvidence (F : Facts) (told : Told) : Type 0 where
+  pub sheet : List Seen
+  pub are_ends : IsEnds F sheet
+  pub line_is : told.line ≡ evidence_text told.group sheet ++ 10 ∷ []
+  pub well_is : told.is_well ≡ true
+
+-- the text and status of what is told of each group that lines name, by rising number
+pub record IsGroupsText (tells : Telling) (said : List JoinLine) (text : List ℕ) (status : ℕ) : Type 0 where
+  pub all : List Told
+  pub groups : AreGroups said (map (λ told. told.group) all)
+  pub each : AllByRecursion (λ told. tells (group_facts said told.group) told) all
+  pub text_is : text ≡ flat_map (λ told. told.line) all
+  pub status_is : status ≡ (if list_all (λ told. told.is_well) all then 0 else 1)
+
+-- for each group the answer to all its facts
+abbrev pub IsJoinText : List JoinLine → List ℕ → ℕ → Type 0
+IsJoinText = IsGroupsText TellsAnswer
+
+-- for each group the ends of all its facts
+abbrev pub IsEvidenceText : List JoinLine → List ℕ → ℕ → Type 0
+IsEvidenceText = IsGroupsText TellsEvidence

@@ -1,0 +1,39 @@
+ghost use Rattle.std.specs.Prelude.{◌≡◌, ℕ, ◌<◌, ◌^◌, ◌↔◌, ◌++◌, ◌∷◌, List, Contains};
+ghost use Rattle.slot_evidence.specs.declared.places.Seen.{Seen};
+ghost use Rattle.slot_evidence.specs.Sheet.{IsSheet, IsEnds};
+ghost use Rattle.dsc_files.specs.JoinLine.{JoinLine, IsLine, evidence};
+ghost use Rattle.evidence_texts.specs.Evidence.{pairs_below, evidence_text};
+ghost use Rattle.join_groups.specs.Groups.{group_facts};
+ghost use Rattle.join_groups.specs.Output.{IsJoinText, IsEvidenceText};
+ghost use Rattle.join_groups.specs.Laws.{AreOfGroup};
+
+use evidence_texts::evidence_is_read;
+use slot_evidence::ends_are_kept;
+use slot_join::alike_facts_have_one_answer;
+
+/// The law that texts depend on the set of lines alone: neither their order nor how often one stands there can be seen. It does
+/// nothing.
+pub fn texts_forget_order()
+    ensures join { (said other : List JoinLine) (text : List ℕ) (status : ℕ) → ((line : JoinLine) → Contains said line ↔ Contains other line)
+        → IsJoinText said text status → IsJoinText other text status }
+    ensures evidence { (said other : List JoinLine) (text : List ℕ) (status : ℕ) → ((line : JoinLine) → Contains said line ↔ Contains other line)
+        → IsEvidenceText said text status → IsEvidenceText other text status }
+{
+    alike_facts_have_one_answer();
+    ends_are_kept();
+    evidence_is_read();
+}
+
+/// The law that the line of evidence which is written for all lines of a group stands for them: whatever other lines there are, the
+/// texts are the same with it in their place. So evidence of evidence is itself. It does nothing.
+pub fn evidence_stands_for_lines()
+    ensures line { (k : ℕ) (sheet : List Seen) → k < 2 ^ 32 → IsSheet sheet → IsLine (evidence k (pairs_below 64 sheet)) (evidence_text k sheet) }
+    ensures join { (heard rest : List JoinLine) (k : ℕ) (sheet : List Seen) (text : List ℕ) (status : ℕ) → IsSheet sheet → AreOfGroup k heard → IsEnds (group_facts heard k) sheet
+        → (IsJoinText (heard ++ rest) text status ↔ IsJoinText (evidence k (pairs_below 64 sheet) ∷ rest) text status) }
+    ensures evidence { (heard rest : List JoinLine) (k : ℕ) (sheet : List Seen) (text : List ℕ) (status : ℕ) → IsSheet sheet → AreOfGroup k heard → IsEnds (group_facts heard k) sheet
+        → (IsEvidenceText (heard ++ rest) text status ↔ IsEvidenceText (evidence k (pairs_below 64 sheet) ∷ rest) text status) }
+{
+    alike_facts_have_one_answer();
+    ends_are_kept();
+    evidence_is_read();
+}

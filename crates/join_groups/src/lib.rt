@@ -1,0 +1,12 @@
+//! The groups of an input: the facts of each, and the commands that tell of them.
+#![tactic(auto)]
+
+mod commands;
+mod groups;
+mod laws;
+mod telling;
+
+pub use commands::TellGroups;
+pub use groups::{Groups, MOST_GROUPS};
+pub use laws::{evidence_stands_for_lines, texts_forget_order};
+pub use telling::{Answers, Ends, Teller};

@@ -1,0 +1,74 @@
+ghost use Rattle.std.specs.Prelude.{◌≡◌, ℕ, ◌++◌, List, IfOk, if◌then◌else◌};
+ghost use Rattle.slot_evidence.specs.Facts.{Facts};
+ghost use Rattle.slot_evidence.specs.Sheet.{IsEnds};
+ghost use Rattle.dsc_files.specs.JoinLine.{JoinLine};
+ghost use Rattle.join_groups.specs.Output as output;
+ghost use Rattle.join_groups.specs.Output.{Telling, TellsAnswer, TellsEvidence, IsGroupsText};
+ghost use Rattle.join_groups.specs.inside.Kept.{Keeps};
+
+use crate::groups::Groups;
+use dsc_texts::put_answer_line;
+use evidence_texts::put_evidence_line;
+use slot_evidence::Sheet;
+use slot_join::{Joined, report};
+use std::alloc::AllocError;
+
+/// A way to tell of a group by a line.
+pub trait Teller: Drop {
+    /// What is told of a group with these facts.
+    ghost tells: { Telling };
+
+    /// Appends the line of a group with this sheet, and answers whether all is well with it.
+    fn tell(group: u32, sheet: &Sheet, out: &mut Vec<u8>) -> Result<bool, AllocError>
+        ensures { IfOk result (λ is_well. (line : List ℕ) × ((out.new.items ≡ out.old.items ++ line)
+            × ((F : Facts) → IsEnds F sheet.now → tells F (record { group = group; line = line; is_well = is_well })))) };
+}
+
+/// Tells the answer to a group's facts; all is well where a call was reported.
+#[derive(Drop)]
+pub struct Answers;
+
+impl Teller for Answers {
+    ghost tells = { TellsAnswer };
+
+    fn tell(group: u32, sheet: &Sheet, out: &mut Vec<u8>) -> Result<bool, AllocError> {
+        let answer = report(sheet);
+        out.extend_from_slice(&put_answer_line(group, &answer))?;
+        Ok(is_reported(&answer))
+    }
+}
+
+/// Whether a call was reported.
+fn is_reported(answer: &Joined) -> bool
+    ensures { result ≡ output.is_reported answer.now }
+{
+    match answer {
+        Joined::Reported { .. } => true,
+        _ => false,
+    }
+}
+
+/// Tells the ends of a group's facts; all is well.
+#[derive(Drop)]
+pub struct Ends;
+
+impl Teller for Ends {
+    ghost tells = { TellsEvidence };
+
+    fn tell(group: u32, sheet: &Sheet, out: &mut Vec<u8>) -> Result<bool, AllocError> {
+        out.extend_from_slice(&put_evidence_line(group, sheet))?;
+        Ok(true)
+    }
+}
+
+/// Tells of each group by rising number, and answers whether all is well with all of them.
+pub(crate) fn tell_all<T: Teller>(groups: &Groups, out: &mut Vec<u8>) -> Result<bool, AllocError>
+    ensures { IfOk result (λ is_well. (said : List JoinLine) → Keeps groups.now.sheets.entries said
+        → (text : List ℕ) × ((out.new.items ≡ out.old.items ++ text) × IsGroupsText T.tells said text (if is_well then 0 else 1))) }
+{
+    let mut is_well = true;
+    for (group, sheet) in groups.sheets.iter() {
+        is_well &= T::tell(*group, sheet, out)?;
+    }
+    Ok(is_well)
+}

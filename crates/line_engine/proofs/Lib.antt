@@ -1,0 +1,9 @@
+pub mod Cutting
+pub mod Faultless
+pub mod Going
+pub mod Writing
+pub mod Rooms
+pub mod Pieces
+pub mod Told
+pub mod FirstFaults
+pub mod Outputs

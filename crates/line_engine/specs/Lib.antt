@@ -1,0 +1,10 @@
+pub mod Lines
+pub mod Meaning
+pub mod Faults
+pub mod Commands
+pub mod Output
+pub mod Endings
+pub mod Determined
+pub mod Said
+pub mod Saying
+pub mod inside

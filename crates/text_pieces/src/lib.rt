@@ -1,0 +1,6 @@
+//! Pieces of texts: bytes and numbers appended to a bounded list.
+#![tactic(auto)]
+
+mod pieces;
+
+pub use pieces::{append, append_number};
