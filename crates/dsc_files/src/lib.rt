@@ -1,4 +1,4 @@
-//! Lines of files: what they say, and the column at which they are ill-formed.
+//! Files of lines: sources and sinks, what a line says, the column at which it is ill-formed, and texts.
 #![tactic(auto)]
 
 mod evidence;
@@ -9,6 +9,11 @@ mod lines;
 mod reading;
 mod receptions;
 
+pub use dsc_streams::{
+    ByteSink, ByteSource, Failed, NoMemory, Sink, Source, Status, StdSink, StdSource, SureSink,
+    SureSource, write_all,
+};
+pub use dsc_texts::{put_answer, put_answer_line, put_call};
 pub use laws::one_line;
 pub use lines::{FileKind, Line, LineFault};
 pub use reading::line_of;

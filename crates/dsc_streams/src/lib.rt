@@ -15,7 +15,7 @@ pub use standard::{StdSink, StdSource};
 pub use std::alloc::AllocError as NoMemory;
 pub use streams::{Failed, Sink, Source};
 pub use sure::{SureSink, SureSource};
-pub use whole::{ReadError, read_at_most, write_all};
+pub use whole::write_all;
 
 #[cfg(test)]
 mod tests;

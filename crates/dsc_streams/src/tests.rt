@@ -1,6 +1,6 @@
 use crate::{
-    ByteSink, ByteSource, Failed, ReadError, Sink, Source, Status, StdSink, StdSource, SureSink,
-    SureSource, read_at_most, write_all,
+    ByteSink, ByteSource, Failed, Sink, Source, Status, StdSink, StdSource, SureSink, SureSource,
+    write_all,
 };
 use std::alloc::Global;
 use std::io::{self, ErrorKind, Read, Write};
@@ -64,12 +64,14 @@ fn source(alloc: Global, fail: &[u64]) -> Result<ByteSource, Fail> {
 }
 
 #[test]
-fn sure_source_is_read_past_the_limit_and_to_its_end(rt: HostRuntime) -> Result<(), Fail> {
-    let mut source = SureSource::new(b"r YB-".to_vec(rt.alloc())?, 1);
-    let front = read_at_most(rt.alloc(), &mut source, 3)?;
-    assert_eq!(rt; front.as_slice(), b"r YB".as_slice());
-    let rest = read_at_most(rt.alloc(), &mut source, 3)?;
-    assert_eq!(rt; rest.as_slice(), b"-".as_slice());
+fn sure_source_is_read_in_pieces_and_to_its_end(rt: HostRuntime) -> Result<(), Fail> {
+    let mut source = SureSource::new(b"YB-".to_vec(rt.alloc())?, 2);
+    let mut into = [0; 4];
+    assert_eq!(rt; source.read(&mut into), Ok(2));
+    assert_eq!(rt; into, *b"YB\0\0");
+    assert_eq!(rt; source.read(&mut into), Ok(1));
+    assert_eq!(rt; into, *b"-B\0\0");
+    assert_eq!(rt; source.read(&mut into), Ok(0));
     Ok(())
 }
 
@@ -87,14 +89,14 @@ fn sure_sink_keeps_what_fits(rt: HostRuntime) -> Result<(), Fail> {
 #[test]
 fn numbered_reads_fail(rt: HostRuntime) -> Result<(), Fail> {
     let mut failing = source(rt.alloc(), &[2])?;
-    assert!(rt;
-        matches!(
-            read_at_most(rt.alloc(), &mut failing, 9),
-            Err(ReadError::Failed)
-        )
-    );
-    let rest = read_at_most(rt.alloc(), &mut failing, 9)?;
-    assert_eq!(rt; rest.as_slice(), b"YB-".as_slice());
+    let mut into = [0; 4];
+    assert_eq!(rt; failing.read(&mut into), Ok(2));
+    assert_eq!(rt; failing.read(&mut into), Err(Failed));
+    assert_eq!(rt; into, *b"r \0\0");
+    assert_eq!(rt; failing.read(&mut into), Ok(2));
+    assert_eq!(rt; into, *b"YB\0\0");
+    assert_eq!(rt; failing.read(&mut into), Ok(1));
+    assert_eq!(rt; failing.read(&mut into), Ok(0));
     Ok(())
 }
 
@@ -114,8 +116,10 @@ fn numbered_calls_and_writes_without_room_fail(rt: HostRuntime) -> Result<(), Fa
 #[test]
 fn standard_streams(rt: HostRuntime) -> Result<(), Fail> {
     let mut source = StdSource::new(b"abc".as_slice());
-    let all = read_at_most(rt.alloc(), &mut source, 9)?;
-    assert_eq!(rt; all.as_slice(), b"abc".as_slice());
+    let mut into = [0; 4];
+    assert_eq!(rt; source.read(&mut into), Ok(3));
+    assert_eq!(rt; into, *b"abc\0");
+    assert_eq!(rt; source.read(&mut into), Ok(0));
     let mut sink = StdSink::new(Vec::<u8>::new(rt.alloc()));
     write_all(&mut sink, b"abc")?;
     sink.flush()?;
@@ -129,18 +133,13 @@ fn status_numbers(rt: HostRuntime) {
 }
 
 #[test]
-fn a_reader_that_fails_at_its_second_call(rt: HostRuntime) -> Result<(), Fail> {
+fn a_reader_that_fails_at_its_second_call(rt: HostRuntime) {
     let mut source = StdSource::new(FailsAtTheSecond { calls: 0 });
-    assert!(rt;
-        matches!(
-            read_at_most(rt.alloc(), &mut source, 9),
-            Err(ReadError::Failed)
-        )
-    );
-    let mut after = [0; 3];
-    assert_eq!(rt; source.read(&mut after), Ok(2));
-    assert_eq!(rt; after, *b"##\0");
-    Ok(())
+    let mut into = [0; 3];
+    assert_eq!(rt; source.read(&mut into), Ok(2));
+    assert_eq!(rt; source.read(&mut into), Err(Failed));
+    assert_eq!(rt; source.read(&mut into), Ok(2));
+    assert_eq!(rt; into, *b"##\0");
 }
 
 #[test]
