@@ -20,13 +20,13 @@ sent_front front back long =
     ap (λ (l : List Element). dots (dot_count long) ++ l) (flat_map-append word_of front back)
     ∙ sym (append_assoc (dots (dot_count long)) (flat_map word_of front) (flat_map word_of back))
 
-length-start : (format : ℕ) (long : Bool) → length (sent (start_symbols format) long) ≡ dot_count long + 160
+pub length-start : (format : ℕ) (long : Bool) → length (sent (start_symbols format) long) ≡ dot_count long + 160
 unfolding sent dots word_of
 length-start format false = refl
 length-start format true = refl
 
 -- what is sent up to the end of slot 15
-same_start : (slots : List ℕ) (long : Bool) (format i : ℕ) → take 16 slots ≡ start_symbols format → i < dot_count long + 160 → get_or (sent slots long) i Lost ≡ get_or (sent (start_symbols format) long) i Lost
+pub same_start : (slots : List ℕ) (long : Bool) (format i : ℕ) → take 16 slots ≡ start_symbols format → i < dot_count long + 160 → get_or (sent slots long) i Lost ≡ get_or (sent (start_symbols format) long) i Lost
 same_start slots long format i h below =
     let parts : slots ≡ start_symbols format ++ drop 16 slots = sym (take-append-drop 16 slots) ∙ ap (λ (l : List ℕ). l ++ drop 16 slots) h in
     let whole = ap (λ (l : List ℕ). sent l long) parts ∙ sent_front (start_symbols format) (drop 16 slots) long in

@@ -1,7 +1,9 @@
-ghost use Rattle.std.specs.Prelude.{◌≡◌, ℕ, ◌+◌, ◌==◌, ◌<◌, ◌≤◌, Bool, true, false, List, length, take, Some, None, IsTrue, pos, ◌-ℤ◌};
+ghost use Rattle.std.specs.Prelude.{◌≡◌, ℕ, ◌+◌, ◌*◌, ◌==◌, ◌<◌, ◌≤◌, Bool, true, false, List, length, take, slice_index, Some, None, IsTrue, pos, ◌-ℤ◌};
 ghost use Rattle.std.specs.List.{list_any};
 ghost use Rattle.ten_unit.specs.declared.character.Element.{Element};
 ghost use Rattle.phasing.specs.Origin.{is_phased, lead_of, origin_of};
+ghost use Rattle.phasing.specs.Sent.{dot_count, sent};
+ghost use Rattle.phasing.specs.Slot.{shows};
 ghost use Rattle.phasing.specs.Start.{start_symbols, formats, IsIntactStart};
 
 use crate::reception::{LAST_LEAD, LONGEST};
@@ -29,4 +31,11 @@ pub fn origin_is_least()
 pub fn late_starts_are_found()
     ensures lead { (e : List Element) (slots : List ℕ) (long : Bool) (lead : ℕ) (format : ℕ) → list_any (λ f. f == format) formats ≡ true → take 16 slots ≡ start_symbols format → IsIntactStart e slots long lead → lead_of e ≡ Some lead }
     ensures origin { (e : List Element) (slots : List ℕ) (long : Bool) (lead : ℕ) (format : ℕ) → list_any (λ f. f == format) formats ≡ true → take 16 slots ≡ start_symbols format → IsIntactStart e slots long lead → origin_of e ≡ Some (pos lead -ℤ pos 150) }
+{}
+
+/// The law that what is sent of a call has its origin behind the dots, and that each slot shows its symbol there. It does nothing.
+pub fn whole_calls_are_found()
+    ensures lead { (slots : List ℕ) (long : Bool) (format : ℕ) → list_any (λ f. f == format) formats ≡ true → take 16 slots ≡ start_symbols format → lead_of (sent slots long) ≡ Some (dot_count long + 150) }
+    ensures slots { (slots : List ℕ) (long : Bool) (slot : ℕ) → slot < length slots → shows (sent slots long) (dot_count long + 150) slot (slice_index slots slot) ≡ true }
+    ensures length { (slots : List ℕ) (long : Bool) → length (sent slots long) ≡ dot_count long + 10 * length slots }
 {}

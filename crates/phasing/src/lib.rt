@@ -11,7 +11,9 @@ mod reception;
 mod sending;
 mod window;
 
-pub use laws::{late_starts_are_found, limits, none_past_the_end, origin_is_least};
+pub use laws::{
+    late_starts_are_found, limits, none_past_the_end, origin_is_least, whole_calls_are_found,
+};
 pub use phase::{lead, origin};
 pub use reception::{LAST_LEAD, LONGEST, slot_symbol};
 pub use sending::transmission;

@@ -4,6 +4,7 @@ pub mod OneAnswer
 pub mod IntactCalls
 pub mod Heads
 pub mod LateCalls
+pub mod WholeCalls
 pub mod OneWay
 pub mod CallOrMissing
 pub mod AnswerOfEnds

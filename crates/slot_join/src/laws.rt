@@ -6,6 +6,7 @@ ghost use Rattle.call_grammar.specs.Spelling.{spell, through_check};
 ghost use Rattle.expansion.specs.declared.values.Sets.{Sets};
 ghost use Rattle.time_diversity.specs.OnAir.{on_air};
 ghost use Rattle.phasing.specs.Origin.{lead_of, origin_of};
+ghost use Rattle.phasing.specs.Sent.{sent};
 ghost use Rattle.phasing.specs.Start.{IsIntactStart};
 ghost use Rattle.slot_evidence.specs.declared.places.Seen.{Seen};
 ghost use Rattle.slot_evidence.specs.Facts.{Facts, facts_of, union};
@@ -20,7 +21,7 @@ ghost use Rattle.slot_join.specs.Intact.{ArrivesIntact, EndsWithin, IsExpandedBy
 ghost use Rattle.slot_join.specs.OneCall.{ShowsNoOther, IsCallOrMissing};
 
 use call_grammar::{formats_begin_calls, fronts_differ, lists_are_characters, lists_are_short};
-use phasing::late_starts_are_found;
+use phasing::{late_starts_are_found, whole_calls_are_found};
 use slot_evidence::{ends_are_kept, one_seen};
 use ten_unit::{one_way_errors_are_seen, words_tell_symbols_apart};
 use time_diversity::both_slots_show_the_character;
@@ -69,6 +70,18 @@ pub fn intact_call_is_reported()
     expansion::lists_are_characters();
     both_slots_show_the_character();
     words_tell_symbols_apart();
+}
+
+/// The law that what is sent of a call, behind either dot pattern, has this call as its one answer: alone, and with the expansion that
+/// is sent behind it. It does nothing.
+pub fn transmissions_are_answered()
+    ensures alone { (call : Call) (long : Bool) (answer : Joined) → IsCall call
+        → IsAnswer (facts_of (sent (on_air (spell call)) long)) answer → answer ≡ Reported call Absent }
+    ensures expanded { (call : Call) (tail : List ℕ) (x : Sets) (long : Bool) (answer : Joined) → IsCall call → IsExpandedBy call tail x
+        → IsAnswer (facts_of (sent (on_air (spell call ++ tail)) long)) answer → answer ≡ Reported call (Whole x) }
+{
+    intact_call_is_reported();
+    whole_calls_are_found();
 }
 
 /// The law that a call is found at its origin where its start is intact but for lost elements, however late the reception
