@@ -8,4 +8,5 @@ mod Dots
 mod EarlyLeads
 mod Kept
 mod LateStarts
+mod TooShort
 mod Words
