@@ -1,5 +1,5 @@
 -- before the true origin no lead is phased on what is sent at the start of a call
-use Rattle.std.proofs.Common.{◌≡◌, ℕ, zero, suc, ◌+◌, ◌<◌, ◌≤◌, ◌==◌, ◌⊎◌, inl, inr, Bool, true, false, not, List, [], ◌∷◌, refl, sym, arith, ap, ◌∙◌}
+use Rattle.std.proofs.Common.{◌≡◌, ℕ, zero, suc, ◌+◌, ◌<◌, ◌≤◌, ◌==◌, inl, inr, Bool, true, false, not, List, [], ◌∷◌, refl, sym, arith, ap, ◌∙◌}
 use Rattle.std.specs.List.{range_with_len, list_all, list_any}
 use Rattle.std.proofs.lemmas.Bool.{cases_lt, and_parts, eqb-true, not-true, or_cases}
 use Rattle.ten_unit.specs.declared.character.Element.{Element}
@@ -26,7 +26,7 @@ long_early : list_all (early_of true) formats ≡ true
 unfolding early_of none_early is_phased shows is_word word_of dots sent
 long_early = refl
 
-none_at : (p : ℕ → Bool) (a n k : ℕ) → list_all (λ x. not (p x)) (range_with_len a n) ≡ true → a ≤ k → k < a + n → p k ≡ false
+pub none_at : (p : ℕ → Bool) (a n k : ℕ) → list_all (λ x. not (p x)) (range_with_len a n) ≡ true → a ≤ k → k < a + n → p k ≡ false
 none_at p a zero k h low high = absurd (omega arith)
 none_at p a (suc n) k h low high =
     let both = and_parts (not (p a)) (list_all (λ x. not (p x)) (range_with_len (a + 1) n)) h in

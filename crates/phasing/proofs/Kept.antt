@@ -114,7 +114,7 @@ at_most false true m n h below = omega arith
 at_most false false m n h below = omega arith
 
 -- of slots up to 15, no fewer show what they did
-no_fewer : (p q : ℕ → Bool) (xs : List ℕ) → list_all (λ s. nat_le s 15) xs ≡ true → ((s : ℕ) → s ≤ 15 → p s ≡ true → q s ≡ true) → count_by p xs ≤ count_by q xs
+pub no_fewer : (p q : ℕ → Bool) (xs : List ℕ) → list_all (λ s. nat_le s 15) xs ≡ true → ((s : ℕ) → s ≤ 15 → p s ≡ true → q s ≡ true) → count_by p xs ≤ count_by q xs
 no_fewer p q [] small h = omega arith
 no_fewer p q (x ∷ xs) small h =
     let both = and_parts (nat_le x 15) (list_all (λ s. nat_le s 15) xs) small in
@@ -123,7 +123,7 @@ no_fewer p q (x ∷ xs) small h =
     omega (arith, one, sum_by-cons (λ s. cond (p s) 1 0) x xs, sum_by-cons (λ s. cond (q s) 1 0) x xs)
 
 -- more right phasing symbols are enough too
-enough_more : (dx rx more_dx more_rx : ℕ) → dx ≤ more_dx → rx ≤ more_rx → is_enough dx rx ≡ true → is_enough more_dx more_rx ≡ true
+pub enough_more : (dx rx more_dx more_rx : ℕ) → dx ≤ more_dx → rx ≤ more_rx → is_enough dx rx ≡ true → is_enough more_dx more_rx ≡ true
 enough_more dx rx more_dx more_rx d r h = grind (arith, nat_tests)
 
 -- a lead that is phased in the reception is phased in what was sent

@@ -9,4 +9,5 @@ mod EarlyLeads
 mod Kept
 mod LateStarts
 mod WholeCalls
+mod TooShort
 mod Words

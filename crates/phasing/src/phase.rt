@@ -59,6 +59,9 @@ fn phased(first: &Phasing, second: &Phasing, third: &Phasing, fourth: &Phasing) 
     )
 }
 
+/// The elements of three slots. In fewer no three phasing symbols can be right.
+const SHORTEST: usize = 30;
+
 /// The lead of a reception's origin (ITU-R M.493, phasing sequence): the origin, counted from 150 elements before the
 /// reception's first one. `None` comes exactly where no origin from -150 on is phased. None is below lead 40, where
 /// two RX slots at most, and no DX slot, stand in the reception.
@@ -74,6 +77,9 @@ pub fn lead(e: &[Element]) -> Option<u32>
     ensures within { IfSome result (λ lead. lead < length e.now + 150) }
     ensures from { IfSome result (λ lead. 40 ≤ lead) }
 {
+    if e.len() < SHORTEST {
+        return None;
+    }
     let mut first = Phasing::before();
     let mut second = Phasing::before();
     let mut next = planes_from(e, 64);

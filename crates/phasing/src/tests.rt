@@ -65,6 +65,17 @@ fn three_dx_alone_are_unphased(rt: HostRuntime) -> Result<(), Fail> {
     Ok(())
 }
 
+/// Three slots are the shortest reception with an origin.
+#[test]
+fn three_slots_alone_are_phased(rt: HostRuntime) -> Result<(), Fail> {
+    let elements = received(rt.alloc(), 0, &ALERT_SLOTS[..3], &[])?;
+    assert_eq!(rt; elements.len(), 30);
+    let three = elements.first_chunk::<30>().ok_or("short")?;
+    assert_eq!(rt; origin(three), Some(0));
+    assert_eq!(rt; origin(&three[..29]), None);
+    Ok(())
+}
+
 #[test]
 fn a_short_dot_pattern_and_words(rt: HostRuntime) {
     let elements = transmission(&[125, 111, 0], false);

@@ -10,8 +10,12 @@ use Rattle.phasing.specs.inside.Places.{element_at}
 use Rattle.phasing.proofs.Blocks.{none_in_block, first_in_block, IsFound}
 use Rattle.phasing.proofs.Counts.{phasing_at, planes_at}
 use Rattle.phasing.proofs.Leads.{none_found, is_phased-early}
+use Rattle.phasing.proofs.TooShort.{none_short}
 use Rattle.phasing.proofs.phase.lead.Goals as goal
 use Rattle.phasing.proofs.phase.lead.Goals.{Then-found-ne0}
+
+pub returns-then-e-lt-SHORTEST-clause-least : goal.returns-then-e-lt-SHORTEST-clause-least
+returns-then-e-lt-SHORTEST-clause-least c = sym (none_short c.args.e.now (omega (arith, c.if-e-lt-SHORTEST.true)))
 
 pub loop-block-init : goal.loop-block-init
 loop-block-init c =
