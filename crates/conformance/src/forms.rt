@@ -3,7 +3,7 @@ use dsc_texts::{put_call, read_bare_call, read_call};
 use slot_join::Extra;
 
 // Calls of every form and to every address: the text, and the list that the table of forms gives by hand.
-const CALLS: [(&str, &[u8]); 26] = [
+pub(crate) const CALLS: [(&str, &[u8]); 26] = [
     (
         "alert from=338040079 nature=106 pos=1423108312 time=2019 then=100",
         &[

@@ -3,6 +3,8 @@
 #![tactic(auto)]
 
 #[cfg(test)]
+mod encoding;
+#[cfg(test)]
 mod expansions;
 #[cfg(test)]
 mod forms;

@@ -89,6 +89,9 @@ pub(crate) fn words_of(alloc: Global, text: &str) -> Result<Vec<String>, AllocEr
     Ok(words)
 }
 
+// More bytes than a run of these tests writes.
+const ROOM: usize = 1_000_000;
+
 // What a run over streams in memory wrote, which hand over a few bytes at a time, and its status.
 pub(crate) fn joined<R: Threads + Sync>(
     rt: &R,
@@ -98,7 +101,7 @@ pub(crate) fn joined<R: Threads + Sync>(
 ) -> Result<(Vec<u8>, u8), AllocError> {
     let words = words_of(alloc, words)?;
     let mut source = SureSource::new(input, 7);
-    let mut sink = SureSink::new(alloc, 4096, 5)?;
+    let mut sink = SureSink::new(alloc, ROOM, 5)?;
     let status = run(rt, alloc, &words, &mut source, &mut sink, &Open);
     Ok((sink.bytes().to_vec(alloc)?, status.number()))
 }

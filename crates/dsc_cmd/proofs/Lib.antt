@@ -1,2 +1,3 @@
 pub mod Behind
 pub mod SentGroups
+pub mod EncodedCalls

@@ -43,11 +43,11 @@ is_equal : (a b : ℕ) → (a == b) ≡ true → a ≡ b
 is_equal a b h = grind arith
 
 -- the line of a group that is named
-record Found (P : Told → Type 0) (all : List Told) (k : ℕ) : Type 0 where
-  told : Told
-  is_one : Contains all told
-  group : told.group ≡ k
-  holds : P told
+pub record Found (P : Told → Type 0) (all : List Told) (k : ℕ) : Type 0 where
+  pub told : Told
+  pub is_one : Contains all told
+  pub group : told.group ≡ k
+  pub holds : P told
 
 later : (P : Told → Type 0) (t : Told) (all : List Told) (k : ℕ) → Found P all k → Found P (t ∷ all) k
 later P t all k f = record {
@@ -57,7 +57,7 @@ later P t all k f = record {
   holds = f.holds;
 }
 
-found : (P : Told → Type 0) (all : List Told) (k : ℕ) → AllByRecursion P all → is_among (map (λ told. told.group) all) k ≡ true → Found P all k
+pub found : (P : Told → Type 0) (all : List Told) (k : ℕ) → AllByRecursion P all → is_among (map (λ told. told.group) all) k ≡ true → Found P all k
 found P [] k each among = absurd (cc)
 found P (t ∷ all) k each among = elim (or_cases (t.group == k) (is_among (map (λ told. told.group) all) k) among) [
   | inl here ↦ record { told = t; is_one = (0, omega arith, refl); group = is_equal t.group k here; holds = each.0 }

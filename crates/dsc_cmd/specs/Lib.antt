@@ -1,3 +1,4 @@
 pub mod Plans
 pub mod Heard
 pub mod Sent
+pub mod Encoded

@@ -1,17 +1,23 @@
 -- What a run of each command promises: this project's profile.
 use Rattle.std.specs.Prelude.{ℕ, List, Option, codes}
-use Rattle.line_engine.specs.Meaning.{Meaning}
-use Rattle.line_engine.specs.Endings.{WritesFront, CutsOff}
+use Rattle.line_engine.specs.Meaning.{Meaning, IsQuiet}
+use Rattle.line_engine.specs.Endings.{WritesFront, CutsOff, TellsFront}
 use Rattle.dsc_words.specs.declared.plans.Plan.{Plan}
-use Rattle.dsc_words.specs.declared.plans.Plan.TheVariants.{Join, Evidence}
+use Rattle.dsc_words.specs.declared.plans.Plan.TheVariants.{Join, Evidence, Encode}
 use Rattle.dsc_words.specs.Words.{IsPlan}
 use Rattle.join_groups.specs.Output.{TellsAnswer, TellsEvidence}
 use Rattle.join_groups.specs.Meanings.{groups_meaning}
+use Rattle.encode_calls.specs.Encoding.{encode_meaning}
 
--- what the lines of each command's input mean: of receptions and evidence, the answer of each group, or its ends
+-- what the lines of each command's input mean: of receptions and evidence, the answer of each group, or its ends; of calls, their transmissions
 abbrev pub meaning_of : Plan → Meaning
 meaning_of (Join workers) = groups_meaning TellsAnswer
 meaning_of (Evidence workers) = groups_meaning TellsEvidence
+meaning_of (Encode long) = encode_meaning long
+
+-- the commands that write nothing before their input's end
+abbrev pub IsQuietPlan : Plan → Type 0
+IsQuietPlan plan = IsQuiet (meaning_of plan)
 
 -- the line that refuses words
 abbrev pub words_refused : List ℕ
@@ -31,3 +37,9 @@ pub record CutsOffPlan (words : List (List ℕ)) (left_before left_after before 
   pub plan : Plan
   pub planned : IsPlan words plan
   pub cuts : CutsOff (meaning_of plan) left_before left_after before after
+
+-- 6: a front of what the plan's first lines give was appended
+pub record TellsPlanFront (words : List (List ℕ)) (left_before left_after before after : Option (List ℕ)) : Type 0 where
+  pub plan : Plan
+  pub planned : IsPlan words plan
+  pub tells : TellsFront (meaning_of plan) left_before left_after before after

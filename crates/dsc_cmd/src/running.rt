@@ -1,14 +1,15 @@
 ghost use Rattle.std.specs.Prelude.{◌≡◌, ◌⊎◌, ◌≤◌, ◌≢◌, ℕ, map, string_bytes, OnOk, OnErr};
 ghost use Rattle.dsc_streams.specs.Streams.{Rises, Told};
-ghost use Rattle.line_engine.specs.Endings.{IsFinished, IsOfFault, Writes, WritesFront, TellsWhole, TellsFault, TellsSoFar, CutsOff, TakesAtMost};
+ghost use Rattle.line_engine.specs.Endings.{IsFinished, IsOfFault, Writes, WritesFront, TellsWhole, TellsFault, TellsSoFar, TellsFront, CutsOff, TakesAtMost};
 ghost use Rattle.dsc_words.specs.Words.{IsPlan};
 ghost use Rattle.dsc_words.specs.declared.plans.Plan.TheVariants.{Join as joins};
 ghost use Rattle.dsc_words.specs.declared.plans.Plan.{Plan as Planned};
-ghost use Rattle.dsc_cmd.specs.Plans.{meaning_of, words_refused, IsUnplanned, CutsOffWords, CutsOffPlan};
+ghost use Rattle.dsc_cmd.specs.Plans.{meaning_of, words_refused, IsQuietPlan, IsUnplanned, CutsOffWords, CutsOffPlan, TellsPlanFront};
 ghost use Rattle.dsc_cmd.specs.Sent.{ReportsSent};
 
 use dsc_streams::{Failed, Sink, Source, Status, write_all};
 use dsc_words::{Plan, PlanError, one_plan, plan_of};
+use encode_calls::{Encode, LongDots, ShortDots};
 use join_groups::{Answers, Ends, TellGroups};
 use line_engine::{MOST_TAKEN, drive};
 use slot_evidence::ends_are_kept;
@@ -51,7 +52,8 @@ fn execute<S: Source, K: Sink>(alloc: Global, plan: Plan, source: &mut S, sink: 
     ensures faulty { IsOfFault result → TellsFault (meaning_of plan) (S.left source.old) (S.left source.new) (K.written sink.old) (K.written sink.new) (K.flushed sink.new) result }
     ensures stopped { result ≡ 4 → TellsSoFar (meaning_of plan) (S.left source.old) (S.left source.new) (K.written sink.old) (K.written sink.new) }
     ensures cut { result ≡ 5 → CutsOff (meaning_of plan) (S.left source.old) (S.left source.new) (K.written sink.old) (K.written sink.new) }
-    ensures unwritten { (result ≡ 4) ⊎ (result ≡ 6) → sink.new ≡ sink.old }
+    ensures memory { result ≡ 6 → TellsFront (meaning_of plan) (S.left source.old) (S.left source.new) (K.written sink.old) (K.written sink.new) }
+    ensures unwritten { IsQuietPlan plan → (result ≡ 4) ⊎ (result ≡ 6) → sink.new ≡ sink.old }
     ensures bounded { TakesAtMost (S.left source.old) (S.left source.new) MOST_TAKEN }
     ensures read_cause { result ≡ 4 → Rises (S.faults source.old) (S.faults source.new) }
     ensures read_sound { result ≢ 4 → S.faults source.new ≡ S.faults source.old }
@@ -63,6 +65,8 @@ fn execute<S: Source, K: Sink>(alloc: Global, plan: Plan, source: &mut S, sink: 
     match plan {
         Plan::Join { .. } => drive(alloc, TellGroups::new(alloc, Answers), source, sink),
         Plan::Evidence { .. } => drive(alloc, TellGroups::new(alloc, Ends), source, sink),
+        Plan::Encode { long: false } => drive(alloc, Encode::new(alloc, ShortDots), source, sink),
+        Plan::Encode { long: true } => drive(alloc, Encode::new(alloc, LongDots), source, sink),
     }
 }
 
@@ -73,8 +77,9 @@ fn execute<S: Source, K: Sink>(alloc: Global, plan: Plan, source: &mut S, sink: 
 /// |---|---|
 /// | `join [--workers N]` | for each group that a line of receptions or evidence names, by rising number, the line of the answer to all its facts |
 /// | `evidence [--workers N]` | for each such group the line of evidence that stands for all its lines |
+/// | `encode [--dots D]` | for each line of a call the line of a reception that heard its whole transmission |
 ///
-/// N is 1 to 64 and changes nothing yet.
+/// N is 1 to 64 and changes nothing yet. D is 20 or 200, and 20 where it isn't given.
 ///
 /// | Status | What it says |
 /// |---|---|
@@ -82,10 +87,12 @@ fn execute<S: Source, K: Sink>(alloc: Global, plan: Plan, source: &mut S, sink: 
 /// | 1 | all was written, and some group has another answer |
 /// | 2 | the words are no command: nothing was read, and `dsc: words refused` was written |
 /// | 3 | a line is ill-formed, and the line of this first fault was written, as `dsc: line 3 column 7` |
-/// | 4 | the source failed: nothing was written |
+/// | 4 | the source failed: what the lines so far gave was written |
 /// | 5 | the sink failed: a front of the text may have been written |
-/// | 6 | there was no memory: nothing was written |
+/// | 6 | there was no memory: a front of what the lines so far gave may have been written |
 /// | 7 | a limit was passed, 4,096 lines, 4,200 bytes in one or 1,024 groups, and the line of this first fault was written |
+///
+/// `join` and `evidence` write nothing before the end of their input. What the lines before a fault gave stands before its line.
 pub fn run<R: Threads + Sync, S: Source, K: Sink, G: Gate>(
     _rt: &R,
     alloc: Global,
@@ -116,7 +123,8 @@ pub fn run<R: Threads + Sync, S: Source, K: Sink, G: Gate>(
     ensures write_fault { result ≡ 5 → Rises (K.faults sink.old) (K.faults sink.new) }
     ensures cut { result ≡ 5 → CutsOffWords (map string_bytes words.now) (K.written sink.old) (K.written sink.new)
         ⊎ CutsOffPlan (map string_bytes words.now) (S.left source.old) (S.left source.new) (K.written sink.old) (K.written sink.new) }
-    ensures unwritten { (result ≡ 4) ⊎ (result ≡ 6) → sink.new ≡ sink.old }
+    ensures memory { result ≡ 6 → (sink.new ≡ sink.old) ⊎ TellsPlanFront (map string_bytes words.now) (S.left source.old) (S.left source.new) (K.written sink.old) (K.written sink.new) }
+    ensures unwritten { (plan : Planned) → IsPlan (map string_bytes words.now) plan → IsQuietPlan plan → (result ≡ 4) ⊎ (result ≡ 6) → sink.new ≡ sink.old }
     ensures bounded { TakesAtMost (S.left source.old) (S.left source.new) MOST_TAKEN }
     ensures read_sound { result ≢ 4 → S.faults source.new ≡ S.faults source.old }
     ensures write_sound { result ≢ 5 → K.faults sink.new ≡ K.faults sink.old }

@@ -1,3 +1,4 @@
 pub mod JoinLine
+pub mod CallLine
 pub mod Lines
 pub mod inside

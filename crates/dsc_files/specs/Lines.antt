@@ -11,6 +11,7 @@ use Rattle.dsc_files.specs.declared.lines.Line.TheVariants as line
 use Rattle.dsc_files.specs.declared.lines.LineFault.{LineFault}
 use Rattle.dsc_files.specs.declared.lines.LineFault.TheVariants as fault
 use Rattle.dsc_files.specs.JoinLine.{JoinLine, nothing, reception, evidence, IsLine}
+use Rattle.dsc_files.specs.CallLine.{CallLine, nothing, call, IsCallLine}
 
 -- the facts of evidence: each pair's place showed its symbol
 abbrev pub facts_of_pairs : List (ℕ × ℕ) → Facts
@@ -29,6 +30,19 @@ ReadsJoin text (Ok read) = (says : JoinLine) × (IsLine says text × Says says r
 ReadsJoin text (Err (fault.Column n)) = IsColumn IsLine text n
 ReadsJoin text (Err fault.NoMemory) = Unit {0}
 
+-- what was read of a line of calls is what it says
+abbrev pub SaysCall : CallLine → Line → Type 0
+SaysCall nothing line.Nothing = Unit {0}
+SaysCall (call c extra) (line.Call read behind) = (read ≡ c) × (behind ≡ extra)
+SaysCall _ _ = ⊥
+
+-- the answer for a line of calls: what it says, or the column of bytes that are no line
+abbrev pub ReadsCall : List ℕ → Result Line LineFault → Type 0
+ReadsCall text (Ok read) = (says : CallLine) × (IsCallLine says text × SaysCall says read)
+ReadsCall text (Err (fault.Column n)) = IsColumn IsCallLine text n
+ReadsCall text (Err fault.NoMemory) = ⊥
+
 -- the answer for a line of a file of this kind
 abbrev pub ReadsLine : FileKind → List ℕ → Result Line LineFault → Type 0
 ReadsLine kind.Join text answer = ReadsJoin text answer
+ReadsLine kind.Call text answer = ReadsCall text answer

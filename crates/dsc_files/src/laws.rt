@@ -1,7 +1,26 @@
-ghost use Rattle.std.specs.Prelude.{◌≡◌, ℕ, List};
+ghost use Rattle.std.specs.Prelude.{◌≡◌, ℕ, List, Result, Ok};
+ghost use Rattle.call_values.specs.declared.calls.Call.{Call};
+ghost use Rattle.call_values.specs.Calls.{IsCall};
+ghost use Rattle.slot_join.specs.declared.joined.Extra.{Extra};
+ghost use Rattle.dsc_texts.specs.Texts.{IsWholeOrAbsent, reported_text};
+ghost use Rattle.dsc_files.specs.declared.lines.Line.{Line};
+ghost use Rattle.dsc_files.specs.declared.lines.Line.TheVariants as line;
+ghost use Rattle.dsc_files.specs.declared.lines.LineFault.{LineFault};
 ghost use Rattle.dsc_files.specs.JoinLine.{JoinLine, IsLine};
+ghost use Rattle.dsc_files.specs.Lines.{ReadsCall};
+
+use dsc_texts::texts_tell_calls_apart;
 
 /// The law that a line of join's input says one thing. It does nothing.
 pub fn one_line()
     ensures { (a b : JoinLine) (text : List ℕ) → IsLine a text → IsLine b text → a ≡ b }
 {}
+
+/// The law that of the text that `put_call` writes of a call and of the expansion behind it, reading a line of calls can answer
+/// nothing but this call and this expansion. It does nothing.
+pub fn written_calls_are_read()
+    ensures { (call : Call) (extra : Extra) (answer : Result Line LineFault) → IsCall call → IsWholeOrAbsent extra
+        → ReadsCall (reported_text call extra) answer → answer ≡ Ok (line.Call call extra) }
+{
+    texts_tell_calls_apart();
+}

@@ -1,6 +1,7 @@
 //! Files of lines: sources and sinks, what a line says, the column at which it is ill-formed, and texts.
 #![tactic(auto)]
 
+mod calls;
 mod evidence;
 mod groups;
 mod join;
@@ -14,7 +15,7 @@ pub use dsc_streams::{
     SureSource, write_all,
 };
 pub use dsc_texts::{put_answer, put_answer_line, put_call};
-pub use laws::one_line;
+pub use laws::{one_line, written_calls_are_read};
 pub use lines::{FileKind, Line, LineFault};
 pub use reading::line_of;
 

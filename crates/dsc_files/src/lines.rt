@@ -1,7 +1,9 @@
 ghost use Rattle.std.specs.Prelude.{◌≡◌};
 ghost use Rattle.dsc_files.specs.declared.lines.LineFault.TheVariants.{NoMemory};
 
+use call_values::Call;
 use slot_evidence::{Reception, Sheet};
+use slot_join::Extra;
 use std::alloc::AllocError;
 use thiserror::Error;
 
@@ -10,6 +12,8 @@ use thiserror::Error;
 pub enum FileKind {
     /// Receptions and evidence, which are joined.
     Join,
+    /// Calls, with an expansion behind them or none.
+    Call,
 }
 
 /// What a line says.
@@ -21,6 +25,8 @@ pub enum Line {
     Reception { group: u32, elements: Reception },
     /// Receivers of this group showed what this sheet keeps.
     Evidence { group: u32, sheet: Sheet },
+    /// A call, and what follows it, which is nothing or an expansion.
+    Call { call: Call, extra: Extra },
 }
 
 /// Why a line was not read.

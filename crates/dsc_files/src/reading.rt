@@ -1,5 +1,6 @@
 ghost use Rattle.dsc_files.specs.Lines.{ReadsLine};
 
+use crate::calls::call_line;
 use crate::join::join_line;
 use crate::lines::{FileKind, Line, LineFault};
 use std::alloc::Global;
@@ -11,5 +12,6 @@ pub fn line_of(alloc: Global, kind: FileKind, bytes: &[u8]) -> Result<Line, Line
 {
     match kind {
         FileKind::Join => join_line(alloc, bytes),
+        FileKind::Call => call_line(bytes),
     }
 }

@@ -1,4 +1,4 @@
-ghost use Rattle.std.specs.Prelude.{◌≡◌};
+ghost use Rattle.std.specs.Prelude.{◌≡◌, ◌≤◌, IfErr};
 ghost use Rattle.line_grammar.specs.Grammar.{none};
 ghost use Rattle.dsc_texts.specs.Texts.{IsBareCallText, IsCallText, IsWholeOrAbsent};
 ghost use Rattle.dsc_texts.specs.inside.Expansions.{expansion_or_end, extra_parts};
@@ -14,7 +14,8 @@ use slot_join::Extra;
 /// where none does. An error is the column: the least n for which the first n bytes begin no call's text with or without
 /// an expansion, and the length plus one where the text ends too early.
 pub fn read_call(text: &[u8]) -> Result<(Call, Extra), usize>
-    ensures { Answers IsCallText text.now result }
+    ensures read { Answers IsCallText text.now result }
+    ensures counted { IfErr result (λ n. 1 ≤ n) }
 {
     match any_call::<Option<Expansion>>(text) {
         Ok((call, tail)) => {

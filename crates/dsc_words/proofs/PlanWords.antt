@@ -7,15 +7,15 @@ use Rattle.std.specs.Str.Parse.{digits_value}
 use Rattle.std.proofs.lemmas.Bool.Decides.{nat_tests}
 use Rattle.std.proofs.lemmas.Fmt.{decimal_is_IsNumeral, first_decimal}
 use Rattle.clap.specs.Walk.{Row, Text, answers_to, first_of, is_empty, nothing_held, rows_after}
-use Rattle.clap.specs.Simple.{Shape, entered, label_of, rows_at, subcommand_of}
+use Rattle.clap.specs.Simple.{Shape, new_shape, entered, label_of, rows_at, subcommand_of}
 use Rattle.clap.specs.Faults.{entered_fault, fault_of, level_fault}
 use Rattle.clap.proofs.SimpleLemmas.{is_nil}
 use Rattle.clap.proofs.WalkLemmas.{both}
-use Rattle.dsc_words.specs.Words.{HasWorkers, IsCommand, IsInRange, IsNumber, IsOption, IsPlan, IsWorkers}
+use Rattle.dsc_words.specs.Words.{HasWorkers, IsDots, IsCommand, IsInRange, IsNumber, IsOption, IsPlan, IsWorkers}
 use Rattle.dsc_words.specs.inside.Asked.{IsAsked}
 use Rattle.dsc_words.specs.inside.CommandLine.{dsc, with_option}
 use Rattle.dsc_words.specs.declared.plans.Plan.{Plan}
-use Rattle.dsc_words.specs.declared.plans.Plan.TheVariants.{Join, Evidence}
+use Rattle.dsc_words.specs.declared.plans.Plan.TheVariants.{Join, Evidence, Encode}
 use Rattle.dsc_words.proofs.LongWords.{IsBare, IsName, none_is_some, same_text}
 use Rattle.dsc_words.proofs.Turns.{HasNoDashes}
 use Rattle.dsc_words.proofs.OptionTurns.{leaf}
@@ -77,6 +77,24 @@ workers_are (Some text) n is = ap (digits_value 10) is.0 ∙ (decimal_is_IsNumer
 workers_in_range : (words : List Text) (n : ℕ) → HasWorkers words n → (1 ≤ n) × (n ≤ 64)
 workers_in_range words n (None, is, one) = (omega (arith, one), omega (arith, one))
 workers_in_range words n (Some text, is, number) = (number.1, number.2)
+
+dots_bare : (given : Option Text) (long : Bool) → IsDots given long → IfSome given IsBare
+dots_bare None long is = tt
+dots_bare (Some text) true is = subst IsBare (sym is) refl
+dots_bare (Some text) false is = subst IsBare (sym is) refl
+
+dots_name : IsName (codes "dots")
+dots_name = record { alone = refl; valued = λ value. refl }
+
+-- whether the option's text gives the long dots
+abbrev long_at : Option Text → Bool
+long_at None = false
+long_at (Some text) = bytes_eq text (codes "200")
+
+long_is_at : (given : Option Text) (long : Bool) → IsDots given long → long_at given ≡ long
+long_is_at None long is = sym is
+long_is_at (Some text) true is = ap (λ t. bytes_eq t (codes "200")) is
+long_is_at (Some text) false is = ap (λ t. bytes_eq t (codes "200")) is
 
 -- ---- the command that the words enter
 
@@ -168,6 +186,9 @@ has_join = record { undashed = refl; met = refl; fault = λ ws. refl; rows = λ 
 has_evidence : HasCommandWithWorkers (codes "evidence")
 has_evidence = record { undashed = refl; met = refl; fault = λ ws. refl; rows = λ ws. refl }
 
+has_encode : Has (codes "encode") (with_option (codes "encode") (codes "dots"))
+has_encode = record { undashed = refl; met = refl; fault = λ ws. refl; rows = λ ws. refl }
+
 -- words that `clap` takes for what a plan asks are the plan
 pub asked_is_plan : (words : List Text) → HasNoDashes (drop 1 words) → fault_of dsc words ≡ [] → (found : Text) (rows : List Row) (plan : Plan)
     → subcommand_of dsc words ≡ Some (found, rows) → IsAsked found (first_of (codes "number") rows) plan → IsPlan words plan
@@ -185,6 +206,9 @@ asked_is_plan words undashed passes found rows plan gives asked =
     go : (e : Enters words) → HasNoDashes e.rest → (plan : Plan) → IsAsked found (first_of (codes "number") rows) plan → IsCommand e.command e.rest plan
     go e behind (Join n) asked = with_workers (codes "join") has_join e behind n asked
     go e behind (Evidence n) asked = with_workers (codes "evidence") has_evidence e behind n asked
+    go e behind (Encode long) asked =
+        let got = option_entered (codes "encode") (codes "dots") has_encode words e behind found rows gives asked.0 in
+        (got.0, (got.1.0, got.1.1, subst (λ (g : Option Text). IsDots g long) got.1.2 asked.1))
 
 -- a plan's words are taken
 pub plan_is_taken : (words : List Text) (plan : Plan) → IsPlan words plan → Taken words plan
@@ -198,6 +222,8 @@ plan_is_taken words plan is = subst (λ (ws : List Text). Taken ws plan) (sym is
     go : (word : Text) (ws : List Text) (plan : Plan) → IsCommand word ws plan → Taken (is.name ∷ word ∷ ws) plan
     go word ws (Join n) c = with_workers (codes "join") has_join (Join n) word ws n (λ given workers. (refl, workers)) c
     go word ws (Evidence n) c = with_workers (codes "evidence") has_evidence (Evidence n) word ws n (λ given workers. (refl, workers)) c
+    go word ws (Encode long) (at, (given, words_are, dots)) =
+        option_words_taken (codes "encode") (codes "dots") has_encode dots_name (Encode long) is.name word ws given at words_are (dots_bare given long dots) (refl, dots)
 
 pub plan_in_range : (words : List Text) (plan : Plan) → IsPlan words plan → IsInRange plan
 plan_in_range words plan is = go is.rest plan is.is_command
@@ -205,16 +231,19 @@ plan_in_range words plan is = go is.rest plan is.is_command
     go : (ws : List Text) (plan : Plan) → IsCommand is.command ws plan → IsInRange plan
     go ws (Join n) c = workers_in_range ws n c.1
     go ws (Evidence n) c = workers_in_range ws n c.1
+    go ws (Encode long) c = tt
 
 -- the plan that a command and its option's text ask for, where they ask for one
 abbrev plan_at : Text → Option Text → Option Plan
 plan_at name given =
     if bytes_eq name (codes "join") then Some (Join (workers_at given))
-    else (if bytes_eq name (codes "evidence") then Some (Evidence (workers_at given)) else None)
+    else (if bytes_eq name (codes "evidence") then Some (Evidence (workers_at given))
+    else (if bytes_eq name (codes "encode") then Some (Encode (long_at given)) else None))
 
 asked_at : (name : Text) (given : Option Text) (plan : Plan) → IsAsked name given plan → plan_at name given ≡ Some plan
 asked_at name given (Join n) (is, workers) = ap (λ c. plan_at c given) is ∙ ap (λ k. Some (Join k)) (workers_are given n workers)
 asked_at name given (Evidence n) (is, workers) = ap (λ c. plan_at c given) is ∙ ap (λ k. Some (Evidence k)) (workers_are given n workers)
+asked_at name given (Encode long) (is, dots) = ap (λ c. plan_at c given) is ∙ ap (λ b. Some (Encode b)) (long_is_at given long dots)
 
 pub plan_is_one : (words : List Text) (a b : Plan) → IsPlan words a → IsPlan words b → a ≡ b
 plan_is_one words a b left right =

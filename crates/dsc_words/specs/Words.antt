@@ -1,7 +1,7 @@
 -- The words of the command line: this project's profile.
-use Rattle.std.specs.Prelude.{◌≡◌, ◌⊎◌, ◌≤◌, ◌++◌, ◌∷◌, ℕ, List, [], Option, Some, None, codes, decimal}
+use Rattle.std.specs.Prelude.{◌≡◌, ◌⊎◌, ◌≤◌, ◌++◌, ◌∷◌, ℕ, List, [], Option, Some, None, codes, decimal, Bool, false, if◌then◌else◌}
 use Rattle.dsc_words.specs.declared.plans.Plan.{Plan}
-use Rattle.dsc_words.specs.declared.plans.Plan.TheVariants.{Join, Evidence}
+use Rattle.dsc_words.specs.declared.plans.Plan.TheVariants.{Join, Evidence, Encode}
 
 abbrev pub Text : Type 0
 Text = List ℕ
@@ -25,10 +25,20 @@ IsWorkers (Some text) n = IsNumber 64 text n
 abbrev pub HasWorkers : List Text → ℕ → Type 0
 HasWorkers words n = (given : Option Text) × IsOption (codes "workers") words given × IsWorkers given n
 
+-- the dots: 20 or 200, and 20 where none are given
+abbrev pub IsDots : Option Text → Bool → Type 0
+IsDots None long = long ≡ false
+IsDots (Some text) long = text ≡ (if long then codes "200" else codes "20")
+
+-- nothing, `--dots D` or `--dots=D`
+abbrev pub HasDots : List Text → Bool → Type 0
+HasDots words long = (given : Option Text) × IsOption (codes "dots") words given × IsDots given long
+
 -- the command's word, and the words behind it
 abbrev pub IsCommand : Text → List Text → Plan → Type 0
 IsCommand command words (Join n) = (command ≡ codes "join") × HasWorkers words n
 IsCommand command words (Evidence n) = (command ≡ codes "evidence") × HasWorkers words n
+IsCommand command words (Encode long) = (command ≡ codes "encode") × HasDots words long
 
 -- the words are the program's name, a command, and the words of its option
 pub record IsPlan (words : List Text) (plan : Plan) : Type 0 where
@@ -42,3 +52,4 @@ pub record IsPlan (words : List Text) (plan : Plan) : Type 0 where
 abbrev pub IsInRange : Plan → Type 0
 IsInRange (Join n) = (1 ≤ n) × (n ≤ 64)
 IsInRange (Evidence n) = (1 ≤ n) × (n ≤ 64)
+IsInRange (Encode long) = Unit {0}

@@ -13,6 +13,7 @@ pub fn command_line<'a>(alloc: Global) -> Result<Command<'a>, AllocError>
     let program = without_commands(alloc);
     let program = program.subcommand(with_option(alloc, "join", "workers")?)?;
     let program = program.subcommand(with_option(alloc, "evidence", "workers")?)?;
+    let program = program.subcommand(with_option(alloc, "encode", "dots")?)?;
     Ok(program)
 }
 

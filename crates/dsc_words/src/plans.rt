@@ -11,6 +11,8 @@ pub enum Plan {
     Join { workers: u8 },
     /// `evidence [--workers N]`: the facts of each group. 1 to 64 workers, 1 where none are given.
     Evidence { workers: u8 },
+    /// `encode [--dots D]`: the transmissions of calls, behind 200 dots where `long` and else behind 20.
+    Encode { long: bool },
 }
 
 /// Why words gave no plan.

@@ -8,7 +8,7 @@ ghost use Rattle.dsc_words.specs.inside.CommandLine.{dsc};
 ghost use Rattle.dsc_words.specs.declared.plans.Plan.{Plan};
 
 use crate::command_line::command_line;
-use crate::options::workers;
+use crate::options::{is_long, workers};
 use crate::plans::{Plan, PlanError};
 use clap::error::ErrorKind;
 use clap::{ArgMatches, Error};
@@ -77,6 +77,9 @@ fn asked(command: &str, given: Option<&str>) -> Option<Plan>
         }),
         "evidence" => Some(Plan::Evidence {
             workers: workers(given)?,
+        }),
+        "encode" => Some(Plan::Encode {
+            long: is_long(given)?,
         }),
         _ => None,
     }

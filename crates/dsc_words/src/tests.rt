@@ -12,7 +12,7 @@ fn words_of(alloc: Global, line: &str) -> Result<Vec<String>, AllocError> {
 }
 
 /// Word lists, and the plan that each is.
-static PLANS: [(&str, Plan); 15] = [
+static PLANS: [(&str, Plan); 20] = [
     ("dsc|join", Plan::Join { workers: 1 }),
     ("dsc|evidence", Plan::Evidence { workers: 1 }),
     ("dsc|join|--workers|1", Plan::Join { workers: 1 }),
@@ -29,10 +29,16 @@ static PLANS: [(&str, Plan); 15] = [
     ("--help|evidence", Plan::Evidence { workers: 1 }),
     ("join|join", Plan::Join { workers: 1 }),
     ("/usr/bin/dsc|join|--workers=3", Plan::Join { workers: 3 }),
+    // Commands without workers.
+    ("dsc|encode", Plan::Encode { long: false }),
+    ("dsc|encode|--dots|20", Plan::Encode { long: false }),
+    ("dsc|encode|--dots=20", Plan::Encode { long: false }),
+    ("dsc|encode|--dots|200", Plan::Encode { long: true }),
+    ("dsc|encode|--dots=200", Plan::Encode { long: true }),
 ];
 
 /// Word lists that are no plan.
-static REFUSED: [&str; 48] = [
+static REFUSED: [&str; 55] = [
     // No command, or none that there is.
     "dsc",
     "",
@@ -43,7 +49,6 @@ static REFUSED: [&str; 48] = [
     "dsc|joi",
     "dsc|joins",
     "dsc| join",
-    "dsc|encode",
     "dsc|sentences",
     "dsc|replay",
     "dsc|make|7",
@@ -86,6 +91,15 @@ static REFUSED: [&str; 48] = [
     "dsc|join|--workers|1|--workers|1",
     "dsc|join|evidence",
     "dsc|join|--workers=1|1",
+    // Of the commands without workers.
+    "dsc|encode|--dots|30",
+    "dsc|encode|--dots=020",
+    "dsc|encode|--dots=0",
+    "dsc|encode|--dots",
+    "dsc|encode|--dots=20|--dots=20",
+    "dsc|encode|--workers=2",
+    "dsc|join|--dots=20",
+    "dsc|encode|20",
 ];
 
 #[test]

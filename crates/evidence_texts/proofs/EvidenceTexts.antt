@@ -173,6 +173,7 @@ said group sheet line.Nothing one h says = absurd says
 said group sheet (line.Reception g e) one h says = absurd says
 said group sheet (line.Evidence g s) one h says =
     ap (λ (k : ℕ). line.Evidence k s) says.0 ∙ ap (line.Evidence group) (one (facts_of_pairs (pairs_below 64 sheet)) s sheet says.1 (text_has_ends sheet h))
+said group sheet (line.Call _ _) one h says = elim says [ ]
 
 pub text_is_read : (group : ℕ) (sheet : List Seen) (answer : Result Line LineFault) → OneLine → OneSheet → group < 2 ^ 32 → IsSheet sheet
     → ReadsJoin (evidence_text group sheet) answer → (answer ≡ Ok (line.Evidence group sheet)) ⊎ (answer ≡ Err fault.NoMemory)

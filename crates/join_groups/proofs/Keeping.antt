@@ -97,6 +97,7 @@ known_brings_none said line group named known b =
 pub short_read : (says : JoinLine) (read : Line) (text : List ℕ) → IsLine says text → Says says read → length text ≤ 4200 → IsShort read
 short_read says got.Nothing text is read few = tt
 short_read says (got.Evidence group sheet) text is read few = tt
+short_read says (got.Call c extra) text is read few = tt
 short_read nothing (got.Reception group e) text is read few = absurd read
 short_read (evidence g pairs) (got.Reception group e) text is read few = absurd read
 short_read (reception g heard) (got.Reception group e) text is read few =

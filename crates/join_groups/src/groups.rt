@@ -72,6 +72,8 @@ impl Groups {
     {
         match read {
             Line::Nothing => Ok(()),
+            // No line of receptions and evidence says this.
+            Line::Call { .. } => Ok(()),
             Line::Reception { group, elements } => self.meet(*group, &shown_by(elements)),
             Line::Evidence { group, sheet } => self.meet(*group, sheet),
         }

@@ -46,3 +46,4 @@ abbrev pub IsShort : Line → Type 0
 IsShort got.Nothing = Unit {0}
 IsShort (got.Reception group e) = length e ≤ LONGEST
 IsShort (got.Evidence group sheet) = Unit {0}
+IsShort (got.Call call extra) = Unit {0}

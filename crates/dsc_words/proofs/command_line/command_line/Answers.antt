@@ -1,5 +1,5 @@
-use Rattle.std.proofs.Common.{◌∙◌, ap₂}
-use Rattle.clap.specs.Words.{with_subcommand}
+use Rattle.std.proofs.Common.{◌∙◌, ap, ap₂}
+use Rattle.clap.specs.Words.{App, with_subcommand}
 use Rattle.dsc_words.proofs.command_line.command_line.Goals as goal
 
 -- one command a line
@@ -7,4 +7,5 @@ pub returns : goal.returns
 returns c =
     let with_join = c.in_ok-program.ensures.shape c.in_ok-with_option.ensures.local ∙ ap₂ with_subcommand c.without_commands-program.ensures c.in_ok-with_option.ensures.shape in
     let with_evidence = c.in_ok-program-2.ensures.shape c.in_ok-with_option-2.ensures.local ∙ ap₂ with_subcommand with_join c.in_ok-with_option-2.ensures.shape in
-    with_evidence
+    let with_encode = c.in_ok-program-3.ensures.shape c.in_ok-with_option-3.ensures.local ∙ ap₂ with_subcommand with_evidence c.in_ok-with_option-3.ensures.shape in
+    with_encode

@@ -1,0 +1,12 @@
+use Rattle.std.proofs.Common.{◌∙◌, ap, subst}
+use Rattle.dsc_words.specs.declared.plans.Plan.TheVariants.{Encode}
+use Rattle.dsc_cmd.specs.Plans.{IsQuietPlan}
+use Rattle.dsc_cmd.proofs.running.execute.Goals as goal
+
+pub returns-in-Encode-true-clause-unwritten : goal.returns-in-Encode-true-clause-unwritten
+returns-in-Encode-true-clause-unwritten g c = λ quiet.
+    c.drive-in-Encode-true.ensures.quiet (subst IsQuietPlan (c.in-Encode-true.is ∙ ap (λ long. Encode long) c.in-Encode-true.long-test) quiet)
+
+pub returns-in-Encode-false-clause-unwritten : goal.returns-in-Encode-false-clause-unwritten
+returns-in-Encode-false-clause-unwritten g c = λ quiet.
+    c.drive-in-Encode-false.ensures.quiet (subst IsQuietPlan (c.in-Encode-false.is ∙ ap (λ long. Encode long) c.in-Encode-false.long-test) quiet)

@@ -1,0 +1,93 @@
+-- the text of a call is read as this call
+use Rattle.std.proofs.Common.{◌≡◌, ℕ, ◌==◌, false, List, [], ◌∷◌, inl, inr, refl, sym, ap, ◌∙◌, arith, Result, Ok, Err}
+use Rattle.call_values.specs.declared.calls.Call.{Call}
+use Rattle.call_values.specs.declared.calls.Call.TheVariants as form
+use Rattle.call_values.specs.declared.parts.Kind.TheVariants as kind
+use Rattle.call_values.specs.Calls.{IsCall}
+use Rattle.slot_join.specs.declared.joined.Extra.{Extra}
+use Rattle.dsc_texts.specs.CallParts.{call_text}
+use Rattle.dsc_texts.specs.Texts.{IsWholeOrAbsent, reported_text, IsCallText}
+use Rattle.dsc_files.specs.declared.lines.Line.{Line}
+use Rattle.dsc_files.specs.declared.lines.Line.TheVariants as got
+use Rattle.dsc_files.specs.declared.lines.LineFault.{LineFault}
+use Rattle.dsc_files.specs.declared.lines.LineFault.TheVariants as fault
+use Rattle.dsc_files.specs.CallLine.{CallLine, nothing, call, IsCallLine}
+use Rattle.dsc_files.specs.Lines.{SaysCall, ReadsCall}
+
+abbrev pub ApartLaw : Type 0
+ApartLaw = (a b : Call) (x y : Extra) → IsCall a → IsCall b → IsWholeOrAbsent x → IsWholeOrAbsent y → reported_text a x ≡ reported_text b y → (a ≡ b) × (x ≡ y)
+
+-- the first byte of a text, and that of comments where it is empty
+first_of : List ℕ → ℕ
+first_of [] = 35
+first_of (b ∷ rest) = b
+
+-- an empty line has none, and a comment begins with #
+says_nothing : (text : List ℕ) → IsCallLine nothing text → first_of text ≡ 35
+unfolding first_of
+says_nothing text (inl empty) = ap first_of empty
+says_nothing text (inr comment) = ap first_of comment.1
+
+-- the first letter of a call's text
+letter_of : Call → ℕ
+letter_of (form.Alert casualty) = 97
+letter_of (form.Ack from casualty) = 97
+letter_of (form.Relay to from casualty ask) = 114
+letter_of (form.RelayAck to from casualty) = 114
+letter_of (form.AllShips category from first second f1 f2) = 97
+letter_of (form.AreaCall area category from first second f1 f2) = 97
+letter_of (form.GroupCall group category from first second f1 f2) = 103
+letter_of (form.Individual to category from first second message end) = 111
+letter_of (form.Service to category from (kind.Test reply)) = 116
+letter_of (form.Service to category from kind.AskPosition) = 97
+letter_of (form.Service to category from (kind.Position position time)) = 112
+
+begins_so : (c : Call) (x : Extra) → first_of (reported_text c x) ≡ letter_of c
+unfolding call_text first_of letter_of
+begins_so (form.Alert casualty) x = refl
+begins_so (form.Ack from casualty) x = refl
+begins_so (form.Relay to from casualty ask) x = refl
+begins_so (form.RelayAck to from casualty) x = refl
+begins_so (form.AllShips category from first second f1 f2) x = refl
+begins_so (form.AreaCall area category from first second f1 f2) x = refl
+begins_so (form.GroupCall group category from first second f1 f2) x = refl
+begins_so (form.Individual to category from first second message end) x = refl
+begins_so (form.Service to category from (kind.Test reply)) x = refl
+begins_so (form.Service to category from kind.AskPosition) x = refl
+begins_so (form.Service to category from (kind.Position position time)) x = refl
+
+not_equal : (a b : ℕ) → (a == b) ≡ false → a ≡ b → ⊥
+not_equal a b other same = grind arith
+
+is_letter : (c : Call) → (letter_of c == 35) ≡ false
+unfolding letter_of
+is_letter (form.Alert casualty) = refl
+is_letter (form.Ack from casualty) = refl
+is_letter (form.Relay to from casualty ask) = refl
+is_letter (form.RelayAck to from casualty) = refl
+is_letter (form.AllShips category from first second f1 f2) = refl
+is_letter (form.AreaCall area category from first second f1 f2) = refl
+is_letter (form.GroupCall group category from first second f1 f2) = refl
+is_letter (form.Individual to category from first second message end) = refl
+is_letter (form.Service to category from (kind.Test reply)) = refl
+is_letter (form.Service to category from kind.AskPosition) = refl
+is_letter (form.Service to category from (kind.Position position time)) = refl
+
+-- a call's text says a call
+no_empty : (c : Call) (x : Extra) → IsCallLine nothing (reported_text c x) → ⊥
+no_empty c x is = not_equal (letter_of c) 35 (is_letter c) (sym (begins_so c x) ∙ says_nothing (reported_text c x) is)
+
+-- what was read of such a line is the call
+this_read : (c : Call) (x : Extra) (d : Call) (y : Extra) (read : Line) → d ≡ c → y ≡ x → SaysCall (call d y) read → read ≡ got.Call c x
+this_read c x d y got.Nothing same behind h = absurd h
+this_read c x d y (got.Reception group e) same behind h = absurd h
+this_read c x d y (got.Evidence group sheet) same behind h = absurd h
+this_read c x d y (got.Call e z) same behind h = ap (λ k. got.Call k z) (h.0 ∙ same) ∙ ap (λ k. got.Call c k) (h.1 ∙ behind)
+
+pub call_is_read : ApartLaw → (c : Call) (x : Extra) (answer : Result Line LineFault) → IsCall c → IsWholeOrAbsent x → ReadsCall (reported_text c x) answer → answer ≡ Ok (got.Call c x)
+call_is_read apart c x (Err (fault.Column n)) is whole h = absurd (h.is_none (call c x) ((is, whole), refl))
+call_is_read apart c x (Err fault.NoMemory) is whole h = absurd h
+call_is_read apart c x (Ok read) is whole (nothing, (line, says)) = absurd (no_empty c x line)
+call_is_read apart c x (Ok read) is whole (call d y, (line, says)) =
+    let same = apart d c y x line.0.0 is line.0.1 whole (sym line.1) in
+    ap Ok (this_read c x d y read same.0 same.1 says)

@@ -1,0 +1,30 @@
+-- the body of a transmission isn't empty
+use Rattle.std.proofs.Common.{◌≡◌, ℕ, Bool, true, false, List, [], ◌∷◌, ◌++◌, map, refl, sym, ap, ◌∙◌, append_assoc}
+use Rattle.std.specs.Prelude.{codes, decimal}
+use Rattle.call_values.specs.declared.calls.Call.{Call}
+use Rattle.slot_join.specs.declared.joined.Extra.{Extra}
+use Rattle.time_diversity.specs.OnAir.{on_air}
+use Rattle.phasing.specs.Sent.{dots, sent}
+use Rattle.dsc_files.specs.JoinLine.{sign_of, body_text}
+use Rattle.encode_calls.specs.Transmissions.{list_on_air, transmitted}
+use Rattle.encode_calls.specs.Encoding.{encoded_line}
+
+pub body_signs : (long : Bool) (call : Call) (extra : Extra) → body_text (transmitted long call extra) ≡ codes " " ++ map sign_of (transmitted long call extra)
+unfolding transmitted sent dots
+body_signs false call extra = refl
+body_signs true call extra = refl
+
+-- the parts of a line, appended one by one
+line_parts : (o n s : List ℕ) → ((((o ++ codes "r g") ++ n) ++ codes " ") ++ s) ++ 10 ∷ [] ≡ o ++ (codes "r g" ++ (n ++ ((codes " " ++ s) ++ 10 ∷ [])))
+line_parts o n s =
+    append_assoc (((o ++ codes "r g") ++ n) ++ codes " ") s (10 ∷ [])
+    ∙ append_assoc ((o ++ codes "r g") ++ n) (codes " ") (s ++ 10 ∷ [])
+    ∙ append_assoc (o ++ codes "r g") n (codes " " ++ (s ++ 10 ∷ []))
+    ∙ append_assoc o (codes "r g") (n ++ (codes " " ++ (s ++ 10 ∷ [])))
+
+pub line_appended : (o : List ℕ) (long : Bool) (group : ℕ) (call : Call) (extra : Extra)
+    → ((((o ++ codes "r g") ++ decimal group) ++ codes " ") ++ map sign_of (sent (on_air (list_on_air call extra)) long)) ++ 10 ∷ [] ≡ o ++ encoded_line long group (call, extra)
+unfolding encoded_line transmitted
+line_appended o long group call extra =
+    line_parts o (decimal group) (map sign_of (sent (on_air (list_on_air call extra)) long))
+    ∙ ap (λ (l : List ℕ). o ++ (codes "r g" ++ (decimal group ++ (l ++ 10 ∷ [])))) (sym (body_signs long call extra))

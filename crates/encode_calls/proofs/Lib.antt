@@ -1,0 +1,4 @@
+pub mod SignTable
+pub mod Bodies
+pub mod Encoded
+pub mod Sayings

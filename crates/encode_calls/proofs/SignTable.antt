@@ -1,0 +1,43 @@
+-- the signs of dots and of words
+use Rattle.std.proofs.Common.{◌≡◌, ℕ, ◌+◌, ◌<◌, Bool, true, List, [], ◌∷◌, ◌++◌, map, flat_map, slice_index_or, refl, sym, ap, ◌∙◌, arith}
+use Rattle.std.specs.Str.{bytes_eq}
+use Rattle.std.proofs.lemmas.Slice.Eq.{bytes_eq-Decides}
+use Rattle.std.proofs.lemmas.Bool.{agree_below, agree_below_at}
+use Rattle.std.proofs.lemmas.List.{map-append}
+use Rattle.std.proofs.lemmas.List.FromFn.{map-range_with_len_more}
+use Rattle.ten_unit.specs.declared.character.Element.{Element}
+use Rattle.ten_unit.specs.Word.{word_of}
+use Rattle.phasing.specs.Sent.{dot, dots, dot_count, sent}
+use Rattle.dsc_files.specs.JoinLine.{sign_of}
+use Rattle.encode_calls.specs.declared.signs.TheConstants.{WORDS}
+
+pub no_dots : [] ≡ map sign_of (dots 0)
+unfolding dots
+no_dots = refl
+
+pub dots_more : (n : ℕ) → map sign_of (dots (n + 1)) ≡ map sign_of (dots n) ++ sign_of (dot n) ∷ []
+unfolding dots
+dots_more n = ap (map sign_of) (map-range_with_len_more dot 0 n n (omega arith)) ∙ map-append sign_of (dots n) (dot n ∷ [])
+
+-- each row of the table has the signs of its symbol's word
+is_right : ℕ → Bool
+is_right v = bytes_eq (slice_index_or WORDS v []) (map sign_of (word_of v))
+
+all_right : agree_below is_right (λ _. true) 128 ≡ true
+unfolding is_right word_of
+all_right = refl
+
+pub word_right : (v : ℕ) → v < 128 → slice_index_or WORDS v [] ≡ map sign_of (word_of v)
+unfolding is_right
+word_right v below =
+    (bytes_eq-Decides (slice_index_or WORDS v []) (map sign_of (word_of v))).0 (agree_below_at is_right (λ _. true) 128 v all_right below)
+
+-- the signs of words, one word after the other
+pub signs_of_words : (slots : List ℕ) → flat_map (λ v. map sign_of (word_of v)) slots ≡ map sign_of (flat_map word_of slots)
+signs_of_words [] = refl
+signs_of_words (v ∷ slots) = ap (λ l. map sign_of (word_of v) ++ l) (signs_of_words slots) ∙ sym (map-append sign_of (word_of v) (flat_map word_of slots))
+
+pub signs_of_sent : (slots : List ℕ) (long : Bool) → map sign_of (dots (dot_count long)) ++ flat_map (λ v. map sign_of (word_of v)) slots ≡ map sign_of (sent slots long)
+unfolding sent
+signs_of_sent slots long =
+    ap (λ l. map sign_of (dots (dot_count long)) ++ l) (signs_of_words slots) ∙ sym (map-append sign_of (dots (dot_count long)) (flat_map word_of slots))

@@ -1,0 +1,47 @@
+-- What `encode` writes: this project's profile.
+use Rattle.std.specs.Prelude.{◌≡◌, ℕ, suc, Bool, List, [], ◌∷◌, ◌++◌, codes, decimal}
+use Rattle.call_values.specs.declared.calls.Call.{Call}
+use Rattle.slot_join.specs.declared.joined.Extra.{Extra}
+use Rattle.line_grammar.specs.Columns.{IsColumn}
+use Rattle.line_engine.specs.Lines.{Lines}
+use Rattle.line_engine.specs.Meaning.{Meaning}
+use Rattle.dsc_files.specs.JoinLine.{body_text}
+use Rattle.dsc_files.specs.CallLine.{CallLine, nothing, call, IsCallLine}
+use Rattle.encode_calls.specs.Transmissions.{transmitted}
+
+-- the lines say these, one by one
+abbrev pub AreCallLines : List CallLine → Lines → Type 0
+AreCallLines [] [] = Unit {0}
+AreCallLines [] (text ∷ lines) = ⊥
+AreCallLines (line ∷ said) [] = ⊥
+AreCallLines (line ∷ said) (text ∷ lines) = IsCallLine line text × AreCallLines said lines
+
+-- the calls among them, in turn
+abbrev pub calls_of : List CallLine → List (Call × Extra)
+calls_of [] = []
+calls_of (nothing ∷ said) = calls_of said
+calls_of (call c extra ∷ said) = (c, extra) ∷ calls_of said
+
+-- the reception line of a call: it is of the group of the call's number
+unfoldable pub encoded_line : Bool → ℕ → Call × Extra → List ℕ
+encoded_line long number (c, extra) = codes "r g" ++ (decimal number ++ (body_text (transmitted long c extra) ++ 10 ∷ []))
+
+-- the lines of calls, numbered from here on
+unfoldable pub encoded : Bool → ℕ → List (Call × Extra) → List ℕ
+encoded long number [] = []
+encoded long number (c ∷ calls) = encoded_line long number c ++ encoded long (suc number) calls
+
+-- what these lines give: a reception line for each call, numbered from 0
+pub record IsEncoding (long : Bool) (lines : Lines) (text : List ℕ) : Type 0 where
+  pub said : List CallLine
+  pub are_lines : AreCallLines said lines
+  pub text_is : text ≡ encoded long 0 (calls_of said)
+
+-- each call is encoded as soon as its line is read; all is well at the end
+abbrev pub encode_meaning : Bool → Meaning
+encode_meaning long = record {
+  IsIllFormed = λ earlier text n. IsColumn IsCallLine text n;
+  IsOverfull = λ earlier text. ⊥;
+  Gives = IsEncoding long;
+  Ends = λ lines text status. IsEncoding long lines text × (status ≡ 0);
+}

@@ -1,0 +1,3 @@
+pub mod Transmissions
+pub mod Encoding
+pub mod inside

@@ -1,0 +1,10 @@
+//! Calls on air: the command `encode`, which writes the line of a reception for each call.
+#![tactic(auto)]
+
+mod command;
+mod lines;
+mod signs;
+mod transmissions;
+
+pub use command::{Dots, Encode, LongDots, ShortDots};
+pub use transmissions::slots_of;

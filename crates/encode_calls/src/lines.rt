@@ -1,0 +1,30 @@
+ghost use Rattle.std.specs.Prelude.{◌≡◌, ◌++◌, OnOk};
+ghost use Rattle.dsc_texts.specs.Texts.{IsWholeOrAbsent};
+ghost use Rattle.encode_calls.specs.Encoding.{encoded_line};
+
+use crate::signs::append_signs;
+use crate::transmissions::slots_of;
+use call_values::Call;
+use itoa::Buffer;
+use slot_join::Extra;
+use std::alloc::AllocError;
+
+/// Appends the line of a reception of this group, which heard the call and the expansion behind it whole.
+pub(crate) fn append_line(
+    out: &mut Vec<u8>,
+    long: bool,
+    group: u32,
+    call: &Call,
+    extra: &Extra,
+) -> Result<(), AllocError>
+    requires { IsWholeOrAbsent extra.now }
+    ensures { OnOk result (out.new.items ≡ out.old.items ++ encoded_line long group (call.now, extra.now)) }
+{
+    let mut number = Buffer::new();
+    out.extend_from_slice(b"r g")?;
+    out.extend_from_slice(number.format(group).as_bytes())?;
+    out.extend_from_slice(b" ")?;
+    append_signs(out, &slots_of(call, extra), long)?;
+    out.extend_from_slice(b"\n")?;
+    Ok(())
+}

@@ -1,0 +1,191 @@
+//! The signs of transmissions: those of the dots, and those of each symbol's word.
+ghost use Rattle.std.specs.Prelude.{◌≡◌, ◌<◌, ◌++◌, All, [], map, slice_index_or, OnOk};
+ghost use Rattle.phasing.specs.Sent.{dot, dots, dot_count, sent};
+ghost use Rattle.ten_unit.specs.Word.{word_of};
+ghost use Rattle.dsc_files.specs.JoinLine.{sign_of};
+
+use std::alloc::AllocError;
+
+/// The number of dots.
+fn number_of_dots(long: bool) -> u8
+    ensures { result ≡ dot_count long }
+{
+    if long { 200 } else { 20 }
+}
+
+/// The sign of the dot with this number, which is counted from 0.
+fn dot_sign(number: u8) -> u8
+    ensures { result ≡ sign_of (dot number) }
+{
+    if number % 2 == 0 { b'B' } else { b'Y' }
+}
+
+/// Appends the signs of so many dots.
+fn append_dots(out: &mut Vec<u8>, count: u8) -> Result<(), AllocError>
+    ensures { OnOk result (out.new.items ≡ out.old.items ++ map sign_of (dots count)) }
+{
+    for number in 0..count {
+        out.push(dot_sign(number))?;
+    }
+    Ok(())
+}
+
+/// The row of a symbol.
+fn row(symbol: u8) -> [u8; 10]
+    requires { symbol < 128 }
+    ensures { result ≡ slice_index_or WORDS symbol [] }
+{
+    WORDS[symbol as usize]
+}
+
+/// The signs of a symbol's word.
+fn word_signs(symbol: u8) -> [u8; 10]
+    requires { symbol < 128 }
+    ensures { result ≡ map sign_of (word_of symbol) }
+{
+    row(symbol)
+}
+
+/// Appends the signs of a transmission, of which the slots show these symbols.
+pub(crate) fn append_signs(out: &mut Vec<u8>, slots: &[u8], long: bool) -> Result<(), AllocError>
+    requires { All (λ v. v < 128) slots.now }
+    ensures { OnOk result (out.new.items ≡ out.old.items ++ map sign_of (sent slots.now long)) }
+{
+    append_dots(out, number_of_dots(long))?;
+    for symbol in slots {
+        out.extend_from_slice(&word_signs(*symbol))?;
+    }
+    Ok(())
+}
+
+/// The signs of the word of each symbol from 0 to 127 (ITU-R M.493, the ten-unit code).
+static WORDS: [[u8; 10]; 128] = [
+    *b"BBBBBBBYYY",
+    *b"YBBBBBBYYB",
+    *b"BYBBBBBYYB",
+    *b"YYBBBBBYBY",
+    *b"BBYBBBBYYB",
+    *b"YBYBBBBYBY",
+    *b"BYYBBBBYBY",
+    *b"YYYBBBBYBB",
+    *b"BBBYBBBYYB",
+    *b"YBBYBBBYBY",
+    *b"BYBYBBBYBY",
+    *b"YYBYBBBYBB",
+    *b"BBYYBBBYBY",
+    *b"YBYYBBBYBB",
+    *b"BYYYBBBYBB",
+    *b"YYYYBBBBYY",
+    *b"BBBBYBBYYB",
+    *b"YBBBYBBYBY",
+    *b"BYBBYBBYBY",
+    *b"YYBBYBBYBB",
+    *b"BBYBYBBYBY",
+    *b"YBYBYBBYBB",
+    *b"BYYBYBBYBB",
+    *b"YYYBYBBBYY",
+    *b"BBBYYBBYBY",
+    *b"YBBYYBBYBB",
+    *b"BYBYYBBYBB",
+    *b"YYBYYBBBYY",
+    *b"BBYYYBBYBB",
+    *b"YBYYYBBBYY",
+    *b"BYYYYBBBYY",
+    *b"YYYYYBBBYB",
+    *b"BBBBBYBYYB",
+    *b"YBBBBYBYBY",
+    *b"BYBBBYBYBY",
+    *b"YYBBBYBYBB",
+    *b"BBYBBYBYBY",
+    *b"YBYBBYBYBB",
+    *b"BYYBBYBYBB",
+    *b"YYYBBYBBYY",
+    *b"BBBYBYBYBY",
+    *b"YBBYBYBYBB",
+    *b"BYBYBYBYBB",
+    *b"YYBYBYBBYY",
+    *b"BBYYBYBYBB",
+    *b"YBYYBYBBYY",
+    *b"BYYYBYBBYY",
+    *b"YYYYBYBBYB",
+    *b"BBBBYYBYBY",
+    *b"YBBBYYBYBB",
+    *b"BYBBYYBYBB",
+    *b"YYBBYYBBYY",
+    *b"BBYBYYBYBB",
+    *b"YBYBYYBBYY",
+    *b"BYYBYYBBYY",
+    *b"YYYBYYBBYB",
+    *b"BBBYYYBYBB",
+    *b"YBBYYYBBYY",
+    *b"BYBYYYBBYY",
+    *b"YYBYYYBBYB",
+    *b"BBYYYYBBYY",
+    *b"YBYYYYBBYB",
+    *b"BYYYYYBBYB",
+    *b"YYYYYYBBBY",
+    *b"BBBBBBYYYB",
+    *b"YBBBBBYYBY",
+    *b"BYBBBBYYBY",
+    *b"YYBBBBYYBB",
+    *b"BBYBBBYYBY",
+    *b"YBYBBBYYBB",
+    *b"BYYBBBYYBB",
+    *b"YYYBBBYBYY",
+    *b"BBBYBBYYBY",
+    *b"YBBYBBYYBB",
+    *b"BYBYBBYYBB",
+    *b"YYBYBBYBYY",
+    *b"BBYYBBYYBB",
+    *b"YBYYBBYBYY",
+    *b"BYYYBBYBYY",
+    *b"YYYYBBYBYB",
+    *b"BBBBYBYYBY",
+    *b"YBBBYBYYBB",
+    *b"BYBBYBYYBB",
+    *b"YYBBYBYBYY",
+    *b"BBYBYBYYBB",
+    *b"YBYBYBYBYY",
+    *b"BYYBYBYBYY",
+    *b"YYYBYBYBYB",
+    *b"BBBYYBYYBB",
+    *b"YBBYYBYBYY",
+    *b"BYBYYBYBYY",
+    *b"YYBYYBYBYB",
+    *b"BBYYYBYBYY",
+    *b"YBYYYBYBYB",
+    *b"BYYYYBYBYB",
+    *b"YYYYYBYBBY",
+    *b"BBBBBYYYBY",
+    *b"YBBBBYYYBB",
+    *b"BYBBBYYYBB",
+    *b"YYBBBYYBYY",
+    *b"BBYBBYYYBB",
+    *b"YBYBBYYBYY",
+    *b"BYYBBYYBYY",
+    *b"YYYBBYYBYB",
+    *b"BBBYBYYYBB",
+    *b"YBBYBYYBYY",
+    *b"BYBYBYYBYY",
+    *b"YYBYBYYBYB",
+    *b"BBYYBYYBYY",
+    *b"YBYYBYYBYB",
+    *b"BYYYBYYBYB",
+    *b"YYYYBYYBBY",
+    *b"BBBBYYYYBB",
+    *b"YBBBYYYBYY",
+    *b"BYBBYYYBYY",
+    *b"YYBBYYYBYB",
+    *b"BBYBYYYBYY",
+    *b"YBYBYYYBYB",
+    *b"BYYBYYYBYB",
+    *b"YYYBYYYBBY",
+    *b"BBBYYYYBYY",
+    *b"YBBYYYYBYB",
+    *b"BYBYYYYBYB",
+    *b"YYBYYYYBBY",
+    *b"BBYYYYYBYB",
+    *b"YBYYYYYBBY",
+    *b"BYYYYYYBBY",
+    *b"YYYYYYYBBB",
+];
