@@ -87,14 +87,12 @@ impl Groups {
         ensures err { IfErr result (λ refusal. (refusal ≡ Refusal.Memory) ⊎ ((said : List JoinLine) (line : JoinLine) → Keeps self.old.sheets.entries said
             → ((k : ℕ) → names k line ≡ (group == k)) → (refusal ≡ Refusal.TooManyGroups) × BringsTooMany said line)) }
     {
-        let Some(known) = self.sheets.get(&group) else {
-            return self.begin(group, shown);
-        };
-        let mut sheet = *known;
-        sheet.meet(shown);
-        match self.sheets.insert(group, sheet) {
-            Ok(_) => Ok(()),
-            Err(_) => Err(Refusal::Memory),
+        match self.sheets.get_mut(&group) {
+            Some(sheet) => {
+                sheet.meet(shown);
+                Ok(())
+            }
+            None => self.begin(group, shown),
         }
     }
 
