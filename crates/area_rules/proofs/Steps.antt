@@ -1,12 +1,11 @@
 -- the steps of a station, and its legal histories
-use Rattle.std.proofs.Common.{◌≡◌, ℕ, ◌≤◌, Option, Some, None, Result, Ok, Err, List, [], ◌∷◌, ◌++◌, refl, sym, ◌∙◌, ap, inl, inr, if◌then◌else◌}
+use Rattle.std.proofs.Common.{◌≡◌, ℕ, ◌≤◌, Option, Some, None, Ok, Err, [], ◌∷◌, ◌++◌, refl, sym, ◌∙◌, ap, inl, inr, if◌then◌else◌}
 use Rattle.std.proofs.lemmas.Bool.{le-ltb, lt-ltb, cases_lt}
-use Rattle.area_rules.specs.declared.acts.Act.{Act}
 use Rattle.area_rules.specs.declared.refusals.StationRefusal.{StationRefusal}
 use Rattle.area_rules.specs.declared.refusals.StationRefusal.TheVariants.{TimeBack}
 use Rattle.area_rules.specs.Moments.{time_back}
 use Rattle.area_rules.specs.Histories.{Entry, History, last_moment}
-use Rattle.area_rules.specs.Rules.{Rules, first_refusal, refusal_or, unless_refused, refused, answer_to, continued, Follows, Legal}
+use Rattle.area_rules.specs.Rules.{Rules, first_refusal, refusal_or, unless_refused, refused, answer_to, continued, Legal}
 
 some_is_none : {refusal : StationRefusal} → Some refusal ≡ None → ⊥
 some_is_none h = cc

@@ -1,5 +1,5 @@
 -- Histories of stations: this project's profile.
-use Rattle.std.specs.Prelude.{ℕ, suc, Bool, Option, None, is_some, List, [], ◌∷◌, ◌++◌, if◌then◌else◌}
+use Rattle.std.specs.Prelude.{◌≡◌, ℕ, suc, Bool, false, Option, None, is_some, List, [], ◌∷◌, ◌++◌, if◌then◌else◌}
 use Rattle.std.specs.Option.{option_to_list}
 use Rattle.std.specs.List.{list_any}
 use Rattle.area_rules.specs.declared.acts.Act.{Act}
@@ -23,6 +23,10 @@ module _ {What : Type 0} where
   -- one of an entry's acts is such
   abbrev pub does : (Act → Bool) → Entry What → Bool
   does is_such e = list_any is_such e.acts
+
+  -- none of these entries is such
+  abbrev pub NoneIs : (Entry What → Bool) → History What → Type 0
+  NoneIs is_such h = list_any is_such h ≡ false
 
   -- what the last entry that tells of something tells of it
   abbrev pub last_told : {A : Type 0} → (Entry What → Option A) → History What → Option A

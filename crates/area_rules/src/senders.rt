@@ -9,6 +9,7 @@ pub fn sender(call: &Call) -> Mmsi
 {
     match call.body() {
         Body::Alert(casualty) => casualty.mmsi,
-        Body::Distress { from, .. } | Body::Request { from, .. } | Body::Service { from, .. } => from,
+        Body::Distress { from, .. } | Body::Request { from, .. } | Body::Service { from, .. } =>
+            from,
     }
 }

@@ -1,13 +1,13 @@
 -- the delays that are left
 use Rattle.std.proofs.Common.{◌≡◌, ℕ, suc, ◌+◌, ◌-◌, ◌<◌, ◌≤◌, Bool, true, false, ◌&&◌, ◌==◌, slice_index, if◌then◌else◌, Option, Some, None, List, [], ◌∷◌, ◌++◌, length, drop, refl, sym, ◌∙◌, ap, subst, arith, length-drop, length-append, append-nil, add-one}
-use Rattle.std.proofs.lemmas.Bool.{false≢true, and_parts, cases_Bool}
+use Rattle.std.proofs.lemmas.Bool.{false≢true, and_parts}
 use Rattle.std.proofs.lemmas.List.{drop-append-le, drop-drop}
 use Rattle.std.specs.List.{list_any}
 use Rattle.std.specs.Option.{option_to_list}
 use Rattle.area_rules.specs.declared.acts.Act.{Act}
-use Rattle.area_rules.specs.Histories.{Entry, History, does}
+use Rattle.area_rules.specs.Histories.{History, does}
 use Rattle.area_rules.specs.Moments.{has_passed}
-use Rattle.area_rules.specs.Rules.{Follows, Legal}
+use Rattle.area_rules.specs.Rules.{Legal}
 use Rattle.ship_station.specs.declared.events.ShipWhat.{ShipWhat}
 use Rattle.ship_station.specs.declared.events.ShipWhat.TheVariants.{Position, Delay, Alert, Cancel, Tick, Heard}
 use Rattle.ship_station.specs.declared.alerts.OwnAlert.{OwnAlert}
@@ -21,13 +21,13 @@ attempt_needs_delay own place (Some alert) (delay ∷ delays) last at h = omega 
 attempt_needs_delay own place (Some alert) [] last at h = absurd (false≢true h)
 attempt_needs_delay own place None delays last at h = absurd (false≢true h)
 
-tick_needs_delay : (own : ℕ) (h : History ShipWhat) (at : ℕ) (what : ShipWhat) → is_tick what ≡ true → list_any is_attempt (due_at own h at what) ≡ true → 0 < length (delays_left h)
-tick_needs_delay own h at Tick tick attempt = attempt_needs_delay own (kept h) (open_alert h) (delays_left h) (last_attempt h) at attempt
-tick_needs_delay own h at (Position position time) tick attempt = absurd (false≢true tick)
-tick_needs_delay own h at (Delay delay) tick attempt = absurd (false≢true tick)
-tick_needs_delay own h at (Alert nature comm) tick attempt = absurd (false≢true tick)
-tick_needs_delay own h at Cancel tick attempt = absurd (false≢true tick)
-tick_needs_delay own h at (Heard call) tick attempt = absurd (false≢true tick)
+tick_needs_delay : (who : Identities) (h : History ShipWhat) (at : ℕ) (what : ShipWhat) → is_tick what ≡ true → list_any is_attempt (due_at who h at what) ≡ true → 0 < length (delays_left h)
+tick_needs_delay who h at Tick tick attempt = attempt_needs_delay who.own (kept h) (open_alert h) (delays_left h) (last_attempt h) at attempt
+tick_needs_delay who h at (Position position time) tick attempt = absurd (false≢true tick)
+tick_needs_delay who h at (Delay delay) tick attempt = absurd (false≢true tick)
+tick_needs_delay who h at (Alert nature comm) tick attempt = absurd (false≢true tick)
+tick_needs_delay who h at Cancel tick attempt = absurd (false≢true tick)
+tick_needs_delay who h at (Heard call) tick attempt = absurd (false≢true tick)
 
 used_by : (used given more : ℕ) (b : Bool) → used ≤ given → (b ≡ true → 0 < given - used) → (if b then suc used else used) ≤ given + more
 used_by used given more true few left = let l = left refl in omega arith
@@ -39,12 +39,12 @@ used_of_given who [] legal = omega arith
 used_of_given who (e ∷ h) legal =
     let few = used_of_given who h legal.1 in
     let left : (is_tick e.what && does is_attempt e) ≡ true → 0 < length (delays_given h) - delays_used h =
-        λ both.
-          let parts = and_parts (is_tick e.what) (does is_attempt e) both in
-          let due = subst (λ (acts : List Act). list_any is_attempt acts ≡ true) legal.0.acts parts.1 in
-          subst (λ (n : ℕ). 0 < n) (length-drop (delays_used h) (delays_given h)) (tick_needs_delay who.own h e.at e.what parts.0 due) in
+    λ both.
+    let parts = and_parts (is_tick e.what) (does is_attempt e) both in
+    let due = subst (λ (acts : List Act). list_any is_attempt acts ≡ true) legal.0.acts parts.1 in
+    subst (λ (n : ℕ). 0 < n) (length-drop (delays_used h) (delays_given h)) (tick_needs_delay who h e.at e.what parts.0 due) in
     subst (λ (n : ℕ). delays_used (e ∷ h) ≤ n) (sym (length-append (delays_given h) (option_to_list (delay_of e.what))))
-      (used_by (delays_used h) (length (delays_given h)) (length (option_to_list (delay_of e.what))) (is_tick e.what && does is_attempt e) few left)
+    (used_by (delays_used h) (length (delays_given h)) (length (option_to_list (delay_of e.what))) (is_tick e.what && does is_attempt e) few left)
 
 -- one delay more stands behind those that are left
 pub delay_put_last : (who : Identities) (h : History ShipWhat) (delay : ℕ) → Legal (ship_rules who) h → drop (delays_used h) (delays_given h ++ delay ∷ []) ≡ delays_left h ++ delay ∷ []

@@ -1,9 +1,8 @@
 -- what is due at a heard call, and what a ship keeps after it
-use Rattle.std.proofs.Common.{◌≡◌, ℕ, ◌==◌, ◌&&◌, Bool, true, false, None, is_some, if◌then◌else◌, List, [], ◌∷◌, refl, sym, ◌∙◌, ap, subst}
+use Rattle.std.proofs.Common.{◌≡◌, ℕ, ◌==◌, Bool, true, false, None, is_some, if◌then◌else◌, [], ◌∷◌, refl, sym, ◌∙◌, ap, subst}
 use Rattle.call_values.specs.declared.calls.Call.{Call}
 use Rattle.call_values.specs.declared.calls.Call.TheVariants as call
 use Rattle.call_values.specs.declared.calls.Casualty.{Casualty}
-use Rattle.area_rules.specs.declared.acts.Act.{Act}
 use Rattle.area_rules.specs.declared.acts.Act.TheVariants.{AlertEnded}
 use Rattle.area_rules.specs.Histories.{History}
 use Rattle.area_rules.specs.Senders.{sender_of}
@@ -15,9 +14,9 @@ use Rattle.ship_station.specs.ShipRules.{Identities, at_call, due_at}
 use Rattle.ship_station.specs.Stands.{Keeps}
 use Rattle.ship_station.proofs.Delays.{none_given_none_used}
 
-pub due_of_another : (own : ℕ) (h : History ShipWhat) (at : ℕ) (c : Call) → (sender_of c == own) ≡ false
-    → due_at own h at (Heard c) ≡ at_call own (is_some (open_alert h)) c
-due_of_another own h at c another = ap (λ (b : Bool). if b then [] else at_call own (is_some (open_alert h)) c) another
+pub due_of_another : (who : Identities) (h : History ShipWhat) (at : ℕ) (c : Call) → (sender_of c == who.own) ≡ false
+    → due_at who h at (Heard c) ≡ at_call who.own (is_some (open_alert h)) c
+due_of_another who h at c another = ap (λ (b : Bool). if b then [] else at_call who.own (is_some (open_alert h)) c) another
 
 -- calls that are neither an alert nor its acknowledgement
 pub nothing_due : (own : ℕ) (is_on : Bool) (c : Call) → ((x : Casualty) → c ≡ call.Alert x → ⊥) → ((f : ℕ) (x : Casualty) → c ≡ call.Ack f x → ⊥) → at_call own is_on c ≡ []

@@ -13,7 +13,7 @@ use Rattle.ship_station.specs.ShipRules.{Identities, refused_where, refusal_at, 
 use Rattle.ship_station.specs.Stands.{Keeps, Stands}
 
 pub accepted : (who : Identities) (h : History ShipWhat) (at : ℕ) (what : ShipWhat) (acts : List Act) (new : Ship) → last_moment h ≤ at → IsShipWhat what
-    → Legal (ship_rules who) h → refusal_at h what ≡ None → due_at who.own h at what ≡ acts
+    → Legal (ship_rules who) h → refusal_at who h what ≡ None → due_at who h at what ≡ acts
     → Keeps new who (record { at = at; what = what; acts = acts } ∷ h) → Stands new who (continued (ship_rules who) h at what)
 accepted who h at what acts new late event legal none due keeps =
     let goes = continued_accepted (ship_rules who) h at what (refused_on_time (ship_rules who) h at what late ∙ none) in
@@ -24,7 +24,7 @@ pub not_refused : (test : Bool) (refusal : StationRefusal) → test ≡ false �
 not_refused test refusal h = ap (λ b. refused_where b refusal) h
 
 pub answered : (who : Identities) (h : History ShipWhat) (at : ℕ) (what : ShipWhat) (acts : List Act) → last_moment h ≤ at
-    → refusal_at h what ≡ None → due_at who.own h at what ≡ acts → Ok acts ≡ answer_to (ship_rules who) h at what
+    → refusal_at who h what ≡ None → due_at who h at what ≡ acts → Ok acts ≡ answer_to (ship_rules who) h at what
 answered who h at what acts late none due =
     ap (λ (some : List Act). Ok some) (sym due) ∙ sym (answer_accepted (ship_rules who) h at what (refused_on_time (ship_rules who) h at what late ∙ none))
 

@@ -1,12 +1,14 @@
 -- Events at a ship: ITU-R M.541, distress alert attempts.
-use Rattle.std.specs.Prelude.{ℕ, Option, Some, None}
+use Rattle.std.specs.Prelude.{◌≡◌, ℕ, Bool, Option, Some, None, is_some}
 use Rattle.call_values.specs.declared.places.Fix.{Fix}
+use Rattle.call_values.specs.declared.calls.Call.TheVariants.{Ack}
 use Rattle.call_values.specs.Calls.{IsCall}
 use Rattle.call_values.specs.Clock.{IsHourMinute}
 use Rattle.call_values.specs.Delays.{IsAlertDelay}
 use Rattle.call_values.specs.Places.{IsPosition}
 use Rattle.dsc_symbols.specs.Natures.{IsNature}
 use Rattle.dsc_symbols.specs.Telecommands.{IsComm}
+use Rattle.area_rules.specs.Histories.{Entry}
 use Rattle.ship_station.specs.declared.events.ShipWhat.{ShipWhat}
 use Rattle.ship_station.specs.declared.events.ShipWhat.TheVariants.{Position, Delay, Alert, Cancel, Tick, Heard}
 use Rattle.ship_station.specs.declared.alerts.OwnAlert.{OwnAlert}
@@ -38,3 +40,13 @@ delay_of _ = None
 abbrev pub alert_of : ShipWhat → Option OwnAlert
 alert_of (Alert nature comm) = Some (record { nature = nature; comm = comm })
 alert_of _ = None
+
+-- an entry's event begins a distress alert
+abbrev pub begins_alert : Entry ShipWhat → Bool
+begins_alert e = is_some (alert_of e.what)
+
+-- an event at which a ship's alert may end: a cancel, or a heard distress acknowledgement that names the ship
+abbrev pub MayEndAlert : (own : ℕ) → ShipWhat → Type 0
+MayEndAlert own Cancel = Unit {0}
+MayEndAlert own (Heard (Ack from casualty)) = casualty.mmsi ≡ own
+MayEndAlert own _ = ⊥

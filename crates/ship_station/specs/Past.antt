@@ -1,5 +1,5 @@
 -- What a ship's history tells: ITU-R M.541, distress alert attempts; the list of delays is this project's profile.
-use Rattle.std.specs.Prelude.{ℕ, ◌==◌, ◌&&◌, Bool, true, false, Option, Some, None, is_some, unwrap_or, List, drop, if◌then◌else◌}
+use Rattle.std.specs.Prelude.{ℕ, ◌==◌, ◌&&◌, Bool, true, false, Option, Some, None, unwrap_or, List, drop, if◌then◌else◌}
 use Rattle.area_rules.specs.declared.acts.Act.{Act}
 use Rattle.area_rules.specs.declared.acts.Act.TheVariants.{Send, AlertEnded}
 use Rattle.area_rules.specs.Histories.{Entry, History, does, last_told, all_told, how_many, since}

@@ -32,14 +32,14 @@ refused_where test refusal = if test then Some refusal else None
 
 -- a delay is refused where 16 are held; an alert where one is on, or else where no delay is held; a cancel where no alert is on;
 -- a tick where an alert is on and no delay is held
-abbrev pub refusal_at : History ShipWhat → ShipWhat → Option StationRefusal
-refusal_at h (Position position time) = None
-refusal_at h (Delay delay) = refused_where (length (delays_left h) == 16) Full
-refusal_at h (Alert nature comm) =
+abbrev pub refusal_at : Identities → History ShipWhat → ShipWhat → Option StationRefusal
+refusal_at who h (Position position time) = None
+refusal_at who h (Delay delay) = refused_where (length (delays_left h) == 16) Full
+refusal_at who h (Alert nature comm) =
     if is_some (open_alert h) then Some AlertActive else refused_where (length (delays_left h) == 0) NeedsDelay
-refusal_at h Cancel = refused_where (is_none (open_alert h)) NoAlert
-refusal_at h Tick = refused_where (is_some (open_alert h) && (length (delays_left h) == 0)) NeedsDelay
-refusal_at h (Heard call) = None
+refusal_at who h Cancel = refused_where (is_none (open_alert h)) NoAlert
+refusal_at who h Tick = refused_where (is_some (open_alert h) && (length (delays_left h) == 0)) NeedsDelay
+refusal_at who h (Heard call) = None
 
 -- at a tick: an attempt, where an alert is on and at least the first delay has passed since the last attempt
 abbrev pub at_tick : (own : ℕ) → Place → Option OwnAlert → (delays : List ℕ) → (last at : ℕ) → List Act
@@ -54,14 +54,14 @@ at_call own is_on _ = []
 
 -- what is due: at an alert its first attempt with what is kept; at a cancel, that the alert ended; at a tick and at a heard call as above,
 -- but nothing at the ship's own call
-abbrev pub due_at : (own : ℕ) → History ShipWhat → (at : ℕ) → ShipWhat → List Act
-due_at own h at (Position position time) = []
-due_at own h at (Delay delay) = []
-due_at own h at (Alert nature comm) = attempt own (kept h) (record { nature = nature; comm = comm }) ∷ []
-due_at own h at Cancel = AlertEnded ∷ []
-due_at own h at Tick = at_tick own (kept h) (open_alert h) (delays_left h) (last_attempt h) at
-due_at own h at (Heard call) = if sender_of call == own then [] else at_call own (is_some (open_alert h)) call
+abbrev pub due_at : Identities → History ShipWhat → (at : ℕ) → ShipWhat → List Act
+due_at who h at (Position position time) = []
+due_at who h at (Delay delay) = []
+due_at who h at (Alert nature comm) = attempt who.own (kept h) (record { nature = nature; comm = comm }) ∷ []
+due_at who h at Cancel = AlertEnded ∷ []
+due_at who h at Tick = at_tick who.own (kept h) (open_alert h) (delays_left h) (last_attempt h) at
+due_at who h at (Heard call) = if sender_of call == who.own then [] else at_call who.own (is_some (open_alert h)) call
 
 -- the rules of a ship
 abbrev pub ship_rules : Identities → Rules ShipWhat
-ship_rules who = record { IsEvent = IsShipWhat; refusal = refusal_at; due = due_at who.own }
+ship_rules who = record { IsEvent = IsShipWhat; refusal = refusal_at who; due = due_at who }

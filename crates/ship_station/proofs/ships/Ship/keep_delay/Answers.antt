@@ -1,4 +1,4 @@
-use Rattle.std.proofs.Common.{◌≡◌, ℕ, Bool, false, List, [], ◌∷◌, ◌++◌, length, ◌==◌, refl, sym, ◌∙◌, ap, subst}
+use Rattle.std.proofs.Common.{◌≡◌, ℕ, false, List, [], ◌∷◌, ◌++◌, length, ◌==◌, refl, sym, ◌∙◌, ap, subst}
 use Rattle.area_rules.specs.declared.refusals.StationRefusal.TheVariants.{Full}
 use Rattle.ship_station.specs.declared.events.ShipWhat.TheVariants.{Delay}
 use Rattle.ship_station.proofs.Steps.{accepted, not_refused}
@@ -18,5 +18,5 @@ returns-clause-goes_on c who h stands late event =
       alert = keeps.alert;
       attempted = keeps.attempted;
       delays = c.push.ensures.items ∙ ap (λ (n : ℕ). c.args.self.now.delays.items ++ n ∷ []) c.number.ensures.value
-        ∙ ap (λ (l : List ℕ). l ++ c.args.delay ∷ []) keeps.delays ∙ sym (delay_put_last who h c.args.delay stands.0);
+          ∙ ap (λ (l : List ℕ). l ++ c.args.delay ∷ []) keeps.delays ∙ sym (delay_put_last who h c.args.delay stands.0);
     })

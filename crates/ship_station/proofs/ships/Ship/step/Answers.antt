@@ -12,4 +12,4 @@ returns-in-Alert-clause-stands c who h stands =
     let late = not_before c.args.self.now who h c.args.event.now.at stands.1 c.in_default.ensures in
     let event = subst IsShipWhat c.in-Alert.is c.lawful.ensures in
     subst (λ (what : ShipWhat). Stands c.alert.new.self who (continued (ship_rules who) h c.args.event.now.at what)) (sym c.in-Alert.is)
-      (c.alert.ensures.goes_on who h stands late event)
+    (c.alert.ensures.goes_on who h stands late event)
