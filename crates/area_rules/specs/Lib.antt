@@ -1,0 +1,4 @@
+pub mod Moments
+pub mod Senders
+pub mod Histories
+pub mod Rules

@@ -1,0 +1,5 @@
+pub mod Steps
+pub mod Delays
+pub mod Hearing
+pub mod Endings
+pub mod Attempts

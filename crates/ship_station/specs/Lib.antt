@@ -1,0 +1,5 @@
+pub mod Events
+pub mod Past
+pub mod ShipRules
+pub mod Stands
+pub mod inside

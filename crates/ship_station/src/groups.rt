@@ -1,0 +1,36 @@
+ghost use Rattle.std.specs.Prelude.{◌≡◌, ◌≤◌, length};
+
+use call_values::Mmsi;
+use std::marker::Model;
+
+/// At most 16 groups of ships, by their identities.
+#[derive(Drop)]
+pub(crate) struct Groups {
+    places: [Mmsi; 16],
+    count: usize,
+}
+
+impl Model for Groups {
+    ghost use Rattle.std.specs.Prelude.{ℕ, List, ◌≤◌, take};
+
+    ghost Value = { List ℕ };
+
+    ghost view = { λ g. take g.count g.places };
+
+    ghost invariant = { λ g. g.count ≤ 16 };
+}
+
+impl Groups {
+    /// These groups. The places behind them hold an identity of no meaning.
+    pub(crate) fn new(groups: &[Mmsi], blank: Mmsi) -> Groups
+        requires { length groups.now ≤ 16 }
+        ensures { result ≡ groups.now }
+    {
+        let mut places = [blank; 16];
+        places[..groups.len()].copy_from_slice(groups);
+        Groups {
+            places,
+            count: groups.len(),
+        }
+    }
+}

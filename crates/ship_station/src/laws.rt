@@ -1,0 +1,30 @@
+ghost use Rattle.std.specs.Prelude.{◌≡◌, ◌+◌, ◌≤◌, ◌∷◌, ◌++◌, false, IsTrue};
+ghost use Rattle.area_rules.specs.Histories.{Entry, History, does, NoneIs};
+ghost use Rattle.area_rules.specs.Rules.{Legal};
+ghost use Rattle.ship_station.specs.declared.events.ShipWhat.{ShipWhat};
+ghost use Rattle.ship_station.specs.Events.{begins_alert, MayEndAlert};
+ghost use Rattle.ship_station.specs.Past.{is_attempt, is_end};
+ghost use Rattle.ship_station.specs.ShipRules.{Identities, ship_rules};
+
+/// The law that after the end of a distress alert no attempt comes before the next event that begins one, in every legal
+/// history. It does nothing.
+pub fn no_attempt_after_an_end()
+    ensures { (who : Identities) (later earlier : History ShipWhat) (ended : Entry ShipWhat) → Legal (ship_rules who) (later ++ ended ∷ earlier)
+        → IsTrue (does is_end ended) → NoneIs begins_alert later → NoneIs (does is_attempt) later }
+{}
+
+/// The law that a distress alert ends only at a cancel, or where a distress acknowledgement that names the ship is heard, in
+/// every legal history. It does nothing.
+pub fn alerts_end_by_hand_or_acknowledgement()
+    ensures { (who : Identities) (later earlier : History ShipWhat) (ended : Entry ShipWhat) → Legal (ship_rules who) (later ++ ended ∷ earlier)
+        → IsTrue (does is_end ended) → MayEndAlert who.own ended.what }
+{}
+
+/// The law that two attempts of one distress alert which follow each other are at least 210,000 ms apart, in every legal
+/// history. The second one is of another alert where its event begins one. It does nothing.
+pub fn attempts_are_apart()
+    ensures { (who : Identities) (later between earlier : History ShipWhat) (first second : Entry ShipWhat)
+        → Legal (ship_rules who) (later ++ second ∷ (between ++ first ∷ earlier))
+        → IsTrue (does is_attempt first) → NoneIs (does is_attempt) between → IsTrue (does is_attempt second) → begins_alert second ≡ false
+        → first.at + 210000 ≤ second.at }
+{}

@@ -1,0 +1,207 @@
+ghost use Rattle.std.specs.Prelude.{◌≡◌, ◌≤◌, ◌==◌, ◌&&◌, [], ◌∷◌, length, is_some, if◌then◌else◌, OnErr};
+ghost use Rattle.area_rules.specs.declared.acts.Act.TheVariants.{AlertEnded};
+ghost use Rattle.area_rules.specs.Histories.{History};
+ghost use Rattle.area_rules.specs.Rules.{listed, answer_to, continued};
+ghost use Rattle.ship_station.specs.declared.events.ShipWhat.{ShipWhat as What};
+ghost use Rattle.ship_station.specs.ShipRules.{Identities, attempt, ship_rules};
+ghost use Rattle.ship_station.specs.Stands.{Stands};
+ghost use Rattle.ship_station.specs.inside.Handling.{AnswersEvent, GoesOn};
+
+use crate::alerts::OwnAlert;
+use crate::events::{ShipEvent, ShipWhat};
+use crate::groups::Groups;
+use area_rules::{Act, Acts, StationRefusal, has_passed, sender, single, time_back};
+use arrayvec::ArrayVec;
+use call_values::{AlertDelay, Call, Casualty, Comm, HourMinute, Mmsi, Nature, Position};
+
+/// How many times in a row a distress alert is sent at an attempt.
+const CALLS_OF_AN_ATTEMPT: u8 = 5;
+
+/// A ship's station, which goes from event to event.
+#[derive(Drop)]
+pub struct Ship {
+    own: Mmsi,
+    groups: Groups,
+    /// The moment of the last accepted event.
+    last: u64,
+    position: Position,
+    time: HourMinute,
+    /// The distress alert that is on.
+    alert: Option<OwnAlert>,
+    /// The moment of the last attempt.
+    attempted_at: u64,
+    /// The delays that are held, in milliseconds.
+    delays: ArrayVec<u32, 16>,
+}
+
+impl Ship {
+    /// A ship with its own identity and those of its groups, at most 16. It knows no position nor time, has no alert on and
+    /// holds no delay, and its last moment is 0.
+    pub fn new(own: Mmsi, groups: &[Mmsi]) -> Ship
+        requires { length groups.now ≤ 16 }
+        ensures { Stands result (record { own = own; groups = groups.now }) [] }
+    {
+        Ship {
+            own,
+            groups: Groups::new(groups, own),
+            last: 0,
+            position: Position::unknown(),
+            time: HourMinute::unknown(),
+            alert: None,
+            attempted_at: 0,
+            delays: ArrayVec::new(),
+        }
+    }
+
+    /// Does what is due at an event (ITU-R M.541, distress alert attempts and the reception of distress calls). The acts are
+    /// at most 32. Refused, in this order: an event before the last accepted one (`TimeBack`); a delay where 16 are held
+    /// (`Full`); an alert where one is on (`AlertActive`) or no delay is held (`NeedsDelay`); a cancel where no alert is on
+    /// (`NoAlert`); a tick where an alert is on and no delay is held (`NeedsDelay`).
+    pub fn step(&mut self, event: &ShipEvent) -> Result<Acts, StationRefusal>
+        ensures answer { (who : Identities) (h : History What) → Stands self.old who h → listed result ≡ answer_to (ship_rules who) h event.now.at event.now.what }
+        ensures stands { (who : Identities) (h : History What) → Stands self.old who h → Stands self.new who (continued (ship_rules who) h event.now.at event.now.what) }
+        ensures unchanged { OnErr result (self.new ≡ self.old) }
+    {
+        event.what.lawful();
+        if let Some(refusal) = time_back(self.last, event.at) {
+            return Err(refusal);
+        }
+        match event.what {
+            ShipWhat::Position(position, time) => self.keep_position(event.at, position, time),
+            ShipWhat::Delay(delay) => self.keep_delay(event.at, delay),
+            ShipWhat::Alert(nature, comm) => self.alert(event.at, nature, comm),
+            ShipWhat::Cancel => self.cancel(event.at),
+            ShipWhat::Tick => self.tick(event.at),
+            ShipWhat::Heard(call) => self.hear(event.at, &call),
+        }
+    }
+
+    fn keep_position(
+        &mut self,
+        at: u64,
+        position: Position,
+        time: HourMinute,
+    ) -> Result<Acts, StationRefusal>
+        ensures answer { AnswersEvent self.old at (What.Position position time) result }
+        ensures goes_on { GoesOn self.old at (What.Position position time) self.new }
+        ensures unchanged { OnErr result (self.new ≡ self.old) }
+    {
+        self.last = at;
+        self.position = position;
+        self.time = time;
+        Ok(ArrayVec::new())
+    }
+
+    fn keep_delay(&mut self, at: u64, delay: AlertDelay) -> Result<Acts, StationRefusal>
+        ensures answer { AnswersEvent self.old at (What.Delay delay) result }
+        ensures goes_on { GoesOn self.old at (What.Delay delay) self.new }
+        ensures unchanged { OnErr result (self.new ≡ self.old) }
+    {
+        if self.delays.is_full() {
+            return Err(StationRefusal::Full);
+        }
+        self.last = at;
+        self.delays.push(delay.number());
+        Ok(ArrayVec::new())
+    }
+
+    /// Begins an alert, with its first attempt.
+    fn alert(&mut self, at: u64, nature: Nature, comm: Comm) -> Result<Acts, StationRefusal>
+        ensures answer { AnswersEvent self.old at (What.Alert nature comm) result }
+        ensures goes_on { GoesOn self.old at (What.Alert nature comm) self.new }
+        ensures unchanged { OnErr result (self.new ≡ self.old) }
+    {
+        if self.alert.is_some() {
+            return Err(StationRefusal::AlertActive);
+        }
+        if self.delays.is_empty() {
+            return Err(StationRefusal::NeedsDelay);
+        }
+        let alert = OwnAlert { nature, comm };
+        self.last = at;
+        self.alert = Some(alert);
+        self.attempted_at = at;
+        Ok(single(self.attempt(&alert)))
+    }
+
+    /// Ends the alert by hand.
+    fn cancel(&mut self, at: u64) -> Result<Acts, StationRefusal>
+        ensures answer { AnswersEvent self.old at What.Cancel result }
+        ensures goes_on { GoesOn self.old at What.Cancel self.new }
+        ensures unchanged { OnErr result (self.new ≡ self.old) }
+    {
+        if self.alert.is_none() {
+            return Err(StationRefusal::NoAlert);
+        }
+        self.last = at;
+        self.alert = None;
+        Ok(single(Act::AlertEnded))
+    }
+
+    /// Repeats the alert that is on, where its time has come.
+    fn tick(&mut self, at: u64) -> Result<Acts, StationRefusal>
+        ensures answer { AnswersEvent self.old at What.Tick result }
+        ensures goes_on { GoesOn self.old at What.Tick self.new }
+        ensures unchanged { OnErr result (self.new ≡ self.old) }
+    {
+        let Some(alert) = self.alert else {
+            self.last = at;
+            return Ok(ArrayVec::new());
+        };
+        if self.delays.is_empty() {
+            return Err(StationRefusal::NeedsDelay);
+        }
+        self.last = at;
+        if !has_passed(self.delays[0].into(), self.attempted_at, at) {
+            return Ok(ArrayVec::new());
+        }
+        self.delays.remove(0);
+        self.attempted_at = at;
+        Ok(single(self.attempt(&alert)))
+    }
+
+    fn hear(&mut self, at: u64, call: &Call) -> Result<Acts, StationRefusal>
+        ensures answer { AnswersEvent self.old at (What.Heard call.now) result }
+        ensures goes_on { GoesOn self.old at (What.Heard call.now) self.new }
+        ensures unchanged { OnErr result (self.new ≡ self.old) }
+    {
+        self.last = at;
+        if sender(call).number() == self.own.number() {
+            return Ok(ArrayVec::new());
+        }
+        match *call {
+            Call::Alert(casualty) => Ok(single(Act::Distress(casualty))),
+            Call::Ack { casualty, .. } => Ok(self.hear_acknowledgement(&casualty)),
+            _ => Ok(ArrayVec::new()),
+        }
+    }
+
+    /// Ends the alert that is on, where its acknowledgement names this ship.
+    fn hear_acknowledgement(&mut self, casualty: &Casualty) -> Acts
+        ensures acts { result.items ≡ if is_some self.old.alert && (casualty.now.mmsi == self.old.own) then AlertEnded ∷ [] else [] }
+        ensures ended { self.new ≡ record self.old { alert = if is_some self.old.alert && (casualty.now.mmsi == self.old.own) then None else self.old.alert } }
+    {
+        if self.alert.is_some() && casualty.mmsi.number() == self.own.number() {
+            self.alert = None;
+            single(Act::AlertEnded)
+        } else {
+            ArrayVec::new()
+        }
+    }
+
+    /// An attempt of an alert, with the position and the time that are kept.
+    fn attempt(&self, alert: &OwnAlert) -> Act
+        ensures { result ≡ attempt self.now.own (self.now.position, self.now.time) alert.now }
+    {
+        Act::Send {
+            call: Call::Alert(Casualty {
+                mmsi: self.own,
+                nature: alert.nature,
+                position: self.position,
+                time: self.time,
+                comm: alert.comm,
+            }),
+            times: CALLS_OF_AN_ATTEMPT,
+        }
+    }
+}
