@@ -77,17 +77,10 @@ is_letter (form.Service to category from (kind.Position position time)) = refl
 no_empty : (c : Call) (x : Extra) → IsCallLine nothing (reported_text c x) → ⊥
 no_empty c x is = not_equal (letter_of c) 35 (is_letter c) (sym (begins_so c x) ∙ says_nothing (reported_text c x) is)
 
--- what was read of such a line is the call
-this_read : (c : Call) (x : Extra) (d : Call) (y : Extra) (read : Line) → d ≡ c → y ≡ x → SaysCall (call d y) read → read ≡ got.Call c x
-this_read c x d y got.Nothing same behind h = absurd h
-this_read c x d y (got.Reception group e) same behind h = absurd h
-this_read c x d y (got.Evidence group sheet) same behind h = absurd h
-this_read c x d y (got.Call e z) same behind h = ap (λ k. got.Call k z) (h.0 ∙ same) ∙ ap (λ k. got.Call c k) (h.1 ∙ behind)
-
 pub call_is_read : ApartLaw → (c : Call) (x : Extra) (answer : Result Line LineFault) → IsCall c → IsWholeOrAbsent x → ReadsCall (reported_text c x) answer → answer ≡ Ok (got.Call c x)
 call_is_read apart c x (Err (fault.Column n)) is whole h = absurd (h.is_none (call c x) ((is, whole), refl))
 call_is_read apart c x (Err fault.NoMemory) is whole h = absurd h
 call_is_read apart c x (Ok read) is whole (nothing, (line, says)) = absurd (no_empty c x line)
 call_is_read apart c x (Ok read) is whole (call d y, (line, says)) =
     let same = apart d c y x line.0.0 is line.0.1 whole (sym line.1) in
-    ap Ok (this_read c x d y read same.0 same.1 says)
+    ap Ok (says ∙ ap (λ k. got.Call k y) same.0 ∙ ap (λ k. got.Call c k) same.1)

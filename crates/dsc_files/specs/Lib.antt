@@ -1,4 +1,5 @@
 pub mod JoinLine
 pub mod CallLine
+pub mod SentenceLine
 pub mod Lines
 pub mod inside

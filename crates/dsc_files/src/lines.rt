@@ -14,6 +14,8 @@ pub enum FileKind {
     Join,
     /// Calls, with an expansion behind them or none.
     Call,
+    /// Calls and sentences.
+    Sentence,
 }
 
 /// What a line says.
@@ -27,6 +29,8 @@ pub enum Line {
     Evidence { group: u32, sheet: Sheet },
     /// A call, and what follows it, which is nothing or an expansion.
     Call { call: Call, extra: Extra },
+    /// A sentence, which is the line itself: it begins with `$`.
+    Sentence,
 }
 
 /// Why a line was not read.

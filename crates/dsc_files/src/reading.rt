@@ -1,6 +1,6 @@
 ghost use Rattle.dsc_files.specs.Lines.{ReadsLine};
 
-use crate::calls::call_line;
+use crate::calls::{call_line, sentence_line};
 use crate::join::join_line;
 use crate::lines::{FileKind, Line, LineFault};
 use std::alloc::Global;
@@ -13,5 +13,6 @@ pub fn line_of(alloc: Global, kind: FileKind, bytes: &[u8]) -> Result<Line, Line
     match kind {
         FileKind::Join => join_line(alloc, bytes),
         FileKind::Call => call_line(bytes),
+        FileKind::Sentence => sentence_line(bytes),
     }
 }

@@ -169,11 +169,8 @@ abbrev pub OneSheet : Type 0
 OneSheet = (F : Facts) (s t : List Seen) → IsEnds F s → IsEnds F t → s ≡ t
 
 said : (group : ℕ) (sheet : List Seen) (read : Line) → OneSheet → IsSheet sheet → Says (evidence group (pairs_below 64 sheet)) read → read ≡ line.Evidence group sheet
-said group sheet line.Nothing one h says = absurd says
-said group sheet (line.Reception g e) one h says = absurd says
-said group sheet (line.Evidence g s) one h says =
-    ap (λ (k : ℕ). line.Evidence k s) says.0 ∙ ap (line.Evidence group) (one (facts_of_pairs (pairs_below 64 sheet)) s sheet says.1 (text_has_ends sheet h))
-said group sheet (line.Call _ _) one h says = elim says [ ]
+said group sheet read one h says =
+    says.1.0 ∙ ap (line.Evidence group) (one (facts_of_pairs (pairs_below 64 sheet)) says.0 sheet says.1.1 (text_has_ends sheet h))
 
 pub text_is_read : (group : ℕ) (sheet : List Seen) (answer : Result Line LineFault) → OneLine → OneSheet → group < 2 ^ 32 → IsSheet sheet
     → ReadsJoin (evidence_text group sheet) answer → (answer ≡ Ok (line.Evidence group sheet)) ⊎ (answer ≡ Err fault.NoMemory)

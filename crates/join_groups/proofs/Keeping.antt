@@ -95,16 +95,22 @@ known_brings_none said line group named known b =
 
 -- a line of at most 4,200 bytes has no more elements
 pub short_read : (says : JoinLine) (read : Line) (text : List ℕ) → IsLine says text → Says says read → length text ≤ 4200 → IsShort read
-short_read says got.Nothing text is read few = tt
-short_read says (got.Evidence group sheet) text is read few = tt
-short_read says (got.Call c extra) text is read few = tt
-short_read nothing (got.Reception group e) text is read few = absurd read
-short_read (evidence g pairs) (got.Reception group e) text is read few = absurd read
-short_read (reception g heard) (got.Reception group e) text is read few =
-    let count : length text ≡ length (codes "r" ++ is.0 ++ body_text heard) = ap length is.1.1 in
-    let same : length e ≡ length heard = ap length read.1 in
-    omega (arith, count, same, length-append (codes "r" ++ is.0) (body_text heard), body_long heard)
+short_read nothing read text is says few = λ group e this. absurd (two (sym says ∙ this))
   where
+    two : {group : ℕ} {e : List Element} → got.Nothing ≡ got.Reception group e → ⊥
+    two h = cc
+short_read (evidence g pairs) read text is says few = λ group e this. absurd (two (sym says.1.0 ∙ this))
+  where
+    two : {g group : ℕ} {sheet : List Seen} {e : List Element} → got.Evidence g sheet ≡ got.Reception group e → ⊥
+    two h = cc
+short_read (reception g heard) read text is says few = λ group e this.
+    let count : length text ≡ length (codes "r" ++ is.0 ++ body_text heard) = ap length is.1.1 in
+    let same : length heard ≡ length e = ap length (elements (sym says ∙ this)) in
+    omega (arith, count, same, few, length-append (codes "r" ++ is.0) (body_text heard), body_long heard)
+  where
+    elements : {g group : ℕ} {heard e : List Element} → got.Reception g heard ≡ got.Reception group e → heard ≡ e
+    elements h = cc
+
     body_long : (e : List Element) → length e ≤ length (body_text e)
     body_long [] = omega arith
     body_long (x ∷ rest) =
@@ -116,30 +122,55 @@ eq_one k = grind arith
 
 -- what a line says, once it is read
 pub says_reception : (line : JoinLine) (group : ℕ) (e : List Element) → Says line (got.Reception group e) → ((k : ℕ) → names k line ≡ (group == k)) × (facts_of_line group line ≡ facts_of e)
-says_reception nothing group e is = absurd is
-says_reception (evidence g pairs) group e is = absurd is
+says_reception nothing group e is = absurd (two is)
+  where
+    two : {group : ℕ} {e : List Element} → got.Reception group e ≡ got.Nothing → ⊥
+    two h = cc
+says_reception (evidence g pairs) group e is = absurd (two is.1.0)
+  where
+    two : {g group : ℕ} {sheet : List Seen} {e : List Element} → got.Reception group e ≡ got.Evidence g sheet → ⊥
+    two h = cc
 says_reception (reception g heard) group e is =
-    let same : (g == group) ≡ true = ap (λ (n : ℕ). g == n) is.0 ∙ eq_one g in (
-      λ k. ap (λ (n : ℕ). n == k) (sym is.0),
-      same_facts (facts_of_line group (reception g heard)) (facts_of heard) (λ p v. ap (λ (b : Bool). b && facts_of heard p v) same) ∙ ap facts_of (sym is.1),
+    let is_group : group ≡ g = (parts is).0 in
+    let is_heard : e ≡ heard = (parts is).1 in
+    let same : (g == group) ≡ true = ap (λ (n : ℕ). g == n) is_group ∙ eq_one g in (
+      λ k. ap (λ (n : ℕ). n == k) (sym is_group),
+      same_facts (facts_of_line group (reception g heard)) (facts_of heard) (λ p v. ap (λ (b : Bool). b && facts_of heard p v) same) ∙ ap facts_of (sym is_heard),
     )
+  where
+    parts : {group g : ℕ} {e heard : List Element} → got.Reception group e ≡ got.Reception g heard → (group ≡ g) × (e ≡ heard)
+    parts h = (cc, cc)
 
 pub says_evidence : (line : JoinLine) (group : ℕ) (sheet : List Seen) → Says line (got.Evidence group sheet)
     → ((k : ℕ) → names k line ≡ (group == k)) × IsEnds (facts_of_line group line) sheet
-says_evidence nothing group sheet is = absurd is
-says_evidence (reception g heard) group sheet is = absurd is
+says_evidence nothing group sheet is = absurd (two is)
+  where
+    two : {group : ℕ} {sheet : List Seen} → got.Evidence group sheet ≡ got.Nothing → ⊥
+    two h = cc
+says_evidence (reception g heard) group sheet is = absurd (two is)
+  where
+    two : {g group : ℕ} {sheet : List Seen} {heard : List Element} → got.Evidence group sheet ≡ got.Reception g heard → ⊥
+    two h = cc
 says_evidence (evidence g pairs) group sheet is =
-    let same : (g == group) ≡ true = ap (λ (n : ℕ). g == n) is.0 ∙ eq_one g in
+    let is_group : group ≡ g = (parts is.1.0).0 in
+    let is_sheet : sheet ≡ is.0 = (parts is.1.0).1 in
+    let same : (g == group) ≡ true = ap (λ (n : ℕ). g == n) is_group ∙ eq_one g in
     let facts : facts_of_line group (evidence g pairs) ≡ facts_of_pairs pairs =
     same_facts (facts_of_line group (evidence g pairs)) (facts_of_pairs pairs) (λ p v. ap (λ (b : Bool). b && facts_of_pairs pairs p v) same) in (
-      λ k. ap (λ (n : ℕ). n == k) (sym is.0),
-      subst (λ (F : Facts). IsEnds F sheet) (sym facts) is.1,
+      λ k. ap (λ (n : ℕ). n == k) (sym is_group),
+      subst (λ (F : Facts). IsEnds F sheet) (sym facts) (subst (IsEnds (facts_of_pairs pairs)) (sym is_sheet) is.1.1),
     )
+  where
+    parts : {group g : ℕ} {sheet other : List Seen} → got.Evidence group sheet ≡ got.Evidence g other → (group ≡ g) × (sheet ≡ other)
+    parts h = (cc, cc)
 
-pub says_nothing : (said : List JoinLine) (line : JoinLine) (entries : Entries) → Keeps entries said → Says line got.Nothing → (BringsTooMany said line → ⊥) × Keeps entries (said ++ line ∷ [])
-says_nothing said (reception g heard) entries keeps is = absurd is
-says_nothing said (evidence g pairs) entries keeps is = absurd is
-says_nothing said nothing entries keeps is =
+-- a line of which neither a reception nor evidence was read says nothing
+pub says_nothing : (said : List JoinLine) (line : JoinLine) (read : Line) (entries : Entries) → Keeps entries said
+    → ((group : ℕ) (e : List Element) → read ≡ got.Reception group e → ⊥) → ((group : ℕ) (sheet : List Seen) → read ≡ got.Evidence group sheet → ⊥)
+    → Says line read → (BringsTooMany said line → ⊥) × Keeps entries (said ++ line ∷ [])
+says_nothing said (reception g heard) read entries keeps no_reception no_evidence is = absurd (no_reception g heard is)
+says_nothing said (evidence g pairs) read entries keeps no_reception no_evidence is = absurd (no_evidence g is.0 is.1.0)
+says_nothing said nothing read entries keeps no_reception no_evidence is =
     (λ b. (let never : false ≡ true = b.named in absurd cc), λ k. kept_of_others said nothing k (found entries k) refl (keeps k))
 
 -- what holds of an answer where another thing does

@@ -71,11 +71,9 @@ impl Groups {
             → Says line read.now → (refusal ≡ Refusal.TooManyGroups) × BringsTooMany said line)) }
     {
         match read {
-            Line::Nothing => Ok(()),
-            // No line of receptions and evidence says this.
-            Line::Call { .. } => Ok(()),
             Line::Reception { group, elements } => self.meet(*group, &shown_by(elements)),
             Line::Evidence { group, sheet } => self.meet(*group, sheet),
+            _ => Ok(()),
         }
     }
 

@@ -1,5 +1,7 @@
 -- What the command has encoded so far: this project's profile.
 use Rattle.std.specs.Prelude.{◌≡◌, ℕ, Bool, List, length}
+use Rattle.call_values.specs.declared.calls.Call.{Call}
+use Rattle.slot_join.specs.declared.joined.Extra.{Extra}
 use Rattle.line_engine.specs.Lines.{Lines}
 use Rattle.dsc_texts.specs.Texts.{IsWholeOrAbsent}
 use Rattle.dsc_files.specs.declared.lines.Line.{Line}
@@ -16,7 +18,4 @@ pub record HasEncoded (long : Bool) (count : ℕ) (lines : Lines) (text : List �
 
 -- behind a call that was read an expansion stands whole or not at all
 abbrev pub IsLawful : Line → Type 0
-IsLawful got.Nothing = Unit {0}
-IsLawful (got.Reception group e) = Unit {0}
-IsLawful (got.Evidence group sheet) = Unit {0}
-IsLawful (got.Call call extra) = IsWholeOrAbsent extra
+IsLawful read = (call : Call) (extra : Extra) → read ≡ got.Call call extra → IsWholeOrAbsent extra

@@ -1,5 +1,6 @@
 -- What is kept of the groups that lines named.
 use Rattle.std.specs.Prelude.{◌≡◌, ℕ, ◌≤◌, true, false, List, [], length, Option, Some, None}
+use Rattle.ten_unit.specs.declared.character.Element.{Element}
 use Rattle.std.specs.Ordering.{nat_cmp, is_eq}
 use Rattle.std.specs.Map.{lookup}
 use Rattle.line_grammar.specs.Columns.{IsColumn}
@@ -43,7 +44,4 @@ pub record StandsFor (entries : Entries) (lines : Lines) (text : List ℕ) : Typ
 
 -- what was read of a line has no more elements than a reception may have
 abbrev pub IsShort : Line → Type 0
-IsShort got.Nothing = Unit {0}
-IsShort (got.Reception group e) = length e ≤ LONGEST
-IsShort (got.Evidence group sheet) = Unit {0}
-IsShort (got.Call call extra) = Unit {0}
+IsShort read = (group : ℕ) (e : List Element) → read ≡ got.Reception group e → length e ≤ LONGEST

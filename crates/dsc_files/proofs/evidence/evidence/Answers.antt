@@ -28,4 +28,4 @@ returns-clause-line c =
     let named = c.in_ok-group.ensures.named in
     let all = c.in_ok-sheet.ensures.pairs in
     let rest = named.1.1 ∙ ap (λ (l : List ℕ). named.0 ++ l) all.1.1.0 in
-    (evidence _ all.0, (evidence_read _ _ named.0 all.0 _ refl named.1.0 all.1.0 rest, (refl, all.1.1.1)))
+    (evidence _ all.0, (evidence_read _ _ named.0 all.0 _ refl named.1.0 all.1.0 rest, (_, (refl, all.1.1.1))))

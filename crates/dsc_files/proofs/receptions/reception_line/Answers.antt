@@ -1,4 +1,5 @@
-use Rattle.std.proofs.Common.{refl}
+use Rattle.std.proofs.Common.{ap}
+use Rattle.dsc_files.specs.declared.lines.Line.TheVariants as got
 use Rattle.dsc_files.specs.JoinLine.{reception}
 use Rattle.dsc_files.proofs.Faults.{reception_fault, within_line, column_of, reception_read}
 use Rattle.dsc_files.proofs.receptions.reception_line.Goals as goal
@@ -9,7 +10,7 @@ column-requires-clause-left c = within_line _ _ (reception_fault _ _ _ c.require
 pub returns-in_ok-elements-in-Ok : goal.returns-in_ok-elements-in-Ok
 returns-in_ok-elements-in-Ok c =
     let line = c.in-Ok.ensures.line in
-    (reception _ _, (reception_read _ _ line.0 _ _ c.requires line.1.0 line.1.1, (refl, c.in_ok-elements-in-Ok.ensures)))
+    (reception _ _, (reception_read _ _ line.0 _ _ c.requires line.1.0 line.1.1, ap (λ e. got.Reception c.in-Ok.group e) c.in_ok-elements-in-Ok.ensures))
 
 pub returns-in-Err : goal.returns-in-Err
 returns-in-Err c = column_of _ _ _ (reception_fault _ _ _ c.requires c.in-Err.ensures.left) c.column.ensures

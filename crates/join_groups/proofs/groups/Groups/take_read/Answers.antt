@@ -1,8 +1,4 @@
 use Rattle.std.proofs.Common.{sym, subst, inl, inr}
-use Rattle.call_values.specs.declared.calls.Call.{Call}
-use Rattle.slot_join.specs.declared.joined.Extra.{Extra}
-use Rattle.dsc_files.specs.declared.lines.Line.TheVariants as got
-use Rattle.dsc_files.specs.JoinLine.{JoinLine, nothing, reception, evidence}
 use Rattle.slot_evidence.specs.Facts.{Facts}
 use Rattle.slot_evidence.specs.Sheet.{IsEnds}
 use Rattle.dsc_files.specs.declared.lines.Line.{Line}
@@ -10,18 +6,9 @@ use Rattle.dsc_files.specs.Lines.{Says}
 use Rattle.join_groups.proofs.Keeping.{says_nothing, says_reception, says_evidence, map_ok, map_err}
 use Rattle.join_groups.proofs.groups.Groups.take_read.Goals as goal
 
-says_no_call : (line : JoinLine) (c : Call) (extra : Extra) → Says line (got.Call c extra) → ⊥
-says_no_call nothing c extra h = h
-says_no_call (reception group e) c extra h = h
-says_no_call (evidence group pairs) c extra h = h
-
-pub returns-in-Call-clause-ok : goal.returns-in-Call-clause-ok
-returns-in-Call-clause-ok c = λ said line keeps is.
-    absurd (says_no_call line c.in-Call.call c.in-Call.extra (subst (λ (read : Line). Says line read) c.in-Call.is is))
-
-pub returns-in-Nothing-clause-ok : goal.returns-in-Nothing-clause-ok
-returns-in-Nothing-clause-ok c = λ said line keeps is.
-    says_nothing said line c.args.self.now.sheets.entries keeps (subst (λ (read : Line). Says line read) c.in-Nothing.is is)
+pub returns-in_default-clause-ok : goal.returns-in_default-clause-ok
+returns-in_default-clause-ok c = λ said line keeps is.
+    says_nothing said line c.args.read.now c.args.self.now.sheets.entries keeps c.in_default.not-Reception c.in_default.not-Evidence is
 
 pub returns-in-Reception-clause-ok : goal.returns-in-Reception-clause-ok
 returns-in-Reception-clause-ok c = map_ok c.meet.result
