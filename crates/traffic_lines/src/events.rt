@@ -32,6 +32,7 @@ fn alert(bytes: &[u8]) -> Result<EventLine, usize>
     ensures { ReadsBy grammar.alert IsEventText bytes.now result }
 {
     let rest = word(b"alert nature=", bytes)?;
+    // No `?`: the borrow checker has no rule for it at a value with an invariant beside the bytes that follow it.
     let (nature, rest) = match Nature::read(rest) {
         Ok(parts) => parts,
         Err(left) => return Err(left),
@@ -77,11 +78,11 @@ fn heard(bytes: &[u8]) -> Result<EventLine, usize>
 fn plain_event(bytes: &[u8]) -> Result<EventLine, usize>
     ensures { ReadsBy grammar.plain_events IsEventText bytes.now result }
 {
-    let waits = further(&tick(bytes), &heard(bytes));
-    let ends = further(&cancel(bytes), &waits);
-    let alerts = further(&alert(bytes), &ends);
-    let delays = further(&delay(bytes), &alerts);
-    further(&position(bytes), &delays)
+    let others = further(&tick(bytes), &heard(bytes));
+    let others = further(&cancel(bytes), &others);
+    let others = further(&alert(bytes), &others);
+    let others = further(&delay(bytes), &others);
+    further(&position(bytes), &others)
 }
 
 /// Reads a call that is heard; an expansion behind it says nothing. An error is how many bytes are left at the fault.

@@ -10,7 +10,7 @@ returns c =
     let ends = either cancel waits in
     let alerts = either alert ends in
     further_by position (either delay alerts) IsEventText _ _ _ _ c.further.ensures c.position.ensures
-    (further_by delay alerts IsEventText _ _ _ _ c.further-delays.ensures c.delay.ensures
-    (further_by alert ends IsEventText _ _ _ _ c.further-alerts.ensures c.alert.ensures
-    (further_by cancel waits IsEventText _ _ _ _ c.further-ends.ensures c.cancel.ensures
-    (further_by tick heard IsEventText _ _ _ _ c.further-waits.ensures c.tick.ensures c.heard.ensures))))
+    (further_by delay alerts IsEventText _ _ _ _ c.further-others-4.ensures c.delay.ensures
+    (further_by alert ends IsEventText _ _ _ _ c.further-others-3.ensures c.alert.ensures
+    (further_by cancel waits IsEventText _ _ _ _ c.further-others-2.ensures c.cancel.ensures
+    (further_by tick heard IsEventText _ _ _ _ c.further-others.ensures c.tick.ensures c.heard.ensures))))
