@@ -6,7 +6,7 @@ ghost use Rattle.line_grammar.specs.Shapes as shape;
 ghost use Rattle.line_grammar.specs.Shapes.{digits, is_within};
 ghost use Rattle.line_grammar.specs.inside.Reading as readers;
 ghost use Rattle.line_grammar.specs.inside.Reading.{read_shape, read_token};
-ghost use Rattle.call_values.specs.Places.{IsArc};
+ghost use Rattle.call_values.specs.Places.{IsArc, IsPosition};
 ghost use Rattle.call_grammar.specs.Spelling as spelling;
 ghost use Rattle.dsc_texts.specs.CallGrammar as grammar;
 ghost use Rattle.dsc_texts.specs.CallParts as texts;
@@ -281,6 +281,22 @@ impl Token for Position {
         let known = known_position(bytes);
         let unknown = spelled(b"9999999999", Position::unknown(), bytes);
         further(&known, &unknown)
+    }
+}
+
+/// The ten digits of a position, or nines, at the front of these bytes (ITU-R M.493, distress coordinates), and what
+/// follows them. An error is how many bytes are left where no position goes on.
+pub fn read_position(bytes: &[u8]) -> Result<(Position, &[u8]), usize>
+    ensures lawful { IfOk result (λ parts. IsPosition parts.0) }
+    ensures value { IfOk result (λ parts. read_token grammar.position bytes.now ≡ Ok (texts.position_text parts.0, parts.1.now)) }
+    ensures left { IfErr result (λ left. read_token grammar.position bytes.now ≡ Err left) }
+{
+    match Position::read(bytes) {
+        Ok((position, rest)) => {
+            let _ = position.known();
+            Ok((position, rest))
+        }
+        Err(left) => Err(left),
     }
 }
 

@@ -1,5 +1,5 @@
 -- languages of lines: where one stops, and where one stops that stands behind a front
-use Rattle.std.proofs.Common.{◌≡◌, ℕ, zero, suc, ◌+◌, ◌-◌, ◌<◌, ◌≤◌, min, true, List, ◌∷◌, ◌++◌, length, take, drop, Result, Ok, Err, IsErrAnd, IfOk, inl, inr, refl, sym, ◌∙◌, ap, subst, append_assoc, length-append, length-drop, arith}
+use Rattle.std.proofs.Common.{◌≡◌, ℕ, zero, suc, ◌+◌, ◌-◌, ◌<◌, ◌≤◌, min, true, List, ◌∷◌, ◌++◌, length, take, drop, Result, Ok, Err, IsErrAnd, inl, inr, refl, sym, ◌∙◌, ap, subst, append_assoc, length-append, length-drop, arith}
 use Rattle.std.proofs.lemmas.List.{take-append-drop, take-append-le}
 use Rattle.line_grammar.specs.Columns.{Begins, IsColumn}
 use Rattle.line_grammar.specs.Grammar.{Grammar, either, Parts, Spells}
@@ -172,12 +172,3 @@ Stops-front IsFront G M L bytes left fronts h some s = record {
       s.past p q e short (record { value = k.0; rest = b.rest; whole = k.1 });
   none = λ w k. let m = line_of_front IsFront G M L w bytes fronts h k in s.none m.0 m.1;
 }
-
--- what holds of the values of two answers holds of the one that is chosen
-further_keeps : {T : Type 0} (P : T → Type 0) (r s : Result T ℕ) → IfOk r P → IfOk s P → IfOk (further r s) P
-further_keeps P (Ok v) s h k = h
-further_keeps P (Err m) (Ok v) h k = k
-further_keeps P (Err m) (Err n) h k = tt
-
-pub further_if_ok : {T : Type 0} (P : T → Type 0) (r s t : Result T ℕ) → t ≡ further r s → IfOk r P → IfOk s P → IfOk t P
-further_if_ok P r s t e h k = subst (λ q. IfOk q P) (sym e) (further_keeps P r s h k)

@@ -1,4 +1,3 @@
-pub mod FieldSteps
 pub mod Tokens
 pub mod PositionTexts
 pub mod Languages

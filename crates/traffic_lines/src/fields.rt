@@ -3,18 +3,21 @@
 ghost use Rattle.std.specs.Prelude.{◌≡◌, ◌≤◌, ◌<◌, ◌^◌, ◌++◌, IfOk, IfErr, Ok, Err, List, ℕ, decimal};
 ghost use Rattle.call_values.specs.Delays.{IsAlertDelay};
 ghost use Rattle.call_values.specs.Identity.{IsMmsi};
+ghost use Rattle.call_values.specs.Places.{IsPosition};
 ghost use Rattle.dsc_symbols.specs.Natures.{IsNature};
 ghost use Rattle.dsc_symbols.specs.Telecommands.{IsComm};
 ghost use Rattle.dsc_texts.specs.CallGrammar as calls;
+ghost use Rattle.dsc_texts.specs.CallParts.{position_text};
 ghost use Rattle.line_grammar.specs.Shapes.{digits};
 ghost use Rattle.line_grammar.specs.Tokens as tokens;
 ghost use Rattle.line_grammar.specs.Tokens.{Token};
 ghost use Rattle.line_grammar.specs.inside.Reading.{read, read_token};
 ghost use Rattle.traffic_lines.specs.inside.Grammars as grammar;
 
-use call_values::{AlertDelay, Comm, Mmsi, Nature};
+use call_values::{AlertDelay, Comm, Mmsi, Nature, Position};
 use dsc_symbols::natures::NATURES;
 use dsc_symbols::telecommands::COMMS;
+use dsc_texts::read_position;
 use line_grammar::{end, fixed_number, free_number, word};
 
 const IDENTITIES: [(u64, u64); 1] = [(0, 999_999_999)];
@@ -61,6 +64,19 @@ impl Field for Mmsi {
     fn read(bytes: &[u8]) -> Result<(Mmsi, &[u8]), usize> {
         let (number, rest) = fixed_number(9, &IDENTITIES, bytes)?;
         Ok((Mmsi::new(number as u32).unwrap(), rest))
+    }
+}
+
+/// The ten digits of a position, or nines.
+impl Field for Position {
+    ghost token = { calls.position };
+
+    ghost Lawful = { IsPosition };
+
+    ghost text = { λ v. position_text v };
+
+    fn read(bytes: &[u8]) -> Result<(Position, &[u8]), usize> {
+        read_position(bytes)
     }
 }
 

@@ -8,7 +8,6 @@ mod laws;
 mod lines;
 mod moments;
 mod points;
-mod positions;
 mod reading;
 
 pub use laws::{one_traffic_line, traffic_lines_begin};
