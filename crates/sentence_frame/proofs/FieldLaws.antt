@@ -207,3 +207,14 @@ maybe_kind s text value Fits k none = record {
   fits = perhaps_fits s text value Fits k;
   again = perhaps_again s text value Fits k;
 }
+
+-- two values of one text are one
+pub one_value : {V : Type 0} (s : Shape) (text : V → List ℕ) (value : List ℕ → V) (Fits : V → Type 0) → IsKind s text value Fits → (v w : V) → Fits v → Fits w → text v ≡ text w → v ≡ w
+one_value s text value Fits k v w hv hw e = sym (k.back v hv) ∙ ap value e ∙ k.back w hw
+
+-- the letters of which one stands there: nothing else than this letter is accepted
+pub letter_text : (letters t : List ℕ) → accepts (shape.letter letters) t ≡ true → (t ≡ get_or t 0 0 ∷ []) × (is_among letters (get_or t 0 0) ≡ true)
+unfolding accepts
+letter_text letters [] h = absurd (false≢true h)
+letter_text letters (b ∷ []) h = (refl, h)
+letter_text letters (b ∷ c ∷ t) h = absurd (let e = eqb-true (length (b ∷ c ∷ t)) 1 (and_parts (nat_eq (length (b ∷ c ∷ t)) 1) (is_among letters b) h).0 in omega (arith, e))

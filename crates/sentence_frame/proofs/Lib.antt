@@ -7,3 +7,5 @@ pub mod FieldLaws
 pub mod Plain
 pub mod Sentences
 pub mod Reading
+pub mod Rooms
+pub mod Growing

@@ -1,6 +1,6 @@
 -- how fields are read one behind another
-use Rattle.std.proofs.Common.{◌≡◌, ℕ, Bool, true, not, cond, List, [], ◌∷◌, ◌++◌, length, take, drop, refl, ◌∙◌, ap, arith, inl, inr, Result, Ok, Err, MatchResult}
-use Rattle.std.specs.List.{prefix_len}
+use Rattle.std.proofs.Common.{◌≡◌, ℕ, Bool, true, not, cond, List, [], ◌∷◌, ◌++◌, length, take, drop, refl, ◌∙◌, ap, arith, inl, inr, Result, Ok, Err, MatchResult, zero, suc}
+use Rattle.std.specs.List.{list_all, prefix_len}
 use Rattle.std.proofs.lemmas.Bool.{and_parts, cases_Bool}
 use Rattle.std.proofs.Math.Seq.{take-append_seam, drop-append_seam}
 use Rattle.sentence_frame.specs.declared.refusals.SentenceRefusal.{SentenceRefusal}
@@ -48,3 +48,18 @@ agree_step k s value t more judgement all P h =
       | inl is ↦ rw is (h is)
       | inr isnt ↦ rw isnt refl
     ]
+
+-- the texts that are taken one behind another
+abbrev pub firsts : ℕ → List ℕ → List (List ℕ)
+firsts zero fields = []
+firsts (suc n) fields = first_of fields ∷ firsts n (rest_of fields)
+
+pub firsts_behind : (ts : List (List ℕ)) → list_all has_no_comma ts ≡ true → firsts (length ts) (behind_commas ts) ≡ ts
+firsts_behind [] h = refl
+firsts_behind (t ∷ ts) h =
+    let both = and_parts (has_no_comma t) (list_all has_no_comma ts) h in
+    let first = first_behind t ts both.0 in
+    let rest = rest_behind t ts both.0 in
+    ap (λ (l : List ℕ). l ∷ firsts (length ts) (rest_of (behind_commas (t ∷ ts)))) first
+    ∙ ap (λ (l : List ℕ). t ∷ firsts (length ts) l) rest
+    ∙ ap (λ (l : List (List ℕ)). t ∷ l) (firsts_behind ts both.1)

@@ -1,0 +1,4 @@
+pub mod Letters
+pub mod DscFieldLaws
+pub mod DscAnswers
+pub mod Places

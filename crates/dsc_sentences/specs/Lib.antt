@@ -1,0 +1,3 @@
+pub mod Dsc
+pub mod Calls
+pub mod inside
