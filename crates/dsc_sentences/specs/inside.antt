@@ -1,1 +1,2 @@
 pub mod DscReading
+pub mod DseReading

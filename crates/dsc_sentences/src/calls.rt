@@ -63,7 +63,7 @@ fn format_of(call: &Call) -> u8
 }
 
 /// Nine digits and a 0.
-fn identity_digits(mmsi: &Mmsi) -> [u8; 10]
+pub fn identity_digits(mmsi: &Mmsi) -> [u8; 10]
     ensures value { result ≡ rows.identity_digits mmsi.now }
     ensures digits { IsDigits 10 result }
 {

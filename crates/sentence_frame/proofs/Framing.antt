@@ -1,7 +1,8 @@
 -- frames: what is read in one, and what is written in one
-use Rattle.std.proofs.Common.{◌≡◌, ℕ, ◌+◌, ◌-◌, ◌<◌, ◌≤◌, true, false, nat_eq, nat_lt, List, [], ◌∷◌, ◌++◌, length, get_or, take, drop, refl, sym, ◌∙◌, ap, arith, inl, inr, Ok, append_assoc, length-append, length-take, get_or-drop, get_or-take}
+use Rattle.std.proofs.Common.{Err, ◌≡◌, ℕ, ◌+◌, ◌-◌, ◌<◌, ◌≤◌, true, false, nat_eq, nat_lt, List, [], ◌∷◌, ◌++◌, length, get_or, take, drop, refl, sym, ◌∙◌, ap, arith, inl, inr, Ok, append_assoc, length-append, length-take, get_or-drop, get_or-take}
 use Rattle.std.specs.List.{list_all, starts_with}
-use Rattle.std.proofs.lemmas.Bool.{and_parts, and_from, cases_Bool, ltb-false, eqb-true, le-ltb, eq-eqb}
+use Rattle.sentence_frame.specs.declared.refusals.SentenceRefusal.TheVariants.{TooLong}
+use Rattle.std.proofs.lemmas.Bool.{lt-ltb, and_parts, and_from, cases_Bool, ltb-false, eqb-true, le-ltb, eq-eqb}
 use Rattle.std.proofs.lemmas.List.{take-append-drop, take-take}
 use Rattle.std.proofs.lemmas.List.Folds.{list_all-append}
 use Rattle.std.proofs.lemmas.Slice.Eq.{starts_is}
@@ -132,3 +133,10 @@ framed_back head rest h clean short =
       sum = eq-eqb (checksum (inner bytes)) (written (last_five bytes)) same;
       value = ap (λ (l : List ℕ). drop (length head) l) front ∙ drop-append_seam head fields;
     })
+
+-- too many bytes are refused first
+pub too_long : (head bytes : List ℕ) → 82 < length bytes → framed head bytes ≡ Err (TooLong (length bytes))
+unfolding framed
+too_long head bytes h =
+    let long : nat_lt 82 (length bytes) ≡ true = lt-ltb 82 (length bytes) h in
+    rw long refl

@@ -1,9 +1,9 @@
 -- accepted texts fit in a sentence
-use Rattle.std.proofs.Common.{◌≡◌, ◌≢◌, ℕ, ◌+◌, ◌<◌, ◌≤◌, Bool, true, false, not, ◌&&◌, ◌||◌, nat_eq, nat_le, List, [], ◌∷◌, ◌++◌, length, get_or, drop, refl, sym, ◌∙◌, ap, arith, length-append, Ok}
+use Rattle.std.proofs.Common.{◌≡◌, ◌≢◌, ℕ, ◌+◌, ◌≤◌, true, nat_eq, nat_le, List, [], ◌∷◌, ◌++◌, length, get_or, drop, refl, arith, length-append}
 use Rattle.std.specs.List.{list_all}
 use Rattle.std.proofs.lemmas.Bool.{and_parts, and_from, eqb-true, leb-true}
 use Rattle.line_grammar.specs.Tokens.{is_digit}
-use Rattle.sentence_frame.specs.Frames.{behind_commas, sentence, closed, ending, checksum}
+use Rattle.sentence_frame.specs.Frames.{behind_commas, sentence, ending, checksum}
 use Rattle.sentence_frame.specs.Refusals.{Form, is_head}
 use Rattle.sentence_frame.specs.Laws.{AreTexts}
 use Rattle.sentence_frame.specs.Shapes as shape

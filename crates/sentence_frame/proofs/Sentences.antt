@@ -1,16 +1,16 @@
 -- sentences of a form: what is read as one, and what is written as one
-use Rattle.std.proofs.Common.{◌≡◌, ◌≢◌, ℕ, ◌+◌, ◌≤◌, Bool, true, ◌&&◌, List, [], ◌∷◌, ◌++◌, length, drop, refl, sym, ◌∙◌, ap, inl, inr, Result, Ok, Err, if◌then◌else◌}
+use Rattle.std.proofs.Common.{◌<◌, ◌≡◌, ◌≢◌, ℕ, ◌+◌, ◌≤◌, Bool, true, ◌&&◌, List, [], ◌∷◌, ◌++◌, length, drop, refl, sym, ◌∙◌, ap, inl, inr, Result, Ok, Err, if◌then◌else◌}
 use Rattle.std.specs.List.{list_all}
 use Rattle.std.proofs.lemmas.Bool.{and_parts, and_from, cases_Bool}
 use Rattle.sentence_frame.specs.declared.refusals.SentenceRefusal.{SentenceRefusal}
-use Rattle.sentence_frame.specs.declared.refusals.SentenceRefusal.TheVariants.{FieldCount}
+use Rattle.sentence_frame.specs.declared.refusals.SentenceRefusal.TheVariants.{FieldCount, TooLong}
 use Rattle.sentence_frame.specs.Frames.{behind_commas, closed, sentence}
 use Rattle.sentence_frame.specs.Refusals.{Form, framed, texts, opened, judged, texts_of, is_head, ◌>>=◌}
 use Rattle.sentence_frame.specs.Laws.{AreTexts}
 use Rattle.sentence_frame.specs.Shapes.{Shape, accepts, is_among}
 use Rattle.sentence_frame.specs.inside.Fields.{are_plain}
 use Rattle.sentence_frame.proofs.Cuts.{has_no_comma, cut_behind, cut_free, texts_behind}
-use Rattle.sentence_frame.proofs.Framing.{framed_sound, framed_back}
+use Rattle.sentence_frame.proofs.Framing.{too_long, framed_sound, framed_back}
 use Rattle.sentence_frame.proofs.Plain.{all_clean, all_free}
 
 -- each text is accepted by its shape
@@ -119,3 +119,9 @@ texts_back form ts a =
     let o : opened form.head form.counts (sentence form.head ts) ≡ Ok (behind_commas ts) = opened_back form.head form.counts ts a.head a.some a.count a.plain a.short in
     let cut : texts (behind_commas ts) ≡ ts = texts_cut ts a.some a.plain in
     rw o (ap (λ (l : List (List ℕ)). judged 1 (form.shapes l) l l) cut ∙ a.accepted)
+
+pub texts_too_long : (form : Form) (bytes : List ℕ) → 82 < length bytes → texts_of form bytes ≡ Err (TooLong (length bytes))
+unfolding texts_of opened
+texts_too_long form bytes h =
+    let long : framed form.head bytes ≡ Err (TooLong (length bytes)) = too_long form.head bytes h in
+    rw long refl
