@@ -1,0 +1,7 @@
+pub mod Dsc
+pub mod Calls
+pub mod Dse
+pub mod Expansions
+pub mod Verdicts
+pub mod CallSentences
+pub mod inside

@@ -1,0 +1,2 @@
+pub mod DscReading
+pub mod DseReading

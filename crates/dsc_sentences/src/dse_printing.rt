@@ -1,0 +1,57 @@
+ghost use Rattle.std.specs.Prelude.{◌≡◌, ◌+◌, ◌<◌, ◌≤◌, ◌++◌};
+ghost use Rattle.arrayvec.specs.ArrayVec.{array_vec_len};
+ghost use Rattle.sentence_frame.specs.Frames.{behind_commas};
+ghost use Rattle.dsc_sentences.specs.Dse.{SentenceText, flag_text, set_texts};
+
+use crate::dse::{DseSentence, Flag};
+use arrayvec::ArrayVec;
+use expansion::{Part, PartKind};
+use sentence_frame::{begun, close, put, put_digits, put_number};
+
+/// The bytes of a DSE sentence, CR and LF included.
+#[tactic(auto, unfolding(crate::specs::Dse::texts, sentence_frame::specs::Frames::sentence))]
+pub fn print_dse(s: &DseSentence) -> ArrayVec<u8, 82>
+    ensures { SentenceText s.now result.items }
+{
+    let fields = &s.fields;
+    let mut out = begun(b"$CDDSE");
+    put(&mut out, b"1");
+    put(&mut out, b"1");
+    put(&mut out, flag_letter(fields.flag));
+    put_digits(&mut out, &fields.address);
+    put_set(&mut out, 0, 8, &fields.expansion.enhanced());
+    put_set(&mut out, 2, 4, &fields.expansion.speed());
+    put_set(&mut out, 3, 4, &fields.expansion.course());
+    close(&mut out);
+    out
+}
+
+/// The letter of a flag.
+fn flag_letter(flag: Flag) -> &'static [u8]
+    ensures { result.now ≡ flag_text flag }
+{
+    match flag {
+        Flag::A => b"A",
+        Flag::Q => b"Q",
+        Flag::R => b"R",
+    }
+}
+
+/// Appends the code and the data of a set, each behind a comma, where it is there.
+fn put_set(out: &mut ArrayVec<u8, 82>, set: u8, width: usize, part: &Part)
+    requires room { array_vec_len out.old + width + 4 < 82 }
+    ensures items { out.new.items ≡ out.old.items ++ behind_commas (set_texts set width part.now) }
+    ensures len { array_vec_len out.new ≤ array_vec_len out.old + width + 4 }
+{
+    match part.kind() {
+        PartKind::LeftOut => {}
+        PartKind::NoInformation => {
+            put_number(out, 2, u32::from(set));
+            put(out, b"");
+        }
+        PartKind::Digits(number) => {
+            put_number(out, 2, u32::from(set));
+            put_number(out, width, number);
+        }
+    }
+}

@@ -1,0 +1,11 @@
+pub mod Heads
+pub mod Cuts
+pub mod Endings
+pub mod Framing
+pub mod Numbers
+pub mod FieldLaws
+pub mod Plain
+pub mod Sentences
+pub mod Reading
+pub mod Rooms
+pub mod Growing

@@ -1,0 +1,65 @@
+-- how fields are read one behind another
+use Rattle.std.proofs.Common.{◌≡◌, ℕ, Bool, true, not, cond, List, [], ◌∷◌, ◌++◌, length, take, drop, refl, ◌∙◌, ap, arith, inl, inr, Result, Ok, Err, MatchResult, zero, suc}
+use Rattle.std.specs.List.{list_all, prefix_len}
+use Rattle.std.proofs.lemmas.Bool.{and_parts, cases_Bool}
+use Rattle.std.proofs.Math.Seq.{take-append_seam, drop-append_seam}
+use Rattle.sentence_frame.specs.declared.refusals.SentenceRefusal.{SentenceRefusal}
+use Rattle.sentence_frame.specs.declared.refusals.SentenceRefusal.TheVariants.{Field}
+use Rattle.sentence_frame.specs.Frames.{behind_commas}
+use Rattle.sentence_frame.specs.Shapes.{Shape, accepts}
+use Rattle.sentence_frame.specs.inside.Fields.{first_of, rest_of, field, and_then}
+use Rattle.sentence_frame.proofs.Cuts.{is_comma, has_no_comma}
+
+abbrev goes_on : ℕ → Bool
+goes_on b = not (is_comma b)
+
+length_behind : (ts : List (List ℕ)) → prefix_len goes_on (behind_commas ts) ≡ 0
+length_behind [] = refl
+length_behind (t ∷ ts) = refl
+
+length_text : (t rest : List ℕ) → has_no_comma t ≡ true → prefix_len goes_on rest ≡ 0 → prefix_len goes_on (t ++ rest) ≡ length t
+length_text [] rest h e = e
+length_text (b ∷ t) rest h e =
+    let both = and_parts (goes_on b) (has_no_comma t) h in
+    let here : goes_on b ≡ true = both.0 in
+    let k = length_text t rest both.1 e in
+    rw here (omega (arith, k))
+
+pub first_behind : (t : List ℕ) (ts : List (List ℕ)) → has_no_comma t ≡ true → first_of (behind_commas (t ∷ ts)) ≡ t
+unfolding first_of
+first_behind t ts h =
+    ap (λ (k : ℕ). take k (t ++ behind_commas ts)) (length_text t (behind_commas ts) h (length_behind ts)) ∙ take-append_seam t (behind_commas ts)
+
+pub rest_behind : (t : List ℕ) (ts : List (List ℕ)) → has_no_comma t ≡ true → rest_of (behind_commas (t ∷ ts)) ≡ behind_commas ts
+unfolding rest_of
+rest_behind t ts h =
+    ap (λ (k : ℕ). drop k (t ++ behind_commas ts)) (length_text t (behind_commas ts) h (length_behind ts)) ∙ drop-append_seam t (behind_commas ts)
+
+-- what is read of texts, and how these are judged, agree: both accept, or both refuse the same field
+abbrev pub Agrees : {V : Type 0} → Result V SentenceRefusal → Result (List (List ℕ)) SentenceRefusal → List (List ℕ) → (V → Type 0) → Type 0
+Agrees read judgement all P = MatchResult read (λ v. (judgement ≡ Ok all) × P v) (λ e. judgement ≡ Err e)
+
+pub agree_step : {V W : Type 0} (k : ℕ) (s : Shape) (value : List ℕ → W) (t : List ℕ) (more : W → Result V SentenceRefusal) (judgement : Result (List (List ℕ)) SentenceRefusal) (all : List (List ℕ)) (P : V → Type 0)
+    → (accepts s t ≡ true → Agrees (more (value t)) judgement all P)
+    → Agrees (and_then (field k s value t) more) (cond (accepts s t) judgement (Err (Field k))) all P
+unfolding field and_then
+agree_step k s value t more judgement all P h =
+    elim (cases_Bool (accepts s t)) [
+      | inl is ↦ rw is (h is)
+      | inr isnt ↦ rw isnt refl
+    ]
+
+-- the texts that are taken one behind another
+abbrev pub firsts : ℕ → List ℕ → List (List ℕ)
+firsts zero fields = []
+firsts (suc n) fields = first_of fields ∷ firsts n (rest_of fields)
+
+pub firsts_behind : (ts : List (List ℕ)) → list_all has_no_comma ts ≡ true → firsts (length ts) (behind_commas ts) ≡ ts
+firsts_behind [] h = refl
+firsts_behind (t ∷ ts) h =
+    let both = and_parts (has_no_comma t) (list_all has_no_comma ts) h in
+    let first = first_behind t ts both.0 in
+    let rest = rest_behind t ts both.0 in
+    ap (λ (l : List ℕ). l ∷ firsts (length ts) (rest_of (behind_commas (t ∷ ts)))) first
+    ∙ ap (λ (l : List ℕ). t ∷ firsts (length ts) l) rest
+    ∙ ap (λ (l : List (List ℕ)). t ∷ l) (firsts_behind ts both.1)

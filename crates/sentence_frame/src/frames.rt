@@ -1,0 +1,208 @@
+ghost use Rattle.std.specs.Prelude.{IfOk, IfErr, Ok, Err, ◌≡◌, ◌≢◌, ◌+◌, ◌-◌, ◌≤◌, ◌<◌, ◌==◌, ◌&&◌, ◌↔◌, IsTrue, true, length, drop};
+ghost use Rattle.std.specs.List.{list_all, count_by};
+ghost use Rattle.sentence_frame.specs.Frames as frame;
+ghost use Rattle.sentence_frame.specs.Refusals as refusal;
+ghost use Rattle.sentence_frame.specs.inside.Fields.{first_of, rest_of, text_length};
+
+use crate::SentenceRefusal;
+use cursor::Cursor;
+
+/// The most bytes that a sentence has (IEC 61162-1).
+pub const LONGEST: usize = 82;
+
+/// The fields of a sentence with this head, each behind its comma, where there are so many as one of these counts; else the first
+/// refusal, up to that of their number.
+#[tactic(auto, unfolding(crate::specs::Refusals::opened))]
+pub fn fields_of<'a>(
+    head: &[u8],
+    counts: &[usize],
+    bytes: &'a [u8],
+) -> Result<Cursor<'a>, SentenceRefusal>
+    requires { IsTrue (refusal.is_head head.now) }
+    ensures { result ≡ refusal.opened head.now counts.now bytes.now }
+{
+    match framed(head, bytes) {
+        Err(refusal) => Err(refusal),
+        Ok(fields) => {
+            let count = text_count(fields);
+            if counts.contains(&count) {
+                Ok(Cursor::new(fields))
+            } else {
+                Err(SentenceRefusal::FieldCount(count))
+            }
+        }
+    }
+}
+
+/// How many texts these fields have, each behind its comma.
+fn text_count(fields: &[u8]) -> usize
+    ensures { result ≡ length (refusal.texts fields.now) }
+{
+    match fields.split_first() {
+        None => 1,
+        Some((_, behind)) => commas(behind) + 1,
+    }
+}
+
+/// How many commas there are.
+fn commas(bytes: &[u8]) -> usize
+    ensures count { result ≡ count_by (λ b. b == 44) bytes.now }
+    ensures most { result ≤ length bytes.now }
+{
+    bytes.iter().filter(|byte| **byte == b',').count()
+}
+
+/// The fields, each behind its comma, of bytes in the frame of sentences with this head.
+#[tactic(auto, unfolding(crate::specs::Refusals::framed))]
+fn framed<'a>(head: &[u8], bytes: &'a [u8]) -> Result<&'a [u8], SentenceRefusal>
+    requires { IsTrue (refusal.is_head head.now) }
+    ensures ok { IfOk result (λ fields. refusal.framed head.now bytes.now ≡ Ok fields.now) }
+    ensures err { IfErr result (λ e. refusal.framed head.now bytes.now ≡ Err e) }
+{
+    if bytes.len() > LONGEST {
+        return Err(SentenceRefusal::TooLong(bytes.len()));
+    }
+    if !begins(head, bytes) {
+        return Err(SentenceRefusal::Start);
+    }
+    if !ends(bytes) {
+        return Err(SentenceRefusal::End);
+    }
+    let want = checksum(inner(bytes));
+    let got = written(last_five(bytes));
+    if want == got {
+        Ok(behind(head, bytes))
+    } else {
+        Err(SentenceRefusal::Checksum { want, got })
+    }
+}
+
+/// What stands behind the head and before the last five bytes.
+fn behind<'a>(head: &[u8], bytes: &'a [u8]) -> &'a [u8]
+    requires { length head.now < length bytes.now - 5 }
+    ensures { result.now ≡ drop (length head.now) (refusal.body bytes.now) }
+{
+    let body = body(bytes);
+    &body[head.len()..]
+}
+
+/// What stands before the last five bytes.
+fn body(bytes: &[u8]) -> &[u8]
+    ensures { result.now ≡ refusal.body bytes.now }
+{
+    &bytes[..bytes.len().saturating_sub(5)]
+}
+
+/// The last five bytes.
+fn last_five(bytes: &[u8]) -> &[u8]
+    ensures { result.now ≡ refusal.last_five bytes.now }
+{
+    &bytes[bytes.len().saturating_sub(5)..]
+}
+
+/// What stands behind the first byte and before the last five.
+fn inner(bytes: &[u8]) -> &[u8]
+    ensures { result.now ≡ refusal.inner bytes.now }
+{
+    let body = body(bytes);
+    &body[body.len().min(1)..]
+}
+
+/// Whether bytes end as sentences do, and what stands before is clean.
+fn ends(bytes: &[u8]) -> bool
+    ensures { result ≡ refusal.ends bytes.now }
+{
+    is_ending(last_five(bytes)) && are_clean(inner(bytes))
+}
+
+/// Whether bytes begin with this head and a comma.
+fn begins(head: &[u8], bytes: &[u8]) -> bool
+    ensures value { result ≡ refusal.begins head.now bytes.now }
+    ensures long { IsTrue result → length head.now < length bytes.now }
+{
+    bytes.starts_with(head) && matches!(bytes.get(head.len()), Some(b','))
+}
+
+/// Whether bytes are `*`, two capital hexadecimal digits, CR and LF.
+fn is_ending(bytes: &[u8]) -> bool
+    ensures { result ≡ refusal.is_ending bytes.now }
+{
+    bytes.len() == 5
+        && bytes[0] == b'*'
+        && is_hexadecimal(bytes[1])
+        && is_hexadecimal(bytes[2])
+        && bytes[3] == b'\r'
+        && bytes[4] == b'\n'
+}
+
+/// Whether a byte is a capital hexadecimal digit.
+fn is_hexadecimal(byte: u8) -> bool
+    ensures { result ≡ refusal.is_hexadecimal byte }
+{
+    matches!(byte, b'0'..=b'9' | b'A'..=b'F')
+}
+
+/// The number that an ending writes.
+fn written(ending: &[u8]) -> u8
+    requires { IsTrue (refusal.is_ending ending.now) }
+    ensures { result ≡ refusal.written ending.now }
+{
+    16 * hexadecimal_value(ending[1]) + hexadecimal_value(ending[2])
+}
+
+/// The value of a capital hexadecimal digit.
+fn hexadecimal_value(byte: u8) -> u8
+    requires { IsTrue (refusal.is_hexadecimal byte) }
+    ensures value { result ≡ refusal.hexadecimal_value byte }
+    ensures range { result ≤ 15 }
+{
+    if byte < b'A' {
+        byte - b'0'
+    } else {
+        byte - b'A' + 10
+    }
+}
+
+/// Whether a byte may stand between the `$` and the `*`.
+fn is_clean(byte: u8) -> bool
+    ensures { result ≡ refusal.is_clean byte }
+{
+    (32..=126).contains(&byte) && byte != b'$' && byte != b'*'
+}
+
+/// Whether all bytes may stand between the `$` and the `*`.
+fn are_clean(bytes: &[u8]) -> bool
+    ensures { result ≡ list_all refusal.is_clean bytes.now }
+{
+    bytes.iter().all(|byte| is_clean(*byte))
+}
+
+/// The exclusive or of bytes.
+#[tactic(auto, unfolding(crate::specs::Frames::checksum))]
+pub fn checksum(bytes: &[u8]) -> u8
+    ensures { result ≡ frame.checksum bytes.now }
+{
+    bytes.iter().fold(0, |sum, byte| sum ^ *byte)
+}
+
+/// Takes the text of the next field, which stands behind a comma; nothing where there is none.
+#[tactic(auto, unfolding(crate::specs::inside::Fields::first_of, crate::specs::inside::Fields::rest_of))]
+pub fn next_text<'a>(fields: &mut Cursor<'a>) -> &'a [u8]
+    ensures text { result.now ≡ first_of fields.old }
+    ensures rest { fields.new ≡ rest_of fields.old }
+{
+    let Some((_, behind)) = fields.rest().split_first() else {
+        return fields.rest();
+    };
+    let length = text_length(behind);
+    fields.go_on(&behind[length..]);
+    &behind[..length]
+}
+
+/// How many bytes stand before the first comma.
+fn text_length(bytes: &[u8]) -> usize
+    ensures length { result ≡ text_length bytes.now }
+    ensures most { result ≤ length bytes.now }
+{
+    bytes.iter().take_while(|byte| **byte != b',').count()
+}

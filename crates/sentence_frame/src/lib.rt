@@ -1,0 +1,19 @@
+//! The frame of sentences (IEC 61162-1): the head, fields behind commas, and the checksum; which texts a field accepts, and why
+//! bytes are no sentence.
+#![tactic(auto)]
+
+mod fields;
+mod frames;
+mod laws;
+mod refusals;
+mod writing;
+
+pub use fields::{
+    code, digits, digits_up_to, letter, number, perhaps_code, perhaps_digits, perhaps_letter,
+    perhaps_number,
+};
+pub use frames::{LONGEST, fields_of, next_text};
+pub use refusals::SentenceRefusal;
+pub use writing::{
+    begun, close, hexadecimal, put, put_digits, put_number, put_perhaps_digits, put_perhaps_number,
+};

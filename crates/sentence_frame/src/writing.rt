@@ -1,0 +1,131 @@
+ghost use Rattle.std.specs.Prelude.{◌≡◌, ◌+◌, ◌<◌, ◌≤◌, ◌++◌, ◌∷◌, IsTrue, IfSome, length};
+ghost use Rattle.arrayvec.specs.ArrayVec.{array_vec_len};
+ghost use Rattle.sentence_frame.specs.Frames as frame;
+ghost use Rattle.sentence_frame.specs.Refusals as refusal;
+ghost use Rattle.sentence_frame.specs.Texts.{AreDigits, digits, digit_text, perhaps_text};
+
+use crate::frames::{LONGEST, checksum};
+use arrayvec::ArrayVec;
+use text_pieces::append;
+
+/// A sentence that begins with this head.
+pub fn begun(head: &[u8]) -> ArrayVec<u8, LONGEST>
+    requires { length head.now ≤ 82 }
+    ensures { result.items ≡ head.now }
+{
+    let mut out = ArrayVec::new();
+    append(&mut out, head);
+    out
+}
+
+/// Appends a comma and a text.
+pub fn put(out: &mut ArrayVec<u8, LONGEST>, text: &[u8])
+    requires { array_vec_len out.old + length text.now < 82 }
+    ensures items { out.new.items ≡ out.old.items ++ 44 ∷ text.now }
+    ensures len { array_vec_len out.new ≡ array_vec_len out.old + 1 + length text.now }
+{
+    append(out, b",");
+    append(out, text);
+}
+
+/// Appends the last so many decimal digits of a number, zeros in front included.
+#[tactic(auto, unfolding(line_grammar::specs::Shapes::digits))]
+fn append_number(out: &mut ArrayVec<u8, LONGEST>, width: usize, number: u32)
+    requires { array_vec_len out.old + width ≤ 82 }
+    ensures items { out.new.items ≡ out.old.items ++ digits width number }
+    ensures len { array_vec_len out.new ≡ array_vec_len out.old + width }
+{
+    if width > 0 {
+        append_number(out, width - 1, number / 10);
+        out.push(b'0' + (number % 10) as u8);
+    }
+}
+
+/// Appends a comma and a number in so many digits.
+pub fn put_number(out: &mut ArrayVec<u8, LONGEST>, width: usize, number: u32)
+    requires { array_vec_len out.old + width < 82 }
+    ensures items { out.new.items ≡ out.old.items ++ 44 ∷ digits width number }
+    ensures len { array_vec_len out.new ≡ array_vec_len out.old + 1 + width }
+{
+    append(out, b",");
+    append_number(out, width, number);
+}
+
+/// Appends a comma, and a number in so many digits where there is one.
+pub fn put_perhaps_number(out: &mut ArrayVec<u8, LONGEST>, width: usize, number: Option<u32>)
+    requires { array_vec_len out.old + width < 82 }
+    ensures items { out.new.items ≡ out.old.items ++ 44 ∷ perhaps_text (digits width) number }
+    ensures len { array_vec_len out.new ≤ array_vec_len out.old + 1 + width }
+{
+    append(out, b",");
+    if let Some(number) = number {
+        append_number(out, width, number);
+    }
+}
+
+/// Appends digits in decimal.
+fn append_digits(out: &mut ArrayVec<u8, LONGEST>, digits: &[u8])
+    requires room { array_vec_len out.old + length digits.now ≤ 82 }
+    requires digits { AreDigits digits.now }
+    ensures items { out.new.items ≡ out.old.items ++ digit_text digits.now }
+    ensures len { array_vec_len out.new ≡ array_vec_len out.old + length digits.now }
+{
+    for digit in digits {
+        out.push(b'0' + *digit);
+    }
+}
+
+/// Appends a comma and digits.
+pub fn put_digits(out: &mut ArrayVec<u8, LONGEST>, digits: &[u8])
+    requires room { array_vec_len out.old + length digits.now < 82 }
+    requires digits { AreDigits digits.now }
+    ensures items { out.new.items ≡ out.old.items ++ 44 ∷ digit_text digits.now }
+    ensures len { array_vec_len out.new ≡ array_vec_len out.old + 1 + length digits.now }
+{
+    append(out, b",");
+    append_digits(out, digits);
+}
+
+/// Appends a comma, and digits where there are some.
+pub fn put_perhaps_digits<const N: usize>(out: &mut ArrayVec<u8, LONGEST>, digits: &Option<[u8; N]>)
+    requires room { array_vec_len out.old + N < 82 }
+    requires digits { IfSome digits.now AreDigits }
+    ensures items { out.new.items ≡ out.old.items ++ 44 ∷ perhaps_text digit_text digits.now }
+    ensures len { array_vec_len out.new ≤ array_vec_len out.old + 1 + N }
+{
+    append(out, b",");
+    if let Some(digits) = digits {
+        append_digits(out, digits);
+    }
+}
+
+/// Appends `*`, the checksum of what stands behind the `$`, CR and LF.
+pub fn close(out: &mut ArrayVec<u8, LONGEST>)
+    requires room { array_vec_len out.old ≤ 77 }
+    requires some { 0 < array_vec_len out.old }
+    ensures { out.new.items ≡ frame.closed out.old.items }
+{
+    let sum = checksum(&out.as_slice()[1..]);
+    append(
+        out,
+        &[
+            b'*',
+            hexadecimal(sum / 16),
+            hexadecimal(sum % 16),
+            b'\r',
+            b'\n',
+        ],
+    );
+}
+
+/// A number below 16 as a capital hexadecimal digit.
+pub fn hexadecimal(number: u8) -> u8
+    requires { number < 16 }
+    ensures { result ≡ frame.hexadecimal number }
+{
+    if number < 10 {
+        b'0' + number
+    } else {
+        b'A' + (number - 10)
+    }
+}
