@@ -1,0 +1,61 @@
+-- the steps of the readers of fields
+use Rattle.std.proofs.Common.{◌≡◌, ℕ, List, ◌++◌, Result, Ok, Err, IfOk, IfErr, IsErrAnd, sym, ◌∙◌, ap}
+use Rattle.line_grammar.specs.Shapes.{Shape, letters, pair, choice}
+use Rattle.line_grammar.specs.inside.Reading.{read_shape, after, behind, and_shape, and_letters, further}
+
+-- the exit of ? keeps the fault
+pub passed_on : {A B : Type 0} (r : Result A ℕ) (left : ℕ) (answer : Result B ℕ) → IsErrAnd r (λ y. y ≡ left) → answer ≡ Err left → IfErr r (λ n. answer ≡ Err n)
+passed_on (Ok a) left answer h e = tt
+passed_on (Err n) left answer h e = e ∙ ap (λ (m : ℕ). Err m) (sym h)
+
+-- letters were missed, or read
+pub letters_missed : (text bytes : List ℕ) (left : ℕ) → after text bytes ≡ Err left → read_shape (letters text) bytes ≡ Err left
+unfolding read_shape
+letters_missed text bytes left e = ap (and_letters text) e
+
+pub letters_read : (text bytes back : List ℕ) → after text bytes ≡ Ok back → read_shape (letters text) bytes ≡ Ok (text, back)
+unfolding read_shape
+letters_read text bytes back e = ap (and_letters text) e
+
+-- of a pair the first was missed, or the second, or both were read
+pub first_missed : (one two : Shape) (bytes : List ℕ) (left : ℕ) → read_shape one bytes ≡ Err left → read_shape (pair one two) bytes ≡ Err left
+unfolding read_shape
+first_missed one two bytes left e = ap (λ (a : Result (List ℕ × List ℕ) ℕ). and_shape a (read_shape two)) e
+
+pub second_missed : (one two : Shape) (bytes front back : List ℕ) (left : ℕ) → read_shape one bytes ≡ Ok (front, back) → read_shape two back ≡ Err left → read_shape (pair one two) bytes ≡ Err left
+unfolding read_shape
+second_missed one two bytes front back left d e = ap (λ (a : Result (List ℕ × List ℕ) ℕ). and_shape a (read_shape two)) d ∙ ap (behind front) e
+
+pub pair_read : (one two : Shape) (bytes front back text rest : List ℕ) → read_shape one bytes ≡ Ok (front, back) → read_shape two back ≡ Ok (text, rest) → read_shape (pair one two) bytes ≡ Ok (front ++ text, rest)
+unfolding read_shape
+pair_read one two bytes front back text rest d e = ap (λ (a : Result (List ℕ × List ℕ) ℕ). and_shape a (read_shape two)) d ∙ ap (behind front) e
+
+-- an answer tells a value that shows what was read, or the fault
+pub record Shows {T A : Type 0} (shown : T → A) (read : Result A ℕ) (r : Result T ℕ) : Type 0 where
+  pub value : IfOk r (λ t. read ≡ Ok (shown t))
+  pub left : IfErr r (λ n. read ≡ Err n)
+
+-- of two answers the one that is no fault, or the further fault
+further_of : {T A : Type 0} (shown : T → A) (a b : Result A ℕ) (r s : Result T ℕ) → Shows shown a r → Shows shown b s → Shows shown (further a b) (further r s)
+further_of shown a b (Ok p) s h k = record { value = ap (λ x. further x b) h.value; left = tt }
+further_of shown a b (Err n) (Ok p) h k = record { value = ap (λ x. further x b) h.left ∙ ap (λ x. further (Err n) x) k.value; left = tt }
+further_of shown a b (Err m) (Err n) h k = record { value = tt; left = ap (λ x. further x b) h.left ∙ ap (λ x. further (Err m) x) k.left }
+
+pub further_shows : {T A : Type 0} (shown : T → A) (a b : Result A ℕ) (r s t : Result T ℕ) → t ≡ further r s → Shows shown a r → Shows shown b s → Shows shown (further a b) t
+further_shows shown a b r s t e h k = rw e (further_of shown a b r s h k)
+
+-- a value by its text, and what follows it
+abbrev pub text_and : {V R : Type 0} → (V → List ℕ) → (R → List ℕ) → V × R → List ℕ × List ℕ
+text_and text now parts = (text parts.0, now parts.1)
+
+-- letters that stand for a value
+pub letters_show : {V R : Type 0} (text : V → List ℕ) (now : R → List ℕ) (v : V) (front : List ℕ) (read : Result (List ℕ × List ℕ) ℕ) (r : Result (V × R) ℕ)
+    → front ≡ text v → IfOk r (λ p. p.0 ≡ v) → IfOk r (λ p. read ≡ Ok (front, now p.1)) → IfErr r (λ n. read ≡ Err n) → Shows (text_and text now) read r
+letters_show text now v front read (Ok p) e h k m = record { value = k ∙ ap (λ (t : List ℕ). Ok (t, now p.1)) (e ∙ ap text (sym h)); left = tt }
+letters_show text now v front read (Err n) e h k m = record { value = tt; left = m }
+
+-- a choice of two shapes
+pub choice_shows : {V R : Type 0} (text : V → List ℕ) (now : R → List ℕ) (one two : Shape) (bytes : List ℕ) (r s t : Result (V × R) ℕ)
+    → t ≡ further r s → Shows (text_and text now) (read_shape one bytes) r → Shows (text_and text now) (read_shape two bytes) s → Shows (text_and text now) (read_shape (choice one two) bytes) t
+unfolding read_shape
+choice_shows text now one two bytes r s t e h k = further_shows (text_and text now) (read_shape one bytes) (read_shape two bytes) r s t e h k

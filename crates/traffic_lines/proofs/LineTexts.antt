@@ -1,0 +1,255 @@
+-- the lines of each point by their grammars
+use Rattle.std.proofs.Common.{◌≡◌, ◌≢◌, ℕ, ◌+◌, ◌-◌, ◌<◌, ◌≤◌, ◌^◌, true, List, ◌++◌, length, codes, decimal, Result, Ok, Err, ◌⊎◌, inl, inr, refl, sym, ◌∙◌, ap, subst, append_assoc, arith}
+use Rattle.std.proofs.lemmas.List.{append_cancel_left}
+use Rattle.call_values.specs.Identity.{IsMmsi}
+use Rattle.dsc_texts.specs.CallGrammar.{identity}
+use Rattle.line_grammar.specs.Columns.{IsColumn}
+use Rattle.line_grammar.specs.Grammar.{anything, word, Parts, none, part, Spells}
+use Rattle.line_grammar.specs.Shapes.{digits}
+use Rattle.line_grammar.specs.Tokens.{free_number, value_after}
+use Rattle.line_grammar.specs.inside.Reading.{fits, after, read_token, read}
+use Rattle.line_grammar.specs.inside.Soundness.{is_sound}
+use Rattle.line_grammar.proofs.Apart.{one_reading}
+use Rattle.line_grammar.proofs.Chains.{after_list, word_missed, token_missed, token_on}
+use Rattle.line_grammar.proofs.Decimals.{decimal_number, number_text}
+use Rattle.line_grammar.proofs.Fields.{field_of}
+use Rattle.line_grammar.proofs.Repeats.{read_stops}
+use Rattle.line_grammar.proofs.Stops.{IsAlike, IsChoice, Stops-alike}
+use Rattle.traffic_lines.specs.declared.lines.EventLine.{EventLine}
+use Rattle.traffic_lines.specs.declared.lines.EventLine.TheVariants.{Cancel}
+use Rattle.traffic_lines.specs.declared.lines.Point.{Point}
+use Rattle.traffic_lines.specs.declared.lines.Point.TheVariants as point
+use Rattle.traffic_lines.specs.declared.lines.TrafficLine.{TrafficLine}
+use Rattle.traffic_lines.specs.declared.lines.TrafficLine.TheVariants.{Ship, Base, Group, Event}
+use Rattle.traffic_lines.specs.Lines.{IsEventText, IsLineText, IsTrafficLine}
+use Rattle.traffic_lines.specs.inside.Grammars.{station, base, group, moment}
+use Rattle.traffic_lines.specs.inside.Reading.{Finds, IsGroupLine}
+use Rattle.traffic_lines.proofs.EventTexts.{only_of, only_is}
+use Rattle.traffic_lines.proofs.Languages.{HasLine, IsBehind, IsFronts, Stops-behind, Stops-front, stops_column, found_stops, column_by, left_few}
+use Rattle.traffic_lines.proofs.Tokens.{identity_told, number_told}
+
+-- a ship's station
+station_back : (line : TrafficLine) (bytes : List ℕ) → IsTrafficLine point.Station line bytes → (parts : Parts) × Spells station parts bytes
+station_back (Ship m) bytes h = only_is (codes "station ship ") identity IsMmsi (digits 9) identity_told m bytes h.1.0 h.1.1
+station_back (Base s) bytes h = absurd h.0
+station_back (Group m) bytes h = absurd h.0
+station_back (Event at what) bytes h = absurd h.0
+
+station_alike : IsAlike (Spells station) (IsTrafficLine point.Station)
+station_alike = record {
+  to = λ parts bytes h. let v = only_of (codes "station ship ") identity IsMmsi (digits 9) identity_told parts bytes h in (Ship v.0, (tt, (v.1, v.2)));
+  back = station_back;
+}
+
+station_sound : is_sound station ≡ true
+unfolding fits
+station_sound = refl
+
+-- a base
+base_back : (line : TrafficLine) (bytes : List ℕ) → IsTrafficLine point.Base line bytes → (parts : Parts) × Spells base parts bytes
+base_back (Ship m) bytes h = absurd h.0
+base_back (Base s) bytes h = only_is (codes "base ") (free_number 0 9999999999) (λ (n : ℕ). (0 ≤ n) × (n ≤ 9999999999)) decimal (number_told 0 9999999999 (omega arith)) s bytes (omega arith, h.1.0) h.1.1
+base_back (Group m) bytes h = absurd h.0
+base_back (Event at what) bytes h = absurd h.0
+
+base_alike : IsAlike (Spells base) (IsTrafficLine point.Base)
+base_alike = record {
+  to = λ parts bytes h.
+      let v = only_of (codes "base ") (free_number 0 9999999999) (λ (n : ℕ). (0 ≤ n) × (n ≤ 9999999999)) decimal (number_told 0 9999999999 (omega arith)) parts bytes h in
+      (Base v.0, (tt, (v.1.1, v.2)));
+  back = base_back;
+}
+
+base_sound : is_sound base ≡ true
+base_sound = refl
+
+-- a group
+group_back : (line : TrafficLine) (bytes : List ℕ) → IsGroupLine line bytes → (parts : Parts) × Spells group parts bytes
+group_back line bytes h =
+    let is = subst (λ (l : TrafficLine). IsLineText l bytes) h.1 h.2 in
+    only_is (codes "group ") identity IsMmsi (digits 9) identity_told h.0 bytes is.0 is.1
+
+group_alike : IsAlike (Spells group) IsGroupLine
+group_alike = record {
+  to = λ parts bytes h. let v = only_of (codes "group ") identity IsMmsi (digits 9) identity_told parts bytes h in (Group v.0, (v.0, refl, (v.1, v.2)));
+  back = group_back;
+}
+
+group_sound : is_sound group ≡ true
+unfolding fits
+group_sound = refl
+
+-- a moment and a blank in front of an event
+abbrev pub IsMoment : List ℕ → Type 0
+IsMoment front = (at : ℕ) × (at < 2 ^ 32) × (front ≡ decimal at ++ codes " ")
+
+moment_spelled : (front back : List ℕ) (h : IsMoment front) → Spells moment (part (decimal h.0) none) (front ++ back)
+moment_spelled front back h = (
+  decimal_number 0 4294967295 h.0 (omega arith) (omega (arith, h.1)) (omega arith),
+  (
+    codes " " ++ back,
+    ap (λ (l : List ℕ). l ++ back) h.2 ∙ append_assoc (decimal h.0) (codes " ") back,
+    (back, refl, tt),
+  ),
+)
+
+pub same_moment : (a b r s : List ℕ) → IsMoment a → IsMoment b → a ++ r ≡ b ++ s → (a ≡ b) × (r ≡ s)
+same_moment a b r s h k e =
+    let one = moment_spelled a r h in
+    let two = subst (λ (l : List ℕ). Spells moment (part (decimal k.0) none) l) (sym e) (moment_spelled b s k) in
+    let read : part (decimal h.0) none ≡ part (decimal k.0) none = one_reading moment (part (decimal h.0) none) (part (decimal k.0) none) (a ++ r) refl refl one two in
+    let same : decimal h.0 ≡ decimal k.0 = cc in
+    let fronts = h.2 ∙ ap (λ (l : List ℕ). l ++ codes " ") same ∙ sym k.2 in
+    (fronts, append_cancel_left b r s (sym (ap (λ (l : List ℕ). l ++ r) fronts) ∙ e))
+
+-- what stands behind a moment in a line of a ship
+event_of : (line : TrafficLine) (bytes : List ℕ) → IsTrafficLine point.Ship line bytes
+    → (front : List ℕ) × (back : List ℕ) × (what : EventLine) × IsMoment front × IsEventText what back × (bytes ≡ front ++ back)
+event_of (Ship m) bytes h = absurd h.0
+event_of (Base s) bytes h = absurd h.0
+event_of (Group m) bytes h = absurd h.0
+event_of (Event at what) bytes h =
+    let k = h.1 in
+    (decimal at ++ codes " ", k.0, what, (at, k.1, refl), k.2, k.3 ∙ sym (append_assoc (decimal at) (codes " ") k.0))
+
+pub moment_behind : IsBehind IsMoment IsEventText (IsTrafficLine point.Ship)
+moment_behind = record {
+  to = λ front back what is h. (Event is.0 what, (tt, (back, is.1, h, ap (λ (l : List ℕ). l ++ back) is.2 ∙ append_assoc (decimal is.0) (codes " ") back)));
+  of = event_of;
+  one = same_moment;
+}
+
+moment_of : (parts : Parts) (bytes : List ℕ) → Spells moment parts bytes → (front : List ℕ) × (back : List ℕ) × IsMoment front × (bytes ≡ front ++ back)
+moment_of parts bytes h =
+    let f = field_of (free_number 0 4294967295) (word (codes " ") anything) parts bytes h in
+    let text = sym (number_text 0 4294967295 f.front (omega arith) f.is_token) in
+    let at = value_after 0 f.front in (
+      decimal at ++ codes " ",
+      f.spelled.0,
+      (at, omega (arith, f.is_token.high), refl),
+      f.list ∙ ap (λ (l : List ℕ). l ++ f.back) text ∙ ap (λ (l : List ℕ). decimal at ++ l) f.spelled.1 ∙ sym (append_assoc (decimal at) (codes " ") f.spelled.0),
+    )
+
+moment_fronts : IsFronts IsMoment moment
+moment_fronts = record {
+  to = λ front back is. (part (decimal is.0) none, moment_spelled front back is);
+  of = moment_of;
+}
+
+pub some_event : HasLine IsEventText
+some_event = record { value = Cancel; text = codes "cancel"; line = refl }
+
+pub no_moment : (bytes : List ℕ) (left : ℕ) → read moment bytes ≡ Err left → IsColumn (IsTrafficLine point.Ship) bytes (length bytes + 1 - left)
+no_moment bytes left h =
+    stops_column (IsTrafficLine point.Ship) bytes left
+    (Stops-front IsMoment moment IsEventText (IsTrafficLine point.Ship) bytes left moment_fronts moment_behind some_event (read_stops moment bytes left refl h))
+
+pub no_number : (bytes : List ℕ) (left : ℕ) → read_token (free_number 0 4294967295) bytes ≡ Err left → read moment bytes ≡ Err left
+no_number bytes left h = token_missed (free_number 0 4294967295) (word (codes " ") anything) bytes left h
+
+pub no_blank : (bytes front rest : List ℕ) (left : ℕ) → read_token (free_number 0 4294967295) bytes ≡ Ok (front, rest) → after (codes " ") rest ≡ Err left → read moment bytes ≡ Err left
+no_blank bytes front rest left h k = token_on (free_number 0 4294967295) (word (codes " ") anything) bytes front rest left h (word_missed (codes " ") anything rest left k)
+
+moment_list : (bytes rest back : List ℕ) (at : ℕ) → bytes ≡ decimal at ++ rest → after (codes " ") rest ≡ Ok back → bytes ≡ decimal at ++ (codes " " ++ back)
+moment_list bytes rest back at e h = e ∙ ap (λ (l : List ℕ). decimal at ++ l) (after_list (codes " ") rest back h)
+
+pub no_event : (bytes rest back : List ℕ) (at left : ℕ) → at < 2 ^ 32 → bytes ≡ decimal at ++ rest → after (codes " ") rest ≡ Ok back → IsColumn IsEventText back (length back + 1 - left)
+    → IsColumn (IsTrafficLine point.Ship) bytes (length bytes + 1 - left)
+no_event bytes rest back at left small e h k =
+    let list = moment_list bytes rest back at e h ∙ sym (append_assoc (decimal at) (codes " ") back) in
+    stops_column (IsTrafficLine point.Ship) bytes left
+    (Stops-behind IsMoment IsEventText (IsTrafficLine point.Ship) bytes (decimal at ++ codes " ") back left moment_behind (at, small, refl) list (found_stops IsEventText back left some_event k))
+
+pub event_text : (bytes rest back : List ℕ) (at : ℕ) (what : EventLine) → at < 2 ^ 32 → bytes ≡ decimal at ++ rest → after (codes " ") rest ≡ Ok back → IsEventText what back
+    → IsTrafficLine point.Ship (Event at what) bytes
+event_text bytes rest back at what small e h is = (tt, (back, small, is, moment_list bytes rest back at e h))
+
+-- a line was read by the grammar of its point
+pub station_fault : (bytes : List ℕ) (left : ℕ) → read station bytes ≡ Err left → IsColumn (IsTrafficLine point.Station) bytes (length bytes + 1 - left)
+station_fault bytes left h = column_by station (IsTrafficLine point.Station) bytes left station_sound station_alike h
+
+pub base_fault : (bytes : List ℕ) (left : ℕ) → read base bytes ≡ Err left → IsColumn (IsTrafficLine point.Base) bytes (length bytes + 1 - left)
+base_fault bytes left h = column_by base (IsTrafficLine point.Base) bytes left base_sound base_alike h
+
+pub group_fault : (bytes : List ℕ) (left : ℕ) → read group bytes ≡ Err left → IsColumn IsGroupLine bytes (length bytes + 1 - left)
+group_fault bytes left h = column_by group IsGroupLine bytes left group_sound group_alike h
+
+-- the lines behind groups
+behind_back : (held : ℕ) (line : TrafficLine) (bytes : List ℕ) → IsTrafficLine (point.Groups held) line bytes
+    → ((g : TrafficLine) × IsGroupLine g bytes) ⊎ ((e : TrafficLine) × IsTrafficLine point.Ship e bytes)
+behind_back held (Ship m) bytes h = absurd h.0
+behind_back held (Base s) bytes h = absurd h.0
+behind_back held (Group m) bytes h = inl (Group m, (m, refl, h.1))
+behind_back held (Event at what) bytes h = inr (Event at what, (tt, h.1))
+
+group_to : (held : ℕ) (line : TrafficLine) (bytes : List ℕ) → held < 16 → IsGroupLine line bytes → IsTrafficLine (point.Groups held) line bytes
+group_to held (Ship m) bytes few h = absurd (cc)
+group_to held (Base s) bytes few h = absurd (cc)
+group_to held (Group m) bytes few h = (few, h.2)
+group_to held (Event at what) bytes few h = absurd (cc)
+
+event_to : (held : ℕ) (line : TrafficLine) (bytes : List ℕ) → IsTrafficLine point.Ship line bytes → IsTrafficLine (point.Groups held) line bytes
+event_to held (Ship m) bytes h = absurd h.0
+event_to held (Base s) bytes h = absurd h.0
+event_to held (Group m) bytes h = absurd h.0
+event_to held (Event at what) bytes h = h
+
+pub behind_choice : (held : ℕ) → held < 16 → IsChoice IsGroupLine (IsTrafficLine point.Ship) (IsTrafficLine (point.Groups held))
+behind_choice held few = record {
+  left = λ line bytes h. (line, group_to held line bytes few h);
+  right = λ line bytes h. (line, event_to held line bytes h);
+  back = behind_back held;
+}
+
+no_group_more : (held : ℕ) (line : TrafficLine) (bytes : List ℕ) → 16 ≤ held → IsTrafficLine (point.Groups held) line bytes → IsTrafficLine point.Ship line bytes
+no_group_more held (Ship m) bytes many h = absurd h.0
+no_group_more held (Base s) bytes many h = absurd h.0
+no_group_more held (Group m) bytes many h = absurd (omega (arith, many, h.0))
+no_group_more held (Event at what) bytes many h = h
+
+behind_all : (held : ℕ) → 16 ≤ held → IsAlike (IsTrafficLine point.Ship) (IsTrafficLine (point.Groups held))
+behind_all held many = record {
+  to = λ line bytes h. (line, event_to held line bytes h);
+  back = λ line bytes h. (line, no_group_more held line bytes many h);
+}
+
+-- there are such lines
+pub some_group_line : HasLine IsGroupLine
+some_group_line = record { value = Group 0; text = codes "group " ++ digits 9 0; line = (0, refl, (omega arith, refl)) }
+
+pub some_ship_line : HasLine (IsTrafficLine point.Ship)
+some_ship_line = record { value = Event 0 Cancel; text = decimal 0 ++ (codes " " ++ codes "cancel"); line = (tt, (codes "cancel", omega arith, refl, refl)) }
+
+some_station_line : HasLine (IsTrafficLine point.Station)
+some_station_line = record { value = Ship 0; text = codes "station ship " ++ digits 9 0; line = (tt, (omega arith, refl)) }
+
+some_base_line : HasLine (IsTrafficLine point.Base)
+some_base_line = record { value = Base 0; text = codes "base " ++ decimal 0; line = (tt, (omega arith, refl)) }
+
+some_line_behind : (held : ℕ) → HasLine (IsTrafficLine (point.Groups held))
+some_line_behind held = let s = some_ship_line in record { value = s.value; text = s.text; line = event_to held s.value s.text s.line }
+
+-- what was found of a line behind groups
+pub group_found : (held : ℕ) (bytes : List ℕ) (r : Result TrafficLine ℕ) → held < 16 → Finds IsGroupLine IsGroupLine bytes r → Finds IsGroupLine (IsTrafficLine (point.Groups held)) bytes r
+group_found held bytes (Ok line) few h = group_to held line bytes few h
+group_found held bytes (Err left) few h = h
+
+pub event_found : (held : ℕ) (bytes : List ℕ) (r : Result TrafficLine ℕ) → Finds (IsTrafficLine point.Ship) (IsTrafficLine point.Ship) bytes r
+    → Finds (IsTrafficLine point.Ship) (IsTrafficLine (point.Groups held)) bytes r
+event_found held bytes (Ok line) h = event_to held line bytes h
+event_found held bytes (Err left) h = h
+
+pub no_group_found : (held : ℕ) (bytes : List ℕ) (r : Result TrafficLine ℕ) → 16 ≤ held → Finds (IsTrafficLine point.Ship) (IsTrafficLine point.Ship) bytes r
+    → Finds (IsTrafficLine (point.Groups held)) (IsTrafficLine (point.Groups held)) bytes r
+no_group_found held bytes (Ok line) many h = event_to held line bytes h
+no_group_found held bytes (Err left) many h =
+    stops_column (IsTrafficLine (point.Groups held)) bytes left
+    (Stops-alike (IsTrafficLine point.Ship) (IsTrafficLine (point.Groups held)) bytes left (behind_all held many) (found_stops (IsTrafficLine point.Ship) bytes left some_ship_line h))
+
+-- a fault leaves no more bytes than there are
+pub few_left : (p : Point) (bytes : List ℕ) (left : ℕ) → (p ≢ point.Coast → IsColumn (IsTrafficLine p) bytes (length bytes + 1 - left)) → (p ≡ point.Coast → left ≡ length bytes) → left ≤ length bytes
+few_left point.Coast bytes left h k = omega (arith, k refl)
+few_left point.Station bytes left h k = left_few (IsTrafficLine point.Station) bytes left some_station_line (h (λ e. absurd (cc)))
+few_left point.Base bytes left h k = left_few (IsTrafficLine point.Base) bytes left some_base_line (h (λ e. absurd (cc)))
+few_left (point.Groups held) bytes left h k = left_few (IsTrafficLine (point.Groups held)) bytes left (some_line_behind held) (h (λ e. absurd (cc)))
+few_left point.Ship bytes left h k = left_few (IsTrafficLine point.Ship) bytes left some_ship_line (h (λ e. absurd (cc)))

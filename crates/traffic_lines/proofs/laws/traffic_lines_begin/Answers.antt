@@ -1,0 +1,5 @@
+use Rattle.traffic_lines.proofs.OneLine.{begins}
+use Rattle.traffic_lines.proofs.laws.traffic_lines_begin.Goals as goal
+
+pub returns : goal.returns
+returns c = begins

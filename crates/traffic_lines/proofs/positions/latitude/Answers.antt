@@ -1,0 +1,13 @@
+use Rattle.std.proofs.Common.{ℕ, ◌++◌, refl, rules}
+use Rattle.line_grammar.specs.Shapes.{digits}
+use Rattle.traffic_lines.proofs.FieldSteps.{choice_shows, letters_show}
+use Rattle.traffic_lines.proofs.positions.latitude.Goals as goal
+
+pub returns : goal.returns
+unfolding digits
+returns c =
+    let below = c.with_minutes-below.ensures in
+    let pole = c.spelled-pole.ensures in
+    let shown = choice_shows (λ (a : ℕ × ℕ). digits 2 a.0 ++ digits 2 a.1) (λ b. b.now) _ _ c.args.bytes.now _ _ _ c.further.ensures
+    (record { value = below.value; left = below.left }) (letters_show _ _ (90, 0) _ _ _ refl pole.value pole.rest pole.left) in
+    record { range = search rules; value = shown.value; left = shown.left }

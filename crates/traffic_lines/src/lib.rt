@@ -1,0 +1,19 @@
+//! The lines of traffic files: a station, its base and groups, and events at their moments.
+#![tactic(auto)]
+
+mod choices;
+mod events;
+mod fields;
+mod laws;
+mod lines;
+mod moments;
+mod points;
+mod positions;
+mod reading;
+
+pub use laws::{one_traffic_line, traffic_lines_begin};
+pub use lines::{EventLine, Point, TrafficLine};
+pub use reading::read_traffic;
+
+#[cfg(test)]
+mod tests;

@@ -1,0 +1,56 @@
+ghost use Rattle.std.specs.Prelude.{◌<◌};
+ghost use Rattle.traffic_lines.specs.Lines.{IsTrafficLine};
+ghost use Rattle.traffic_lines.specs.declared.lines.Point.TheVariants.{Station, Base, Groups};
+ghost use Rattle.traffic_lines.specs.inside.Reading.{Finds, IsGroupLine};
+
+use crate::choices::further;
+use crate::fields::{Second, only};
+use crate::lines::TrafficLine;
+use crate::moments::event_line;
+use call_values::Mmsi;
+
+/// How many groups a ship belongs to at most.
+const MOST_GROUPS: u8 = 16;
+
+/// Reads a ship's station. An error is how many bytes are left at the fault.
+pub fn station_line(bytes: &[u8]) -> Result<TrafficLine, usize>
+    ensures { Finds (IsTrafficLine Station) (IsTrafficLine Station) bytes.now result }
+{
+    let mmsi: Mmsi = only(b"station ship ", bytes)?;
+    Ok(TrafficLine::Ship(mmsi))
+}
+
+/// Reads a base. An error is how many bytes are left at the fault.
+pub fn base_line(bytes: &[u8]) -> Result<TrafficLine, usize>
+    ensures { Finds (IsTrafficLine Base) (IsTrafficLine Base) bytes.now result }
+{
+    let second: Second = only(b"base ", bytes)?;
+    Ok(TrafficLine::Base(second.number))
+}
+
+/// Reads a group. An error is how many bytes are left at the fault.
+fn group_line(bytes: &[u8]) -> Result<TrafficLine, usize>
+    ensures { Finds IsGroupLine IsGroupLine bytes.now result }
+{
+    let mmsi: Mmsi = only(b"group ", bytes)?;
+    Ok(TrafficLine::Group(mmsi))
+}
+
+/// Reads a group or an event, behind fewer than sixteen groups. An error is how many bytes are left at the fault.
+fn group_or_event(held: u8, bytes: &[u8]) -> Result<TrafficLine, usize>
+    requires { held < 16 }
+    ensures { Finds (IsTrafficLine (Groups held)) (IsTrafficLine (Groups held)) bytes.now result }
+{
+    further(&group_line(bytes), &event_line(bytes))
+}
+
+/// Reads a line behind so many groups. An error is how many bytes are left at the fault.
+pub fn line_behind_groups(held: u8, bytes: &[u8]) -> Result<TrafficLine, usize>
+    ensures { Finds (IsTrafficLine (Groups held)) (IsTrafficLine (Groups held)) bytes.now result }
+{
+    if held < MOST_GROUPS {
+        group_or_event(held, bytes)
+    } else {
+        event_line(bytes)
+    }
+}
