@@ -6,13 +6,13 @@ use Rattle.call_values.specs.declared.parts.Kind.TheVariants as kind
 use Rattle.call_values.specs.Calls.{IsCall}
 use Rattle.slot_join.specs.declared.joined.Extra.{Extra}
 use Rattle.dsc_texts.specs.CallParts.{call_text}
-use Rattle.dsc_texts.specs.Texts.{IsWholeOrAbsent, reported_text, IsCallText}
+use Rattle.dsc_texts.specs.Texts.{IsWholeOrAbsent, reported_text}
 use Rattle.dsc_files.specs.declared.lines.Line.{Line}
 use Rattle.dsc_files.specs.declared.lines.Line.TheVariants as got
 use Rattle.dsc_files.specs.declared.lines.LineFault.{LineFault}
 use Rattle.dsc_files.specs.declared.lines.LineFault.TheVariants as fault
-use Rattle.dsc_files.specs.CallLine.{CallLine, nothing, call, IsCallLine}
-use Rattle.dsc_files.specs.Lines.{SaysCall, ReadsCall}
+use Rattle.dsc_files.specs.CallLine.{nothing, call, IsCallLine}
+use Rattle.dsc_files.specs.Lines.{ReadsCall}
 
 abbrev pub ApartLaw : Type 0
 ApartLaw = (a b : Call) (x y : Extra) → IsCall a → IsCall b → IsWholeOrAbsent x → IsWholeOrAbsent y → reported_text a x ≡ reported_text b y → (a ≡ b) × (x ≡ y)

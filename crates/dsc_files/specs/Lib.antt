@@ -1,5 +1,6 @@
 pub mod JoinLine
 pub mod CallLine
 pub mod SentenceLine
+pub mod PointLine
 pub mod Lines
 pub mod inside

@@ -5,6 +5,9 @@ use Rattle.slot_evidence.specs.declared.places.Seen.{Seen}
 use Rattle.slot_evidence.specs.Facts.{Facts}
 use Rattle.slot_evidence.specs.Sheet.{IsEnds}
 use Rattle.line_grammar.specs.Columns.{IsColumn}
+use Rattle.traffic_lines.specs.declared.lines.Point.{Point}
+use Rattle.traffic_lines.specs.declared.lines.TrafficLine.{TrafficLine}
+use Rattle.traffic_lines.specs.declared.lines.TrafficLine.TheVariants.{Ship, Base, Group, Event}
 use Rattle.dsc_files.specs.declared.lines.FileKind.{FileKind}
 use Rattle.dsc_files.specs.declared.lines.FileKind.TheVariants as kind
 use Rattle.dsc_files.specs.declared.lines.Line.{Line}
@@ -14,6 +17,7 @@ use Rattle.dsc_files.specs.declared.lines.LineFault.TheVariants as fault
 use Rattle.dsc_files.specs.JoinLine.{JoinLine, nothing, reception, evidence, IsLine}
 use Rattle.dsc_files.specs.CallLine.{CallLine, nothing, call, IsCallLine}
 use Rattle.dsc_files.specs.SentenceLine.{SentenceLine, said, sentence, IsSentenceLine}
+use Rattle.dsc_files.specs.PointLine.{PointLine, joined, traffic, IsPointLine}
 
 -- the facts of evidence: each pair's place showed its symbol
 abbrev pub facts_of_pairs : List (ℕ × ℕ) → Facts
@@ -53,8 +57,28 @@ ReadsSentence text (Ok read) = (says : SentenceLine) × (IsSentenceLine says tex
 ReadsSentence text (Err (fault.Column n)) = IsColumn IsSentenceLine text n
 ReadsSentence text (Err fault.NoMemory) = ⊥
 
+-- what was read of a station's line is what it says
+abbrev pub SaysTraffic : TrafficLine → Line → Type 0
+SaysTraffic (Ship mmsi) read = read ≡ line.Ship mmsi
+SaysTraffic (Base second) read = read ≡ line.Base second
+SaysTraffic (Group mmsi) read = read ≡ line.Group mmsi
+SaysTraffic (Event at what) read = read ≡ line.Event at what
+
+-- what was read of a line of a traffic file is what it says
+abbrev pub SaysAtPoint : PointLine → Line → Type 0
+SaysAtPoint (joined says) read = Says says read
+SaysAtPoint (traffic says) read = SaysTraffic says read
+
+-- the answer for a line at this point of a traffic file: what it says, or the column of bytes that are no line of this point; want of
+-- memory may come at any line
+abbrev pub ReadsAtPoint : Point → List ℕ → Result Line LineFault → Type 0
+ReadsAtPoint point text (Ok read) = (says : PointLine) × (IsPointLine point says text × SaysAtPoint says read)
+ReadsAtPoint point text (Err (fault.Column n)) = IsColumn (IsPointLine point) text n
+ReadsAtPoint point text (Err fault.NoMemory) = Unit {0}
+
 -- the answer for a line of a file of this kind
 abbrev pub ReadsLine : FileKind → List ℕ → Result Line LineFault → Type 0
 ReadsLine kind.Join text answer = ReadsJoin text answer
 ReadsLine kind.Call text answer = ReadsCall text answer
 ReadsLine kind.Sentence text answer = ReadsSentence text answer
+ReadsLine (kind.Traffic point) text answer = ReadsAtPoint point text answer

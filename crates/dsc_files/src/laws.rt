@@ -8,13 +8,24 @@ ghost use Rattle.dsc_files.specs.declared.lines.Line.TheVariants as line;
 ghost use Rattle.dsc_files.specs.declared.lines.LineFault.{LineFault};
 ghost use Rattle.dsc_files.specs.JoinLine.{JoinLine, IsLine};
 ghost use Rattle.dsc_files.specs.Lines.{ReadsCall};
+ghost use Rattle.dsc_files.specs.PointLine.{PointLine, IsPointLine};
+ghost use Rattle.traffic_lines.specs.declared.lines.Point.{Point as At};
 
 use dsc_texts::texts_tell_calls_apart;
+use traffic_lines::{one_traffic_line, traffic_lines_begin};
 
 /// The law that a line of join's input says one thing. It does nothing.
 pub fn one_line()
     ensures { (a b : JoinLine) (text : List ℕ) → IsLine a text → IsLine b text → a ≡ b }
 {}
+
+/// The law that a line at a point of a traffic file says one thing. It does nothing.
+pub fn one_point_line()
+    ensures { (at : At) (a b : PointLine) (text : List ℕ) → IsPointLine at a text → IsPointLine at b text → a ≡ b }
+{
+    one_traffic_line();
+    traffic_lines_begin();
+}
 
 /// The law that of the text that `put_call` writes of a call and of the expansion behind it, reading a line of calls can answer
 /// nothing but this call and this expansion. It does nothing.

@@ -9,15 +9,17 @@ mod laws;
 mod lines;
 mod reading;
 mod receptions;
+mod traffic;
 
 pub use dsc_streams::{
     ByteSink, ByteSource, Failed, NoMemory, Sink, Source, Status, StdSink, StdSource, SureSink,
     SureSource, write_all,
 };
 pub use dsc_texts::{put_answer, put_answer_line, put_call};
-pub use laws::{one_line, written_calls_are_read};
+pub use laws::{one_line, one_point_line, written_calls_are_read};
 pub use lines::{FileKind, Line, LineFault};
 pub use reading::line_of;
+pub use traffic_lines::{EventLine, Point};
 
 #[cfg(test)]
 mod tests;

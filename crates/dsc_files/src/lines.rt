@@ -1,11 +1,12 @@
 ghost use Rattle.std.specs.Prelude.{◌≡◌};
 ghost use Rattle.dsc_files.specs.declared.lines.LineFault.TheVariants.{NoMemory};
 
-use call_values::Call;
+use call_values::{Call, Mmsi};
 use slot_evidence::{Reception, Sheet};
 use slot_join::Extra;
 use std::alloc::AllocError;
 use thiserror::Error;
+use traffic_lines::{EventLine, Point};
 
 /// Which lines a file has.
 #[derive(Clone, Copy, Debug, PartialEq, Eq)]
@@ -16,6 +17,8 @@ pub enum FileKind {
     Call,
     /// Calls and sentences.
     Sentence,
+    /// Traffic of a station, at this point.
+    Traffic(Point),
 }
 
 /// What a line says.
@@ -31,6 +34,14 @@ pub enum Line {
     Call { call: Call, extra: Extra },
     /// A sentence, which is the line itself: it begins with `$`.
     Sentence,
+    /// The station is this ship.
+    Ship(Mmsi),
+    /// The second that moments count from, from the beginning of 1970, at most 9,999,999,999.
+    Base(u64),
+    /// The ship belongs to this group.
+    Group(Mmsi),
+    /// So many milliseconds after the base this happens.
+    Event { at: u32, what: EventLine },
 }
 
 /// Why a line was not read.

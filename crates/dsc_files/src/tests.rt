@@ -1,4 +1,4 @@
-use crate::{FileKind, Line, LineFault, line_of};
+use crate::{EventLine, FileKind, Line, LineFault, Point, line_of};
 use slot_evidence::Seen;
 use std::test::Fail;
 use ten_unit::Element;
@@ -108,6 +108,58 @@ fn evidence_has_pairs(rt: HostRuntime) -> Result<(), Fail> {
         };
         assert_eq!(rt; group, 0);
         assert_eq!(rt; sheet.at(0), Seen::None);
+    }
+    Ok(())
+}
+
+// Lines at points of a traffic file, and the column at which each is ill-formed there.
+const POINT_COLUMNS: [(Point, &str, usize); 12] = [
+    (Point::Station, "base 0", 1),
+    (Point::Station, "station coast 002241022 mf", 9),
+    (Point::Station, "r YB", 1),
+    (Point::Base, "e 0:112", 1),
+    (Point::Base, "0 tick", 1),
+    (Point::Groups { held: 16 }, "group 000000001", 1),
+    (Point::Groups { held: 15 }, "group 00000001", 15),
+    (Point::Groups { held: 0 }, "r YBX", 5),
+    (Point::Ship, "group 000000001", 1),
+    (Point::Ship, "e 64:1", 4),
+    (Point::Ship, "0 answer 1", 4),
+    (Point::Ship, "0 tick\r", 7),
+];
+
+#[test]
+fn ill_formed_lines_of_points_have_columns(rt: HostRuntime) -> Result<(), Fail> {
+    for (point, text, column) in POINT_COLUMNS {
+        let kind = FileKind::Traffic(point);
+        let Err(fault) = line_of(rt.alloc(), kind, text.as_bytes()) else {
+            return Err("a line")?;
+        };
+        assert_eq!(rt; fault, LineFault::Column(column), "{text}");
+    }
+    Ok(())
+}
+
+#[test]
+fn lines_of_points_say_what_they_say(rt: HostRuntime) -> Result<(), Fail> {
+    let ship = FileKind::Traffic(Point::Ship);
+    let Line::Event { at, what } = line_of(rt.alloc(), ship, b"7 heard g3")? else {
+        return Err("no event")?;
+    };
+    assert_eq!(rt; (at, what), (7, EventLine::Heard(3)));
+    let Line::Evidence { group, .. } = line_of(rt.alloc(), ship, b"e g5 0:112")? else {
+        return Err("no evidence")?;
+    };
+    assert_eq!(rt; group, 5);
+    let base = FileKind::Traffic(Point::Base);
+    let Line::Base(second) = line_of(rt.alloc(), base, b"base 1714594740")? else {
+        return Err("no base")?;
+    };
+    assert_eq!(rt; second, 1_714_594_740);
+    for point in [Point::Station, Point::Base, Point::Ship] {
+        let Line::Nothing = line_of(rt.alloc(), FileKind::Traffic(point), b"# r YB")? else {
+            return Err("something")?;
+        };
     }
     Ok(())
 }

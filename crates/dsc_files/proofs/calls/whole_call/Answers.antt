@@ -2,7 +2,8 @@ use Rattle.std.proofs.Common.{refl, sym, subst}
 use Rattle.line_grammar.specs.Columns.{IsColumn}
 use Rattle.dsc_texts.specs.Texts.{IsCallText}
 use Rattle.dsc_files.specs.CallLine.{call, IsCallLine}
-use Rattle.dsc_files.proofs.CallLines.{column_of_call, calls_in_calls}
+use Rattle.dsc_files.proofs.Narrowing.{column_of_kind}
+use Rattle.dsc_files.proofs.CallLines.{calls_in_calls}
 use Rattle.dsc_files.proofs.calls.whole_call.Goals as goal
 
 pub returns-in-Ok : goal.returns-in-Ok
@@ -12,5 +13,5 @@ pub returns-in-Err : goal.returns-in-Err
 returns-in-Err c =
     let given = c.requires in
     subst (λ l. IsColumn IsCallLine l c.in-Err.n) (sym given.2)
-    (column_of_call given.0 IsCallLine (calls_in_calls given.0 given.3) given.1 c.in-Err.n c.in-Err.ensures.counted
+    (column_of_kind given.0 IsCallText IsCallLine (calls_in_calls given.0 given.3) given.1 c.in-Err.n c.in-Err.ensures.counted
     (subst (λ l. IsColumn IsCallText l c.in-Err.n) given.2 c.in-Err.ensures.read))
