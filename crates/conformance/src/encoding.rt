@@ -19,7 +19,7 @@ const TAILS: [&str; 8] = [
 ];
 
 // A file of calls of every form and to every address, with each tail, and what is reported of it.
-fn calls_and_answers(alloc: Global) -> Result<(Vec<u8>, Vec<u8>), AllocError> {
+pub(crate) fn calls_and_answers(alloc: Global) -> Result<(Vec<u8>, Vec<u8>), AllocError> {
     let mut calls = Vec::from_slice(alloc, b"# every form, address and choice of sets\n\n")?;
     let mut answers = Vec::new(alloc);
     let mut group = 0u32;

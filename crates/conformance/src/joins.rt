@@ -222,7 +222,7 @@ fn refused_words(rt: HostRuntime) -> Result<(), Fail> {
         "dsc join --workers 65",
         "dsc join evidence",
         "dsc encode --dots 30",
-        "dsc sentences",
+        "dsc sentences --dots 20",
         "join",
         "dsc",
         "",

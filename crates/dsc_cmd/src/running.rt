@@ -12,6 +12,7 @@ use dsc_words::{Plan, PlanError, one_plan, plan_of};
 use encode_calls::{Encode, LongDots, ShortDots};
 use join_groups::{Answers, Ends, TellGroups};
 use line_engine::{MOST_TAKEN, drive};
+use sentence_files::Sentences;
 use slot_evidence::ends_are_kept;
 use slot_join::{
     Gate, alike_facts_have_one_answer, intact_copies_report_the_call, sent_call_is_answered,
@@ -67,6 +68,7 @@ fn execute<S: Source, K: Sink>(alloc: Global, plan: Plan, source: &mut S, sink: 
         Plan::Evidence { .. } => drive(alloc, TellGroups::new(alloc, Ends), source, sink),
         Plan::Encode { long: false } => drive(alloc, Encode::new(alloc, ShortDots), source, sink),
         Plan::Encode { long: true } => drive(alloc, Encode::new(alloc, LongDots), source, sink),
+        Plan::Sentences => drive(alloc, Sentences::new(alloc), source, sink),
     }
 }
 
@@ -78,13 +80,14 @@ fn execute<S: Source, K: Sink>(alloc: Global, plan: Plan, source: &mut S, sink: 
 /// | `join [--workers N]` | for each group that a line of receptions or evidence names, by rising number, the line of the answer to all its facts |
 /// | `evidence [--workers N]` | for each such group the line of evidence that stands for all its lines |
 /// | `encode [--dots D]` | for each line of a call the line of a reception that heard its whole transmission |
+/// | `sentences` | for each line of a call its DSC sentence, and the DSE sentence of its expansion; for each sentence a verdict |
 ///
 /// N is 1 to 64 and changes nothing yet. D is 20 or 200, and 20 where it isn't given.
 ///
 /// | Status | What it says |
 /// |---|---|
 /// | 0 | all was written: in `join` a call was reported of each group |
-/// | 1 | all was written, and some group has another answer |
+/// | 1 | all was written, and some group has another answer; in `sentences` some sentence was refused |
 /// | 2 | the words are no command: nothing was read, and `dsc: words refused` was written |
 /// | 3 | a line is ill-formed, and the line of this first fault was written, as `dsc: line 3 column 7` |
 /// | 4 | the source failed: what the lines so far gave was written |

@@ -3,5 +3,6 @@ pub mod LongWords
 pub mod Turns
 pub mod OptionTurns
 pub mod OptionWords
+pub mod LoneWords
 pub mod CommandWords
 pub mod PlanWords

@@ -15,10 +15,11 @@ use Rattle.dsc_words.specs.Words.{HasWorkers, IsDots, IsCommand, IsInRange, IsNu
 use Rattle.dsc_words.specs.inside.Asked.{IsAsked}
 use Rattle.dsc_words.specs.inside.CommandLine.{dsc, with_option}
 use Rattle.dsc_words.specs.declared.plans.Plan.{Plan}
-use Rattle.dsc_words.specs.declared.plans.Plan.TheVariants.{Join, Evidence, Encode}
+use Rattle.dsc_words.specs.declared.plans.Plan.TheVariants.{Join, Evidence, Encode, Sentences}
 use Rattle.dsc_words.proofs.LongWords.{IsBare, IsName, none_is_some, same_text}
 use Rattle.dsc_words.proofs.Turns.{HasNoDashes}
 use Rattle.dsc_words.proofs.OptionTurns.{leaf}
+use Rattle.dsc_words.proofs.LoneWords.{alone_passes, alone_taken}
 use Rattle.dsc_words.proofs.OptionWords.{option_passes, option_taken}
 use Rattle.dsc_words.proofs.CommandWords.{Enters, IsMet, app, entered_passes, enters}
 
@@ -189,6 +190,9 @@ has_evidence = record { undashed = refl; met = refl; fault = λ ws. refl; rows =
 has_encode : Has (codes "encode") (with_option (codes "encode") (codes "dots"))
 has_encode = record { undashed = refl; met = refl; fault = λ ws. refl; rows = λ ws. refl }
 
+has_sentences : Has (codes "sentences") (new_shape (codes "sentences"))
+has_sentences = record { undashed = refl; met = refl; fault = λ ws. refl; rows = λ ws. refl }
+
 -- words that `clap` takes for what a plan asks are the plan
 pub asked_is_plan : (words : List Text) → HasNoDashes (drop 1 words) → fault_of dsc words ≡ [] → (found : Text) (rows : List Row) (plan : Plan)
     → subcommand_of dsc words ≡ Some (found, rows) → IsAsked found (first_of (codes "number") rows) plan → IsPlan words plan
@@ -209,6 +213,9 @@ asked_is_plan words undashed passes found rows plan gives asked =
     go e behind (Encode long) asked =
         let got = option_entered (codes "encode") (codes "dots") has_encode words e behind found rows gives asked.0 in
         (got.0, (got.1.0, got.1.1, subst (λ (g : Option Text). IsDots g long) got.1.2 asked.1))
+    go e behind Sentences asked =
+        let got = entered_as (codes "sentences") (new_shape (codes "sentences")) has_sentences words e found rows gives asked in
+        (got.0, alone_passes (codes "sentences") e.rest behind got.1)
 
 -- a plan's words are taken
 pub plan_is_taken : (words : List Text) (plan : Plan) → IsPlan words plan → Taken words plan
@@ -224,6 +231,9 @@ plan_is_taken words plan is = subst (λ (ws : List Text). Taken ws plan) (sym is
     go word ws (Evidence n) c = with_workers (codes "evidence") has_evidence (Evidence n) word ws n (λ given workers. (refl, workers)) c
     go word ws (Encode long) (at, (given, words_are, dots)) =
         option_words_taken (codes "encode") (codes "dots") has_encode dots_name (Encode long) is.name word ws given at words_are (dots_bare given long dots) (refl, dots)
+    go word ws Sentences (at, none) =
+        subst (λ (xs : List Text). Taken (is.name ∷ word ∷ xs) Sentences) (sym none)
+        (command_taken (codes "sentences") (new_shape (codes "sentences")) has_sentences Sentences is.name word [] at tt (alone_taken (codes "sentences")) refl)
 
 pub plan_in_range : (words : List Text) (plan : Plan) → IsPlan words plan → IsInRange plan
 plan_in_range words plan is = go is.rest plan is.is_command
@@ -232,18 +242,21 @@ plan_in_range words plan is = go is.rest plan is.is_command
     go ws (Join n) c = workers_in_range ws n c.1
     go ws (Evidence n) c = workers_in_range ws n c.1
     go ws (Encode long) c = tt
+    go ws Sentences c = tt
 
 -- the plan that a command and its option's text ask for, where they ask for one
 abbrev plan_at : Text → Option Text → Option Plan
 plan_at name given =
     if bytes_eq name (codes "join") then Some (Join (workers_at given))
     else (if bytes_eq name (codes "evidence") then Some (Evidence (workers_at given))
-    else (if bytes_eq name (codes "encode") then Some (Encode (long_at given)) else None))
+    else (if bytes_eq name (codes "encode") then Some (Encode (long_at given))
+    else (if bytes_eq name (codes "sentences") then Some Sentences else None)))
 
 asked_at : (name : Text) (given : Option Text) (plan : Plan) → IsAsked name given plan → plan_at name given ≡ Some plan
 asked_at name given (Join n) (is, workers) = ap (λ c. plan_at c given) is ∙ ap (λ k. Some (Join k)) (workers_are given n workers)
 asked_at name given (Evidence n) (is, workers) = ap (λ c. plan_at c given) is ∙ ap (λ k. Some (Evidence k)) (workers_are given n workers)
 asked_at name given (Encode long) (is, dots) = ap (λ c. plan_at c given) is ∙ ap (λ b. Some (Encode b)) (long_is_at given long dots)
+asked_at name given Sentences is = ap (λ c. plan_at c given) is
 
 pub plan_is_one : (words : List Text) (a b : Plan) → IsPlan words a → IsPlan words b → a ≡ b
 plan_is_one words a b left right =

@@ -1,7 +1,7 @@
 -- The words of the command line: this project's profile.
 use Rattle.std.specs.Prelude.{◌≡◌, ◌⊎◌, ◌≤◌, ◌++◌, ◌∷◌, ℕ, List, [], Option, Some, None, codes, decimal, Bool, false, if◌then◌else◌}
 use Rattle.dsc_words.specs.declared.plans.Plan.{Plan}
-use Rattle.dsc_words.specs.declared.plans.Plan.TheVariants.{Join, Evidence, Encode}
+use Rattle.dsc_words.specs.declared.plans.Plan.TheVariants.{Join, Evidence, Encode, Sentences}
 
 abbrev pub Text : Type 0
 Text = List ℕ
@@ -39,6 +39,7 @@ abbrev pub IsCommand : Text → List Text → Plan → Type 0
 IsCommand command words (Join n) = (command ≡ codes "join") × HasWorkers words n
 IsCommand command words (Evidence n) = (command ≡ codes "evidence") × HasWorkers words n
 IsCommand command words (Encode long) = (command ≡ codes "encode") × HasDots words long
+IsCommand command words Sentences = (command ≡ codes "sentences") × (words ≡ [])
 
 -- the words are the program's name, a command, and the words of its option
 pub record IsPlan (words : List Text) (plan : Plan) : Type 0 where
@@ -53,3 +54,4 @@ abbrev pub IsInRange : Plan → Type 0
 IsInRange (Join n) = (1 ≤ n) × (n ≤ 64)
 IsInRange (Evidence n) = (1 ≤ n) × (n ≤ 64)
 IsInRange (Encode long) = Unit {0}
+IsInRange Sentences = Unit {0}

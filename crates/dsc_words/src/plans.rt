@@ -13,6 +13,8 @@ pub enum Plan {
     Evidence { workers: u8 },
     /// `encode [--dots D]`: the transmissions of calls, behind 200 dots where `long` and else behind 20.
     Encode { long: bool },
+    /// `sentences`: the sentences of calls, and verdicts on sentences.
+    Sentences,
 }
 
 /// Why words gave no plan.

@@ -81,6 +81,7 @@ fn asked(command: &str, given: Option<&str>) -> Option<Plan>
         "encode" => Some(Plan::Encode {
             long: is_long(given)?,
         }),
+        "sentences" => Some(Plan::Sentences),
         _ => None,
     }
 }

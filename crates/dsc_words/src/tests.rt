@@ -12,7 +12,7 @@ fn words_of(alloc: Global, line: &str) -> Result<Vec<String>, AllocError> {
 }
 
 /// Word lists, and the plan that each is.
-static PLANS: [(&str, Plan); 20] = [
+static PLANS: [(&str, Plan); 21] = [
     ("dsc|join", Plan::Join { workers: 1 }),
     ("dsc|evidence", Plan::Evidence { workers: 1 }),
     ("dsc|join|--workers|1", Plan::Join { workers: 1 }),
@@ -35,10 +35,11 @@ static PLANS: [(&str, Plan); 20] = [
     ("dsc|encode|--dots=20", Plan::Encode { long: false }),
     ("dsc|encode|--dots|200", Plan::Encode { long: true }),
     ("dsc|encode|--dots=200", Plan::Encode { long: true }),
+    ("dsc|sentences", Plan::Sentences),
 ];
 
 /// Word lists that are no plan.
-static REFUSED: [&str; 55] = [
+static REFUSED: [&str; 59] = [
     // No command, or none that there is.
     "dsc",
     "",
@@ -49,7 +50,6 @@ static REFUSED: [&str; 55] = [
     "dsc|joi",
     "dsc|joins",
     "dsc| join",
-    "dsc|sentences",
     "dsc|replay",
     "dsc|make|7",
     // Help and version are no plans.
@@ -100,6 +100,11 @@ static REFUSED: [&str; 55] = [
     "dsc|encode|--workers=2",
     "dsc|join|--dots=20",
     "dsc|encode|20",
+    "dsc|sentences|--dots=20",
+    "dsc|sentences|sentences",
+    "dsc|sentences|-h",
+    "dsc|sentences|--",
+    "dsc|sentences|",
 ];
 
 #[test]

@@ -2,10 +2,11 @@
 use Rattle.std.specs.Prelude.{◌≡◌, Option, codes}
 use Rattle.dsc_words.specs.Words.{Text, IsDots, IsWorkers}
 use Rattle.dsc_words.specs.declared.plans.Plan.{Plan}
-use Rattle.dsc_words.specs.declared.plans.Plan.TheVariants.{Join, Evidence, Encode}
+use Rattle.dsc_words.specs.declared.plans.Plan.TheVariants.{Join, Evidence, Encode, Sentences}
 
 -- the command's word and the text that its option was given ask for the plan
 abbrev pub IsAsked : Text → Option Text → Plan → Type 0
 IsAsked command given (Join n) = (command ≡ codes "join") × IsWorkers given n
 IsAsked command given (Evidence n) = (command ≡ codes "evidence") × IsWorkers given n
 IsAsked command given (Encode long) = (command ≡ codes "encode") × IsDots given long
+IsAsked command given Sentences = command ≡ codes "sentences"

@@ -1,0 +1,77 @@
+-- what the command has told, one line further
+use Rattle.std.proofs.Common.{◌≡◌, ℕ, Bool, true, false, not, ◌&&◌, ◌||◌, if◌then◌else◌, List, [], ◌∷◌, ◌++◌, flat_map, refl, sym, ap, subst, ◌∙◌, append-nil, append_assoc}
+use Rattle.std.specs.List.{list_all}
+use Rattle.std.proofs.lemmas.Grind.{flat_map-append}
+use Rattle.line_engine.specs.Lines.{Lines}
+use Rattle.call_values.specs.declared.calls.Call.{Call}
+use Rattle.slot_join.specs.declared.joined.Extra.{Extra}
+use Rattle.dsc_files.specs.CallLine.{nothing, call}
+use Rattle.dsc_files.specs.SentenceLine.{SentenceLine, said, sentence, IsSentenceLine}
+use Rattle.dsc_sentences.specs.CallSentences.{sentences_of}
+use Rattle.dsc_sentences.specs.Verdicts.{verdict_of}
+use Rattle.sentence_files.specs.Telling.{AreSentenceLines, expansion_in, is_accepted, line_text, is_well}
+use Rattle.sentence_files.specs.inside.Progress.{HasTold}
+
+pub none_told : HasTold false [] []
+none_told = record { said = []; are_lines = tt; text_is = refl; well_is = refl }
+
+are_more : (all : List SentenceLine) (lines : Lines) (w : SentenceLine) (text : List ℕ) → AreSentenceLines all lines → IsSentenceLine w text → AreSentenceLines (all ++ w ∷ []) (lines ++ text ∷ [])
+are_more [] [] w text are is = (is, tt)
+are_more [] (t ∷ lines) w text are is = absurd are
+are_more (s ∷ all) [] w text are is = absurd are
+are_more (s ∷ all) (t ∷ lines) w text are is = (are.0, are_more all lines w text are.1 is)
+
+well_more : (all : List SentenceLine) (w : SentenceLine) → list_all is_well (all ++ w ∷ []) ≡ (list_all is_well all && is_well w)
+well_more [] w = last (is_well w)
+  where
+    last : (b : Bool) → (b && true) ≡ b
+    last true = refl
+    last false = refl
+well_more (s ∷ all) w = ap (λ (b : Bool). is_well s && b) (well_more all w) ∙ sym (grouped (is_well s) (list_all is_well all) (is_well w))
+  where
+    grouped : (a b c : Bool) → ((a && b) && c) ≡ (a && (b && c))
+    grouped true b c = refl
+    grouped false b c = refl
+
+-- a line more, which gives this
+pub more_told : (refused : Bool) (lines : Lines) (text line : List ℕ) (w : SentenceLine) → HasTold refused lines text → IsSentenceLine w line
+    → HasTold (refused || not (is_well w)) (lines ++ line ∷ []) (text ++ line_text w)
+more_told refused lines text line w h is = record {
+  said = h.said ++ w ∷ [];
+  are_lines = are_more h.said lines w line h.are_lines is;
+  text_is =
+      ap (λ (t : List ℕ). t ++ line_text w) h.text_is
+      ∙ ap (λ (t : List ℕ). flat_map line_text h.said ++ t) (sym (append-nil (line_text w)))
+      ∙ sym (flat_map-append line_text h.said (w ∷ []));
+  well_is = well_more h.said w ∙ ap (λ (b : Bool). b && is_well w) h.well_is ∙ both refused (is_well w);
+}
+  where
+    both : (a b : Bool) → (not a && b) ≡ not (a || not b)
+    both true b = refl
+    both false true = refl
+    both false false = refl
+
+-- a line that is well leaves the flag
+pub well_told : (refused : Bool) (lines : Lines) (text line : List ℕ) (w : SentenceLine) → is_well w ≡ true → HasTold refused lines text → IsSentenceLine w line
+    → HasTold refused (lines ++ line ∷ []) (text ++ line_text w)
+well_told refused lines text line w well h is =
+    subst (λ (b : Bool). HasTold b (lines ++ line ∷ []) (text ++ line_text w)) (ap (λ (b : Bool). refused || not b) well ∙ same refused) (more_told refused lines text line w h is)
+  where
+    same : (b : Bool) → (b || false) ≡ b
+    same true = refl
+    same false = refl
+
+pub nothing_told : (refused : Bool) (lines : Lines) (text line : List ℕ) → HasTold refused lines text → IsSentenceLine (said nothing) line → HasTold refused (lines ++ line ∷ []) text
+unfolding line_text is_well
+nothing_told refused lines text line h is =
+    subst (λ (t : List ℕ). HasTold refused (lines ++ line ∷ []) t) (append-nil text) (well_told refused lines text line (said nothing) refl h is)
+
+pub call_told : (refused : Bool) (lines : Lines) (text line : List ℕ) (c : Call) (extra : Extra) → HasTold refused lines text → IsSentenceLine (said (call c extra)) line
+    → HasTold refused (lines ++ line ∷ []) (text ++ sentences_of c (expansion_in extra))
+unfolding line_text is_well
+call_told refused lines text line c extra h is = well_told refused lines text line (said (call c extra)) refl h is
+
+pub sentence_told : (refused : Bool) (lines : Lines) (text line : List ℕ) → HasTold refused lines text → IsSentenceLine (sentence line) line
+    → HasTold (refused || not (is_accepted (verdict_of line))) (lines ++ line ∷ []) (text ++ line_text (sentence line))
+unfolding is_well
+sentence_told refused lines text line h is = more_told refused lines text line (sentence line) h is

@@ -1,0 +1,65 @@
+-- What `sentences` writes: this project's profile.
+use Rattle.std.specs.Prelude.{◌≡◌, ℕ, Bool, true, false, if◌then◌else◌, Option, Some, None, List, [], ◌∷◌, ◌++◌}
+use Rattle.std.specs.List.{list_all, flat_map}
+use Rattle.expansion.specs.declared.values.Sets.{Sets}
+use Rattle.slot_join.specs.declared.joined.Extra.{Extra}
+use Rattle.slot_join.specs.declared.joined.Extra.TheVariants.{Absent, Whole, Broken}
+use Rattle.line_grammar.specs.Columns.{IsColumn}
+use Rattle.line_engine.specs.Lines.{Lines}
+use Rattle.line_engine.specs.Meaning.{Meaning}
+use Rattle.dsc_files.specs.CallLine.{CallLine, nothing, call}
+use Rattle.dsc_files.specs.SentenceLine.{SentenceLine, said, sentence, IsSentenceLine}
+use Rattle.dsc_sentences.specs.declared.verdicts.Verdict.{Verdict}
+use Rattle.dsc_sentences.specs.declared.verdicts.Verdict.TheVariants.{Accepted, Refused}
+use Rattle.dsc_sentences.specs.CallSentences.{sentences_of}
+use Rattle.dsc_sentences.specs.Verdicts.{verdict_of, verdict_text}
+
+-- the lines say these, one by one
+abbrev pub AreSentenceLines : List SentenceLine → Lines → Type 0
+AreSentenceLines [] [] = Unit {0}
+AreSentenceLines [] (text ∷ lines) = ⊥
+AreSentenceLines (line ∷ all) [] = ⊥
+AreSentenceLines (line ∷ all) (text ∷ lines) = IsSentenceLine line text × AreSentenceLines all lines
+
+-- the expansion behind a call, where one is there
+abbrev pub expansion_in : Extra → Option Sets
+expansion_in Absent = None
+expansion_in (Whole x) = Some x
+expansion_in (Broken n) = None
+
+abbrev pub is_accepted : Verdict → Bool
+is_accepted Accepted = true
+is_accepted (Refused refusal) = false
+
+-- what a line gives: nothing; the sentences of a call, each with CR and LF; or the verdict on a sentence, with LF
+unfoldable pub line_text : SentenceLine → List ℕ
+line_text (said nothing) = []
+line_text (said (call c extra)) = sentences_of c (expansion_in extra)
+line_text (sentence bytes) = verdict_text (verdict_of bytes) ++ 10 ∷ []
+
+-- a line is no sentence that is refused
+unfoldable pub is_well : SentenceLine → Bool
+is_well (said line) = true
+is_well (sentence bytes) = is_accepted (verdict_of bytes)
+
+-- what these lines give, one behind the other
+pub record IsTold (lines : Lines) (text : List ℕ) : Type 0 where
+  pub said : List SentenceLine
+  pub are_lines : AreSentenceLines said lines
+  pub text_is : text ≡ flat_map line_text said
+
+-- an input of these lines has this text and status: 1 where a sentence is refused
+pub record EndsSo (lines : Lines) (text : List ℕ) (status : ℕ) : Type 0 where
+  pub said : List SentenceLine
+  pub are_lines : AreSentenceLines said lines
+  pub text_is : text ≡ flat_map line_text said
+  pub status_is : status ≡ (if list_all is_well said then 0 else 1)
+
+-- each line is told of as soon as it is read
+abbrev pub sentences_meaning : Meaning
+sentences_meaning = record {
+  IsIllFormed = λ earlier text n. IsColumn IsSentenceLine text n;
+  IsOverfull = λ earlier text. ⊥;
+  Gives = IsTold;
+  Ends = EndsSo;
+}
