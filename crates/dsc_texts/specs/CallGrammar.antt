@@ -98,9 +98,13 @@ casualty rest =
     labelled (codes " nature=") nature (
     labelled (codes " pos=") position (labelled (codes " time=") time (labelled (codes " then=") comm rest)))
 
+-- the identity of a ship in distress, and its fields as a casualty
+abbrev pub ship_in_distress : Grammar → Grammar
+ship_in_distress rest = labelled (codes " casualty=") identity (casualty rest)
+
 -- the sender, and a casualty that is another ship
 abbrev pub distress : Grammar → Grammar
-distress rest = from (labelled (codes " casualty=") identity (casualty rest))
+distress rest = from (ship_in_distress rest)
 
 -- the category and the sender
 abbrev pub sender : Grammar → Grammar

@@ -56,9 +56,13 @@ address_text (to.One mmsi) = codes "one:" ++ digits 9 mmsi
 abbrev pub casualty_parts : Casualty → Parts → Parts
 casualty_parts c rest = part (digits 3 c.nature) (part (position_text c.position) (part (time_text c.time) (part (digits 3 c.comm) rest)))
 
+-- the identity of a ship in distress, and its fields as a casualty
+abbrev pub ship_in_distress_parts : Casualty → Parts → Parts
+ship_in_distress_parts c rest = part (digits 9 c.mmsi) (casualty_parts c rest)
+
 -- the sender, and a casualty that is another ship
 abbrev pub distress_parts : ℕ → Casualty → Parts → Parts
-distress_parts from c rest = part (digits 9 from) (part (digits 9 c.mmsi) (casualty_parts c rest))
+distress_parts from c rest = part (digits 9 from) (ship_in_distress_parts c rest)
 
 -- the category and the sender
 abbrev pub sender_parts : Category → ℕ → Parts → Parts

@@ -39,7 +39,7 @@ pub fn append_reported<const N: usize>(out: &mut ArrayVec<u8, N>, call: &Call, e
 
 /// Appends a call's text, which takes at most 111 bytes.
 #[tactic(auto, unfolding(crate::specs::CallParts::call_text))]
-fn append_call<const N: usize>(out: &mut ArrayVec<u8, N>, call: &Call)
+pub fn append_call<const N: usize>(out: &mut ArrayVec<u8, N>, call: &Call)
     requires { array_vec_len out.old + 111 ≤ N }
     ensures items { out.new.items ≡ out.old.items ++ call_text call.now }
     ensures len { array_vec_len out.new ≤ array_vec_len out.old + 111 }

@@ -16,12 +16,14 @@ mod tails;
 mod values;
 
 pub use answers::{put_answer, put_answer_line};
-pub use calls::put_call;
+pub use calls::{append_call, put_call};
 pub use laws::{
     bare_call_texts_are_read, call_texts_are_read, expansions_are_refused_at_their_blank,
     texts_tell_calls_apart,
 };
+pub use pieces::append_digits;
 pub use reading::{read_bare_call, read_call};
+pub use values::append_ship_in_distress;
 
 #[cfg(test)]
 mod tests;

@@ -3,7 +3,7 @@ ghost use Rattle.arrayvec.specs.ArrayVec.{array_vec_len};
 ghost use Rattle.line_grammar.specs.Shapes.{digits};
 ghost use Rattle.line_grammar.specs.Grammar.{finish, none, part, written};
 ghost use Rattle.dsc_texts.specs.CallGrammar as grammar;
-ghost use Rattle.dsc_texts.specs.CallParts.{position_text, time_text, area_text, frequency_text, address_text, casualty_parts, distress_parts, sender_parts, frequencies_parts, message_parts, request_parts, end_parts};
+ghost use Rattle.dsc_texts.specs.CallParts.{position_text, time_text, area_text, frequency_text, address_text, casualty_parts, ship_in_distress_parts, distress_parts, sender_parts, frequencies_parts, message_parts, request_parts, end_parts};
 
 use crate::pieces::append_digits;
 use arrayvec::ArrayVec;
@@ -129,6 +129,17 @@ pub fn append_from<const N: usize>(out: &mut ArrayVec<u8, N>, from: &Mmsi)
     append_digits(out, 9, u64::from(from.number()));
 }
 
+/// Appends a ship in distress, in 64 bytes: ` casualty=`, its identity, nature of distress, position, time and communication.
+pub fn append_ship_in_distress<const N: usize>(out: &mut ArrayVec<u8, N>, casualty: &Casualty)
+    requires { array_vec_len out.old + 64 ≤ N }
+    ensures items { out.new.items ≡ out.old.items ++ written (grammar.ship_in_distress finish) (ship_in_distress_parts casualty.now none) }
+    ensures len { array_vec_len out.new ≡ array_vec_len out.old + 64 }
+{
+    append(out, b" casualty=");
+    append_digits(out, 9, u64::from(casualty.mmsi.number()));
+    append_casualty(out, casualty);
+}
+
 /// Appends a sender and a casualty that is another ship.
 pub fn append_distress<const N: usize>(out: &mut ArrayVec<u8, N>, from: &Mmsi, casualty: &Casualty)
     requires { array_vec_len out.old + 79 ≤ N }
@@ -136,9 +147,7 @@ pub fn append_distress<const N: usize>(out: &mut ArrayVec<u8, N>, from: &Mmsi, c
     ensures len { array_vec_len out.new ≡ array_vec_len out.old + 79 }
 {
     append_from(out, from);
-    append(out, b" casualty=");
-    append_digits(out, 9, u64::from(casualty.mmsi.number()));
-    append_casualty(out, casualty);
+    append_ship_in_distress(out, casualty);
 }
 
 /// Appends a category and a sender.

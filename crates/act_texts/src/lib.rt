@@ -1,0 +1,12 @@
+//! Texts of what stations do and refuse: the lines that a replay writes at its moments.
+#![tactic(auto)]
+
+mod acts;
+mod moments;
+mod refusals;
+
+pub use acts::put_act;
+pub use refusals::put_refused;
+
+#[cfg(test)]
+mod tests;
