@@ -1,0 +1,6 @@
+pub mod Said
+pub mod HeardGroups
+pub mod Happenings
+pub mod Output
+pub mod Meaning
+pub mod inside

@@ -1,0 +1,51 @@
+-- What the lines of a traffic file say so far: this project's profile.
+use Rattle.std.specs.Prelude.{◌≡◌, ℕ, ◌+◌, List, [], ◌∷◌, ◌++◌, length}
+use Rattle.line_engine.specs.Lines.{Lines}
+use Rattle.traffic_lines.specs.declared.lines.Point.{Point}
+use Rattle.traffic_lines.specs.declared.lines.Point.TheVariants as point
+use Rattle.traffic_lines.specs.declared.lines.TrafficLine.TheVariants.{Ship, Base, Group, Event}
+use Rattle.dsc_files.specs.JoinLine.{nothing, reception, evidence}
+use Rattle.dsc_files.specs.PointLine.{PointLine, joined, traffic, IsPointLine}
+use Rattle.ship_station.specs.ShipRules.{Identities}
+
+-- what lines said, the newest first
+abbrev pub Said : Type 0
+Said = List PointLine
+
+-- the ship that a line names, and 0 where none does
+abbrev pub own_of : Said → ℕ
+own_of [] = 0
+own_of (traffic (Ship mmsi) ∷ earlier) = mmsi
+own_of (line ∷ earlier) = own_of earlier
+
+-- the second that moments count from, and 0 where no line names it
+abbrev pub base_of : Said → ℕ
+base_of [] = 0
+base_of (traffic (Base second) ∷ earlier) = second
+base_of (line ∷ earlier) = base_of earlier
+
+-- the ship's groups, in the order of their lines
+abbrev pub groups_of : Said → List ℕ
+groups_of [] = []
+groups_of (traffic (Group mmsi) ∷ earlier) = groups_of earlier ++ mmsi ∷ []
+groups_of (line ∷ earlier) = groups_of earlier
+
+-- the identities that the ship answers to
+abbrev pub identities_of : Said → Identities
+identities_of said = record { own = own_of said; groups = groups_of said }
+
+-- where the next line stands: the ship first, then the base, then groups, and then all others; empty lines and comments stand anywhere
+abbrev pub point_of : Said → Point
+point_of [] = point.Station
+point_of (joined nothing ∷ earlier) = point_of earlier
+point_of (joined (reception group e) ∷ earlier) = point.Ship
+point_of (joined (evidence group pairs) ∷ earlier) = point.Ship
+point_of (traffic (Ship mmsi) ∷ earlier) = point.Base
+point_of (traffic (Base second) ∷ earlier) = point.Groups 0
+point_of (traffic (Group mmsi) ∷ earlier) = point.Groups (length (groups_of earlier) + 1)
+point_of (traffic (Event at what) ∷ earlier) = point.Ship
+
+-- the lines say this, each of them at the point behind the lines before it
+abbrev pub AreSaid : Said → Lines → Type 0
+AreSaid [] lines = lines ≡ []
+AreSaid (line ∷ earlier) lines = (before : Lines) × (text : List ℕ) × (lines ≡ before ++ text ∷ []) × IsPointLine (point_of earlier) line text × AreSaid earlier before

@@ -1,0 +1,187 @@
+ghost use Rattle.std.specs.Prelude.{◌≡◌, ◌⊎◌, ◌∷◌, ◌++◌, ◌≤◌, ◌<◌, ℕ, List, [], length, OnOk, IfErr};
+ghost use Rattle.line_engine.specs.Commands.{KeepsText};
+ghost use Rattle.dsc_files.specs.PointLine.{PointLine, joined, traffic};
+ghost use Rattle.dsc_files.specs.JoinLine.{JoinLine};
+ghost use Rattle.dsc_files.specs.Lines.{SaysAtPoint};
+ghost use Rattle.traffic_lines.specs.declared.lines.Point.TheVariants as At;
+ghost use Rattle.traffic_lines.specs.declared.lines.TrafficLine.TheVariants as station;
+ghost use Rattle.join_groups.specs.Meanings.{BringsTooMany};
+ghost use Rattle.traffic_replay.specs.Said.{Said};
+ghost use Rattle.traffic_replay.specs.HeardGroups.{of_receivers};
+ghost use Rattle.traffic_replay.specs.Meaning.{replay_meaning};
+ghost use Rattle.traffic_replay.specs.inside.Progress.{Keeps, StandsFor, IsBeforeEvents, IsReady, IsShown, BringsGroup};
+ghost use Rattle.traffic_replay.specs.inside.Gives.{gives_text};
+
+use crate::heard::{HeardGroups, shown_by};
+use crate::outcomes::outcome;
+use crate::steps::{append_unreported, step};
+use call_values::Mmsi;
+use dsc_files::{EventLine, FileKind, Line, LineFault, Point, Status, line_of, one_point_line};
+use line_engine::{Command, Refusal};
+use ship_station::Ship;
+use slot_evidence::Sheet;
+use std::alloc::{AllocError, Global};
+
+/// The replay of a traffic file: the station that its lines name goes through the events that they give it, and writes what it
+/// does at each.
+#[derive(Drop)]
+pub struct Replay {
+    alloc: Global,
+    pub(crate) point: Point,
+    /// The ship's identity, and 0 before its line.
+    pub(crate) own: Mmsi,
+    /// The second that moments count from.
+    pub(crate) base: u64,
+    pub(crate) groups: Vec<Mmsi>,
+    pub(crate) ship: Ship,
+    pub(crate) heard: HeardGroups,
+    /// No event was refused, and each heard group was reported.
+    pub(crate) is_well: bool,
+}
+
+impl Replay {
+    /// The replay before its first line.
+    pub fn new(alloc: Global) -> Replay
+        ensures { StandsFor result [] [] }
+    {
+        let nobody = Mmsi::new(0).unwrap();
+        Replay {
+            alloc,
+            point: Point::Station,
+            own: nobody,
+            base: 0,
+            groups: Vec::new(alloc),
+            ship: Ship::new(nobody, &[]),
+            heard: HeardGroups::new(alloc),
+            is_well: true,
+        }
+    }
+
+    /// Takes a line that was read.
+    fn take_read(&mut self, read: &Line, out: &mut Vec<u8>) -> Result<(), Refusal>
+        requires { IsReady self.old read.now }
+        ensures ok { OnOk result ((said : Said) (says : PointLine) (text : List ℕ) → Keeps self.old said (text ++ out.old.items) → SaysAtPoint says read.now
+            → (BringsGroup said says → ⊥) × Keeps self.new (says ∷ said) (text ++ out.new.items)) }
+        ensures err { IfErr result (λ refusal. (refusal ≡ Refusal.Memory) ⊎ ((said : Said) (says : PointLine) (text : List ℕ)
+            → Keeps self.old said (text ++ out.old.items) → SaysAtPoint says read.now → (refusal ≡ Refusal.TooManyGroups) × BringsGroup said says)) }
+        ensures unsaid { IfErr result (λ refusal. KeepsText refusal out.old.items out.new.items) }
+    {
+        match read {
+            Line::Ship(mmsi) => {
+                self.name_ship(*mmsi);
+                Ok(())
+            }
+            Line::Base(second) => {
+                self.name_base(*second);
+                Ok(())
+            }
+            Line::Group(mmsi) => self.name_group(*mmsi),
+            Line::Reception { group, elements } => self.meet(*group, &shown_by(elements)),
+            Line::Evidence { group, sheet } => self.meet(*group, sheet),
+            Line::Event { at, what } => {
+                self.happen(*at, what, out)?;
+                Ok(())
+            }
+            Line::Nothing | Line::Call { .. } | Line::Sentence => Ok(()),
+        }
+    }
+
+    /// The station is this ship.
+    fn name_ship(&mut self, mmsi: Mmsi)
+        requires first { self.old.point ≡ At.Station }
+        requires most { length self.old.groups.items ≤ 16 }
+        ensures { (said : Said) (text : List ℕ) → Keeps self.old said text → Keeps self.new (traffic (station.Ship mmsi) ∷ said) text }
+    {
+        self.own = mmsi;
+        self.ship = Ship::new(mmsi, &self.groups);
+        self.point = Point::Base;
+    }
+
+    /// Moments count from this second.
+    fn name_base(&mut self, second: u64)
+        requires next { self.old.point ≡ At.Base }
+        requires within { second ≤ 9999999999 }
+        ensures { (said : Said) (text : List ℕ) → Keeps self.old said text → Keeps self.new (traffic (station.Base second) ∷ said) text }
+    {
+        self.base = second;
+        self.point = Point::Groups { held: 0 };
+    }
+
+    /// The ship belongs to this group too.
+    fn name_group(&mut self, mmsi: Mmsi) -> Result<(), Refusal>
+        requires early { IsBeforeEvents self.old.point }
+        requires few { length self.old.groups.items < 16 }
+        ensures ok { OnOk result ((said : Said) (text : List ℕ) → Keeps self.old said text → Keeps self.new (traffic (station.Group mmsi) ∷ said) text) }
+        ensures err { IfErr result (λ refusal. refusal ≡ Refusal.Memory) }
+    {
+        self.groups.push(mmsi)?;
+        self.ship = Ship::new(self.own, &self.groups);
+        self.point = Point::Groups {
+            held: self.groups.len() as u8,
+        };
+        Ok(())
+    }
+
+    /// Takes in what a line showed of its group.
+    fn meet(&mut self, group: u32, shown: &Sheet) -> Result<(), Refusal>
+        ensures ok { OnOk result ((said : Said) (line : JoinLine) (text : List ℕ) → Keeps self.old said text → IsShown line group shown.now
+            → (BringsTooMany (of_receivers said) line → ⊥) × Keeps self.new (joined line ∷ said) text) }
+        ensures err { IfErr result (λ refusal. (refusal ≡ Refusal.Memory) ⊎ ((said : Said) (line : JoinLine) (text : List ℕ) → Keeps self.old said text
+            → IsShown line group shown.now → (refusal ≡ Refusal.TooManyGroups) × BringsTooMany (of_receivers said) line)) }
+    {
+        match self.heard.meet(group, shown) {
+            Ok(()) => {
+                self.point = Point::Ship;
+                Ok(())
+            }
+            Err(refusal) => Err(refusal),
+        }
+    }
+
+    /// Goes through what happens at a moment, and appends what is written of it.
+    fn happen(&mut self, at: u32, what: &EventLine, out: &mut Vec<u8>) -> Result<(), AllocError>
+        requires { self.old.base ≤ 9999999999 }
+        ensures { OnOk result ((said : Said) (text : List ℕ) → Keeps self.old said (text ++ out.old.items)
+            → Keeps self.new (traffic (station.Event at what.now) ∷ said) (text ++ out.new.items)) }
+    {
+        let came = outcome(&mut self.heard, self.base, at, what);
+        self.point = Point::Ship;
+        match came {
+            Ok(event) => {
+                let accepted = step(&mut self.ship, at, event, out)?;
+                self.is_well &= accepted;
+                Ok(())
+            }
+            Err(unreported) => {
+                append_unreported(out, at, &unreported)?;
+                self.is_well = false;
+                Ok(())
+            }
+        }
+    }
+}
+
+impl Command for Replay {
+    ghost meaning = { replay_meaning };
+
+    ghost stands_for = { StandsFor };
+
+    fn take(&mut self, line: &[u8], out: &mut Vec<u8>) -> Result<(), Refusal> {
+        one_point_line();
+        match line_of(self.alloc, FileKind::Traffic(self.point), line) {
+            Ok(read) => self.take_read(&read, out),
+            Err(LineFault::Column(n)) => Err(Refusal::Column(n)),
+            Err(LineFault::NoMemory) => Err(Refusal::Memory),
+        }
+    }
+
+    fn finish(&mut self, _out: &mut Vec<u8>) -> Result<Status, AllocError> {
+        if self.is_well {
+            Ok(Status::new(0))
+        } else {
+            Ok(Status::new(1))
+        }
+    }
+
+    ghost gives = { gives_text };
+}

@@ -1,0 +1,16 @@
+//! Replays of traffic files: a ship's station, the events that the lines of a file give it, and what it does at them.
+#![tactic(auto)]
+
+mod command;
+mod heard;
+mod outcomes;
+mod replaying;
+mod steps;
+
+pub use act_texts::{put_act, put_refused};
+pub use civil_time::civil_minute;
+pub use command::Replay;
+pub use replaying::replay;
+
+#[cfg(test)]
+mod tests;
