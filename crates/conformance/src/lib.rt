@@ -15,6 +15,8 @@ mod joins;
 #[cfg(test)]
 mod receptions;
 #[cfg(test)]
+mod replays;
+#[cfg(test)]
 mod sentences;
 #[cfg(test)]
 mod sheets;

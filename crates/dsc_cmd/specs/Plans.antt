@@ -3,20 +3,22 @@ use Rattle.std.specs.Prelude.{ℕ, List, Option, codes}
 use Rattle.line_engine.specs.Meaning.{Meaning, IsQuiet}
 use Rattle.line_engine.specs.Endings.{WritesFront, CutsOff, TellsFront}
 use Rattle.dsc_words.specs.declared.plans.Plan.{Plan}
-use Rattle.dsc_words.specs.declared.plans.Plan.TheVariants.{Join, Evidence, Encode, Sentences}
+use Rattle.dsc_words.specs.declared.plans.Plan.TheVariants.{Join, Evidence, Encode, Sentences, Replay}
 use Rattle.dsc_words.specs.Words.{IsPlan}
 use Rattle.join_groups.specs.Output.{TellsAnswer, TellsEvidence}
 use Rattle.join_groups.specs.Meanings.{groups_meaning}
 use Rattle.encode_calls.specs.Encoding.{encode_meaning}
 use Rattle.sentence_files.specs.Telling.{sentences_meaning}
+use Rattle.traffic_replay.specs.Meaning.{replay_meaning}
 
 -- what the lines of each command's input mean: of receptions and evidence, the answer of each group, or its ends; of calls, their transmissions;
--- of calls and sentences, the sentences of the calls and verdicts
+-- of calls and sentences, the sentences of the calls and verdicts; of a traffic file, what its station does
 abbrev pub meaning_of : Plan → Meaning
 meaning_of (Join workers) = groups_meaning TellsAnswer
 meaning_of (Evidence workers) = groups_meaning TellsEvidence
 meaning_of (Encode long) = encode_meaning long
 meaning_of Sentences = sentences_meaning
+meaning_of (Replay workers) = replay_meaning
 
 -- the commands that write nothing before their input's end
 abbrev pub IsQuietPlan : Plan → Type 0

@@ -1,7 +1,7 @@
 ghost use Rattle.std.specs.Prelude.{◌≡◌, ◌⊎◌, ◌≤◌, ◌≢◌, ℕ, map, string_bytes, OnOk, OnErr};
 ghost use Rattle.dsc_streams.specs.Streams.{Rises, Told};
 ghost use Rattle.line_engine.specs.Endings.{IsFinished, IsOfFault, Writes, WritesFront, TellsWhole, TellsFault, TellsSoFar, TellsFront, CutsOff, TakesAtMost};
-ghost use Rattle.dsc_words.specs.Words.{IsPlan};
+ghost use Rattle.dsc_words.specs.Words.{IsInRange, IsPlan};
 ghost use Rattle.dsc_words.specs.declared.plans.Plan.TheVariants.{Join as joins};
 ghost use Rattle.dsc_words.specs.declared.plans.Plan.{Plan as Planned};
 ghost use Rattle.dsc_cmd.specs.Plans.{meaning_of, words_refused, IsQuietPlan, IsUnplanned, CutsOffWords, CutsOffPlan, TellsPlanFront};
@@ -19,6 +19,7 @@ use slot_join::{
 };
 use std::alloc::Global;
 use std::thread::Threads;
+use traffic_replay::replay;
 
 /// Writes a text and flushes the sink.
 fn write_flushed<K: Sink>(sink: &mut K, text: &[u8]) -> Result<(), Failed>
@@ -48,7 +49,15 @@ fn refuse<K: Sink>(sink: &mut K) -> Status
 }
 
 /// Runs the command of a plan.
-fn execute<S: Source, K: Sink>(alloc: Global, plan: Plan, source: &mut S, sink: &mut K) -> Status
+fn execute<R: Threads + Sync, S: Source, K: Sink, G: Gate>(
+    rt: &R,
+    alloc: Global,
+    plan: Plan,
+    source: &mut S,
+    sink: &mut K,
+    gate: &G,
+) -> Status
+    requires { IsInRange plan }
     ensures whole { IsFinished result → TellsWhole (meaning_of plan) (S.left source.old) (S.left source.new) (K.written sink.old) (K.written sink.new) (K.flushed sink.new) result }
     ensures faulty { IsOfFault result → TellsFault (meaning_of plan) (S.left source.old) (S.left source.new) (K.written sink.old) (K.written sink.new) (K.flushed sink.new) result }
     ensures stopped { result ≡ 4 → TellsSoFar (meaning_of plan) (S.left source.old) (S.left source.new) (K.written sink.old) (K.written sink.new) }
@@ -69,6 +78,7 @@ fn execute<S: Source, K: Sink>(alloc: Global, plan: Plan, source: &mut S, sink: 
         Plan::Encode { long: false } => drive(alloc, Encode::new(alloc, ShortDots), source, sink),
         Plan::Encode { long: true } => drive(alloc, Encode::new(alloc, LongDots), source, sink),
         Plan::Sentences => drive(alloc, Sentences::new(alloc), source, sink),
+        Plan::Replay { workers } => replay(rt, alloc, source, sink, u32::from(workers), gate),
     }
 }
 
@@ -81,13 +91,14 @@ fn execute<S: Source, K: Sink>(alloc: Global, plan: Plan, source: &mut S, sink: 
 /// | `evidence [--workers N]` | for each such group the line of evidence that stands for all its lines |
 /// | `encode [--dots D]` | for each line of a call the line of a reception that heard its whole transmission |
 /// | `sentences` | for each line of a call its DSC sentence, and the DSE sentence of its expansion; for each sentence a verdict |
+/// | `replay [--workers N]` | for each event line of a traffic file what the station does, or why it refuses the event |
 ///
 /// N is 1 to 64 and changes nothing yet. D is 20 or 200, and 20 where it isn't given.
 ///
 /// | Status | What it says |
 /// |---|---|
 /// | 0 | all was written: in `join` a call was reported of each group |
-/// | 1 | all was written, and some group has another answer; in `sentences` some sentence was refused |
+/// | 1 | all was written, and some group has another answer; in `sentences` some sentence was refused; in `replay` some event was refused, or some heard group has another answer |
 /// | 2 | the words are no command: nothing was read, and `dsc: words refused` was written |
 /// | 3 | a line is ill-formed, and the line of this first fault was written, as `dsc: line 3 column 7` |
 /// | 4 | the source failed: what the lines so far gave was written |
@@ -97,12 +108,12 @@ fn execute<S: Source, K: Sink>(alloc: Global, plan: Plan, source: &mut S, sink: 
 ///
 /// `join` and `evidence` write nothing before the end of their input. What the lines before a fault gave stands before its line.
 pub fn run<R: Threads + Sync, S: Source, K: Sink, G: Gate>(
-    _rt: &R,
+    rt: &R,
     alloc: Global,
     words: &[String],
     source: &mut S,
     sink: &mut K,
-    _gate: &G,
+    gate: &G,
 ) -> Status
     // Exactly what the lines of the whole input ask for, and its status: for `join` the answers that the facts of each group determine.
     ensures answered { (plan : Planned) → IsPlan (map string_bytes words.now) plan → IsFinished result
@@ -146,7 +157,7 @@ pub fn run<R: Threads + Sync, S: Source, K: Sink, G: Gate>(
             alike_facts_have_one_answer();
             sent_call_is_answered();
             intact_copies_report_the_call();
-            execute(alloc, plan, source, sink)
+            execute(rt, alloc, plan, source, sink, gate)
         }
         Err(PlanError::Refused) => refuse(sink),
         Err(PlanError::Memory) => Status::new(6),

@@ -15,7 +15,7 @@ use Rattle.dsc_words.specs.Words.{HasWorkers, IsDots, IsCommand, IsInRange, IsNu
 use Rattle.dsc_words.specs.inside.Asked.{IsAsked}
 use Rattle.dsc_words.specs.inside.CommandLine.{dsc, with_option}
 use Rattle.dsc_words.specs.declared.plans.Plan.{Plan}
-use Rattle.dsc_words.specs.declared.plans.Plan.TheVariants.{Join, Evidence, Encode, Sentences}
+use Rattle.dsc_words.specs.declared.plans.Plan.TheVariants.{Join, Evidence, Encode, Sentences, Replay}
 use Rattle.dsc_words.proofs.LongWords.{IsBare, IsName, none_is_some, same_text}
 use Rattle.dsc_words.proofs.Turns.{HasNoDashes}
 use Rattle.dsc_words.proofs.OptionTurns.{leaf}
@@ -187,6 +187,9 @@ has_join = record { undashed = refl; met = refl; fault = λ ws. refl; rows = λ 
 has_evidence : HasCommandWithWorkers (codes "evidence")
 has_evidence = record { undashed = refl; met = refl; fault = λ ws. refl; rows = λ ws. refl }
 
+has_replay : HasCommandWithWorkers (codes "replay")
+has_replay = record { undashed = refl; met = refl; fault = λ ws. refl; rows = λ ws. refl }
+
 has_encode : Has (codes "encode") (with_option (codes "encode") (codes "dots"))
 has_encode = record { undashed = refl; met = refl; fault = λ ws. refl; rows = λ ws. refl }
 
@@ -210,6 +213,7 @@ asked_is_plan words undashed passes found rows plan gives asked =
     go : (e : Enters words) → HasNoDashes e.rest → (plan : Plan) → IsAsked found (first_of (codes "number") rows) plan → IsCommand e.command e.rest plan
     go e behind (Join n) asked = with_workers (codes "join") has_join e behind n asked
     go e behind (Evidence n) asked = with_workers (codes "evidence") has_evidence e behind n asked
+    go e behind (Replay n) asked = with_workers (codes "replay") has_replay e behind n asked
     go e behind (Encode long) asked =
         let got = option_entered (codes "encode") (codes "dots") has_encode words e behind found rows gives asked.0 in
         (got.0, (got.1.0, got.1.1, subst (λ (g : Option Text). IsDots g long) got.1.2 asked.1))
@@ -229,6 +233,7 @@ plan_is_taken words plan is = subst (λ (ws : List Text). Taken ws plan) (sym is
     go : (word : Text) (ws : List Text) (plan : Plan) → IsCommand word ws plan → Taken (is.name ∷ word ∷ ws) plan
     go word ws (Join n) c = with_workers (codes "join") has_join (Join n) word ws n (λ given workers. (refl, workers)) c
     go word ws (Evidence n) c = with_workers (codes "evidence") has_evidence (Evidence n) word ws n (λ given workers. (refl, workers)) c
+    go word ws (Replay n) c = with_workers (codes "replay") has_replay (Replay n) word ws n (λ given workers. (refl, workers)) c
     go word ws (Encode long) (at, (given, words_are, dots)) =
         option_words_taken (codes "encode") (codes "dots") has_encode dots_name (Encode long) is.name word ws given at words_are (dots_bare given long dots) (refl, dots)
     go word ws Sentences (at, none) =
@@ -243,6 +248,7 @@ plan_in_range words plan is = go is.rest plan is.is_command
     go ws (Evidence n) c = workers_in_range ws n c.1
     go ws (Encode long) c = tt
     go ws Sentences c = tt
+    go ws (Replay n) c = workers_in_range ws n c.1
 
 -- the plan that a command and its option's text ask for, where they ask for one
 abbrev plan_at : Text → Option Text → Option Plan
@@ -250,13 +256,15 @@ plan_at name given =
     if bytes_eq name (codes "join") then Some (Join (workers_at given))
     else (if bytes_eq name (codes "evidence") then Some (Evidence (workers_at given))
     else (if bytes_eq name (codes "encode") then Some (Encode (long_at given))
-    else (if bytes_eq name (codes "sentences") then Some Sentences else None)))
+    else (if bytes_eq name (codes "sentences") then Some Sentences
+    else (if bytes_eq name (codes "replay") then Some (Replay (workers_at given)) else None))))
 
 asked_at : (name : Text) (given : Option Text) (plan : Plan) → IsAsked name given plan → plan_at name given ≡ Some plan
 asked_at name given (Join n) (is, workers) = ap (λ c. plan_at c given) is ∙ ap (λ k. Some (Join k)) (workers_are given n workers)
 asked_at name given (Evidence n) (is, workers) = ap (λ c. plan_at c given) is ∙ ap (λ k. Some (Evidence k)) (workers_are given n workers)
 asked_at name given (Encode long) (is, dots) = ap (λ c. plan_at c given) is ∙ ap (λ b. Some (Encode b)) (long_is_at given long dots)
 asked_at name given Sentences is = ap (λ c. plan_at c given) is
+asked_at name given (Replay n) (is, workers) = ap (λ c. plan_at c given) is ∙ ap (λ k. Some (Replay k)) (workers_are given n workers)
 
 pub plan_is_one : (words : List Text) (a b : Plan) → IsPlan words a → IsPlan words b → a ≡ b
 plan_is_one words a b left right =

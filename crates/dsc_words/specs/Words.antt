@@ -1,7 +1,7 @@
 -- The words of the command line: this project's profile.
 use Rattle.std.specs.Prelude.{◌≡◌, ◌⊎◌, ◌≤◌, ◌++◌, ◌∷◌, ℕ, List, [], Option, Some, None, codes, decimal, Bool, false, if◌then◌else◌}
 use Rattle.dsc_words.specs.declared.plans.Plan.{Plan}
-use Rattle.dsc_words.specs.declared.plans.Plan.TheVariants.{Join, Evidence, Encode, Sentences}
+use Rattle.dsc_words.specs.declared.plans.Plan.TheVariants.{Join, Evidence, Encode, Sentences, Replay}
 
 abbrev pub Text : Type 0
 Text = List ℕ
@@ -40,6 +40,7 @@ IsCommand command words (Join n) = (command ≡ codes "join") × HasWorkers word
 IsCommand command words (Evidence n) = (command ≡ codes "evidence") × HasWorkers words n
 IsCommand command words (Encode long) = (command ≡ codes "encode") × HasDots words long
 IsCommand command words Sentences = (command ≡ codes "sentences") × (words ≡ [])
+IsCommand command words (Replay n) = (command ≡ codes "replay") × HasWorkers words n
 
 -- the words are the program's name, a command, and the words of its option
 pub record IsPlan (words : List Text) (plan : Plan) : Type 0 where
@@ -55,3 +56,4 @@ IsInRange (Join n) = (1 ≤ n) × (n ≤ 64)
 IsInRange (Evidence n) = (1 ≤ n) × (n ≤ 64)
 IsInRange (Encode long) = Unit {0}
 IsInRange Sentences = Unit {0}
+IsInRange (Replay n) = (1 ≤ n) × (n ≤ 64)

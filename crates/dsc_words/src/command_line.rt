@@ -15,6 +15,7 @@ pub fn command_line<'a>(alloc: Global) -> Result<Command<'a>, AllocError>
     let program = program.subcommand(with_option(alloc, "evidence", "workers")?)?;
     let program = program.subcommand(with_option(alloc, "encode", "dots")?)?;
     let program = program.subcommand(Command::new(alloc, "sentences"))?;
+    let program = program.subcommand(with_option(alloc, "replay", "workers")?)?;
     Ok(program)
 }
 

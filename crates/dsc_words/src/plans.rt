@@ -15,6 +15,8 @@ pub enum Plan {
     Encode { long: bool },
     /// `sentences`: the sentences of calls, and verdicts on sentences.
     Sentences,
+    /// `replay [--workers N]`: what a station does at the events of a traffic file. 1 to 64 workers, 1 where none are given.
+    Replay { workers: u8 },
 }
 
 /// Why words gave no plan.

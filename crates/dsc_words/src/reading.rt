@@ -82,6 +82,9 @@ fn asked(command: &str, given: Option<&str>) -> Option<Plan>
             long: is_long(given)?,
         }),
         "sentences" => Some(Plan::Sentences),
+        "replay" => Some(Plan::Replay {
+            workers: workers(given)?,
+        }),
         _ => None,
     }
 }

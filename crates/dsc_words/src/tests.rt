@@ -12,7 +12,7 @@ fn words_of(alloc: Global, line: &str) -> Result<Vec<String>, AllocError> {
 }
 
 /// Word lists, and the plan that each is.
-static PLANS: [(&str, Plan); 21] = [
+static PLANS: [(&str, Plan); 23] = [
     ("dsc|join", Plan::Join { workers: 1 }),
     ("dsc|evidence", Plan::Evidence { workers: 1 }),
     ("dsc|join|--workers|1", Plan::Join { workers: 1 }),
@@ -36,6 +36,8 @@ static PLANS: [(&str, Plan); 21] = [
     ("dsc|encode|--dots|200", Plan::Encode { long: true }),
     ("dsc|encode|--dots=200", Plan::Encode { long: true }),
     ("dsc|sentences", Plan::Sentences),
+    ("dsc|replay", Plan::Replay { workers: 1 }),
+    ("dsc|replay|--workers=64", Plan::Replay { workers: 64 }),
 ];
 
 /// Word lists that are no plan.
@@ -50,7 +52,7 @@ static REFUSED: [&str; 59] = [
     "dsc|joi",
     "dsc|joins",
     "dsc| join",
-    "dsc|replay",
+    "dsc|replay|--workers|65",
     "dsc|make|7",
     // Help and version are no plans.
     "dsc|help",

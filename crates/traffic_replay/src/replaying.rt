@@ -1,5 +1,6 @@
 ghost use Rattle.std.specs.Prelude.{◌≡◌, ◌≢◌, ◌≤◌, ◌⊎◌};
 ghost use Rattle.dsc_streams.specs.Streams.{Rises, Told};
+ghost use Rattle.line_engine.specs.Meaning.{IsQuiet};
 ghost use Rattle.line_engine.specs.Endings.{IsFinished, IsOfFault, TakesAtMost, TellsWhole, TellsFault, TellsSoFar, CutsOff, TellsFront};
 ghost use Rattle.traffic_replay.specs.Meaning.{replay_meaning};
 
@@ -38,6 +39,9 @@ pub fn replay<R: Threads + Sync, S: Source, K: Sink, G: Gate>(
     ensures read_fault { result ≡ 4 → TellsSoFar replay_meaning (S.left source.old) (S.left source.new) (K.written sink.old) (K.written sink.new) }
     ensures write_fault { result ≡ 5 → CutsOff replay_meaning (S.left source.old) (S.left source.new) (K.written sink.old) (K.written sink.new) }
     ensures memory { result ≡ 6 → TellsFront replay_meaning (S.left source.old) (S.left source.new) (K.written sink.old) (K.written sink.new) }
+
+    // If nothing were given before the end, the sink would be left alone until then.
+    ensures quiet { IsQuiet replay_meaning → (result ≡ 4) ⊎ (result ≡ 6) → sink.new ≡ sink.old }
 
     // No more is read than the limits ask for.
     ensures bounded { TakesAtMost (S.left source.old) (S.left source.new) MOST_TAKEN }

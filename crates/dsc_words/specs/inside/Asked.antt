@@ -2,7 +2,7 @@
 use Rattle.std.specs.Prelude.{◌≡◌, Option, codes}
 use Rattle.dsc_words.specs.Words.{Text, IsDots, IsWorkers}
 use Rattle.dsc_words.specs.declared.plans.Plan.{Plan}
-use Rattle.dsc_words.specs.declared.plans.Plan.TheVariants.{Join, Evidence, Encode, Sentences}
+use Rattle.dsc_words.specs.declared.plans.Plan.TheVariants.{Join, Evidence, Encode, Sentences, Replay}
 
 -- the command's word and the text that its option was given ask for the plan
 abbrev pub IsAsked : Text → Option Text → Plan → Type 0
@@ -10,3 +10,4 @@ IsAsked command given (Join n) = (command ≡ codes "join") × IsWorkers given n
 IsAsked command given (Evidence n) = (command ≡ codes "evidence") × IsWorkers given n
 IsAsked command given (Encode long) = (command ≡ codes "encode") × IsDots given long
 IsAsked command given Sentences = command ≡ codes "sentences"
+IsAsked command given (Replay n) = (command ≡ codes "replay") × IsWorkers given n

@@ -1,5 +1,5 @@
 use Rattle.std.proofs.Common.{◌∙◌, ap, subst}
-use Rattle.dsc_words.specs.declared.plans.Plan.TheVariants.{Encode, Sentences}
+use Rattle.dsc_words.specs.declared.plans.Plan.TheVariants.{Encode, Sentences, Replay}
 use Rattle.dsc_cmd.specs.Plans.{IsQuietPlan}
 use Rattle.dsc_cmd.proofs.running.execute.Goals as goal
 
@@ -14,3 +14,7 @@ returns-in-Encode-false-clause-unwritten g c = λ quiet.
 pub returns-in-Sentences-clause-unwritten : goal.returns-in-Sentences-clause-unwritten
 returns-in-Sentences-clause-unwritten g c = λ quiet.
     c.drive-in-Sentences.ensures.quiet (subst IsQuietPlan c.in-Sentences.is quiet)
+
+pub returns-in-Replay-clause-unwritten : goal.returns-in-Replay-clause-unwritten
+returns-in-Replay-clause-unwritten g c = λ quiet.
+    c.replay.ensures.quiet (subst IsQuietPlan c.in-Replay.is quiet)

@@ -9,4 +9,5 @@ returns c =
     let with_evidence = c.in_ok-program-2.ensures.shape c.in_ok-with_option-2.ensures.local ∙ ap₂ with_subcommand with_join c.in_ok-with_option-2.ensures.shape in
     let with_encode = c.in_ok-program-3.ensures.shape c.in_ok-with_option-3.ensures.local ∙ ap₂ with_subcommand with_evidence c.in_ok-with_option-3.ensures.shape in
     let with_sentences = c.in_ok-program-4.ensures.shape c.new.ensures.local ∙ ap₂ with_subcommand with_encode (ap (λ (a : App). a.top) c.new.ensures.app) in
-    with_sentences
+    let with_replay = c.in_ok-program-5.ensures.shape c.in_ok-with_option-4.ensures.local ∙ ap₂ with_subcommand with_sentences c.in_ok-with_option-4.ensures.shape in
+    with_replay

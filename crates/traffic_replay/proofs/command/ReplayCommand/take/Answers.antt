@@ -27,7 +27,7 @@ returns-in-Ok-clause-taken c = map_ok c.take_read.result
     let says = c.in-Ok.ensures in
     let line = c.args.line.now in
     taken_behind c.one_point_line.ensures stands.said lines line says.0 stands.are_said (subst (λ (p : Point). IsPointLine p says.0 line) stands.keeps.point says.1.0)
-        (ok stands.said says.0 written stands.keeps says.1.1).0)
+    (ok stands.said says.0 written stands.keeps says.1.1).0)
     c.take_read.ensures.ok
 
 pub returns-in-Ok-clause-refused : goal.returns-in-Ok-clause-refused
@@ -39,6 +39,6 @@ returns-in-Ok-clause-refused c = map_err c.take_read.result
           let line = c.args.line.now in
           let brings = full stands.said says.0 written stands.keeps says.1.1 in
           subst (λ (r : Refusal). IsRefusedBehind replay_meaning lines line r) (sym brings.0)
-              (refused_behind c.one_point_line.ensures stands.said lines line says.0 stands.are_said (subst (λ (p : Point). IsPointLine p says.0 line) stands.keeps.point says.1.0) brings.1)
+          (refused_behind c.one_point_line.ensures stands.said lines line says.0 stands.are_said (subst (λ (p : Point). IsPointLine p says.0 line) stands.keeps.point says.1.0) brings.1)
     ])
     c.take_read.ensures.err
