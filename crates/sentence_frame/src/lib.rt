@@ -14,6 +14,4 @@ pub use fields::{
 };
 pub use frames::{LONGEST, fields_of, next_text};
 pub use refusals::SentenceRefusal;
-pub use writing::{
-    begun, close, hexadecimal, put, put_digits, put_number, put_perhaps_digits, put_perhaps_number,
-};
+pub use writing::{begun, close, hexadecimal, put, put_digits, put_number, put_perhaps_digits};

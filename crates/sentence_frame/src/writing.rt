@@ -51,18 +51,6 @@ pub fn put_number(out: &mut ArrayVec<u8, LONGEST>, width: usize, number: u32)
     append_number(out, width, number);
 }
 
-/// Appends a comma, and a number in so many digits where there is one.
-pub fn put_perhaps_number(out: &mut ArrayVec<u8, LONGEST>, width: usize, number: Option<u32>)
-    requires { array_vec_len out.old + width < 82 }
-    ensures items { out.new.items ≡ out.old.items ++ 44 ∷ perhaps_text (digits width) number }
-    ensures len { array_vec_len out.new ≤ array_vec_len out.old + 1 + width }
-{
-    append(out, b",");
-    if let Some(number) = number {
-        append_number(out, width, number);
-    }
-}
-
 /// Appends digits in decimal.
 fn append_digits(out: &mut ArrayVec<u8, LONGEST>, digits: &[u8])
     requires room { array_vec_len out.old + length digits.now ≤ 82 }
