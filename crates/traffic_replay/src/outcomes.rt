@@ -52,7 +52,10 @@ pub(crate) fn outcome(
     ensures kept { (said : Said) → KeepsGroups groups.old.sheets.entries said → KeepsGroups groups.new.sheets.entries (traffic (station.Event at what.now) ∷ said) }
 {
     match *what {
-        EventLine::Position(position) => Ok(ShipWhat::Position(position, time_at(base, at, &position))),
+        EventLine::Position(position) => Ok(ShipWhat::Position(
+            position,
+            time_at(base, at, &position),
+        )),
         EventLine::Delay(delay) => Ok(ShipWhat::Delay(delay)),
         EventLine::Alert(nature, comm) => Ok(ShipWhat::Alert(nature, comm)),
         EventLine::Cancel => Ok(ShipWhat::Cancel),

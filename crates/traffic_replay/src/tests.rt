@@ -99,9 +99,9 @@ fn replays(rt: HostRuntime) -> Result<(), Fail> {
 
 // The slots of an alert of 338040079.
 const SLOTS: [u8; 52] = [
-    125, 111, 125, 110, 125, 109, 125, 108, 125, 107, 125, 106, 112, 105, 112, 104, 33, 112, 80, 112,
-    40, 33, 7, 80, 90, 40, 106, 7, 14, 90, 23, 106, 10, 14, 83, 23, 12, 10, 20, 83, 19, 12, 100, 20,
-    127, 19, 78, 100, 127, 127, 127, 78,
+    125, 111, 125, 110, 125, 109, 125, 108, 125, 107, 125, 106, 112, 105, 112, 104, 33, 112, 80,
+    112, 40, 33, 7, 80, 90, 40, 106, 7, 14, 90, 23, 106, 10, 14, 83, 23, 12, 10, 20, 83, 19, 12,
+    100, 20, 127, 19, 78, 100, 127, 127, 127, 78,
 ];
 
 // Appends the line of a reception of the alert.
@@ -122,7 +122,8 @@ fn a_heard_group_is_a_call(rt: HostRuntime) -> Result<(), Fail> {
     put_reception(&mut file)?;
     file.extend_from_slice(b"7 heard g0\n8 heard g0\n")?;
     let (text, status) = replayed(&rt, rt.alloc(), file)?;
-    let want = "7 distress casualty=338040079 nature=106 pos=1423108312 time=2019 then=100\n8 g0 missing 0\n";
+    let want =
+        "7 distress casualty=338040079 nature=106 pos=1423108312 time=2019 then=100\n8 g0 missing 0\n";
     assert_eq!(rt; text.as_slice(), want.as_bytes());
     assert_eq!(rt; status, 1);
     Ok(())

@@ -6,11 +6,14 @@ use Rattle.traffic_replay.specs.Meaning.{replay_meaning}
 use Rattle.traffic_replay.specs.inside.Progress.{StandsFor}
 
 abbrev pub gives_text : (replay : Replay) (lines : Lines) (text : List ℕ) → StandsFor replay lines text → replay_meaning.Gives lines text
-gives_text replay lines text stands = (replay.is_well, record {
-  said = stands.said;
-  are_said = stands.are_said;
-  happened = stands.keeps.happened;
-  are_happenings = stands.keeps.are_happenings;
-  text_is = stands.keeps.text_is;
-  well_is = stands.keeps.well_is;
-})
+gives_text replay lines text stands = (
+  replay.is_well,
+  record {
+    said = stands.said;
+    are_said = stands.are_said;
+    happened = stands.keeps.happened;
+    are_happenings = stands.keeps.are_happenings;
+    text_is = stands.keeps.text_is;
+    well_is = stands.keeps.well_is;
+  },
+)

@@ -1,10 +1,9 @@
-use Rattle.std.proofs.Common.{◌++◌, ◌∷◌, [], refl, sym, subst, inl, inr}
+use Rattle.std.proofs.Common.{◌∷◌, refl, sym, subst, inl, inr}
 use Rattle.line_engine.specs.declared.command.Refusal.{Refusal}
 use Rattle.line_engine.specs.Commands.{IsRefusedBehind}
 use Rattle.traffic_lines.specs.declared.lines.Point.{Point}
 use Rattle.dsc_files.specs.PointLine.{IsPointLine}
 use Rattle.join_groups.proofs.Keeping.{map_ok, map_err}
-use Rattle.traffic_replay.specs.Said.{point_of}
 use Rattle.traffic_replay.specs.Meaning.{replay_meaning}
 use Rattle.traffic_replay.proofs.Unique.{taken_behind, refused_behind}
 use Rattle.traffic_replay.proofs.command.ReplayCommand.take.Goals as goal
@@ -27,7 +26,7 @@ returns-in-Ok-clause-taken c = map_ok c.take_read.result
     let says = c.in-Ok.ensures in
     let line = c.args.line.now in
     taken_behind c.one_point_line.ensures stands.said lines line says.0 stands.are_said (subst (λ (p : Point). IsPointLine p says.0 line) stands.keeps.point says.1.0)
-        (ok stands.said says.0 written stands.keeps says.1.1).0)
+    (ok stands.said says.0 written stands.keeps says.1.1).0)
     c.take_read.ensures.ok
 
 pub returns-in-Ok-clause-refused : goal.returns-in-Ok-clause-refused
@@ -39,6 +38,6 @@ returns-in-Ok-clause-refused c = map_err c.take_read.result
           let line = c.args.line.now in
           let brings = full stands.said says.0 written stands.keeps says.1.1 in
           subst (λ (r : Refusal). IsRefusedBehind replay_meaning lines line r) (sym brings.0)
-              (refused_behind c.one_point_line.ensures stands.said lines line says.0 stands.are_said (subst (λ (p : Point). IsPointLine p says.0 line) stands.keeps.point says.1.0) brings.1)
+          (refused_behind c.one_point_line.ensures stands.said lines line says.0 stands.are_said (subst (λ (p : Point). IsPointLine p says.0 line) stands.keeps.point says.1.0) brings.1)
     ])
     c.take_read.ensures.err
