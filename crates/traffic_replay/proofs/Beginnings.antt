@@ -1,9 +1,8 @@
 -- In front of the first event nothing happened.
-use Rattle.std.proofs.Common.{◌≡◌, ℕ, true, List, [], refl, ap, subst, ◌∙◌}
-use Rattle.ship_station.specs.declared.events.ShipWhat.{ShipWhat}
+use Rattle.std.proofs.Common.{◌≡◌, ℕ, true, List, [], ap, subst, ◌∙◌}
 use Rattle.traffic_replay.specs.declared.command.Replay.{Replay}
 use Rattle.traffic_replay.specs.Said.{Said}
-use Rattle.traffic_replay.specs.Happenings.{Happening, AreHappenings}
+use Rattle.traffic_replay.specs.Happenings.{AreHappenings}
 use Rattle.traffic_replay.specs.Output.{text_of, all_accepted}
 use Rattle.traffic_replay.specs.Meaning.{rules_of}
 use Rattle.traffic_replay.specs.inside.Progress.{Keeps, IsBeforeEvents}

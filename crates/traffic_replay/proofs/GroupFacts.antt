@@ -1,9 +1,7 @@
 -- One line more: which groups are named, and their facts since they were last heard.
-use Rattle.std.proofs.Common.{◌≡◌, ℕ, Bool, true, false, cond, ◌||◌, ◌==◌, List, [], ◌∷◌, refl, sym, ap, ◌∙◌}
+use Rattle.std.proofs.Common.{◌≡◌, ℕ, Bool, true, false, cond, ◌||◌, [], ◌∷◌, refl, ap, ◌∙◌}
 use Rattle.slot_evidence.specs.Facts.{Facts, union, no_facts}
 use Rattle.traffic_lines.specs.declared.lines.TrafficLine.{TrafficLine}
-use Rattle.traffic_lines.specs.declared.lines.TrafficLine.TheVariants.{Event}
-use Rattle.traffic_lines.specs.declared.lines.EventLine.TheVariants.{Heard}
 use Rattle.dsc_files.specs.JoinLine.{JoinLine}
 use Rattle.dsc_files.specs.PointLine.{joined, traffic}
 use Rattle.join_groups.specs.Groups.{names, is_named, facts_of_line, group_facts}

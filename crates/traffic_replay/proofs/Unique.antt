@@ -2,15 +2,14 @@
 use Rattle.std.proofs.Common.{◌≡◌, ℕ, List, [], ◌∷◌, ◌++◌, refl, sym, ap, subst, ◌∙◌}
 use Rattle.line_grammar.specs.Columns.{IsColumn}
 use Rattle.line_engine.specs.Lines.{Lines}
-use Rattle.line_engine.specs.declared.command.Refusal.{Refusal}
-use Rattle.line_engine.specs.declared.command.Refusal.TheVariants.{Column, TooManyGroups, Memory}
+use Rattle.line_engine.specs.declared.command.Refusal.TheVariants.{TooManyGroups}
 use Rattle.line_engine.specs.Commands.{IsTakenBehind, IsRefusedBehind}
 use Rattle.traffic_lines.specs.declared.lines.Point.{Point}
 use Rattle.dsc_files.specs.PointLine.{PointLine, joined, IsPointLine}
 use Rattle.traffic_replay.specs.Said.{Said, point_of, AreSaid}
 use Rattle.join_groups.specs.Meanings.{BringsTooMany}
-use Rattle.traffic_replay.specs.HeardGroups.{IsOverfull, of_receivers}
-use Rattle.traffic_replay.specs.Meaning.{IsIllFormed, replay_meaning}
+use Rattle.traffic_replay.specs.HeardGroups.{of_receivers}
+use Rattle.traffic_replay.specs.Meaning.{replay_meaning}
 use Rattle.traffic_replay.specs.inside.Progress.{BringsGroup}
 
 -- a line at a point says one thing

@@ -10,7 +10,7 @@ use Rattle.traffic_lines.specs.declared.lines.EventLine.TheVariants.{Position, D
 use Rattle.traffic_lines.specs.declared.lines.TrafficLine.TheVariants.{Event}
 use Rattle.ship_station.specs.declared.events.ShipWhat.{ShipWhat}
 use Rattle.ship_station.specs.declared.events.ShipWhat.TheVariants as ship
-use Rattle.dsc_files.specs.PointLine.{joined, traffic}
+use Rattle.dsc_files.specs.PointLine.{traffic}
 use Rattle.traffic_replay.specs.declared.outcomes.Unreported.{Unreported}
 use Rattle.traffic_replay.specs.Said.{Said, base_of}
 use Rattle.traffic_replay.specs.HeardGroups.{facts_since_heard}

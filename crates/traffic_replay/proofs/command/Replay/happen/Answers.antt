@@ -1,5 +1,4 @@
 use Rattle.std.proofs.Common.{◌≡◌, ◌∙◌, ℕ, Bool, true, false, ◌&&◌, List, ◌∷◌, ◌++◌, Ok, Err, refl, sym, ap, append_assoc}
-use Rattle.std.specs.Prelude.{is_ok}
 use Rattle.area_rules.specs.Histories.{History}
 use Rattle.area_rules.specs.Rules.{answer_to}
 use Rattle.ship_station.specs.declared.events.ShipWhat.{ShipWhat}

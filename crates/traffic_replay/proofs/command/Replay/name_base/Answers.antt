@@ -1,4 +1,4 @@
-use Rattle.std.proofs.Common.{◌≡◌, ℕ, List, [], length, refl, sym, ap, subst}
+use Rattle.std.proofs.Common.{◌≡◌, [], length, refl, sym, ap, subst}
 use Rattle.traffic_lines.specs.declared.lines.Point.{Point}
 use Rattle.traffic_lines.specs.declared.lines.TrafficLine.TheVariants.{Base}
 use Rattle.traffic_replay.specs.inside.Progress.{IsBeforeEvents, IsBehindGroups}
