@@ -1,9 +1,9 @@
-use Rattle.std.proofs.Common.{Err, inl, ap, subst}
+use Rattle.std.proofs.Common.{Err, inl, ap, sym, subst}
 use Rattle.dsc_words.specs.declared.plans.PlanError.{PlanError}
 use Rattle.dsc_words.specs.declared.plans.Plan.{Plan}
 use Rattle.dsc_words.specs.declared.plans.Plan.TheVariants.{Join}
 use Rattle.line_engine.specs.Endings.{TellsWhole}
-use Rattle.dsc_cmd.specs.Plans.{meaning_of}
+use Rattle.dsc_cmd.specs.Plans.{meaning_of, IsQuietPlan}
 use Rattle.dsc_cmd.proofs.SentGroups.{Laws, reports_sent}
 use Rattle.dsc_cmd.proofs.running.run.Goals as goal
 
@@ -20,6 +20,11 @@ returns-in-Ok-clause-sent g c = λ n planned finished.
     reports_sent laws _ _ _ _ _ _
     (subst (λ (plan : Plan). TellsWhole (meaning_of plan) (g.S.Source.left c.args.source.now) (g.S.Source.left c.execute.new.source)
     (g.K.Sink.written c.args.sink.now) (g.K.Sink.written c.execute.new.sink) (g.K.Sink.flushed c.execute.new.sink) c.execute.result) same (c.execute.ensures.whole finished))
+
+pub returns-in-Ok-clause-unwritten : goal.returns-in-Ok-clause-unwritten
+returns-in-Ok-clause-unwritten g c = λ plan planned quiet.
+    let same = c.one_plan.ensures _ c.in-Ok.plan plan c.in-Ok.ensures.planned planned in
+    c.execute.ensures.unwritten (subst IsQuietPlan (sym same) quiet)
 
 pub returns-in-Err-Refused-clause-unplanned : goal.returns-in-Err-Refused-clause-unplanned
 returns-in-Err-Refused-clause-unplanned g c = λ _. c.in-Err-Refused.ensures.refused (ap (λ (e : PlanError). Err e) c.in-Err-Refused.field-0-is)
