@@ -27,10 +27,12 @@ pub struct Held {
 /// What is kept of a held call. Its place tells its number.
 #[derive(Clone, Copy)]
 pub struct Holding {
-    call: Call,
-    side: Side,
-    at: u64,
-    times: u8,
+    pub call: Call,
+    pub side: Side,
+    /// The moment at which it was got or last sent, in milliseconds.
+    pub at: u64,
+    /// How often it was sent, 0 for a call that was got.
+    pub times: u8,
 }
 
 impl Holding {
@@ -128,6 +130,14 @@ impl HeldCalls {
                 ..held
             });
         }
+    }
+
+    /// What is held under the numbers 1 to 16, in this order.
+    pub fn places(&self) -> &[Option<Holding>]
+        ensures places { result.now ≡ self.now }
+        ensures sixteen { length result.now ≡ 16 }
+    {
+        &self.places
     }
 
     /// The least number whose place is empty.

@@ -15,7 +15,7 @@ pub use acts::{Act, Acts, put, single};
 pub use addressing::{for_coast, for_ship};
 pub use answering::answers;
 pub use areas::contains;
-pub use held::{Held, HeldCalls, Side};
+pub use held::{Held, HeldCalls, Holding, Side};
 pub use moments::has_passed;
 pub use refusals::{StationRefusal, time_back};
 pub use senders::sender;

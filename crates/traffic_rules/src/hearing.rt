@@ -1,0 +1,183 @@
+ghost use Rattle.std.specs.Prelude.{◌≡◌, ◌<◌, ◌∷◌, [], Some, IfSome, OnOk, OnErr, length, position};
+ghost use Rattle.area_rules.specs.declared.acts.Act.TheVariants as act;
+ghost use Rattle.call_values.specs.declared.calls.Call.TheVariants as form;
+ghost use Rattle.area_rules.specs.Rules.{listed, refusal_or};
+ghost use Rattle.traffic_rules.specs.Hearing as hearing;
+ghost use Rattle.traffic_rules.specs.inside.After.{after_hearing};
+
+use crate::equality::are_equal;
+use crate::sending::acknowledges;
+use area_rules::{Act, Acts, HeldCalls, Holding, Side, StationRefusal, answers, put, single};
+use arrayvec::ArrayVec;
+use call_values::{Call, Category, End, HourMinute, Kind, Mmsi, Position};
+
+/// Does what is due at a heard call that is for the station and is neither a distress alert nor its acknowledgement
+/// (ITU-R M.541, reception and acknowledgement of calls). A position request is answered with the place that is given, and
+/// shown where none is. Refused: a call that must be held where no number is free (`Full`).
+pub fn hear(
+    held: &mut HeldCalls,
+    own: Mmsi,
+    place: Option<(Position, HourMinute)>,
+    call: &Call,
+    at: u64,
+) -> Result<Acts, StationRefusal>
+    ensures answer { listed result ≡ refusal_or (hearing.heard_refusal held.old call.now) (hearing.heard_due own place held.old call.now) }
+    ensures held { OnOk result (held.new ≡ after_hearing held.old call.now at) }
+    ensures unchanged { OnErr result (held.new ≡ held.old) }
+{
+    if is_question(call) {
+        return hear_question(held, call, at);
+    }
+    if acknowledges(call) {
+        return Ok(hear_acknowledgement(held, call));
+    }
+    Ok(at_once(own, place, call))
+}
+
+/// Tells of the distress of a relay, and holds the call under the least free number, unless an equal one is held as got.
+fn hear_question(held: &mut HeldCalls, call: &Call, at: u64) -> Result<Acts, StationRefusal> {
+    let mut acts = distress_told(call);
+    if !is_got(held, call) {
+        let Some(number) = held.hold(*call, Side::Got, at) else {
+            return Err(StationRefusal::Full);
+        };
+        put(&mut acts, Act::Held(number));
+    }
+    Ok(acts)
+}
+
+/// Frees the least number of a sent call that an acknowledgement answers, or else shows the acknowledgement.
+fn hear_acknowledgement(held: &mut HeldCalls, call: &Call) -> Acts {
+    match answered_number(held, call) {
+        Some(number) => {
+            let _ = held.release(number);
+            single(Act::Answered(number))
+        }
+        None => single(Act::Shown),
+    }
+}
+
+/// A relay tells of distress.
+fn distress_told(call: &Call) -> Acts
+    ensures { result.items ≡ hearing.distress_told call.now }
+{
+    match *call {
+        Call::Relay { casualty, .. } => single(Act::Distress(casualty)),
+        _ => ArrayVec::new(),
+    }
+}
+
+/// Whether a call asks the operator: it is a relay or an individual call that asks for an acknowledgement.
+fn is_question(call: &Call) -> bool
+    ensures { result ≡ hearing.is_question call.now }
+{
+    match call {
+        Call::Relay { ask, .. } => *ask,
+        Call::Individual { end, .. } => match end {
+            End::Ask => true,
+            End::Reply | End::Plain => false,
+        },
+        _ => false,
+    }
+}
+
+/// Whether an equal call is held as got.
+fn is_got(held: &HeldCalls, call: &Call) -> bool
+    ensures { result ≡ hearing.is_got held.now call.now }
+{
+    held.places().iter().any(|place| is_equal_got(call, place))
+}
+
+fn is_equal_got(call: &Call, place: &Option<Holding>) -> bool
+    ensures { result ≡ hearing.is_equal_got call.now place.now }
+{
+    match place {
+        Some(held) => match held.side {
+            Side::Sent => false,
+            Side::Got => are_equal(&held.call, call),
+        },
+        None => false,
+    }
+}
+
+/// The least number of a sent call that a heard one answers.
+fn answered_number(held: &HeldCalls, call: &Call) -> Option<u8>
+    ensures { result ≡ hearing.answered_number held.now call.now }
+{
+    match first_answered(held.places(), call) {
+        Some(index) => Some(index as u8 + 1),
+        None => None,
+    }
+}
+
+fn is_answered_by(call: &Call, place: &Option<Holding>) -> bool
+    ensures { result ≡ hearing.is_answered_by call.now place.now }
+{
+    match place {
+        Some(held) => match held.side {
+            Side::Sent => answers(&held.call, call),
+            Side::Got => false,
+        },
+        None => false,
+    }
+}
+
+/// What is due at once at a call that is neither a question nor an acknowledgement.
+fn at_once(own: Mmsi, place: Option<(Position, HourMinute)>, call: &Call) -> Acts
+    ensures { result.items ≡ hearing.due_at_once own place call.now }
+{
+    match *call {
+        Call::Alert(_) | Call::Ack { .. } => ArrayVec::new(),
+        Call::Relay { casualty, .. } => single(Act::Distress(casualty)),
+        Call::Service {
+            category,
+            from,
+            kind,
+            ..
+        } => match kind {
+            Kind::Test { .. } => single(service(own, from, category, Kind::Test { reply: true })),
+            Kind::AskPosition => tell_position(own, place, from, category),
+            Kind::Position(_, _) => single(Act::Shown),
+        },
+        _ => single(Act::Shown),
+    }
+}
+
+/// A call of this station to one station.
+fn service(own: Mmsi, to: Mmsi, category: Category, kind: Kind) -> Act
+    ensures { result ≡ act.Send (form.Service to category own kind) 1 }
+{
+    Act::Send {
+        call: Call::Service {
+            to,
+            category,
+            from: own,
+            kind,
+        },
+        times: 1,
+    }
+}
+
+/// The answer to a position request with a place; without one it is shown.
+fn tell_position(
+    own: Mmsi,
+    place: Option<(Position, HourMinute)>,
+    to: Mmsi,
+    category: Category,
+) -> Acts
+    ensures { result.items ≡ hearing.position_told own place to category }
+{
+    match place {
+        Some((position, time)) => {
+            single(service(own, to, category, Kind::Position(position, time)))
+        }
+        None => single(Act::Shown),
+    }
+}
+
+fn first_answered(places: &[Option<Holding>], call: &Call) -> Option<usize>
+    ensures value { result ≡ position (hearing.is_answered_by call.now) places.now }
+    ensures range { IfSome result (λ index. index < length places.now) }
+{
+    places.iter().position(|place| is_answered_by(call, place))
+}

@@ -1,0 +1,15 @@
+//! The rules of calls that ship and coast stations share: how an operator's calls are sent, held, repeated and answered,
+//! and what is done at a heard call.
+#![tactic(auto)]
+
+mod answering;
+mod equality;
+mod hearing;
+mod repeating;
+mod sending;
+
+pub use answering::answer;
+pub use equality::are_equal;
+pub use hearing::hear;
+pub use repeating::repeat;
+pub use sending::send;

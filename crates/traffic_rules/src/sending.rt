@@ -1,0 +1,73 @@
+ghost use Rattle.std.specs.Prelude.{◌≡◌, OnOk, OnErr};
+ghost use Rattle.area_rules.specs.Rules.{listed, refusal_or};
+ghost use Rattle.traffic_rules.specs.Sending as sending;
+ghost use Rattle.traffic_rules.specs.inside.After.{after_sending};
+
+use area_rules::{Act, Acts, HeldCalls, Side, StationRefusal, put, sender, single};
+use call_grammar::end_of;
+use call_values::{Call, Kind, Mmsi};
+use dsc_symbols::ends;
+
+/// Sends a call that the operator gives, once, and holds it where it asks for an acknowledgement (ITU-R M.541, calling).
+/// Refused: a call that an operator of this station may not send (`NotSendable`), or else one that must be held where no
+/// number is free (`Full`).
+pub fn send(
+    held: &mut HeldCalls,
+    own: Mmsi,
+    call: &Call,
+    at: u64,
+) -> Result<Acts, StationRefusal>
+    ensures answer { listed result ≡ refusal_or (sending.send_refusal own held.old call.now) (sending.send_due held.old call.now) }
+    ensures held { OnOk result (held.new ≡ after_sending held.old call.now at) }
+    ensures unchanged { OnErr result (held.new ≡ held.old) }
+{
+    if !is_sendable(own, call) {
+        return Err(StationRefusal::NotSendable);
+    }
+    let mut acts = single(Act::Send {
+        call: *call,
+        times: 1,
+    });
+    if asks(call) {
+        let Some(number) = held.hold(*call, Side::Sent, at) else {
+            return Err(StationRefusal::Full);
+        };
+        put(&mut acts, Act::Held(number));
+    }
+    Ok(acts)
+}
+
+/// Whether a call asks for an acknowledgement (ITU-R M.493, end of sequence).
+pub(crate) fn asks(call: &Call) -> bool
+    ensures { result ≡ sending.asks call.now }
+{
+    end_of(call) == ends::ACKNOWLEDGE_RQ
+}
+
+/// Whether a call gives an acknowledgement (ITU-R M.493, end of sequence).
+pub(crate) fn acknowledges(call: &Call) -> bool
+    ensures { result ≡ sending.acknowledges call.now }
+{
+    end_of(call) == ends::ACKNOWLEDGE_BQ
+}
+
+/// Whether a station sends a call by its own rules alone.
+fn is_by_rule(call: &Call) -> bool
+    ensures { result ≡ sending.is_by_rule call.now }
+{
+    match call {
+        Call::Alert(_) | Call::Ack { .. } | Call::RelayAck { .. } => true,
+        Call::Service { kind, .. } => match kind {
+            Kind::Position(_, _) => true,
+            Kind::Test { .. } | Kind::AskPosition => false,
+        },
+        _ => false,
+    }
+}
+
+/// Whether an operator of this station may send a call.
+fn is_sendable(own: Mmsi, call: &Call) -> bool
+    ensures { result ≡ sending.is_sendable own call.now }
+{
+    !is_by_rule(call) && sender(call).number() == own.number() && !acknowledges(call)
+}
