@@ -1,9 +1,9 @@
-ghost use Rattle.std.specs.Prelude.{◌≡◌, ◌<◌, ◌∷◌, [], Some, IfSome, OnOk, OnErr, length, position};
+ghost use Rattle.std.specs.Prelude.{◌≡◌, ◌<◌, ◌∷◌, [], Some, IfSome, IsTrue, OnOk, OnErr, length, position};
 ghost use Rattle.area_rules.specs.declared.acts.Act.TheVariants as act;
 ghost use Rattle.call_values.specs.declared.calls.Call.TheVariants as form;
 ghost use Rattle.area_rules.specs.Rules.{listed, refusal_or};
 ghost use Rattle.traffic_rules.specs.Hearing as hearing;
-ghost use Rattle.traffic_rules.specs.inside.After.{after_hearing};
+ghost use Rattle.traffic_rules.specs.inside.After.{after_question, freed_at, after_hearing};
 
 use crate::equality::are_equal;
 use crate::sending::acknowledges;
@@ -35,7 +35,12 @@ pub fn hear(
 }
 
 /// Tells of the distress of a relay, and holds the call under the least free number, unless an equal one is held as got.
-fn hear_question(held: &mut HeldCalls, call: &Call, at: u64) -> Result<Acts, StationRefusal> {
+fn hear_question(held: &mut HeldCalls, call: &Call, at: u64) -> Result<Acts, StationRefusal>
+    requires { IsTrue (hearing.is_question call.now) }
+    ensures answer { listed result ≡ refusal_or (hearing.heard_refusal held.old call.now) (hearing.question_due held.old call.now) }
+    ensures held { OnOk result (held.new ≡ after_question held.old call.now at) }
+    ensures unchanged { OnErr result (held.new ≡ held.old) }
+{
     let mut acts = distress_told(call);
     if !is_got(held, call) {
         let Some(number) = held.hold(*call, Side::Got, at) else {
@@ -47,7 +52,10 @@ fn hear_question(held: &mut HeldCalls, call: &Call, at: u64) -> Result<Acts, Sta
 }
 
 /// Frees the least number of a sent call that an acknowledgement answers, or else shows the acknowledgement.
-fn hear_acknowledgement(held: &mut HeldCalls, call: &Call) -> Acts {
+fn hear_acknowledgement(held: &mut HeldCalls, call: &Call) -> Acts
+    ensures acts { result.items ≡ hearing.answered_or_shown (hearing.answered_number held.old call.now) }
+    ensures held { held.new ≡ freed_at (hearing.answered_number held.old call.now) held.old }
+{
     match answered_number(held, call) {
         Some(number) => {
             let _ = held.release(number);

@@ -1,4 +1,5 @@
-ghost use Rattle.std.specs.Prelude.{◌≡◌, ◌≤◌, ◌++◌, length};
+ghost use Rattle.std.specs.Prelude.{◌≡◌, ◌<◌, ◌≤◌, ◌++◌, ◌+◌, length};
+ghost use Rattle.area_rules.specs.Holding.{place_of, with_place};
 ghost use Rattle.traffic_rules.specs.Repeating as repeating;
 ghost use Rattle.traffic_rules.specs.inside.After.{after_tick};
 
@@ -14,36 +15,47 @@ pub fn repeat(held: &mut HeldCalls, at: u64, acts: &mut Acts)
     ensures acts { acts.new.items ≡ acts.old.items ++ repeating.repeats at 1 held.old }
     ensures held { held.new ≡ after_tick held.old at }
 {
-    for number in 1..=16u8 {
-        if let Some(sent) = held.find(number) {
-            if is_overdue(&sent, at) {
-                repeat_one(held, &sent, at, acts);
-            }
-        }
+    let _ = held.places();
+    for index in 0..16u8 {
+        repeat_one(held, index + 1, at, acts);
     }
 }
 
 /// Whether a sent call has waited for its answer to the end.
-fn is_overdue(held: &Held, at: u64) -> bool {
+fn is_overdue(held: &Held, at: u64) -> bool
+    ensures { result ≡ repeating.is_overdue at held.now.side held.now.at }
+{
     match held.side {
         Side::Sent => has_passed(ANSWER_WAIT, held.at, at),
         Side::Got => false,
     }
 }
 
-/// Sends a call again that was sent once, and gives up another.
-fn repeat_one(held: &mut HeldCalls, sent: &Held, at: u64, acts: &mut Acts) {
-    if sent.times == 1 {
-        held.sent_again(sent.number, at);
+/// What is due at a tick of the call that is held under a number, 1 to 16.
+fn repeat_one(held: &mut HeldCalls, number: u8, at: u64, acts: &mut Acts)
+    requires number { (1 ≤ number) × (number ≤ 16) }
+    requires room { length acts.old.items < 32 }
+    ensures acts { acts.new.items ≡ acts.old.items ++ repeating.repeated at number (place_of held.old number) }
+    ensures few { length acts.new.items ≤ length acts.old.items + 1 }
+    ensures held { held.new ≡ with_place held.old number (repeating.ticked at (place_of held.old number)) }
+{
+    let Some(waiting) = held.find(number) else {
+        return;
+    };
+    if !is_overdue(&waiting, at) {
+        return;
+    }
+    if waiting.times == 1 {
+        held.sent_again(number, at);
         put(
             acts,
             Act::Send {
-                call: sent.call,
+                call: waiting.call,
                 times: 1,
             },
         );
     } else {
-        let _ = held.release(sent.number);
-        put(acts, Act::GaveUp(sent.number));
+        let _ = held.release(number);
+        put(acts, Act::GaveUp(number));
     }
 }

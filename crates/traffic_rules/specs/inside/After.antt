@@ -30,8 +30,12 @@ after_answering places number = with_place places number None
 abbrev pub after_tick : Places → (at : ℕ) → Places
 after_tick places at = map (ticked at) places
 
+-- after a question was heard
+abbrev pub after_question : Places → Call → (at : ℕ) → Places
+after_question places call at = if is_got places call then places else held_at (first_free places) places call Got at
+
 -- after a call was heard
 abbrev pub after_hearing : Places → Call → (at : ℕ) → Places
 after_hearing places call at =
-    if is_question call then (if is_got places call then places else held_at (first_free places) places call Got at)
+    if is_question call then after_question places call at
     else (if acknowledges call then freed_at (answered_number places call) places else places)
