@@ -1,1 +1,5 @@
 pub mod Lists
+pub mod Places
+pub mod HeldAfter
+pub mod HeldLists
+pub mod HeldRules
