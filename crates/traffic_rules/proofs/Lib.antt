@@ -3,3 +3,4 @@ pub mod Places
 pub mod HeldAfter
 pub mod HeldLists
 pub mod HeldRules
+pub mod Acts
