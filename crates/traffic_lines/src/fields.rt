@@ -9,11 +9,11 @@ ghost use Rattle.dsc_symbols.specs.Natures.{IsNature};
 ghost use Rattle.dsc_symbols.specs.Telecommands.{IsComm};
 ghost use Rattle.dsc_texts.specs.CallGrammar as calls;
 ghost use Rattle.dsc_texts.specs.CallParts.{address_text, position_text};
+ghost use Rattle.line_grammar.specs.Grammar.{Grammar};
 ghost use Rattle.line_grammar.specs.Shapes.{digits};
 ghost use Rattle.line_grammar.specs.Tokens as tokens;
 ghost use Rattle.line_grammar.specs.Tokens.{Token};
-ghost use Rattle.line_grammar.specs.Grammar.{Grammar};
-ghost use Rattle.line_grammar.specs.inside.Reading.{after, read, read_token};
+ghost use Rattle.line_grammar.specs.inside.Reading.{read, read_token};
 ghost use Rattle.traffic_lines.specs.Lines.{IsHeldNumber};
 ghost use Rattle.traffic_lines.specs.inside.Grammars as grammar;
 

@@ -29,7 +29,8 @@ fn band(bytes: &[u8]) -> Result<Band, usize>
     let mf = lone_value(b" mf", Band::Mf, bytes);
     let hf = lone_value(b" hf", Band::Hf, bytes);
     let vhf = lone_value(b" vhf", Band::Vhf, bytes);
-    further(&mf, &further(&hf, &vhf))
+    let others = further(&hf, &vhf);
+    further(&mf, &others)
 }
 
 /// Reads that the station is a coast station. An error is how many bytes are left at the fault.

@@ -19,5 +19,5 @@ returns-in-Ok c =
 pub returns-in-Err : goal.returns-in-Err
 returns-in-Err c =
     let fault : IsColumn IsBareCallText c.in_ok-text.text.now c.in-Err.column = assumption c.in-Err.ensures in
-    let same : c.in-Err.column ≡ length c.in_ok-text.text.now + 1 - (length c.in_ok-text.text.now + 1 - c.in-Err.column) = omega (arith, fault.within) in
+    let same : c.in-Err.column ≡ length c.in_ok-text.text.now + 1 - c.left_at.result = omega (arith, fault.within, c.left_at.ensures) in
     send_fault _ _ _ c.in_ok-text.ensures.rest (subst (IsColumn IsBareCallText c.in_ok-text.text.now) same fault)

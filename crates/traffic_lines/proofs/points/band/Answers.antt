@@ -11,6 +11,6 @@ pub returns : goal.returns
 returns c =
     further_by (lone (codes " mf")) (either (lone (codes " hf")) (lone (codes " vhf"))) IsBandText _ _ _ _ c.further.ensures
     (value_by (codes " mf") IsBandText Mf _ _ refl c.lone_value-mf.ensures.text c.lone_value-mf.ensures.left)
-    (further_by (lone (codes " hf")) (lone (codes " vhf")) IsBandText _ _ _ _ c.further-further.ensures
+    (further_by (lone (codes " hf")) (lone (codes " vhf")) IsBandText _ _ _ _ c.further-others.ensures
     (value_by (codes " hf") IsBandText Hf _ _ refl c.lone_value-hf.ensures.text c.lone_value-hf.ensures.left)
     (value_by (codes " vhf") IsBandText Vhf _ _ refl c.lone_value-vhf.ensures.text c.lone_value-vhf.ensures.left))
