@@ -3,7 +3,7 @@ use Rattle.line_grammar.specs.inside.Reading.{read}
 use Rattle.line_grammar.proofs.Chains.{passed}
 use Rattle.traffic_lines.specs.inside.Grammars.{lone}
 use Rattle.traffic_lines.proofs.Steps.{no_lone_word, no_lone_end, lone_text}
-use Rattle.traffic_lines.proofs.events.lone.Goals as goal
+use Rattle.traffic_lines.proofs.words.lone.Goals as goal
 
 pub returns-in_err-rest-clause-left : goal.returns-in_err-rest-clause-left
 returns-in_err-rest-clause-left c =
