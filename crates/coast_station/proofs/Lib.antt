@@ -1,0 +1,3 @@
+pub mod Births
+pub mod Identities
+pub mod Listed

@@ -1,4 +1,4 @@
-ghost use Rattle.std.specs.Prelude.{◌≡◌, ◌<◌, ◌≤◌, ◌==◌, [], ◌∷◌, ◌++◌, IfSome, IsErr, OnOk, OnErr, length, position, is_none, ◌&&◌, ◌↔◌, IsTrue};
+ghost use Rattle.std.specs.Prelude.{◌≡◌, ◌<◌, ◌≤◌, ◌==◌, [], ◌∷◌, ◌++◌, IfSome, IsErr, OnOk, OnErr, length, position, slice_set, is_none, ◌&&◌, ◌↔◌, IsTrue};
 ghost use Rattle.area_rules.specs.declared.refusals.StationRefusal.TheVariants as refusal;
 ghost use Rattle.coast_station.specs.Accepting as accepting;
 ghost use Rattle.coast_station.specs.inside.Left as left;
@@ -119,19 +119,19 @@ impl Casualties {
     }
 
     /// Puts a casualty in place of that of its identity.
-    pub(crate) fn replace(&mut self, casualty: OpenCasualty)
-        ensures { self.new ≡ left.replaced casualty.alert.mmsi casualty self.old }
+    pub(crate) fn replace(&mut self, casualty: &OpenCasualty)
+        ensures { self.new ≡ left.replaced casualty.now.alert.mmsi casualty.now self.old }
     {
         if let Some(place) = self.place_of(casualty.alert.mmsi) {
-            self.entries[place] = casualty;
+            put_at(&mut self.entries, place, casualty);
         }
     }
 
     /// Notes an alert: it begins a casualty, or takes the place of the alert of one that isn't accepted. `Full` exactly where it
     /// begins one and 16 are open.
-    pub(crate) fn note(&mut self, alert: Casualty, at: u64) -> Result<(), StationRefusal>
-        ensures full { IsErr result ↔ IsTrue (is_none (accepting.find_casualty alert.mmsi self.old) && (length self.old == 16)) }
-        ensures noted { OnOk result (self.new ≡ left.noted alert at self.old) }
+    pub(crate) fn note(&mut self, alert: &Casualty, at: u64) -> Result<(), StationRefusal>
+        ensures full { IsErr result ↔ IsTrue (is_none (accepting.find_casualty alert.now.mmsi self.old) && (length self.old == 16)) }
+        ensures noted { OnOk result (self.new ≡ left.noted alert.now at self.old) }
         ensures refused { OnErr result (result ≡ Err refusal.Full) }
         ensures unchanged { OnErr result (self.new ≡ self.old) }
     {
@@ -140,11 +140,11 @@ impl Casualties {
                 if self.entries.is_full() {
                     return Err(StationRefusal::Full);
                 }
-                self.entries.push(OpenCasualty::new(alert, at));
+                self.entries.push(OpenCasualty::new(*alert, at));
             }
             Some(casualty) => {
                 if casualty.delay.is_none() {
-                    self.replace(OpenCasualty::new(alert, at));
+                    self.replace(&OpenCasualty::new(*alert, at));
                 }
             }
         }
@@ -186,4 +186,11 @@ fn place_of(entries: &[OpenCasualty], mmsi: Mmsi) -> Option<usize>
     entries
         .iter()
         .position(|casualty| casualty.alert.mmsi.number() == mmsi.number())
+}
+
+fn put_at(entries: &mut ArrayVec<OpenCasualty, 16>, place: usize, casualty: &OpenCasualty)
+    requires { place < length entries.old.items }
+    ensures { entries.new.items ≡ slice_set entries.old.items place casualty.now }
+{
+    entries[place] = *casualty;
 }

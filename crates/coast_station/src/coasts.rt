@@ -92,7 +92,7 @@ impl Coast {
             self.casualties.close(mmsi);
             return Ok(single(acknowledgement(self.own, &accepted.alert)));
         }
-        self.casualties.replace(accepted);
+        self.casualties.replace(&accepted);
         Ok(ArrayVec::new())
     }
 
@@ -155,7 +155,7 @@ impl Coast {
             return Ok(ArrayVec::new());
         }
         match *call {
-            Call::Alert(alert) => self.hear_alert(at, alert),
+            Call::Alert(alert) => self.hear_alert(at, &alert),
             Call::Ack { from, casualty } => Ok(self.hear_acknowledgement(at, from, &casualty)),
             _ => {
                 let acts = hear(&mut self.held, self.own, None, call, at)?;
@@ -166,15 +166,15 @@ impl Coast {
     }
 
     /// Hears the alert of another station, which concerns this one.
-    fn hear_alert(&mut self, at: u64, alert: Casualty) -> Result<Acts, StationRefusal>
-        requires { rules.concerns self.old.own (form.Alert alert) ≡ true }
-        ensures answer { AnswersEvent self.old at (What.Heard (form.Alert alert)) result }
-        ensures goes_on { GoesOn self.old at (What.Heard (form.Alert alert)) self.new }
+    fn hear_alert(&mut self, at: u64, alert: &Casualty) -> Result<Acts, StationRefusal>
+        requires { rules.concerns self.old.own (form.Alert alert.now) ≡ true }
+        ensures answer { AnswersEvent self.old at (What.Heard (form.Alert alert.now)) result }
+        ensures goes_on { GoesOn self.old at (What.Heard (form.Alert alert.now)) self.new }
         ensures unchanged { OnErr result (self.new ≡ self.old) }
     {
         self.casualties.note(alert, at)?;
         self.last = at;
-        Ok(single(Act::Distress(alert)))
+        Ok(single(Act::Distress(*alert)))
     }
 
     /// Hears that another station has acknowledged the alert of a ship: its casualty is closed.

@@ -5,10 +5,12 @@
 mod casualties;
 mod coasts;
 mod events;
+mod laws;
 
 pub use call_values::Band;
 pub use coasts::Coast;
 pub use events::{CoastEvent, CoastWhat};
+pub use laws::casualties_are_born;
 
 #[cfg(test)]
 mod tests;
