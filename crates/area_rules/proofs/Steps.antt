@@ -1,5 +1,5 @@
 -- the steps of a station, and its legal histories
-use Rattle.std.proofs.Common.{◌≡◌, ℕ, ◌≤◌, Option, Some, None, Ok, Err, [], ◌∷◌, ◌++◌, refl, sym, ◌∙◌, ap, inl, inr, if◌then◌else◌}
+use Rattle.std.proofs.Common.{◌≡◌, ℕ, ◌≤◌, Option, Some, None, Result, Ok, Err, [], ◌∷◌, ◌++◌, refl, sym, ◌∙◌, ap, inl, inr, if◌then◌else◌}
 use Rattle.std.proofs.lemmas.Bool.{le-ltb, lt-ltb, cases_lt}
 use Rattle.area_rules.specs.declared.refusals.StationRefusal.{StationRefusal}
 use Rattle.area_rules.specs.declared.refusals.StationRefusal.TheVariants.{TimeBack}
@@ -53,3 +53,20 @@ module _ {What : Type 0} (rules : Rules What) where
   pub legal_before : (later h : History What) → Legal rules (later ++ h) → Legal rules h
   legal_before [] h legal = legal
   legal_before (e ∷ later) h legal = legal_before later h legal.1
+
+-- an answer tells whether the event was refused
+abbrev pub refusal_in : {A : Type 0} → Result A StationRefusal → Option StationRefusal
+refusal_in (Ok acts) = None
+refusal_in (Err refusal) = Some refusal
+
+abbrev pub acts_in : {A : Type 0} → A → Result A StationRefusal → A
+acts_in other (Ok acts) = acts
+acts_in other (Err refusal) = other
+
+pub refusal_of : {A : Type 0} (r : Option StationRefusal) (acts : A) (refusal : StationRefusal) → Err refusal ≡ refusal_or r acts → r ≡ Some refusal
+refusal_of (Some other) acts refusal is = sym (ap refusal_in is)
+refusal_of None acts refusal is = absurd (some_is_none (ap refusal_in is))
+
+pub acts_of : {A : Type 0} (r : Option StationRefusal) (acts given : A) → Ok given ≡ refusal_or r acts → (r ≡ None) × (given ≡ acts)
+acts_of (Some other) acts given is = absurd (some_is_none (sym (ap refusal_in is)))
+acts_of None acts given is = (refl, ap (acts_in given) is)

@@ -1,6 +1,5 @@
 -- Events at a ship: ITU-R M.541, distress alert attempts.
 use Rattle.std.specs.Prelude.{◌≡◌, ℕ, Bool, Option, Some, None, is_some}
-use Rattle.call_values.specs.declared.places.Fix.{Fix}
 use Rattle.call_values.specs.declared.calls.Call.TheVariants.{Ack}
 use Rattle.call_values.specs.Calls.{IsCall}
 use Rattle.call_values.specs.Clock.{IsHourMinute}
@@ -9,8 +8,10 @@ use Rattle.call_values.specs.Places.{IsPosition}
 use Rattle.dsc_symbols.specs.Natures.{IsNature}
 use Rattle.dsc_symbols.specs.Telecommands.{IsComm}
 use Rattle.area_rules.specs.Histories.{Entry}
+use Rattle.traffic_rules.specs.Occurrences.{Occurrence, ticks, answers, hears, other}
+use Rattle.traffic_rules.specs.Hearing.{Place}
 use Rattle.ship_station.specs.declared.events.ShipWhat.{ShipWhat}
-use Rattle.ship_station.specs.declared.events.ShipWhat.TheVariants.{Position, Delay, Alert, Cancel, Tick, Heard}
+use Rattle.ship_station.specs.declared.events.ShipWhat.TheVariants.{Position, Delay, Alert, Cancel, Tick, Send, Answer, Heard}
 use Rattle.ship_station.specs.declared.alerts.OwnAlert.{OwnAlert}
 
 -- each part of an event is in its range
@@ -20,11 +21,16 @@ IsShipWhat (Delay delay) = IsAlertDelay delay
 IsShipWhat (Alert nature comm) = IsNature nature × IsComm comm
 IsShipWhat Cancel = Unit {0}
 IsShipWhat Tick = Unit {0}
+IsShipWhat (Send call) = IsCall call
+IsShipWhat (Answer number accepts) = Unit {0}
 IsShipWhat (Heard call) = IsCall call
 
--- a position and a time, each where it is known
-abbrev pub Place : Type 0
-Place = Option Fix × Option (ℕ × ℕ)
+-- what an event is to the calls that the ship holds
+abbrev pub ship_occurs : ShipWhat → Occurrence
+ship_occurs Tick = ticks
+ship_occurs (Answer number accepts) = answers number
+ship_occurs (Heard call) = hears call
+ship_occurs _ = other
 
 -- the position and the time that an event gives
 abbrev pub place_of : ShipWhat → Option Place

@@ -2,11 +2,12 @@
 use Rattle.std.specs.Prelude.{ℕ, ◌==◌, ◌&&◌, Bool, true, false, Option, Some, None, unwrap_or, List, drop, if◌then◌else◌}
 use Rattle.area_rules.specs.declared.acts.Act.{Act}
 use Rattle.area_rules.specs.declared.acts.Act.TheVariants.{Send, AlertEnded}
+use Rattle.traffic_rules.specs.Hearing.{Place}
 use Rattle.area_rules.specs.Histories.{Entry, History, does, last_told, all_told, how_many, since}
 use Rattle.ship_station.specs.declared.events.ShipWhat.{ShipWhat}
 use Rattle.ship_station.specs.declared.events.ShipWhat.TheVariants.{Tick}
 use Rattle.ship_station.specs.declared.alerts.OwnAlert.{OwnAlert}
-use Rattle.ship_station.specs.Events.{Place, place_of, delay_of, alert_of}
+use Rattle.ship_station.specs.Events.{place_of, delay_of, alert_of}
 
 -- an act is an attempt of the distress alert: a call sent 5 times in a row
 abbrev pub is_attempt : Act → Bool

@@ -5,7 +5,7 @@ use Rattle.area_rules.specs.Rules.{Legal}
 use Rattle.ship_station.specs.declared.events.ShipWhat.{ShipWhat}
 use Rattle.ship_station.specs.declared.ships.Ship.{Ship}
 use Rattle.ship_station.specs.Past.{kept, open_alert, last_attempt, delays_left}
-use Rattle.ship_station.specs.ShipRules.{Identities, ship_rules}
+use Rattle.ship_station.specs.ShipRules.{Identities, held, ship_rules}
 
 -- each part that a ship keeps is what a history tells
 pub record Keeps (ship : Ship) (who : Identities) (h : History ShipWhat) : Type 0 where
@@ -17,6 +17,7 @@ pub record Keeps (ship : Ship) (who : Identities) (h : History ShipWhat) : Type 
   pub alert : ship.alert ≡ open_alert h
   pub attempted : ship.attempted_at ≡ last_attempt h
   pub delays : ship.delays.items ≡ delays_left h
+  pub held : ship.held ≡ held h
 
 -- a ship of these identities stands for a history: it is legal, and the ship keeps what it tells
 abbrev pub Stands : Ship → Identities → History ShipWhat → Type 0

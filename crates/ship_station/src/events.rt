@@ -22,6 +22,10 @@ pub enum ShipWhat {
     Cancel,
     /// Time has passed.
     Tick,
+    /// The operator sends a call.
+    Send(Call),
+    /// The operator accepts or declines the call that was got under a number: true accepts it.
+    Answer(u8, bool),
     /// A call was heard.
     Heard(Call),
 }
@@ -43,8 +47,8 @@ impl ShipWhat {
                 let _ = nature.number();
                 let _ = comm.number();
             }
-            ShipWhat::Cancel | ShipWhat::Tick => {}
-            ShipWhat::Heard(call) => call.lawful(),
+            ShipWhat::Cancel | ShipWhat::Tick | ShipWhat::Answer(..) => {}
+            ShipWhat::Send(call) | ShipWhat::Heard(call) => call.lawful(),
         }
     }
 }

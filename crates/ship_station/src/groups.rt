@@ -33,4 +33,11 @@ impl Groups {
             count: groups.len(),
         }
     }
+
+    /// The list of them.
+    pub(crate) fn list(&self) -> &[Mmsi]
+        ensures { result.now ≡ self.now }
+    {
+        &self.places[..self.count]
+    }
 }

@@ -1,18 +1,27 @@
-ghost use Rattle.std.specs.Prelude.{◌≡◌, ◌≤◌, ◌==◌, ◌&&◌, [], ◌∷◌, length, is_some, if◌then◌else◌, OnErr};
+ghost use Rattle.std.specs.Prelude.{◌≡◌, ◌≤◌, ◌==◌, ◌&&◌, not, [], ◌∷◌, length, drop, is_some, if◌then◌else◌, OnOk, OnErr};
+ghost use Rattle.std.specs.List.{list_any};
+ghost use Rattle.area_rules.specs.Addressing.{is_for_ship};
+ghost use Rattle.area_rules.specs.Senders.{sender_of};
+ghost use Rattle.traffic_rules.specs.Hearing.{heard_refusal, heard_due};
+ghost use Rattle.traffic_rules.specs.inside.After.{after_hearing};
+ghost use Rattle.ship_station.specs.Past.{is_attempt};
 ghost use Rattle.area_rules.specs.declared.acts.Act.TheVariants.{AlertEnded};
 ghost use Rattle.area_rules.specs.Histories.{History};
-ghost use Rattle.area_rules.specs.Rules.{listed, answer_to, continued};
+ghost use Rattle.area_rules.specs.Rules.{listed, refusal_or, answer_to, continued};
 ghost use Rattle.ship_station.specs.declared.events.ShipWhat.{ShipWhat as What};
-ghost use Rattle.ship_station.specs.ShipRules.{Identities, attempt, ship_rules};
+ghost use Rattle.ship_station.specs.ShipRules.{Identities, attempt, at_tick, ship_rules};
 ghost use Rattle.ship_station.specs.Stands.{Stands};
 ghost use Rattle.ship_station.specs.inside.Handling.{AnswersEvent, GoesOn};
 
 use crate::alerts::OwnAlert;
 use crate::events::{ShipEvent, ShipWhat};
 use crate::groups::Groups;
-use area_rules::{Act, Acts, StationRefusal, has_passed, sender, single, time_back};
+use area_rules::{
+    Act, Acts, HeldCalls, StationRefusal, for_ship, has_passed, sender, single, time_back,
+};
 use arrayvec::ArrayVec;
 use call_values::{AlertDelay, Call, Casualty, Comm, HourMinute, Mmsi, Nature, Position};
+use traffic_rules::{answer, hear, repeat, send};
 
 /// How many times in a row a distress alert is sent at an attempt.
 const CALLS_OF_AN_ATTEMPT: u8 = 5;
@@ -32,6 +41,8 @@ pub struct Ship {
     attempted_at: u64,
     /// The delays that are held, in milliseconds.
     delays: ArrayVec<u32, 16>,
+    /// The calls that wait for an answer.
+    held: HeldCalls,
 }
 
 impl Ship {
@@ -50,6 +61,7 @@ impl Ship {
             alert: None,
             attempted_at: 0,
             delays: ArrayVec::new(),
+            held: HeldCalls::empty(),
         }
     }
 
@@ -72,6 +84,8 @@ impl Ship {
             ShipWhat::Alert(nature, comm) => self.alert(event.at, nature, comm),
             ShipWhat::Cancel => self.cancel(event.at),
             ShipWhat::Tick => self.tick(event.at),
+            ShipWhat::Send(call) => self.send(event.at, &call),
+            ShipWhat::Answer(number, accepts) => self.answer(event.at, number, accepts),
             ShipWhat::Heard(call) => self.hear(event.at, &call),
         }
     }
@@ -138,26 +152,60 @@ impl Ship {
         Ok(single(Act::AlertEnded))
     }
 
-    /// Repeats the alert that is on, where its time has come.
+    /// Repeats the alert that is on, where its time has come, and then the held calls.
     fn tick(&mut self, at: u64) -> Result<Acts, StationRefusal>
         ensures answer { AnswersEvent self.old at What.Tick result }
         ensures goes_on { GoesOn self.old at What.Tick self.new }
         ensures unchanged { OnErr result (self.new ≡ self.old) }
     {
-        let Some(alert) = self.alert else {
-            self.last = at;
-            return Ok(ArrayVec::new());
-        };
-        if self.delays.is_empty() {
+        if self.alert.is_some() && self.delays.is_empty() {
             return Err(StationRefusal::NeedsDelay);
         }
         self.last = at;
-        if !has_passed(self.delays[0].into(), self.attempted_at, at) {
-            return Ok(ArrayVec::new());
+        let mut acts = self.attempt_again(at);
+        repeat(&mut self.held, at, &mut acts);
+        Ok(acts)
+    }
+
+    /// Makes an attempt of the alert that is on, where at least the first delay has passed since the last attempt.
+    fn attempt_again(&mut self, at: u64) -> Acts
+        ensures acts { result.items ≡ at_tick self.old.own (self.old.position, self.old.time) self.old.alert self.old.delays.items self.old.attempted_at at }
+        ensures few { length result.items ≤ 1 }
+        ensures attempted { self.new.attempted_at ≡ if list_any is_attempt result.items then at else self.old.attempted_at }
+        ensures delays { self.new.delays.items ≡ if list_any is_attempt result.items then drop 1 self.old.delays.items else self.old.delays.items }
+        ensures others { self.new ≡ record self.old { attempted_at = self.new.attempted_at; delays = self.new.delays } }
+    {
+        let Some(alert) = self.alert else {
+            return ArrayVec::new();
+        };
+        if self.delays.is_empty() || !has_passed(self.delays[0].into(), self.attempted_at, at) {
+            return ArrayVec::new();
         }
         self.delays.remove(0);
         self.attempted_at = at;
-        Ok(single(self.attempt(&alert)))
+        single(self.attempt(&alert))
+    }
+
+    /// Sends a call that the operator gives.
+    fn send(&mut self, at: u64, call: &Call) -> Result<Acts, StationRefusal>
+        ensures answer { AnswersEvent self.old at (What.Send call.now) result }
+        ensures goes_on { GoesOn self.old at (What.Send call.now) self.new }
+        ensures unchanged { OnErr result (self.new ≡ self.old) }
+    {
+        let acts = send(&mut self.held, self.own, call, at)?;
+        self.last = at;
+        Ok(acts)
+    }
+
+    /// Answers the call that was got under a number, as the operator accepts or declines it.
+    fn answer(&mut self, at: u64, number: u8, accepts: bool) -> Result<Acts, StationRefusal>
+        ensures answer { AnswersEvent self.old at (What.Answer number accepts) result }
+        ensures goes_on { GoesOn self.old at (What.Answer number accepts) self.new }
+        ensures unchanged { OnErr result (self.new ≡ self.old) }
+    {
+        let acts = answer(&mut self.held, self.own, number, accepts)?;
+        self.last = at;
+        Ok(acts)
     }
 
     fn hear(&mut self, at: u64, call: &Call) -> Result<Acts, StationRefusal>
@@ -165,15 +213,42 @@ impl Ship {
         ensures goes_on { GoesOn self.old at (What.Heard call.now) self.new }
         ensures unchanged { OnErr result (self.new ≡ self.old) }
     {
-        self.last = at;
-        if sender(call).number() == self.own.number() {
+        if !self.is_for_this(call) {
+            self.last = at;
             return Ok(ArrayVec::new());
         }
         match *call {
-            Call::Alert(casualty) => Ok(single(Act::Distress(casualty))),
-            Call::Ack { casualty, .. } => Ok(self.hear_acknowledgement(&casualty)),
-            _ => Ok(ArrayVec::new()),
+            Call::Alert(casualty) => {
+                self.last = at;
+                Ok(single(Act::Distress(casualty)))
+            }
+            Call::Ack { casualty, .. } => {
+                self.last = at;
+                Ok(self.hear_acknowledgement(&casualty))
+            }
+            _ => self.hear_traffic(at, call),
         }
+    }
+
+    /// Whether another station sent a call that is for this ship.
+    fn is_for_this(&self, call: &Call) -> bool
+        ensures { result ≡ (not (sender_of call.now == self.now.own) && is_for_ship call.now self.now.own self.now.groups self.now.position) }
+    {
+        sender(call).number() != self.own.number()
+            && for_ship(call, self.own, self.groups.list(), &self.position)
+    }
+
+    /// Hears a call for this ship that is neither a distress alert nor its acknowledgement.
+    fn hear_traffic(&mut self, at: u64, call: &Call) -> Result<Acts, StationRefusal>
+        ensures answer { listed result ≡ refusal_or (heard_refusal self.old.held call.now)
+            (heard_due self.old.own (Some (self.old.position, self.old.time)) self.old.held call.now) }
+        ensures held { OnOk result (self.new ≡ record self.old { last = at; held = after_hearing self.old.held call.now at }) }
+        ensures unchanged { OnErr result (self.new ≡ self.old) }
+    {
+        let place = (self.position, self.time);
+        let acts = hear(&mut self.held, self.own, Some(place), call, at)?;
+        self.last = at;
+        Ok(acts)
     }
 
     /// Ends the alert that is on, where its acknowledgement names this ship.

@@ -11,7 +11,7 @@ use Rattle.area_rules.specs.declared.held.Side.TheVariants.{Sent, Got}
 use Rattle.area_rules.specs.Histories.{Entry, History, since}
 use Rattle.area_rules.specs.Holding.{Places, newly_held, sent_at}
 use Rattle.area_rules.specs.Moments.{has_passed}
-use Rattle.traffic_rules.specs.Occurrences.{Occurrence, ticks, answers, hears, other, is_tick, is_answer}
+use Rattle.traffic_rules.specs.Occurrences.{Occurrence, hears, is_tick, is_answer}
 
 -- how long a sent call waits for its answer, in milliseconds, before it is sent again, and before it is given up after that
 abbrev pub answer_wait : ℕ

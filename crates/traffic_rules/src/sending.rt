@@ -11,12 +11,7 @@ use dsc_symbols::ends;
 /// Sends a call that the operator gives, once, and holds it where it asks for an acknowledgement (ITU-R M.541, calling).
 /// Refused: a call that an operator of this station may not send (`NotSendable`), or else one that must be held where no
 /// number is free (`Full`).
-pub fn send(
-    held: &mut HeldCalls,
-    own: Mmsi,
-    call: &Call,
-    at: u64,
-) -> Result<Acts, StationRefusal>
+pub fn send(held: &mut HeldCalls, own: Mmsi, call: &Call, at: u64) -> Result<Acts, StationRefusal>
     ensures answer { listed result ≡ refusal_or (sending.send_refusal own held.old call.now) (sending.send_due held.old call.now) }
     ensures held { OnOk result (held.new ≡ after_sending held.old call.now at) }
     ensures unchanged { OnErr result (held.new ≡ held.old) }

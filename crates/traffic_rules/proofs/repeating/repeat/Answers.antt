@@ -1,6 +1,5 @@
 use native.Mathlib.Omega.{arith}
-use Rattle.std.proofs.Common.{◌≡◌, ◌<◌, ◌≤◌, ◌++◌, ◌+◌, length, take, drop, ℕ, suc, List, None, Option, slice_index_or, slice_set, refl, sym, ◌∙◌, ap, subst}
-use Rattle.std.specs.Prelude.{map}
+use Rattle.std.proofs.Common.{◌≡◌, ◌<◌, ◌++◌, ◌+◌, length, take, suc, List, None, Option, slice_index_or, sym, ◌∙◌, ap}
 use Rattle.area_rules.specs.declared.acts.Act.{Act}
 use Rattle.area_rules.specs.declared.held.Holding.{Holding}
 use Rattle.area_rules.specs.Holding.{Places, place_of, with_place}

@@ -1,4 +1,4 @@
-use Rattle.std.proofs.Common.{◌≡◌, ◌<◌, ◌≤◌, ◌++◌, length, take, drop, ℕ, ◌+◌}
+use Rattle.std.proofs.Common.{◌≡◌, ◌≤◌, ◌++◌, length, take, drop, ◌+◌}
 use Rattle.std.specs.Prelude.{map}
 use Rattle.traffic_rules.specs.Repeating.{repeats, ticked}
 use Rattle.traffic_rules.proofs.repeating.repeat.Given as goal

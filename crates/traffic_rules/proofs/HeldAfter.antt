@@ -1,0 +1,148 @@
+-- what is held under a number after one entry more
+use Rattle.std.proofs.Common.{◌≡◌, ℕ, ◌+◌, ◌==◌, ◌&&◌, not, Bool, true, false, Option, Some, None, is_some, List, [], ◌∷◌, if◌then◌else◌, refl, sym, ◌∙◌, ap}
+use Rattle.std.specs.Option.{option_map}
+use Rattle.std.specs.Prelude.{IfSome}
+use Rattle.std.proofs.lemmas.Bool.{false≢true, eq-eqb}
+use Rattle.call_values.specs.declared.calls.Call.{Call}
+use Rattle.area_rules.specs.declared.acts.Act.{Act}
+use Rattle.area_rules.specs.declared.held.Holding.{Holding}
+use Rattle.area_rules.specs.declared.held.Side.{Side}
+use Rattle.area_rules.specs.declared.held.Side.TheVariants.{Sent, Got}
+use Rattle.area_rules.specs.Histories.{Entry, History, since}
+use Rattle.area_rules.specs.Holding.{newly_held, first_times, sent_at}
+use Rattle.area_rules.specs.Moments.{has_passed}
+use Rattle.traffic_rules.specs.Occurrences.{Occurrence, ticks, answers, hears, other, is_tick}
+use Rattle.traffic_rules.specs.HeldTold.{answer_wait, first_sent, begun_by, sent_again_at, is_sent, begins, ends, opened, first_passed, held_since, begun, held_told}
+use Rattle.traffic_rules.specs.Repeating.{is_overdue, ticked}
+
+-- a tick gives up what is held
+abbrev pub gives_up : (at : ℕ) → Option Holding → Bool
+gives_up at None = false
+gives_up at (Some x) = is_overdue at x.side x.at && not (x.times == 1)
+
+-- a call was sent once, or was got, when it begins to be held
+abbrev pub IsNew : Option Holding → Type 0
+IsNew o = IfSome o (λ x. x.times ≡ first_times x.side)
+
+new_sent : (at : ℕ) (o : Option Call) → IsNew (option_map (λ (call : Call). newly_held call Sent at) o)
+new_sent at None = tt
+new_sent at (Some call) = refl
+
+new_by : (o : Occurrence) (at : ℕ) (acts : List Act) → IsNew (begun_by o at acts)
+new_by (hears call) at acts = refl
+new_by ticks at acts = new_sent at (first_sent acts)
+new_by (answers number) at acts = new_sent at (first_sent acts)
+new_by other at acts = new_sent at (first_sent acts)
+
+no_more : (o : Option ℕ) → (if is_some o then o else None) ≡ o
+no_more None = refl
+no_more (Some x) = refl
+
+either_way : (b : Bool) (x : Option Holding) → (if b then x else x) ≡ x
+either_way true x = refl
+either_way false x = refl
+
+abbrev pub holding : Call → Side → (at times : ℕ) → Holding
+holding call side at times = record { call = call; side = side; at = at; times = times }
+
+-- what is held of a call by its side, and by the tick at which it was sent again
+abbrev pub again : Side → Option ℕ → Holding → Option Holding
+again side first x = if is_sent side then sent_again_at first x else Some x
+
+stays : (late : Bool) (t : ℕ) (x y : Holding) → t ≡ 2 → (late && not (t == 1)) ≡ false
+    → Some y ≡ (if late then (if t == 1 then Some x else None) else Some y)
+stays false t x y two none = refl
+stays true t x y two none = absurd (false≢true (sym none ∙ ap (λ (n : ℕ). true && not (n == 1)) two))
+
+sent_once : (late : Bool) (t now : ℕ) (x : Holding) → t ≡ 1
+    → sent_again_at (if late then Some now else None) x ≡ (if late then (if t == 1 then sent_at now (Some x) else None) else Some x)
+sent_once true t now x one = ap (λ (b : Bool). if b then sent_at now (Some x) else None) (sym (eq-eqb t 1 one))
+sent_once false t now x one = refl
+
+tick_of : (call : Call) (side : Side) (at times : ℕ) (first : Option ℕ) (now : ℕ) → times ≡ first_times side
+    → gives_up now (again side first (holding call side at times)) ≡ false
+    → again side (if is_some first then first else (if has_passed answer_wait at now then Some now else None)) (holding call side at times)
+    ≡ ticked now (again side first (holding call side at times))
+tick_of call Got at times first now new stays_held = refl
+tick_of call Sent at times None now new stays_held = sent_once (has_passed answer_wait at now) times now (holding call Sent at times) new
+tick_of call Sent at times (Some a) now new stays_held =
+    stays (has_passed answer_wait a now) (times + 1) _ (holding call Sent a (times + 1)) (ap (λ (n : ℕ). n + 1) new) stays_held
+
+given_up : (late once : Bool) (x y : Option Holding) → (late && not once) ≡ true → (if late then (if once then x else None) else y) ≡ None
+given_up true false x y is = refl
+given_up true true x y is = absurd (false≢true is)
+given_up false once x y is = absurd (false≢true is)
+
+gives_none : (at : ℕ) (o : Option Holding) → gives_up at o ≡ true → ticked at o ≡ None
+gives_none at None is = absurd (false≢true is)
+gives_none at (Some x) is = given_up (is_overdue at x.side x.at) (x.times == 1) (sent_at at (Some x)) (Some x) is
+
+module _ {What : Type 0} (occurs : What → Occurrence) where
+  new_begun : (e : Option (Entry What)) → IsNew (begun occurs e)
+  new_begun None = tt
+  new_begun (Some e) = new_by (occurs e.what) e.at e.acts
+
+  since_nothing : (o : Option Holding) → held_since occurs o [] ≡ o
+  since_nothing None = refl
+  since_nothing (Some x) = either_way (is_sent x.side) (Some x)
+
+  passed_before : (at : ℕ) (e : Entry What) (later : History What) → is_tick (occurs e.what) ≡ false → first_passed occurs at (e ∷ later) ≡ first_passed occurs at later
+  passed_before at e later quiet =
+      let first = first_passed occurs at later in
+      ap (λ (b : Bool). if is_some first then first else (if b && has_passed answer_wait at e.at then Some e.at else None)) quiet ∙ no_more first
+
+  since_silent : (o : Option Holding) (e : Entry What) (later : History What) → is_tick (occurs e.what) ≡ false → held_since occurs o (e ∷ later) ≡ held_since occurs o later
+  since_silent None e later quiet = refl
+  since_silent (Some x) e later quiet = ap (λ (first : Option ℕ). if is_sent x.side then sent_again_at first x else Some x) (passed_before x.at e later quiet)
+
+  since_tick : (o : Option Holding) (e : Entry What) (later : History What) → IsNew o → is_tick (occurs e.what) ≡ true
+      → gives_up e.at (held_since occurs o later) ≡ false → held_since occurs o (e ∷ later) ≡ ticked e.at (held_since occurs o later)
+  since_tick None e later new tick stays_held = refl
+  since_tick (Some x) e later new tick stays_held =
+      let first = first_passed occurs x.at later in
+      ap (λ (b : Bool). again x.side (if is_some first then first else (if b && has_passed answer_wait x.at e.at then Some e.at else None)) x) tick
+      ∙ tick_of x.call x.side x.at x.times first e.at new stays_held
+
+  opened_before : (e : Entry What) (h : History What) (k : ℕ) → begins occurs k e ≡ false → ends occurs k e ≡ false → opened occurs k (e ∷ h) ≡ opened occurs k h
+  opened_before e h k no_begin no_end =
+      ap (λ (b : Bool). if b then None else (if begins occurs k e then Some e else opened occurs k h)) no_end
+      ∙ ap (λ (b : Bool). if b then Some e else opened occurs k h) no_begin
+
+  since_before : (e : Entry What) (h : History What) (k : ℕ) → begins occurs k e ≡ false → since (begins occurs k) (e ∷ h) ≡ e ∷ since (begins occurs k) h
+  since_before e h k no_begin = ap (λ (b : Bool). if b then [] else e ∷ since (begins occurs k) h) no_begin
+
+  told_by : (e : Entry What) (h : History What) (k : ℕ) → begins occurs k e ≡ false → ends occurs k e ≡ false
+      → held_told occurs (e ∷ h) k ≡ held_since occurs (begun occurs (opened occurs k h)) (e ∷ since (begins occurs k) h)
+  told_by e h k no_begin no_end =
+      ap (λ (o : Option (Entry What)). held_since occurs (begun occurs o) (since (begins occurs k) (e ∷ h))) (opened_before e h k no_begin no_end)
+      ∙ ap (λ (l : History What). held_since occurs (begun occurs (opened occurs k h)) l) (since_before e h k no_begin)
+
+  -- an entry that doesn't mention a number, and is no tick, leaves it
+  pub silent : (e : Entry What) (h : History What) (k : ℕ) → begins occurs k e ≡ false → ends occurs k e ≡ false → is_tick (occurs e.what) ≡ false
+      → held_told occurs (e ∷ h) k ≡ held_told occurs h k
+  silent e h k no_begin no_end no_tick = told_by e h k no_begin no_end ∙ since_silent (begun occurs (opened occurs k h)) e (since (begins occurs k) h) no_tick
+
+  -- an entry frees a number
+  pub shuts : (e : Entry What) (h : History What) (k : ℕ) → ends occurs k e ≡ true → held_told occurs (e ∷ h) k ≡ None
+  shuts e h k end =
+      ap (λ (b : Bool). held_since occurs (begun occurs (if b then None else (if begins occurs k e then Some e else opened occurs k h))) (since (begins occurs k) (e ∷ h))) end
+
+  -- an entry begins to hold a call
+  pub starts : (e : Entry What) (h : History What) (k : ℕ) → begins occurs k e ≡ true → ends occurs k e ≡ false
+      → held_told occurs (e ∷ h) k ≡ begun_by (occurs e.what) e.at e.acts
+  starts e h k begin no_end =
+      ap (λ (b : Bool). held_since occurs (begun occurs (if b then None else (if begins occurs k e then Some e else opened occurs k h))) (since (begins occurs k) (e ∷ h))) no_end
+      ∙ ap (λ (b : Bool). held_since occurs (begun occurs (if b then Some e else opened occurs k h)) (if b then [] else e ∷ since (begins occurs k) h)) begin
+      ∙ since_nothing (begun_by (occurs e.what) e.at e.acts)
+
+  passes_by : (e : Entry What) (h : History What) (k : ℕ) (b : Bool) → begins occurs k e ≡ false → is_tick (occurs e.what) ≡ true
+      → ends occurs k e ≡ b → gives_up e.at (held_told occurs h k) ≡ b → held_told occurs (e ∷ h) k ≡ ticked e.at (held_told occurs h k)
+  passes_by e h k true no_begin tick end up = shuts e h k end ∙ sym (gives_none e.at (held_told occurs h k) up)
+  passes_by e h k false no_begin tick end up =
+      let o = opened occurs k h in
+      told_by e h k no_begin end ∙ since_tick (begun occurs o) e (since (begins occurs k) h) (new_begun o) tick up
+
+  -- a tick frees a number exactly where it gives its call up
+  pub passes : (e : Entry What) (h : History What) (k : ℕ) → begins occurs k e ≡ false → is_tick (occurs e.what) ≡ true
+      → ends occurs k e ≡ gives_up e.at (held_told occurs h k) → held_told occurs (e ∷ h) k ≡ ticked e.at (held_told occurs h k)
+  passes e h k no_begin tick end = passes_by e h k (gives_up e.at (held_told occurs h k)) no_begin tick end refl
