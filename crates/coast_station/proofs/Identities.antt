@@ -26,7 +26,7 @@ and_true false = refl
 abbrev pub is_among : (mmsi : ℕ) → List ℕ → Bool
 is_among mmsi identities = list_any (λ (other : ℕ). other == mmsi) identities
 
-among_one_more : (here kept wanted : Bool) (rest all : Bool) → (here ≡ true → kept ≡ wanted) → rest ≡ (all && wanted)
+pub among_one_more : (here kept wanted : Bool) (rest all : Bool) → (here ≡ true → kept ≡ wanted) → rest ≡ (all && wanted)
     → (if kept then here || rest else rest) ≡ ((here || all) && wanted)
 among_one_more true true true rest all same is = refl
 among_one_more true true false rest all same is = absurd (true≢false (same refl))
@@ -102,7 +102,7 @@ apart_filter keeps (m ∷ ms) apart =
     (λ _. (among_filter keeps m ms ∙ and_left (is_among m ms) (keeps m) apart.0, apart_filter keeps ms apart.1))
     (λ _. apart_filter keeps ms apart.1)
 
-other_way : (a b : ℕ) → (a == b) ≡ false → (b == a) ≡ false
+pub other_way : (a b : ℕ) → (a == b) ≡ false → (b == a) ≡ false
 other_way a b different = ne_eqb b a (λ same. eqb-false a b different (sym same))
 
 apart_append : (k : ℕ) (ms : List ℕ) → is_among k ms ≡ false → AreApart ms → AreApart (ms ++ k ∷ [])

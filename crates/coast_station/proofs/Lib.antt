@@ -1,3 +1,4 @@
 pub mod Births
 pub mod Identities
 pub mod Listed
+pub mod Changes

@@ -23,7 +23,7 @@ use Rattle.coast_station.specs.declared.events.CoastWhat.TheVariants.{Accept, Ti
 use Rattle.coast_station.specs.declared.casualties.OpenCasualty.{OpenCasualty}
 use Rattle.coast_station.specs.Accepting.{find_casualty, accept_refusal, accept_due, acknowledgements_due}
 use Rattle.coast_station.specs.Casualties.{open_casualties}
-use Rattle.coast_station.specs.Events.{IsCoastWhat, occurs}
+use Rattle.coast_station.specs.Events.{IsCoastWhat, coast_occurs}
 
 -- a coast station: its identity, and the band in which it works
 pub record Station : Type 0 where
@@ -43,9 +43,9 @@ relay_due_of own to ask places (Some casualty) = send_due places (call.Relay to 
 abbrev pub relay_due : (own : ℕ) → (mmsi : ℕ) → To → (ask : Bool) → List OpenCasualty → Places → List Act
 relay_due own mmsi to ask casualties places = relay_due_of own to ask places (find_casualty mmsi casualties)
 
--- a call concerns the station: another station sent it, and it is for this one
-abbrev pub concerns : (own : ℕ) → Call → Bool
-concerns own call = not (sender_of call == own) && is_for_coast call own
+-- a heard call is for the station: another station sent it, and it reaches this one
+abbrev pub is_for : (own : ℕ) → Call → Bool
+is_for own call = not (sender_of call == own) && is_for_coast call own
 
 -- a heard alert is refused where it begins a casualty and 16 are open; another call as at each station
 abbrev pub refusal_at_call : List OpenCasualty → Places → Call → Option StationRefusal
@@ -69,23 +69,27 @@ refusal_by who casualties places Tick = None
 refusal_by who casualties places (Relay mmsi to ask) = relay_refusal mmsi ask casualties places
 refusal_by who casualties places (Send call) = send_refusal who.own places call
 refusal_by who casualties places (Answer number accepts) = answer_refusal places number
-refusal_by who casualties places (Heard heard) = if concerns who.own heard then refusal_at_call casualties places heard else None
+refusal_by who casualties places (Heard heard) = if is_for who.own heard then refusal_at_call casualties places heard else None
 
--- what is due at an event; at a call that doesn't concern the station nothing
+-- what is due at an event; at a call that is not for the station nothing
 abbrev pub due_by : Station → List OpenCasualty → Places → (at : ℕ) → CoastWhat → List Act
 due_by who casualties places at (Accept mmsi delay) = accept_due who.own who.band at mmsi delay casualties
 due_by who casualties places at Tick = acknowledgements_due who.own at casualties ++ repeats at 1 places
 due_by who casualties places at (Relay mmsi to ask) = relay_due who.own mmsi to ask casualties places
 due_by who casualties places at (Send call) = send_due places call
 due_by who casualties places at (Answer number accepts) = answer_due who.own places number accepts
-due_by who casualties places at (Heard heard) = if concerns who.own heard then at_call who.own casualties places heard else []
+due_by who casualties places at (Heard heard) = if is_for who.own heard then at_call who.own casualties places heard else []
+
+-- the calls that the station holds
+abbrev pub held : History CoastWhat → Places
+held = all_held coast_occurs
 
 -- behind a history
 abbrev pub refusal_at : Station → History CoastWhat → CoastWhat → Option StationRefusal
-refusal_at who h what = refusal_by who (open_casualties who.own h) (all_held occurs h) what
+refusal_at who h what = refusal_by who (open_casualties who.own h) (held h) what
 
 abbrev pub due_at : Station → History CoastWhat → (at : ℕ) → CoastWhat → List Act
-due_at who h at what = due_by who (open_casualties who.own h) (all_held occurs h) at what
+due_at who h at what = due_by who (open_casualties who.own h) (held h) at what
 
 -- the rules of a coast station
 abbrev pub coast_rules : Station → Rules CoastWhat

@@ -20,13 +20,13 @@ IsCoastWhat (Answer number accepts) = Unit {0}
 IsCoastWhat (Heard call) = IsCall call
 
 -- an event as it concerns held calls
-abbrev pub occurs : CoastWhat → Occurrence
-occurs (Accept mmsi delay) = other
-occurs Tick = ticks
-occurs (Relay mmsi to ask) = other
-occurs (Send call) = other
-occurs (Answer number accepts) = answers number
-occurs (Heard call) = hears call
+abbrev pub coast_occurs : CoastWhat → Occurrence
+coast_occurs (Accept mmsi delay) = other
+coast_occurs Tick = ticks
+coast_occurs (Relay mmsi to ask) = other
+coast_occurs (Send call) = other
+coast_occurs (Answer number accepts) = answers number
+coast_occurs (Heard call) = hears call
 
 -- another station's distress alert that is heard at an event
 abbrev pub alert_in : (own : ℕ) → CoastWhat → Option Casualty

@@ -144,13 +144,13 @@ impl Coast {
         Ok(acts)
     }
 
-    /// Hears a call, which concerns the station where another station sent it and it is for this one.
+    /// Hears a call, which is for the station where another station sent it and it reaches this one.
     fn hear(&mut self, at: u64, call: &Call) -> Result<Acts, StationRefusal>
         ensures answer { AnswersEvent self.old at (What.Heard call.now) result }
         ensures goes_on { GoesOn self.old at (What.Heard call.now) self.new }
         ensures unchanged { OnErr result (self.new ≡ self.old) }
     {
-        if !concerns(self.own, call) {
+        if !is_for(self.own, call) {
             self.last = at;
             return Ok(ArrayVec::new());
         }
@@ -165,9 +165,9 @@ impl Coast {
         }
     }
 
-    /// Hears the alert of another station, which concerns this one.
+    /// Hears the alert of another station, which is for this one.
     fn hear_alert(&mut self, at: u64, alert: &Casualty) -> Result<Acts, StationRefusal>
-        requires { rules.concerns self.old.own (form.Alert alert.now) ≡ true }
+        requires { rules.is_for self.old.own (form.Alert alert.now) ≡ true }
         ensures answer { AnswersEvent self.old at (What.Heard (form.Alert alert.now)) result }
         ensures goes_on { GoesOn self.old at (What.Heard (form.Alert alert.now)) self.new }
         ensures unchanged { OnErr result (self.new ≡ self.old) }
@@ -179,7 +179,7 @@ impl Coast {
 
     /// Hears that another station has acknowledged the alert of a ship: its casualty is closed.
     fn hear_acknowledgement(&mut self, at: u64, from: Mmsi, casualty: &Casualty) -> Acts
-        requires { rules.concerns self.old.own (form.Ack from casualty.now) ≡ true }
+        requires { rules.is_for self.old.own (form.Ack from casualty.now) ≡ true }
         ensures answer { AnswersEvent self.old at (What.Heard (form.Ack from casualty.now)) (Ok result) }
         ensures goes_on { GoesOn self.old at (What.Heard (form.Ack from casualty.now)) self.new }
     {
@@ -204,9 +204,9 @@ fn waits(band: Band) -> bool
     }
 }
 
-/// Whether another station sent a call, and it is for this one.
-fn concerns(own: Mmsi, call: &Call) -> bool
-    ensures { result ≡ rules.concerns own call.now }
+/// Whether a call is for this station: another station sent it, and it reaches this one.
+fn is_for(own: Mmsi, call: &Call) -> bool
+    ensures { result ≡ rules.is_for own call.now }
 {
     sender(call).number() != own.number() && for_coast(call, own)
 }
