@@ -2,3 +2,4 @@ pub mod Births
 pub mod Identities
 pub mod Listed
 pub mod Changes
+pub mod Silence
