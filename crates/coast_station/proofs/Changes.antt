@@ -238,7 +238,7 @@ due_by own at m k told ms (Some x) names was rest =
     ∙ among_one_more (k == m) (is_due at x) (is_due_open at (told m)) (list_any (ends m) (acknowledgements_due own at (listed_of told ms))) (is_among m ms)
     (λ same. ap (is_due_open at) (sym was ∙ ap told (eqb-true k m same))) rest
 
-any_due : (own at m : ℕ) (told : ℕ → Option OpenCasualty) (ms : List ℕ) → AreNamed told
+pub any_due : (own at m : ℕ) (told : ℕ → Option OpenCasualty) (ms : List ℕ) → AreNamed told
     → list_any (ends m) (acknowledgements_due own at (listed_of told ms)) ≡ (is_among m ms && is_due_open at (told m))
 any_due own at m told [] names = refl
 any_due own at m told (k ∷ ms) names = due_by own at m k told ms (told k) names refl (any_due own at m told ms names)

@@ -3,3 +3,9 @@ pub mod Identities
 pub mod Listed
 pub mod Changes
 pub mod Silence
+pub mod Steps
+pub mod Among
+pub mod Origins
+pub mod Behind
+pub mod Acknowledgements
+pub mod Places

@@ -113,8 +113,11 @@ impl Casualties {
     pub(crate) fn close(&mut self, mmsi: Mmsi)
         ensures { self.new ≡ left.without mmsi self.old }
     {
-        if let Some(place) = self.place_of(mmsi) {
-            self.entries.remove(place);
+        match self.place_of(mmsi) {
+            Some(place) => {
+                self.entries.remove(place);
+            }
+            None => {}
         }
     }
 
@@ -122,8 +125,9 @@ impl Casualties {
     pub(crate) fn replace(&mut self, casualty: &OpenCasualty)
         ensures { self.new ≡ left.replaced casualty.now.alert.mmsi casualty.now self.old }
     {
-        if let Some(place) = self.place_of(casualty.alert.mmsi) {
-            put_at(&mut self.entries, place, casualty);
+        match self.place_of(casualty.alert.mmsi) {
+            Some(place) => put_at(&mut self.entries, place, casualty),
+            None => {}
         }
     }
 
@@ -157,16 +161,8 @@ impl Casualties {
         ensures room { length result.items ≤ 16 }
         ensures rest { self.new ≡ left.not_due at self.old }
     {
-        let mut acts = ArrayVec::new();
-        let mut rest = ArrayVec::new();
-        for casualty in self.entries.iter() {
-            if casualty.is_due(at) {
-                put(&mut acts, acknowledgement(own, &casualty.alert));
-            } else {
-                rest.push(*casualty);
-            }
-        }
-        self.entries = rest;
+        let acts = acknowledgements(&self.entries, own, at);
+        self.entries = not_due(&self.entries, at);
         acts
     }
 
@@ -193,4 +189,33 @@ fn put_at(entries: &mut ArrayVec<OpenCasualty, 16>, place: usize, casualty: &Ope
     ensures { entries.new.items ≡ slice_set entries.old.items place casualty.now }
 {
     entries[place] = *casualty;
+}
+
+/// The acknowledgements that are due.
+fn acknowledgements(entries: &[OpenCasualty], own: Mmsi, at: u64) -> Acts
+    requires { length entries.now ≤ 16 }
+    ensures acts { result.items ≡ accepting.acknowledgements_due own at entries.now }
+    ensures room { length result.items ≤ 16 }
+{
+    let mut acts = ArrayVec::new();
+    for casualty in entries {
+        if casualty.is_due(at) {
+            put(&mut acts, acknowledgement(own, &casualty.alert));
+        }
+    }
+    acts
+}
+
+/// The casualties whose acknowledgement isn't due.
+fn not_due(entries: &[OpenCasualty], at: u64) -> ArrayVec<OpenCasualty, 16>
+    requires { length entries.now ≤ 16 }
+    ensures { result.items ≡ left.not_due at entries.now }
+{
+    let mut rest = ArrayVec::new();
+    for casualty in entries {
+        if !casualty.is_due(at) {
+            rest.push(*casualty);
+        }
+    }
+    rest
 }

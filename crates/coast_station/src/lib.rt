@@ -10,7 +10,10 @@ mod laws;
 pub use call_values::Band;
 pub use coasts::Coast;
 pub use events::{CoastEvent, CoastWhat};
-pub use laws::casualties_are_born;
+pub use laws::{
+    acknowledgements_go_back_to_accepted_alerts, an_alert_is_heard_between_acknowledgements,
+    an_identity_is_acknowledged_once, casualties_are_born,
+};
 
 #[cfg(test)]
 mod tests;

@@ -1,6 +1,5 @@
 use Rattle.std.proofs.Common.{◌∙◌}
 use Rattle.coast_station.proofs.Identities.{born_open, open_born}
-use Rattle.coast_station.proofs.Silence.{repeats_end}
 use Rattle.coast_station.proofs.laws.casualties_are_born.Goals as goal
 
 pub returns : goal.returns
