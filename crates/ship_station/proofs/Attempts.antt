@@ -8,14 +8,16 @@ use Rattle.area_rules.specs.declared.acts.Act.{Act}
 use Rattle.area_rules.specs.Histories.{Entry, History, does, NoneIs, last_told}
 use Rattle.area_rules.specs.Moments.{has_passed}
 use Rattle.area_rules.specs.Rules.{Legal}
-use Rattle.area_rules.specs.Senders.{sender_of}
 use Rattle.area_rules.proofs.Steps.{legal_before}
+use Rattle.traffic_rules.specs.Hearing.{Place}
+use Rattle.traffic_rules.proofs.Acts.{none_sent, none_replied}
 use Rattle.ship_station.specs.declared.events.ShipWhat.{ShipWhat}
-use Rattle.ship_station.specs.declared.events.ShipWhat.TheVariants.{Position, Delay, Alert, Cancel, Tick, Heard}
+use Rattle.ship_station.specs.declared.events.ShipWhat.TheVariants.{Position, Delay, Alert, Cancel, Tick, Send, Answer, Heard}
 use Rattle.ship_station.specs.declared.alerts.OwnAlert.{OwnAlert}
-use Rattle.ship_station.specs.Events.{Place, IsShipWhat, delay_of, alert_of, begins_alert}
+use Rattle.ship_station.specs.Events.{IsShipWhat, delay_of, alert_of, begins_alert}
 use Rattle.ship_station.specs.Past.{is_attempt, attempt_moment, kept, open_alert, last_attempt, delays_given, delays_used, delays_left}
-use Rattle.ship_station.specs.ShipRules.{Identities, attempt, at_tick, due_at, ship_rules}
+use Rattle.ship_station.specs.ShipRules.{Identities, attempt, at_tick, held, is_for, due_at, ship_rules}
+use Rattle.ship_station.proofs.Traffic.{attempts_missed, tick_test}
 use Rattle.ship_station.proofs.Endings.{neither, heard_attempt}
 
 all_append : (xs ys : List ℕ) → AllByRecursion IsAlertDelay xs → AllByRecursion IsAlertDelay ys → AllByRecursion IsAlertDelay (xs ++ ys)
@@ -33,6 +35,8 @@ delay_in (Delay delay) h = (h, tt)
 delay_in (Alert nature comm) h = tt
 delay_in Cancel h = tt
 delay_in Tick h = tt
+delay_in (Send c) h = tt
+delay_in (Answer number accepts) h = tt
 delay_in (Heard c) h = tt
 
 given_in_range : (who : Identities) (h : History ShipWhat) → Legal (ship_rules who) h → AllByRecursion IsAlertDelay (delays_given h)
@@ -72,9 +76,13 @@ due_waits who h at (Delay delay) legal none attempt = absurd (false≢true attem
 due_waits who h at (Alert nature comm) legal none attempt = absurd (false≢true (sym none))
 due_waits who h at Cancel legal none attempt = absurd (false≢true attempt)
 due_waits who h at Tick legal none attempt =
-    tick_waits who.own (kept h) (open_alert h) (delays_left h) (last_attempt h) at (all_drop (delays_used h) (delays_given h) (given_in_range who h legal)) attempt
+    tick_waits who.own (kept h) (open_alert h) (delays_left h) (last_attempt h) at (all_drop (delays_used h) (delays_given h) (given_in_range who h legal))
+    (sym (tick_test is_attempt attempts_missed (at_tick who.own (kept h) (open_alert h) (delays_left h) (last_attempt h) at) at (held h)) ∙ attempt)
+due_waits who h at (Send c) legal none attempt = absurd (false≢true (sym (none_sent is_attempt attempts_missed (held h) c) ∙ attempt))
+due_waits who h at (Answer number accepts) legal none attempt =
+    absurd (false≢true (sym (none_replied is_attempt attempts_missed who.own (held h) number accepts) ∙ attempt))
 due_waits who h at (Heard c) legal none attempt =
-    absurd (false≢true (sym (heard_attempt who.own (is_some (open_alert h)) (sender_of c == who.own) c) ∙ attempt))
+    absurd (false≢true (sym (heard_attempt who.own (kept h) (is_some (open_alert h)) (is_for who h c) (held h) c) ∙ attempt))
 
 pub apart : (who : Identities) (later between earlier : History ShipWhat) (first second : Entry ShipWhat)
     → Legal (ship_rules who) (later ++ second ∷ (between ++ first ∷ earlier)) → does is_attempt first ≡ true → NoneIs (does is_attempt) between

@@ -8,12 +8,14 @@ use Rattle.area_rules.specs.declared.acts.Act.{Act}
 use Rattle.area_rules.specs.Histories.{History, does}
 use Rattle.area_rules.specs.Moments.{has_passed}
 use Rattle.area_rules.specs.Rules.{Legal}
+use Rattle.traffic_rules.specs.Hearing.{Place}
 use Rattle.ship_station.specs.declared.events.ShipWhat.{ShipWhat}
-use Rattle.ship_station.specs.declared.events.ShipWhat.TheVariants.{Position, Delay, Alert, Cancel, Tick, Heard}
+use Rattle.ship_station.specs.declared.events.ShipWhat.TheVariants.{Position, Delay, Alert, Cancel, Tick, Send, Answer, Heard}
 use Rattle.ship_station.specs.declared.alerts.OwnAlert.{OwnAlert}
-use Rattle.ship_station.specs.Events.{Place, delay_of}
+use Rattle.ship_station.specs.Events.{delay_of}
 use Rattle.ship_station.specs.Past.{is_attempt, is_tick, kept, open_alert, last_attempt, delays_given, delays_used, delays_left}
-use Rattle.ship_station.specs.ShipRules.{Identities, attempt, at_tick, due_at, ship_rules}
+use Rattle.ship_station.specs.ShipRules.{Identities, attempt, at_tick, held, due_at, ship_rules}
+use Rattle.ship_station.proofs.Traffic.{attempts_missed, tick_test}
 
 -- an attempt at a tick takes a delay that is left
 attempt_needs_delay : (own : ℕ) (place : Place) (alert : Option OwnAlert) (delays : List ℕ) (last at : ℕ) → list_any is_attempt (at_tick own place alert delays last at) ≡ true → 0 < length delays
@@ -22,11 +24,15 @@ attempt_needs_delay own place (Some alert) [] last at h = absurd (false≢true h
 attempt_needs_delay own place None delays last at h = absurd (false≢true h)
 
 tick_needs_delay : (who : Identities) (h : History ShipWhat) (at : ℕ) (what : ShipWhat) → is_tick what ≡ true → list_any is_attempt (due_at who h at what) ≡ true → 0 < length (delays_left h)
-tick_needs_delay who h at Tick tick attempt = attempt_needs_delay who.own (kept h) (open_alert h) (delays_left h) (last_attempt h) at attempt
+tick_needs_delay who h at Tick tick attempt =
+    attempt_needs_delay who.own (kept h) (open_alert h) (delays_left h) (last_attempt h) at
+    (sym (tick_test is_attempt attempts_missed (at_tick who.own (kept h) (open_alert h) (delays_left h) (last_attempt h) at) at (held h)) ∙ attempt)
 tick_needs_delay who h at (Position position time) tick attempt = absurd (false≢true tick)
 tick_needs_delay who h at (Delay delay) tick attempt = absurd (false≢true tick)
 tick_needs_delay who h at (Alert nature comm) tick attempt = absurd (false≢true tick)
 tick_needs_delay who h at Cancel tick attempt = absurd (false≢true tick)
+tick_needs_delay who h at (Send call) tick attempt = absurd (false≢true tick)
+tick_needs_delay who h at (Answer number accepts) tick attempt = absurd (false≢true tick)
 tick_needs_delay who h at (Heard call) tick attempt = absurd (false≢true tick)
 
 used_by : (used given more : ℕ) (b : Bool) → used ≤ given → (b ≡ true → 0 < given - used) → (if b then suc used else used) ≤ given + more

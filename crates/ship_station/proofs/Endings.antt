@@ -7,16 +7,19 @@ use Rattle.call_values.specs.declared.calls.Call.TheVariants as call
 use Rattle.area_rules.specs.declared.acts.Act.{Act}
 use Rattle.area_rules.specs.declared.acts.Act.TheVariants.{AlertEnded}
 use Rattle.area_rules.specs.Histories.{Entry, History, does, NoneIs, last_told, since}
+use Rattle.area_rules.specs.Holding.{Places}
 use Rattle.area_rules.specs.Moments.{has_passed}
 use Rattle.area_rules.specs.Rules.{Legal}
-use Rattle.area_rules.specs.Senders.{sender_of}
 use Rattle.area_rules.proofs.Steps.{legal_before}
+use Rattle.traffic_rules.specs.Hearing.{Place, heard_due}
+use Rattle.traffic_rules.proofs.Acts.{none_sent, none_replied, none_heard}
 use Rattle.ship_station.specs.declared.events.ShipWhat.{ShipWhat}
-use Rattle.ship_station.specs.declared.events.ShipWhat.TheVariants.{Position, Delay, Alert, Cancel, Tick, Heard}
+use Rattle.ship_station.specs.declared.events.ShipWhat.TheVariants.{Position, Delay, Alert, Cancel, Tick, Send, Answer, Heard}
 use Rattle.ship_station.specs.declared.alerts.OwnAlert.{OwnAlert}
-use Rattle.ship_station.specs.Events.{Place, alert_of, begins_alert, MayEndAlert}
+use Rattle.ship_station.specs.Events.{alert_of, begins_alert, MayEndAlert}
 use Rattle.ship_station.specs.Past.{is_attempt, is_end, kept, open_alert, last_attempt, delays_left}
-use Rattle.ship_station.specs.ShipRules.{Identities, attempt, at_tick, at_call, due_at, ship_rules}
+use Rattle.ship_station.specs.ShipRules.{Identities, attempt, at_tick, at_call, held, is_for, due_at, ship_rules}
+use Rattle.ship_station.proofs.Traffic.{attempts_missed, ends_missed, tick_test}
 
 -- neither of two tests holds
 pub neither : (a b : Bool) → (a || b) ≡ false → (a ≡ false) × (b ≡ false)
@@ -42,20 +45,26 @@ ack_attempt : (test : Bool) → list_any is_attempt (if test then AlertEnded ∷
 ack_attempt true = refl
 ack_attempt false = refl
 
-call_attempt : (own : ℕ) (is_on : Bool) (c : Call) → list_any is_attempt (at_call own is_on c) ≡ false
-call_attempt own is_on (call.Alert casualty) = refl
-call_attempt own is_on (call.Ack from casualty) = ack_attempt (is_on && (casualty.mmsi == own))
-call_attempt own is_on (call.Relay to from casualty ask) = refl
-call_attempt own is_on (call.RelayAck to from casualty) = refl
-call_attempt own is_on (call.AllShips category from first second f1 f2) = refl
-call_attempt own is_on (call.AreaCall area category from first second f1 f2) = refl
-call_attempt own is_on (call.GroupCall group category from first second f1 f2) = refl
-call_attempt own is_on (call.Individual to category from first second message end) = refl
-call_attempt own is_on (call.Service to category from kind) = refl
+call_attempt : (own : ℕ) (place : Place) (is_on : Bool) (places : Places) (c : Call) → list_any is_attempt (at_call own place is_on places c) ≡ false
+call_attempt own place is_on places (call.Alert casualty) = refl
+call_attempt own place is_on places (call.Ack from casualty) = ack_attempt (is_on && (casualty.mmsi == own))
+call_attempt own place is_on places (call.Relay to from casualty ask) = none_heard is_attempt attempts_missed own (Some place) places (call.Relay to from casualty ask)
+call_attempt own place is_on places (call.RelayAck to from casualty) = none_heard is_attempt attempts_missed own (Some place) places (call.RelayAck to from casualty)
+call_attempt own place is_on places (call.AllShips category from first second f1 f2) =
+    none_heard is_attempt attempts_missed own (Some place) places (call.AllShips category from first second f1 f2)
+call_attempt own place is_on places (call.AreaCall area category from first second f1 f2) =
+    none_heard is_attempt attempts_missed own (Some place) places (call.AreaCall area category from first second f1 f2)
+call_attempt own place is_on places (call.GroupCall group category from first second f1 f2) =
+    none_heard is_attempt attempts_missed own (Some place) places (call.GroupCall group category from first second f1 f2)
+call_attempt own place is_on places (call.Individual to category from first second message end) =
+    none_heard is_attempt attempts_missed own (Some place) places (call.Individual to category from first second message end)
+call_attempt own place is_on places (call.Service to category from kind) =
+    none_heard is_attempt attempts_missed own (Some place) places (call.Service to category from kind)
 
-pub heard_attempt : (own : ℕ) (is_on is_own : Bool) (c : Call) → list_any is_attempt (if is_own then [] else at_call own is_on c) ≡ false
-heard_attempt own is_on true c = refl
-heard_attempt own is_on false c = call_attempt own is_on c
+pub heard_attempt : (own : ℕ) (place : Place) (is_on for_it : Bool) (places : Places) (c : Call)
+    → list_any is_attempt (if for_it then at_call own place is_on places c else []) ≡ false
+heard_attempt own place is_on true places c = call_attempt own place is_on places c
+heard_attempt own place is_on false places c = refl
 
 -- where no alert is on, no event makes an attempt but one that begins an alert
 due_attempt : (who : Identities) (h : History ShipWhat) (at : ℕ) (what : ShipWhat) → open_alert h ≡ None → is_some (alert_of what) ≡ false
@@ -65,8 +74,11 @@ due_attempt who h at (Delay delay) off none = refl
 due_attempt who h at (Alert nature comm) off none = absurd (false≢true (sym none))
 due_attempt who h at Cancel off none = refl
 due_attempt who h at Tick off none =
-    ap (λ (o : Option OwnAlert). list_any is_attempt (at_tick who.own (kept h) o (delays_left h) (last_attempt h) at)) off
-due_attempt who h at (Heard c) off none = heard_attempt who.own (is_some (open_alert h)) (sender_of c == who.own) c
+    tick_test is_attempt attempts_missed (at_tick who.own (kept h) (open_alert h) (delays_left h) (last_attempt h) at) at (held h)
+    ∙ ap (λ (o : Option OwnAlert). list_any is_attempt (at_tick who.own (kept h) o (delays_left h) (last_attempt h) at)) off
+due_attempt who h at (Send c) off none = none_sent is_attempt attempts_missed (held h) c
+due_attempt who h at (Answer number accepts) off none = none_replied is_attempt attempts_missed who.own (held h) number accepts
+due_attempt who h at (Heard c) off none = heard_attempt who.own (kept h) (is_some (open_alert h)) (is_for who h c) (held h) c
 
 pub none_after_end : (who : Identities) (later earlier : History ShipWhat) (ended : Entry ShipWhat) → Legal (ship_rules who) (later ++ ended ∷ earlier)
     → does is_end ended ≡ true → NoneIs begins_alert later → NoneIs (does is_attempt) later
@@ -83,7 +95,7 @@ tick_by : (own : ℕ) (place : Place) (alert : OwnAlert) (passed : Bool) → lis
 tick_by own place alert true = refl
 tick_by own place alert false = refl
 
-tick_end : (own : ℕ) (place : Place) (alert : Option OwnAlert) (delays : List ℕ) (last at : ℕ) → list_any is_end (at_tick own place alert delays last at) ≡ false
+pub tick_end : (own : ℕ) (place : Place) (alert : Option OwnAlert) (delays : List ℕ) (last at : ℕ) → list_any is_end (at_tick own place alert delays last at) ≡ false
 tick_end own place (Some alert) (delay ∷ delays) last at = tick_by own place alert (has_passed delay last at)
 tick_end own place (Some alert) [] last at = refl
 tick_end own place None delays last at = refl
@@ -93,28 +105,36 @@ ack_by own true true h = refl
 ack_by own true false h = absurd (false≢true h)
 ack_by own false names h = absurd (false≢true h)
 
-call_end : (own : ℕ) (is_on : Bool) (c : Call) → list_any is_end (at_call own is_on c) ≡ true → MayEndAlert own (Heard c)
-call_end own is_on (call.Alert casualty) h = absurd (false≢true h)
-call_end own is_on (call.Ack from casualty) h = eqb-true casualty.mmsi own (ack_by own is_on (casualty.mmsi == own) h)
-call_end own is_on (call.Relay to from casualty ask) h = absurd (false≢true h)
-call_end own is_on (call.RelayAck to from casualty) h = absurd (false≢true h)
-call_end own is_on (call.AllShips category from first second f1 f2) h = absurd (false≢true h)
-call_end own is_on (call.AreaCall area category from first second f1 f2) h = absurd (false≢true h)
-call_end own is_on (call.GroupCall group category from first second f1 f2) h = absurd (false≢true h)
-call_end own is_on (call.Individual to category from first second message end) h = absurd (false≢true h)
-call_end own is_on (call.Service to category from kind) h = absurd (false≢true h)
+heard_ends_none : (own : ℕ) (place : Place) (places : Places) (c : Call) → list_any is_end (heard_due own (Some place) places c) ≡ true → ⊥
+heard_ends_none own place places c h = false≢true (sym (none_heard is_end ends_missed own (Some place) places c) ∙ h)
 
-heard_end : (own : ℕ) (is_on is_own : Bool) (c : Call) → list_any is_end (if is_own then [] else at_call own is_on c) ≡ true → MayEndAlert own (Heard c)
-heard_end own is_on true c h = absurd (false≢true h)
-heard_end own is_on false c h = call_end own is_on c h
+call_end : (own : ℕ) (place : Place) (is_on : Bool) (places : Places) (c : Call) → list_any is_end (at_call own place is_on places c) ≡ true → MayEndAlert own (Heard c)
+call_end own place is_on places (call.Alert casualty) h = absurd (false≢true h)
+call_end own place is_on places (call.Ack from casualty) h = eqb-true casualty.mmsi own (ack_by own is_on (casualty.mmsi == own) h)
+call_end own place is_on places (call.Relay to from casualty ask) h = absurd (heard_ends_none own place places (call.Relay to from casualty ask) h)
+call_end own place is_on places (call.RelayAck to from casualty) h = absurd (heard_ends_none own place places (call.RelayAck to from casualty) h)
+call_end own place is_on places (call.AllShips category from first second f1 f2) h = absurd (heard_ends_none own place places (call.AllShips category from first second f1 f2) h)
+call_end own place is_on places (call.AreaCall area category from first second f1 f2) h = absurd (heard_ends_none own place places (call.AreaCall area category from first second f1 f2) h)
+call_end own place is_on places (call.GroupCall group category from first second f1 f2) h = absurd (heard_ends_none own place places (call.GroupCall group category from first second f1 f2) h)
+call_end own place is_on places (call.Individual to category from first second message end) h = absurd (heard_ends_none own place places (call.Individual to category from first second message end) h)
+call_end own place is_on places (call.Service to category from kind) h = absurd (heard_ends_none own place places (call.Service to category from kind) h)
+
+heard_end : (own : ℕ) (place : Place) (is_on for_it : Bool) (places : Places) (c : Call)
+    → list_any is_end (if for_it then at_call own place is_on places c else []) ≡ true → MayEndAlert own (Heard c)
+heard_end own place is_on true places c h = call_end own place is_on places c h
+heard_end own place is_on false places c h = absurd (false≢true h)
 
 due_end : (who : Identities) (h : History ShipWhat) (at : ℕ) (what : ShipWhat) → list_any is_end (due_at who h at what) ≡ true → MayEndAlert who.own what
 due_end who h at (Position position time) end = absurd (false≢true end)
 due_end who h at (Delay delay) end = absurd (false≢true end)
 due_end who h at (Alert nature comm) end = absurd (false≢true end)
 due_end who h at Cancel end = tt
-due_end who h at Tick end = absurd (false≢true (sym (tick_end who.own (kept h) (open_alert h) (delays_left h) (last_attempt h) at) ∙ end))
-due_end who h at (Heard c) end = heard_end who.own (is_some (open_alert h)) (sender_of c == who.own) c end
+due_end who h at Tick end =
+    absurd (false≢true (sym (tick_test is_end ends_missed (at_tick who.own (kept h) (open_alert h) (delays_left h) (last_attempt h) at) at (held h)
+    ∙ tick_end who.own (kept h) (open_alert h) (delays_left h) (last_attempt h) at) ∙ end))
+due_end who h at (Send c) end = absurd (false≢true (sym (none_sent is_end ends_missed (held h) c) ∙ end))
+due_end who h at (Answer number accepts) end = absurd (false≢true (sym (none_replied is_end ends_missed who.own (held h) number accepts) ∙ end))
+due_end who h at (Heard c) end = heard_end who.own (kept h) (is_some (open_alert h)) (is_for who h c) (held h) c end
 
 pub ends_by : (who : Identities) (later earlier : History ShipWhat) (ended : Entry ShipWhat) → Legal (ship_rules who) (later ++ ended ∷ earlier)
     → does is_end ended ≡ true → MayEndAlert who.own ended.what

@@ -1,58 +1,36 @@
--- what is due at a heard call, and what a ship keeps after it
-use Rattle.std.proofs.Common.{◌≡◌, ℕ, ◌==◌, Bool, true, false, None, is_some, if◌then◌else◌, [], ◌∷◌, refl, sym, ◌∙◌, ap, subst}
+-- what is due at a heard call, by whom it is for
+use Rattle.std.proofs.Common.{◌≡◌, ℕ, ◌==◌, ◌&&◌, not, Bool, true, false, None, is_some, if◌then◌else◌, [], refl, sym, ◌∙◌, ap}
 use Rattle.call_values.specs.declared.calls.Call.{Call}
-use Rattle.call_values.specs.declared.calls.Call.TheVariants as call
-use Rattle.call_values.specs.declared.calls.Casualty.{Casualty}
-use Rattle.area_rules.specs.declared.acts.Act.TheVariants.{AlertEnded}
+use Rattle.call_values.specs.declared.places.Fix.{Fix}
+use Rattle.std.specs.Prelude.{Option, List}
+use Rattle.area_rules.specs.Addressing.{is_for_ship}
 use Rattle.area_rules.specs.Histories.{History}
 use Rattle.area_rules.specs.Senders.{sender_of}
+use Rattle.traffic_rules.specs.Hearing.{heard_refusal}
 use Rattle.ship_station.specs.declared.events.ShipWhat.{ShipWhat}
 use Rattle.ship_station.specs.declared.events.ShipWhat.TheVariants.{Heard}
 use Rattle.ship_station.specs.declared.ships.Ship.{Ship}
-use Rattle.ship_station.specs.Past.{open_alert}
-use Rattle.ship_station.specs.ShipRules.{Identities, at_call, due_at}
+use Rattle.ship_station.specs.Past.{kept, open_alert}
+use Rattle.ship_station.specs.ShipRules.{Identities, held, is_for, at_call, due_at, refusal_at}
 use Rattle.ship_station.specs.Stands.{Keeps}
-use Rattle.ship_station.proofs.Delays.{none_given_none_used}
 
-pub due_of_another : (who : Identities) (h : History ShipWhat) (at : ℕ) (c : Call) → (sender_of c == who.own) ≡ false
-    → due_at who h at (Heard c) ≡ at_call who.own (is_some (open_alert h)) c
-due_of_another who h at c another = ap (λ (b : Bool). if b then [] else at_call who.own (is_some (open_alert h)) c) another
+-- a ship tells whom a call is for as its history does
+pub is_for_by : (who : Identities) (h : History ShipWhat) (ship : Ship) (c : Call) → Keeps ship who h
+    → (not (sender_of c == ship.own) && is_for_ship c ship.own ship.groups ship.position) ≡ is_for who h c
+is_for_by who h ship c keeps =
+    ap (λ (n : ℕ). not (sender_of c == n) && is_for_ship c n ship.groups ship.position) keeps.own
+    ∙ ap (λ (g : List ℕ). not (sender_of c == who.own) && is_for_ship c who.own g ship.position) keeps.groups
+    ∙ ap (λ (p : Option Fix). not (sender_of c == who.own) && is_for_ship c who.own who.groups p) keeps.position
 
--- calls that are neither an alert nor its acknowledgement
-pub nothing_due : (own : ℕ) (is_on : Bool) (c : Call) → ((x : Casualty) → c ≡ call.Alert x → ⊥) → ((f : ℕ) (x : Casualty) → c ≡ call.Ack f x → ⊥) → at_call own is_on c ≡ []
-nothing_due own is_on (call.Alert casualty) no_alert no_ack = absurd (no_alert casualty refl)
-nothing_due own is_on (call.Ack from casualty) no_alert no_ack = absurd (no_ack from casualty refl)
-nothing_due own is_on (call.Relay to from casualty ask) no_alert no_ack = refl
-nothing_due own is_on (call.RelayAck to from casualty) no_alert no_ack = refl
-nothing_due own is_on (call.AllShips category from first second f1 f2) no_alert no_ack = refl
-nothing_due own is_on (call.AreaCall area category from first second f1 f2) no_alert no_ack = refl
-nothing_due own is_on (call.GroupCall group category from first second f1 f2) no_alert no_ack = refl
-nothing_due own is_on (call.Individual to category from first second message end) no_alert no_ack = refl
-nothing_due own is_on (call.Service to category from kind) no_alert no_ack = refl
+pub due_for : (who : Identities) (h : History ShipWhat) (at : ℕ) (c : Call) → is_for who h c ≡ true
+    → due_at who h at (Heard c) ≡ at_call who.own (kept h) (is_some (open_alert h)) (held h) c
+due_for who h at c is = ap (λ (b : Bool). if b then at_call who.own (kept h) (is_some (open_alert h)) (held h) c else []) is
 
--- a ship keeps what is told after a heard call that ends its alert or leaves it
-pub keeps_heard : (who : Identities) (h : History ShipWhat) (at : ℕ) (c : Call) (old new : Ship) (test : Bool) → Keeps old who h
-    → new ≡ record old { last = at; alert = if test then None else old.alert }
-    → Keeps new who (record { at = at; what = Heard c; acts = if test then AlertEnded ∷ [] else [] } ∷ h)
-keeps_heard who h at c old new true keeps is =
-    subst (λ (ship : Ship). Keeps ship who (record { at = at; what = Heard c; acts = AlertEnded ∷ [] } ∷ h)) (sym is) (record {
-      own = keeps.own;
-      groups = keeps.groups;
-      last = refl;
-      position = keeps.position;
-      time = keeps.time;
-      alert = refl;
-      attempted = keeps.attempted;
-      delays = keeps.delays ∙ sym (none_given_none_used h);
-    })
-keeps_heard who h at c old new false keeps is =
-    subst (λ (ship : Ship). Keeps ship who (record { at = at; what = Heard c; acts = [] } ∷ h)) (sym is) (record {
-      own = keeps.own;
-      groups = keeps.groups;
-      last = refl;
-      position = keeps.position;
-      time = keeps.time;
-      alert = keeps.alert;
-      attempted = keeps.attempted;
-      delays = keeps.delays ∙ sym (none_given_none_used h);
-    })
+pub due_for_others : (who : Identities) (h : History ShipWhat) (at : ℕ) (c : Call) → is_for who h c ≡ false → due_at who h at (Heard c) ≡ []
+due_for_others who h at c is = ap (λ (b : Bool). if b then at_call who.own (kept h) (is_some (open_alert h)) (held h) c else []) is
+
+pub refusal_for : (who : Identities) (h : History ShipWhat) (c : Call) → is_for who h c ≡ true → refusal_at who h (Heard c) ≡ heard_refusal (held h) c
+refusal_for who h c is = ap (λ (b : Bool). if b then heard_refusal (held h) c else None) is
+
+pub refusal_for_others : (who : Identities) (h : History ShipWhat) (c : Call) → is_for who h c ≡ false → refusal_at who h (Heard c) ≡ None
+refusal_for_others who h c is = ap (λ (b : Bool). if b then heard_refusal (held h) c else None) is

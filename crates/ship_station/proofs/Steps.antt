@@ -1,15 +1,22 @@
 -- a ship that keeps what a history with an accepted event more tells stands for it
-use Rattle.std.proofs.Common.{◌≡◌, ℕ, ◌≤◌, Bool, false, None, Ok, List, ◌∷◌, sym, ◌∙◌, ap, subst}
+use Rattle.std.proofs.Common.{◌≡◌, ℕ, ◌≤◌, ◌==◌, Bool, true, false, Option, Some, None, is_some, Result, Ok, Err, List, ◌∷◌, length, if◌then◌else◌, refl, sym, ◌∙◌, ap, subst}
+use Rattle.std.specs.Prelude.{OnOk, OnErr}
+use Rattle.arrayvec.specs.ArrayVec.{ArrayVec}
 use Rattle.area_rules.specs.declared.acts.Act.{Act}
 use Rattle.area_rules.specs.declared.refusals.StationRefusal.{StationRefusal}
-use Rattle.area_rules.specs.Histories.{History, last_moment}
-use Rattle.area_rules.specs.Rules.{answer_to, continued, Legal}
+use Rattle.area_rules.specs.declared.refusals.StationRefusal.TheVariants.{AlertActive, NeedsDelay}
+use Rattle.area_rules.specs.Histories.{Entry, History, last_moment}
+use Rattle.area_rules.specs.Rules.{listed, refusal_or, answer_to, continued, Legal}
 use Rattle.area_rules.specs.Moments.{time_back}
-use Rattle.area_rules.proofs.Steps.{in_time, refused_on_time, answer_accepted, continued_accepted, legal_continued}
+use Rattle.area_rules.proofs.Steps.{in_time, refused_on_time, answer_accepted, continued_accepted, continued_refused, legal_continued, refusal_of, acts_of}
+use Rattle.traffic_rules.specs.Occurrences.{other}
+use Rattle.traffic_rules.proofs.HeldRules.{AreQuiet, after_nothing}
 use Rattle.ship_station.specs.declared.events.ShipWhat.{ShipWhat}
+use Rattle.ship_station.specs.declared.events.ShipWhat.TheVariants.{Alert}
 use Rattle.ship_station.specs.declared.ships.Ship.{Ship}
-use Rattle.ship_station.specs.Events.{IsShipWhat}
-use Rattle.ship_station.specs.ShipRules.{Identities, refused_where, refusal_at, due_at, ship_rules}
+use Rattle.ship_station.specs.Events.{IsShipWhat, ship_occurs}
+use Rattle.ship_station.specs.Past.{open_alert, delays_left}
+use Rattle.ship_station.specs.ShipRules.{Identities, held, refused_where, refusal_at, due_at, ship_rules}
 use Rattle.ship_station.specs.Stands.{Keeps, Stands}
 
 pub accepted : (who : Identities) (h : History ShipWhat) (at : ℕ) (what : ShipWhat) (acts : List Act) (new : Ship) → last_moment h ≤ at → IsShipWhat what
@@ -31,3 +38,31 @@ answered who h at what acts late none due =
 -- an event that isn't before the ship's last moment isn't before the history's
 pub not_before : (ship : Ship) (who : Identities) (h : History ShipWhat) (at : ℕ) → Keeps ship who h → None ≡ time_back ship.last at → last_moment h ≤ at
 not_before ship who h at keeps none = subst (λ (n : ℕ). n ≤ at) keeps.last (in_time ship.last at (sym none))
+
+pub answer_on_time : (who : Identities) (h : History ShipWhat) (at : ℕ) (what : ShipWhat) → last_moment h ≤ at
+    → answer_to (ship_rules who) h at what ≡ refusal_or (refusal_at who h what) (due_at who h at what)
+answer_on_time who h at what late = ap (λ (r : Option StationRefusal). refusal_or r (due_at who h at what)) (refused_on_time (ship_rules who) h at what late)
+
+-- a ship that is as it was after a refusal, and keeps what is told after an accepted event, goes on as its history does
+pub goes : (who : Identities) (h : History ShipWhat) (at : ℕ) (what : ShipWhat) (old new : Ship) (result : Result (ArrayVec Act) StationRefusal)
+    → last_moment h ≤ at → IsShipWhat what → Stands old who h → listed result ≡ refusal_or (refusal_at who h what) (due_at who h at what)
+    → OnErr result (new ≡ old)
+    → (refusal_at who h what ≡ None → OnOk result (Keeps new who (record { at = at; what = what; acts = due_at who h at what } ∷ h)))
+    → Stands new who (continued (ship_rules who) h at what)
+goes who h at what old new (Err refusal) late event stands answer same keeps =
+    let is = refused_on_time (ship_rules who) h at what late ∙ refusal_of (refusal_at who h what) (due_at who h at what) refusal answer in
+    subst (λ (g : History ShipWhat). Stands new who g) (sym (continued_refused (ship_rules who) h at what refusal is))
+    (subst (λ (ship : Ship). Stands ship who h) (sym same) stands)
+goes who h at what old new (Ok acts) late event stands answer same keeps =
+    let none = (acts_of (refusal_at who h what) (due_at who h at what) acts.items answer).0 in
+    accepted who h at what (due_at who h at what) new late event stands.0 none refl (keeps none)
+
+-- an event that mentions no held call
+pub holds_on : (e : Entry ShipWhat) (h : History ShipWhat) → ship_occurs e.what ≡ other → AreQuiet e.acts → held (e ∷ h) ≡ held h
+holds_on e h happens quiet = after_nothing ship_occurs e h happens quiet
+
+pub alert_accepted : (who : Identities) (h : History ShipWhat) (nature comm : ℕ) → is_some (open_alert h) ≡ false → (length (delays_left h) == 0) ≡ false
+    → refusal_at who h (Alert nature comm) ≡ None
+alert_accepted who h nature comm off some =
+    ap (λ (b : Bool). if b then Some AlertActive else refused_where (length (delays_left h) == 0) NeedsDelay) off
+    ∙ ap (λ (b : Bool). refused_where b NeedsDelay) some

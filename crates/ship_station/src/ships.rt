@@ -158,13 +158,20 @@ impl Ship {
         ensures goes_on { GoesOn self.old at What.Tick self.new }
         ensures unchanged { OnErr result (self.new ≡ self.old) }
     {
-        if self.alert.is_some() && self.delays.is_empty() {
+        if self.lacks_delay() {
             return Err(StationRefusal::NeedsDelay);
         }
         self.last = at;
         let mut acts = self.attempt_again(at);
         repeat(&mut self.held, at, &mut acts);
         Ok(acts)
+    }
+
+    /// Whether an alert is on and no delay is held.
+    fn lacks_delay(&self) -> bool
+        ensures { result ≡ (is_some self.now.alert && (length self.now.delays.items == 0)) }
+    {
+        self.alert.is_some() && self.delays.is_empty()
     }
 
     /// Makes an attempt of the alert that is on, where at least the first delay has passed since the last attempt.

@@ -1,7 +1,7 @@
 -- the sixteen places after one entry more
 use native.Mathlib.Omega.{arith}
 use Rattle.std.proofs.Common.{◌≡◌, ℕ, ◌≤◌, ◌==◌, true, false, Some, None, ◌∷◌, refl, sym, ◌∙◌}
-use Rattle.std.specs.Prelude.{map}
+use Rattle.std.specs.Prelude.{[], map, replicate}
 use Rattle.std.proofs.lemmas.Bool.{eq-eqb, ne_eqb}
 use Rattle.area_rules.specs.declared.held.Holding.{Holding}
 use Rattle.area_rules.specs.Histories.{Entry, History}
@@ -11,6 +11,11 @@ use Rattle.traffic_rules.specs.HeldTold.{begun_by, begins, ends, held_told, all_
 use Rattle.traffic_rules.specs.Repeating.{ticked}
 use Rattle.traffic_rules.proofs.Places.{same_places, set_place, mapped}
 use Rattle.traffic_rules.proofs.HeldAfter.{gives_up, silent, shuts, starts, passes}
+
+-- before its first event a station holds nothing
+pub nothing_held : {What : Type 0} (occurs : What → Occurrence) → all_held occurs [] ≡ replicate 16 None
+unfolding all_held
+nothing_held occurs = refl
 
 module _ {What : Type 0} (occurs : What → Occurrence) (e : Entry What) (h : History What) where
   -- an entry that mentions no number, and is no tick, leaves all

@@ -1,7 +1,7 @@
 use Rattle.std.proofs.Common.{◌≡◌, ℕ, false, List, [], ◌∷◌, ◌++◌, length, ◌==◌, refl, sym, ◌∙◌, ap, subst}
 use Rattle.area_rules.specs.declared.refusals.StationRefusal.TheVariants.{Full}
 use Rattle.ship_station.specs.declared.events.ShipWhat.TheVariants.{Delay}
-use Rattle.ship_station.proofs.Steps.{accepted, not_refused}
+use Rattle.ship_station.proofs.Steps.{accepted, not_refused, holds_on}
 use Rattle.ship_station.proofs.Delays.{delay_put_last}
 use Rattle.ship_station.proofs.ships.Ship.keep_delay.Goals as goal
 
@@ -19,4 +19,5 @@ returns-clause-goes_on c who h stands late event =
       attempted = keeps.attempted;
       delays = c.push.ensures.items ∙ ap (λ (n : ℕ). c.args.self.now.delays.items ++ n ∷ []) c.number.ensures.value
           ∙ ap (λ (l : List ℕ). l ++ c.args.delay ∷ []) keeps.delays ∙ sym (delay_put_last who h c.args.delay stands.0);
+      held = keeps.held ∙ sym (holds_on (record { at = c.args.at; what = Delay c.args.delay; acts = [] }) h refl (record { begin = λ k. refl; end = λ k. refl }));
     })
