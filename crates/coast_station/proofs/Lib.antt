@@ -9,3 +9,4 @@ pub mod Origins
 pub mod Behind
 pub mod Acknowledgements
 pub mod Places
+pub mod Keeping

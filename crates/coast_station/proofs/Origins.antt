@@ -52,7 +52,7 @@ not_among from times casualty acts none among =
 same_alert : (own from times : ℕ) (casualty alert : Casualty) → act.Send (call.Ack from casualty) times ≡ acknowledgement own alert → casualty ≡ alert
 same_alert own from times casualty alert same = cc
 
-none_from : {A : Type 0} (o : Option A) → is_some o ≡ false → o ≡ None
+pub none_from : {A : Type 0} (o : Option A) → is_some o ≡ false → o ≡ None
 none_from None is = refl
 none_from (Some x) is = absurd (false≢true (sym is))
 

@@ -1,4 +1,4 @@
-ghost use Rattle.std.specs.Prelude.{◌≡◌, ◌≤◌, true, [], Ok, OnErr};
+ghost use Rattle.std.specs.Prelude.{◌≡◌, ◌≤◌, true, [], Ok, OnOk, OnErr};
 ghost use Rattle.area_rules.specs.Histories.{History};
 ghost use Rattle.area_rules.specs.Rules.{listed, answer_to, continued};
 ghost use Rattle.call_values.specs.declared.calls.Call.TheVariants as form;
@@ -7,7 +7,7 @@ ghost use Rattle.coast_station.specs.Accepting as accepting;
 ghost use Rattle.coast_station.specs.CoastRules as rules;
 ghost use Rattle.coast_station.specs.CoastRules.{Station, coast_rules};
 ghost use Rattle.coast_station.specs.Stands.{Stands};
-ghost use Rattle.coast_station.specs.inside.Handling.{AnswersEvent, GoesOn};
+ghost use Rattle.coast_station.specs.inside.Afterwards.{answer_by, afterwards};
 
 use crate::casualties::{Casualties, OpenCasualty, acknowledgement};
 use crate::events::{CoastEvent, CoastWhat};
@@ -56,13 +56,22 @@ impl Coast {
         if let Some(refusal) = time_back(self.last, event.at) {
             return Err(refusal);
         }
-        match event.what {
-            CoastWhat::Accept(mmsi, delay) => self.accept(event.at, mmsi, delay),
-            CoastWhat::Tick => Ok(self.tick(event.at)),
-            CoastWhat::Relay(mmsi, to, ask) => self.relay(event.at, mmsi, to, ask),
-            CoastWhat::Send(call) => self.send(event.at, &call),
-            CoastWhat::Answer(number, accepts) => self.answer(event.at, number, accepts),
-            CoastWhat::Heard(call) => self.hear(event.at, &call),
+        self.handle(event.at, &event.what)
+    }
+
+    /// Does what is due at an event that isn't before the last accepted one.
+    fn handle(&mut self, at: u64, what: &CoastWhat) -> Result<Acts, StationRefusal>
+        ensures answer { listed result ≡ answer_by self.old at what.now }
+        ensures after { OnOk result (self.new ≡ afterwards self.old at what.now) }
+        ensures unchanged { OnErr result (self.new ≡ self.old) }
+    {
+        match *what {
+            CoastWhat::Accept(mmsi, delay) => self.accept(at, mmsi, delay),
+            CoastWhat::Tick => Ok(self.tick(at)),
+            CoastWhat::Relay(mmsi, to, ask) => self.relay(at, mmsi, to, ask),
+            CoastWhat::Send(call) => self.send(at, &call),
+            CoastWhat::Answer(number, accepts) => self.answer(at, number, accepts),
+            CoastWhat::Heard(call) => self.hear(at, &call),
         }
     }
 
@@ -73,8 +82,8 @@ impl Coast {
         mmsi: Mmsi,
         delay: Option<CoastDelay>,
     ) -> Result<Acts, StationRefusal>
-        ensures answer { AnswersEvent self.old at (What.Accept mmsi delay) result }
-        ensures goes_on { GoesOn self.old at (What.Accept mmsi delay) self.new }
+        ensures answer { listed result ≡ answer_by self.old at (What.Accept mmsi delay) }
+        ensures after { OnOk result (self.new ≡ afterwards self.old at (What.Accept mmsi delay)) }
         ensures unchanged { OnErr result (self.new ≡ self.old) }
     {
         let Some(casualty) = self.casualties.find(mmsi) else {
@@ -98,8 +107,8 @@ impl Coast {
 
     /// Acknowledges the alerts whose delay has passed, and then sends held calls again or gives them up.
     fn tick(&mut self, at: u64) -> Acts
-        ensures answer { AnswersEvent self.old at What.Tick (Ok result) }
-        ensures goes_on { GoesOn self.old at What.Tick self.new }
+        ensures answer { Ok result.items ≡ answer_by self.old at What.Tick }
+        ensures after { self.new ≡ afterwards self.old at What.Tick }
     {
         let mut acts = self.casualties.acknowledge_due(self.own, at);
         repeat(&mut self.held, at, &mut acts);
@@ -109,8 +118,8 @@ impl Coast {
 
     /// Tells the alert of a ship on.
     fn relay(&mut self, at: u64, mmsi: Mmsi, to: To, ask: bool) -> Result<Acts, StationRefusal>
-        ensures answer { AnswersEvent self.old at (What.Relay mmsi to ask) result }
-        ensures goes_on { GoesOn self.old at (What.Relay mmsi to ask) self.new }
+        ensures answer { listed result ≡ answer_by self.old at (What.Relay mmsi to ask) }
+        ensures after { OnOk result (self.new ≡ afterwards self.old at (What.Relay mmsi to ask)) }
         ensures unchanged { OnErr result (self.new ≡ self.old) }
     {
         let Some(casualty) = self.casualties.find(mmsi) else {
@@ -124,8 +133,8 @@ impl Coast {
 
     /// Sends a call of the operator.
     fn send(&mut self, at: u64, call: &Call) -> Result<Acts, StationRefusal>
-        ensures answer { AnswersEvent self.old at (What.Send call.now) result }
-        ensures goes_on { GoesOn self.old at (What.Send call.now) self.new }
+        ensures answer { listed result ≡ answer_by self.old at (What.Send call.now) }
+        ensures after { OnOk result (self.new ≡ afterwards self.old at (What.Send call.now)) }
         ensures unchanged { OnErr result (self.new ≡ self.old) }
     {
         let acts = send(&mut self.held, self.own, call, at)?;
@@ -135,8 +144,8 @@ impl Coast {
 
     /// Answers a call that was got.
     fn answer(&mut self, at: u64, number: u8, accepts: bool) -> Result<Acts, StationRefusal>
-        ensures answer { AnswersEvent self.old at (What.Answer number accepts) result }
-        ensures goes_on { GoesOn self.old at (What.Answer number accepts) self.new }
+        ensures answer { listed result ≡ answer_by self.old at (What.Answer number accepts) }
+        ensures after { OnOk result (self.new ≡ afterwards self.old at (What.Answer number accepts)) }
         ensures unchanged { OnErr result (self.new ≡ self.old) }
     {
         let acts = answer(&mut self.held, self.own, number, accepts)?;
@@ -146,8 +155,8 @@ impl Coast {
 
     /// Hears a call, which is for the station where another station sent it and it reaches this one.
     fn hear(&mut self, at: u64, call: &Call) -> Result<Acts, StationRefusal>
-        ensures answer { AnswersEvent self.old at (What.Heard call.now) result }
-        ensures goes_on { GoesOn self.old at (What.Heard call.now) self.new }
+        ensures answer { listed result ≡ answer_by self.old at (What.Heard call.now) }
+        ensures after { OnOk result (self.new ≡ afterwards self.old at (What.Heard call.now)) }
         ensures unchanged { OnErr result (self.new ≡ self.old) }
     {
         if !is_for(self.own, call) {
@@ -168,8 +177,8 @@ impl Coast {
     /// Hears the alert of another station, which is for this one.
     fn hear_alert(&mut self, at: u64, alert: &Casualty) -> Result<Acts, StationRefusal>
         requires { rules.is_for self.old.own (form.Alert alert.now) ≡ true }
-        ensures answer { AnswersEvent self.old at (What.Heard (form.Alert alert.now)) result }
-        ensures goes_on { GoesOn self.old at (What.Heard (form.Alert alert.now)) self.new }
+        ensures answer { listed result ≡ answer_by self.old at (What.Heard (form.Alert alert.now)) }
+        ensures after { OnOk result (self.new ≡ afterwards self.old at (What.Heard (form.Alert alert.now))) }
         ensures unchanged { OnErr result (self.new ≡ self.old) }
     {
         self.casualties.note(alert, at)?;
@@ -180,8 +189,8 @@ impl Coast {
     /// Hears that another station has acknowledged the alert of a ship: its casualty is closed.
     fn hear_acknowledgement(&mut self, at: u64, from: Mmsi, casualty: &Casualty) -> Acts
         requires { rules.is_for self.old.own (form.Ack from casualty.now) ≡ true }
-        ensures answer { AnswersEvent self.old at (What.Heard (form.Ack from casualty.now)) (Ok result) }
-        ensures goes_on { GoesOn self.old at (What.Heard (form.Ack from casualty.now)) self.new }
+        ensures answer { Ok result.items ≡ answer_by self.old at (What.Heard (form.Ack from casualty.now)) }
+        ensures after { self.new ≡ afterwards self.old at (What.Heard (form.Ack from casualty.now)) }
     {
         self.last = at;
         match self.casualties.find(casualty.mmsi) {
