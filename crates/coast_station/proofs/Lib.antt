@@ -1,0 +1,12 @@
+pub mod Births
+pub mod Identities
+pub mod Listed
+pub mod Changes
+pub mod Silence
+pub mod Steps
+pub mod Among
+pub mod Origins
+pub mod Behind
+pub mod Acknowledgements
+pub mod Places
+pub mod Keeping

@@ -1,0 +1,64 @@
+-- where a casualty stands, and what is found, taken out or replaced there
+use Rattle.std.proofs.Common.{◌≡◌, ℕ, zero, suc, ◌+◌, ◌<◌, ◌≤◌, nat_lt, not, Bool, true, false, if◌then◌else◌, Option, Some, None, List, [], ◌∷◌, ◌++◌, length, get_or, set, take, drop, refl, sym, ◌∙◌, ap, arith}
+use Rattle.std.proofs.lemmas.Bool.{cond-true, cond-false, ltb-false}
+use Rattle.std.proofs.lemmas.List.Quantifiers.{position-Some}
+use Rattle.std.specs.List.{position, position_or_len, prefix_len, remove}
+use Rattle.coast_station.specs.declared.casualties.OpenCasualty.{OpenCasualty}
+use Rattle.coast_station.specs.Accepting.{is_of, find_casualty}
+use Rattle.coast_station.specs.inside.Left.{without, replaced}
+use Rattle.coast_station.proofs.Births.{by_test, none_is_some}
+
+-- what is at the first place of an identity, and what stands there after a change
+pub record AtPlace (m : ℕ) (xs : List OpenCasualty) (i : ℕ) (d y : OpenCasualty) : Type 0 where
+  pub found : find_casualty m xs ≡ Some (get_or xs i d)
+  pub taken : remove xs i ≡ without m xs
+  pub put : set xs i y ≡ replaced m y xs
+
+at_first : (m : ℕ) (xs : List OpenCasualty) (i : ℕ) (d y : OpenCasualty) → i < length xs → is_of m (get_or xs i d) ≡ true → ((k : ℕ) → k < i → is_of m (get_or xs k d) ≡ false)
+    → AtPlace m xs i d y
+at_first m [] i d y within here before = absurd (omega arith)
+at_first m (x ∷ xs) zero d y within here before = record {
+  found = cond-true (is_of m x) (Some x) (find_casualty m xs) here;
+  taken = sym (cond-true (is_of m x) xs (x ∷ without m xs) here);
+  put = sym (cond-true (is_of m x) (y ∷ xs) (x ∷ replaced m y xs) here);
+}
+at_first m (x ∷ xs) (suc i) d y within here before =
+    let other : is_of m x ≡ false = before zero (omega arith) in
+    let rest = at_first m xs i d y (omega arith) here (λ k lower. before (suc k) (omega arith)) in
+    record {
+      found = cond-false (is_of m x) (Some x) (find_casualty m xs) other ∙ rest.found;
+      taken = ap (λ g. x ∷ g) rest.taken ∙ sym (cond-false (is_of m x) xs (x ∷ without m xs) other);
+      put = ap (λ g. x ∷ g) rest.put ∙ sym (cond-false (is_of m x) (y ∷ xs) (x ∷ replaced m y xs) other);
+    }
+
+pub at_place : (m : ℕ) (xs : List OpenCasualty) (i : ℕ) (d y : OpenCasualty) → position (is_of m) xs ≡ Some i → AtPlace m xs i d y
+at_place m xs i d y is = let first = position-Some (is_of m) xs i d is in at_first m xs i d y first.0 first.1 first.2
+
+-- of an identity that stands nowhere
+pub record Nowhere (m : ℕ) (xs : List OpenCasualty) : Type 0 where
+  pub found : find_casualty m xs ≡ None
+  pub taken : without m xs ≡ xs
+  pub put : (y : OpenCasualty) → replaced m y xs ≡ xs
+
+nowhere_by : (m : ℕ) (xs : List OpenCasualty) → length xs ≤ prefix_len (λ x. not (is_of m x)) xs → Nowhere m xs
+nowhere_by m [] long = record { found = refl; taken = refl; put = λ y. refl }
+nowhere_by m (x ∷ xs) long =
+    by_test (is_of m x)
+    (λ b. is_of m x ≡ b → suc (length xs) ≤ (if not b then 1 + prefix_len (λ z. not (is_of m z)) xs else 0) → Nowhere m (x ∷ xs))
+    (λ _ _ short. absurd (omega arith))
+    (λ _ other more.
+    let rest = nowhere_by m xs (omega arith) in
+    record {
+      found = cond-false (is_of m x) (Some x) (find_casualty m xs) other ∙ rest.found;
+      taken = cond-false (is_of m x) xs (x ∷ without m xs) other ∙ ap (λ g. x ∷ g) rest.taken;
+      put = λ y. cond-false (is_of m x) (y ∷ xs) (x ∷ replaced m y xs) other ∙ ap (λ g. x ∷ g) (rest.put y);
+    })
+    refl long
+
+pub nowhere : (m : ℕ) (xs : List OpenCasualty) → position (is_of m) xs ≡ None → Nowhere m xs
+nowhere m xs is =
+    by_test (nat_lt (position_or_len (is_of m) xs) (length xs))
+    (λ b. nat_lt (position_or_len (is_of m) xs) (length xs) ≡ b → (if b then Some (position_or_len (is_of m) xs) else None) ≡ None → Nowhere m xs)
+    (λ _ _ some. absurd (none_is_some (sym some)))
+    (λ _ past _. nowhere_by m xs (ltb-false (position_or_len (is_of m) xs) (length xs) past))
+    refl is

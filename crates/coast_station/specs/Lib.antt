@@ -1,0 +1,8 @@
+pub mod Events
+pub mod Firsts
+pub mod Casualties
+pub mod Accepting
+pub mod Acknowledged
+pub mod CoastRules
+pub mod Stands
+pub mod inside

@@ -1,0 +1,40 @@
+ghost use Rattle.std.specs.Prelude.{◌≡◌, ◌==◌, ◌∷◌, ◌++◌, ℕ, List, false, IsTrue};
+ghost use Rattle.std.specs.List.{list_any};
+ghost use Rattle.area_rules.specs.declared.acts.Act.{Act};
+ghost use Rattle.area_rules.specs.declared.acts.Act.TheVariants as act;
+ghost use Rattle.area_rules.specs.Histories.{Entry, History, does};
+ghost use Rattle.area_rules.specs.Rules.{Legal};
+ghost use Rattle.call_values.specs.declared.calls.Call.TheVariants as call;
+ghost use Rattle.call_values.specs.declared.calls.Casualty.{Casualty};
+ghost use Rattle.coast_station.specs.declared.events.CoastWhat.{CoastWhat};
+ghost use Rattle.coast_station.specs.Acknowledged.{GoesBackToAlert};
+ghost use Rattle.coast_station.specs.Casualties.{acknowledges, born, is_alert, is_born};
+ghost use Rattle.coast_station.specs.CoastRules.{Station, coast_rules};
+
+/// The law that the identities of the open casualties are those of which an alert was heard since they were last ended, behind
+/// every history. It does nothing.
+pub fn casualties_are_born()
+    ensures { (own mmsi : ℕ) (h : History CoastWhat) → list_any (λ (identity : ℕ). identity == mmsi) (born own h) ≡ is_born own mmsi h }
+{}
+
+/// The law that a sent distress acknowledgement carries an alert that was heard before and whose identity was accepted after
+/// that, and that on MF and HF at least 60,000 ms have passed since this alert, in every legal history. It does nothing.
+pub fn acknowledgements_go_back_to_accepted_alerts()
+    ensures { (who : Station) (later earlier : History CoastWhat) (sent : Entry CoastWhat) (from times : ℕ) (casualty : Casualty) (first last : List Act)
+        → Legal (coast_rules who) (later ++ sent ∷ earlier) → sent.acts ≡ first ++ act.Send (call.Ack from casualty) times ∷ last
+        → GoesBackToAlert who.band casualty sent earlier }
+{}
+
+/// The law that between two acknowledgements of one identity an alert of it was heard, in every legal history. It does nothing.
+pub fn an_alert_is_heard_between_acknowledgements()
+    ensures { (who : Station) (later between earlier : History CoastWhat) (first second : Entry CoastWhat) (mmsi : ℕ)
+        → Legal (coast_rules who) (later ++ second ∷ (between ++ first ∷ earlier))
+        → IsTrue (does (acknowledges mmsi) first) → IsTrue (does (acknowledges mmsi) second) → IsTrue (list_any (is_alert who.own mmsi) between) }
+{}
+
+/// The law that at one event an identity is acknowledged once at most, in every legal history. It does nothing.
+pub fn an_identity_is_acknowledged_once()
+    ensures { (who : Station) (later earlier : History CoastWhat) (sent : Entry CoastWhat) (mmsi : ℕ) (first last : List Act) (acknowledgement : Act)
+        → Legal (coast_rules who) (later ++ sent ∷ earlier) → sent.acts ≡ first ++ acknowledgement ∷ last
+        → IsTrue (acknowledges mmsi acknowledgement) → list_any (acknowledges mmsi) last ≡ false }
+{}

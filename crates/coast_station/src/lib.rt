@@ -1,0 +1,19 @@
+//! A coast station: the distress alerts that it hears, accepts, acknowledges and tells on, and the calls that it sends and
+//! answers.
+#![tactic(auto)]
+
+mod casualties;
+mod coasts;
+mod events;
+mod laws;
+
+pub use call_values::Band;
+pub use coasts::Coast;
+pub use events::{CoastEvent, CoastWhat};
+pub use laws::{
+    acknowledgements_go_back_to_accepted_alerts, an_alert_is_heard_between_acknowledgements,
+    an_identity_is_acknowledged_once, casualties_are_born,
+};
+
+#[cfg(test)]
+mod tests;

@@ -1,0 +1,260 @@
+use super::*;
+use area_rules::{Act, Acts, StationRefusal, put, single};
+use arrayvec::ArrayVec;
+use call_values::{
+    Call, Casualty, Category, CoastDelay, Comm, Fix, HourMinute, Kind, Mmsi, Nature, Position, To,
+};
+use std::test::Fail;
+
+const COAST: u32 = 2_241_022;
+
+const OTHER_COAST: u32 = 2_320_001;
+
+const SHIP: u32 = 338_040_079;
+
+const OTHER_SHIP: u32 = 338_158_137;
+
+fn mmsi(number: u32) -> Result<Mmsi, Fail> {
+    Ok(Mmsi::new(number).ok_or("identity")?)
+}
+
+/// A ship in distress at 42° 31' N 83° 12' W, disabled and adrift, which wants F3E or G3E.
+fn casualty(number: u32, hour: u8, minute: u8) -> Result<Casualty, Fail> {
+    let fix = Fix {
+        quadrant: 1,
+        lat_deg: 42,
+        lat_min: 31,
+        lon_deg: 83,
+        lon_min: 12,
+    };
+    Ok(Casualty {
+        mmsi: mmsi(number)?,
+        nature: Nature::new(106).ok_or("nature")?,
+        position: Position::new(fix).ok_or("position")?,
+        time: HourMinute::new(hour, minute).ok_or("time")?,
+        comm: Comm::new(100).ok_or("communication")?,
+    })
+}
+
+fn accept(number: u32, milliseconds: u32) -> Result<CoastWhat, Fail> {
+    Ok(CoastWhat::Accept(mmsi(number)?, CoastDelay::new(milliseconds)))
+}
+
+fn heard(casualty: Casualty) -> CoastWhat {
+    CoastWhat::Heard(Call::Alert(casualty))
+}
+
+fn sent(call: Call) -> Acts {
+    single(Act::Send { call, times: 1 })
+}
+
+fn acknowledged(casualty: Casualty) -> Result<Acts, Fail> {
+    let from = mmsi(COAST)?;
+    Ok(sent(Call::Ack { from, casualty }))
+}
+
+fn distress(casualty: Casualty) -> Acts {
+    single(Act::Distress(casualty))
+}
+
+fn nothing() -> Acts {
+    ArrayVec::new()
+}
+
+#[test]
+fn on_mf_an_alert_waits_for_its_acknowledgement(rt: HostRuntime) -> Result<(), Fail> {
+    let first = casualty(SHIP, 20, 19)?;
+    let second = casualty(SHIP, 20, 20)?;
+    let third = casualty(SHIP, 20, 21)?;
+    let rows = [
+        (0, heard(first), Ok(distress(first))),
+        (
+            1_000,
+            CoastWhat::Accept(first.mmsi, None),
+            Err(StationRefusal::NeedsDelay),
+        ),
+        (1_000, heard(second), Ok(distress(second))),
+        (5_000, accept(SHIP, 60_000)?, Ok(nothing())),
+        (6_000, accept(SHIP, 70_000)?, Ok(nothing())),
+        (7_000, heard(third), Ok(distress(third))),
+        (60_999, CoastWhat::Tick, Ok(nothing())),
+        (61_000, CoastWhat::Tick, Ok(acknowledged(second)?)),
+        (61_000, CoastWhat::Tick, Ok(nothing())),
+        (
+            61_000,
+            accept(SHIP, 60_000)?,
+            Err(StationRefusal::NoCasualty(first.mmsi)),
+        ),
+        (70_000, heard(third), Ok(distress(third))),
+        (130_000, accept(SHIP, 60_000)?, Ok(acknowledged(third)?)),
+    ];
+    let mut coast = Coast::new(mmsi(COAST)?, Band::Mf);
+    for (at, what, want) in rows {
+        assert_eq!(rt; coast.step(&CoastEvent { at, what }), want, "at {at}");
+    }
+    Ok(())
+}
+
+#[test]
+fn on_vhf_an_alert_is_acknowledged_at_once(rt: HostRuntime) -> Result<(), Fail> {
+    let alert = casualty(SHIP, 20, 19)?;
+    let rows = [
+        (0, heard(alert), Ok(distress(alert))),
+        (
+            5_000,
+            CoastWhat::Accept(alert.mmsi, None),
+            Ok(acknowledged(alert)?),
+        ),
+        (59_999, CoastWhat::Tick, Ok(nothing())),
+        (60_000, CoastWhat::Tick, Ok(nothing())),
+    ];
+    let mut coast = Coast::new(mmsi(COAST)?, Band::Vhf);
+    for (at, what, want) in rows {
+        assert_eq!(rt; coast.step(&CoastEvent { at, what }), want, "at {at}");
+    }
+    Ok(())
+}
+
+#[test]
+fn a_casualty_is_told_on_and_closed(rt: HostRuntime) -> Result<(), Fail> {
+    let alert = casualty(SHIP, 20, 19)?;
+    let own = mmsi(COAST)?;
+    let other = mmsi(OTHER_SHIP)?;
+    let relay = Call::Relay {
+        to: To::All,
+        from: own,
+        casualty: alert,
+        ask: false,
+    };
+    let acknowledgement = Call::Ack {
+        from: mmsi(OTHER_COAST)?,
+        casualty: alert,
+    };
+    let closed = single(Act::CasualtyClosed(alert.mmsi));
+    let rows = [
+        (0, heard(alert), Ok(distress(alert))),
+        (
+            6_000,
+            CoastWhat::Relay(alert.mmsi, To::All, false),
+            Ok(sent(relay)),
+        ),
+        (
+            6_000,
+            CoastWhat::Relay(other, To::All, true),
+            Err(StationRefusal::NoCasualty(other)),
+        ),
+        (
+            6_000,
+            CoastWhat::Accept(alert.mmsi, None),
+            Err(StationRefusal::NeedsDelay),
+        ),
+        (7_000, CoastWhat::Heard(acknowledgement), Ok(closed)),
+        (7_000, CoastWhat::Heard(acknowledgement), Ok(nothing())),
+        (
+            8_000,
+            accept(SHIP, 60_000)?,
+            Err(StationRefusal::NoCasualty(alert.mmsi)),
+        ),
+    ];
+    let mut coast = Coast::new(own, Band::Mf);
+    for (at, what, want) in rows {
+        assert_eq!(rt; coast.step(&CoastEvent { at, what }), want, "at {at}");
+    }
+    Ok(())
+}
+
+#[test]
+fn calls_of_traffic(rt: HostRuntime) -> Result<(), Fail> {
+    let alert = casualty(SHIP, 20, 19)?;
+    let own = mmsi(COAST)?;
+    let relay = Call::Relay {
+        to: To::One(mmsi(OTHER_COAST)?),
+        from: own,
+        casualty: alert,
+        ask: true,
+    };
+    let mut held = sent(relay);
+    put(&mut held, Act::Held(1));
+    let test = |reply| Kind::Test { reply };
+    let service = |to, from, kind| Call::Service {
+        to,
+        category: Category::Safety,
+        from,
+        kind,
+    };
+    let ship = alert.mmsi;
+    let rows = [
+        (
+            0,
+            CoastWhat::Heard(service(own, ship, test(false))),
+            Ok(sent(service(ship, own, test(true)))),
+        ),
+        (
+            0,
+            CoastWhat::Heard(service(own, ship, Kind::AskPosition)),
+            Ok(single(Act::Shown)),
+        ),
+        (
+            0,
+            CoastWhat::Heard(service(ship, own, test(false))),
+            Ok(nothing()),
+        ),
+        (
+            0,
+            CoastWhat::Send(Call::Alert(alert)),
+            Err(StationRefusal::NotSendable),
+        ),
+        (
+            0,
+            CoastWhat::Answer(1, true),
+            Err(StationRefusal::NoSuchCall(1)),
+        ),
+        (1, heard(alert), Ok(distress(alert))),
+        (
+            2,
+            CoastWhat::Relay(ship, To::One(mmsi(OTHER_COAST)?), true),
+            Ok(held),
+        ),
+        (300_001, CoastWhat::Tick, Ok(nothing())),
+        (300_002, CoastWhat::Tick, Ok(sent(relay))),
+        (600_002, CoastWhat::Tick, Ok(single(Act::GaveUp(1)))),
+        (
+            4,
+            CoastWhat::Tick,
+            Err(StationRefusal::TimeBack {
+                last: 600_002,
+                given: 4,
+            }),
+        ),
+    ];
+    let mut coast = Coast::new(own, Band::Hf);
+    for (at, what, want) in rows {
+        assert_eq!(rt; coast.step(&CoastEvent { at, what }), want, "at {at}");
+    }
+    Ok(())
+}
+
+#[test]
+fn sixteen_casualties(rt: HostRuntime) -> Result<(), Fail> {
+    let mut coast = Coast::new(mmsi(COAST)?, Band::Mf);
+    for number in 1..=16u8 {
+        let alert = casualty(u32::from(number), 20, 19)?;
+        let event = CoastEvent {
+            at: 0,
+            what: heard(alert),
+        };
+        assert_eq!(rt; coast.step(&event), Ok(distress(alert)), "{number}");
+    }
+    let seventeenth = heard(casualty(17, 20, 19)?);
+    let again = casualty(3, 20, 20)?;
+    let own = heard(casualty(COAST, 20, 20)?);
+    let rows = [
+        (seventeenth, Err(StationRefusal::Full)),
+        (heard(again), Ok(distress(again))),
+        (own, Ok(nothing())),
+    ];
+    for (what, want) in rows {
+        assert_eq!(rt; coast.step(&CoastEvent { at: 0, what }), want);
+    }
+    Ok(())
+}
