@@ -1,5 +1,5 @@
 -- the laws of acknowledgements in legal histories
-use Rattle.std.proofs.Common.{◌≡◌, ℕ, ◌+◌, ◌-◌, ◌≤◌, ◌==◌, ◌⊎◌, inl, inr, ◌&&◌, ◌||◌, not, Bool, true, false, if◌then◌else◌, Option, Some, None, is_some, IfSome, List, [], ◌∷◌, ◌++◌, map, refl, sym, ◌∙◌, ap, subst, arith}
+use Rattle.std.proofs.Common.{◌≡◌, ℕ, ◌+◌, ◌-◌, ◌≤◌, inl, inr, ◌||◌, not, Bool, true, false, if◌then◌else◌, Option, Some, None, is_some, IfSome, List, [], ◌∷◌, ◌++◌, map, refl, sym, ◌∙◌, ap, subst, arith}
 use Rattle.std.proofs.lemmas.Bool.{false≢true, or_left, or_right, or_cases, or_parts, or_from, and_left, eqb-true, eq-eqb, leb-true}
 use Rattle.std.proofs.lemmas.List.{append_assoc}
 use Rattle.std.proofs.lemmas.List.Folds.{list_any-append}
@@ -13,7 +13,6 @@ use Rattle.call_values.specs.declared.choices.Band.{Band}
 use Rattle.area_rules.specs.declared.acts.Act.{Act}
 use Rattle.area_rules.specs.declared.acts.Act.TheVariants as act
 use Rattle.area_rules.specs.Histories.{Entry, History, does, since}
-use Rattle.area_rules.specs.Moments.{has_passed}
 use Rattle.area_rules.specs.Rules.{Legal, Follows}
 use Rattle.area_rules.proofs.Steps.{legal_before}
 use Rattle.traffic_rules.specs.Hearing.{heard_due}
@@ -23,13 +22,13 @@ use Rattle.coast_station.specs.declared.events.CoastWhat.TheVariants.{Accept, Ti
 use Rattle.coast_station.specs.declared.casualties.OpenCasualty.{OpenCasualty}
 use Rattle.coast_station.specs.Accepting.{waits, has_ended, is_due, is_due_at_once, find_casualty, acknowledgement, accept_due_of, acknowledgements_due}
 use Rattle.coast_station.specs.Acknowledged.{accepts, GoesBackToAlert}
-use Rattle.coast_station.specs.Casualties.{is_ack_of, acknowledges, ends, is_alert, delay_at, since_end, is_born, open_casualty, born, open_casualties}
+use Rattle.coast_station.specs.Casualties.{acknowledges, ends, is_alert, open_casualty, born, open_casualties}
 use Rattle.coast_station.specs.CoastRules.{Station, held, is_for, at_call, due_at, coast_rules}
 use Rattle.coast_station.specs.Events.{IsCoastWhat}
-use Rattle.coast_station.proofs.Births.{by_test, chosen, none_is_some}
+use Rattle.coast_station.proofs.Births.{by_test}
 use Rattle.coast_station.proofs.Identities.{is_among, AreApart, born_apart, open_born}
 use Rattle.coast_station.proofs.Listed.{listed_of, AreNamed}
-use Rattle.coast_station.proofs.Changes.{named, any_due, find_open}
+use Rattle.coast_station.proofs.Changes.{named, any_due}
 use Rattle.coast_station.proofs.Silence.{sendable_no_ack, sent_ends, relayed_ends, answered_ends, heard_ends, repeats_end, accepted_by_rules}
 use Rattle.coast_station.proofs.Among.{Among, among_here, among_any, some_among}
 use Rattle.coast_station.proofs.Origins.{Origin, origin_of}
@@ -185,10 +184,13 @@ once_listed own at m k told ms None was names apart once = once
 once_listed own at m k told ms (Some x) was names apart once =
     by_test (is_due at x)
     (λ b. Once m (map (λ (y : OpenCasualty). acknowledgement own y.alert) (if b then x ∷ filter (is_due at) (listed_of told ms) else filter (is_due at) (listed_of told ms))))
-    (λ _. (λ is.
-    let same : m ≡ k = sym (eqb-true x.alert.mmsi m is) ∙ names k x was in
-    ends_no_ack m (acknowledgements_due own at (listed_of told ms))
-    (any_due own at m told ms names ∙ and_left (is_among m ms) _ (ap (λ (n : ℕ). is_among n ms) same ∙ apart)), once))
+    (λ _. (
+      λ is.
+          let same : m ≡ k = sym (eqb-true x.alert.mmsi m is) ∙ names k x was in
+          ends_no_ack m (acknowledgements_due own at (listed_of told ms))
+          (any_due own at m told ms names ∙ and_left (is_among m ms) _ (ap (λ (n : ℕ). is_among n ms) same ∙ apart)),
+      once,
+    ))
     (λ _. once)
 
 once_due : (own at m : ℕ) (told : ℕ → Option OpenCasualty) (ms : List ℕ) → AreNamed told → AreApart ms → Once m (acknowledgements_due own at (listed_of told ms))

@@ -1,22 +1,16 @@
 -- the alert and the accept behind an open casualty
-use Rattle.std.proofs.Common.{◌≡◌, ℕ, suc, ◌+◌, ◌-◌, ◌≤◌, ◌==◌, ◌⊎◌, inl, inr, ◌&&◌, ◌||◌, not, Bool, true, false, if◌then◌else◌, Option, Some, None, is_some, IfSome, List, [], ◌∷◌, ◌++◌, refl, sym, ◌∙◌, ap, subst, arith}
-use Rattle.std.proofs.lemmas.Bool.{false≢true, or_left, or_right, eqb-true, eq-eqb, leb-true}
-use Rattle.std.proofs.lemmas.List.{append_assoc, append-nil}
+use Rattle.std.proofs.Common.{◌≡◌, ℕ, ◌==◌, Bool, true, if◌then◌else◌, Option, Some, None, is_some, IfSome, [], ◌∷◌, ◌++◌, refl, sym, ◌∙◌, ap, subst}
+use Rattle.std.proofs.lemmas.List.{append_assoc}
 use Rattle.std.specs.List.{list_any}
 use Rattle.call_values.specs.Delays.{IsCoastDelay}
-use Rattle.call_values.specs.declared.calls.Call.{Call}
 use Rattle.call_values.specs.declared.calls.Call.TheVariants as call
 use Rattle.call_values.specs.declared.calls.Casualty.{Casualty}
 use Rattle.area_rules.specs.Histories.{Entry, History, does, last_told, since}
-use Rattle.area_rules.specs.Rules.{Legal}
-use Rattle.area_rules.proofs.Steps.{legal_before}
 use Rattle.coast_station.specs.declared.events.CoastWhat.{CoastWhat}
-use Rattle.coast_station.specs.declared.events.CoastWhat.TheVariants.{Accept, Tick, Relay, Send, Answer, Heard}
+use Rattle.coast_station.specs.declared.events.CoastWhat.TheVariants.{Accept, Heard}
 use Rattle.coast_station.specs.declared.casualties.OpenCasualty.{OpenCasualty}
-use Rattle.coast_station.specs.Accepting.{waits, has_ended, is_due}
-use Rattle.coast_station.specs.Acknowledged.{accepts, GoesBackToAlert}
+use Rattle.coast_station.specs.Acknowledged.{accepts}
 use Rattle.coast_station.specs.Casualties.{HeardAlert, where_of, ends, open_with, alert_at, is_alert, delay_at, since_end, since_birth, open_casualty}
-use Rattle.coast_station.specs.CoastRules.{Station, refusal_at, due_at, coast_rules}
 use Rattle.coast_station.specs.Events.{IsCoastWhat, alert_in, delay_for}
 use Rattle.coast_station.specs.Firsts.{from_first, first_told, before_first}
 use Rattle.coast_station.proofs.Births.{by_test, none_is_some, before_none}
@@ -101,9 +95,10 @@ in_where m (Some x) c is =
 
 pub heard_at_entry : (own m : ℕ) (e : Entry CoastWhat) (l : HeardAlert) → alert_at own m e ≡ Some l → (e.what ≡ Heard (call.Alert l.alert)) × (e.at ≡ l.at)
 heard_at_entry own m e l is =
-    let told = mapped_some _ (where_of m (alert_in own e.what)) l is in
-    (subst (λ (c : Casualty). e.what ≡ Heard (call.Alert c)) (ap (λ (x : HeardAlert). x.alert) told.2) (heard_in own e.what told.0 (in_where m (alert_in own e.what) told.0 told.1)),
-    ap (λ (x : HeardAlert). x.at) told.2)
+    let told = mapped_some _ (where_of m (alert_in own e.what)) l is in (
+      subst (λ (c : Casualty). e.what ≡ Heard (call.Alert c)) (ap (λ (x : HeardAlert). x.alert) told.2) (heard_in own e.what told.0 (in_where m (alert_in own e.what) told.0 told.1)),
+      ap (λ (x : HeardAlert). x.at) told.2,
+    )
 
 -- an event that gives a delay for an identity accepts it, with a delay in its range
 pub accepts_with : (m d : ℕ) (what : CoastWhat) → delay_for m what ≡ Some d → IsCoastWhat what → (accepts m what ≡ true) × IsCoastDelay d

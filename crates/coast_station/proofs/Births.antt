@@ -1,15 +1,14 @@
 -- one entry more: what it changes of a casualty, and of the identities that are born
-use Rattle.std.proofs.Common.{◌≡◌, ℕ, ◌==◌, ◌&&◌, ◌||◌, not, Bool, true, false, cond, if◌then◌else◌, Option, Some, None, is_some, List, [], ◌∷◌, ◌++◌, refl, sym, ◌∙◌, ap, subst}
-use Rattle.std.proofs.lemmas.Bool.{false≢true, or_parts, eqb-true, eq-eqb, cond-true, cond-false}
-use Rattle.std.specs.List.{list_any, filter}
+use Rattle.std.proofs.Common.{◌≡◌, ℕ, ◌||◌, Bool, true, false, if◌then◌else◌, Option, Some, None, is_some, List, [], ◌∷◌, refl, sym, ◌∙◌, ap}
+use Rattle.std.proofs.lemmas.Bool.{false≢true, or_parts, cond-true, cond-false}
+use Rattle.std.specs.List.{list_any}
 use Rattle.std.specs.Option.{option_map}
-use Rattle.call_values.specs.declared.calls.Call.TheVariants as call
 use Rattle.call_values.specs.declared.calls.Casualty.{Casualty}
-use Rattle.area_rules.specs.Histories.{Entry, History, does, last_told, since}
+use Rattle.area_rules.specs.Histories.{Entry, History, does, last_told}
 use Rattle.coast_station.specs.declared.events.CoastWhat.{CoastWhat}
 use Rattle.coast_station.specs.declared.events.CoastWhat.TheVariants.{Accept, Tick, Relay, Send, Answer, Heard}
 use Rattle.coast_station.specs.declared.casualties.OpenCasualty.{OpenCasualty}
-use Rattle.coast_station.specs.Casualties.{HeardAlert, where_of, ends, open_with, alert_at, is_alert, delay_at, since_end, is_born, open_casualty, with_alert, born}
+use Rattle.coast_station.specs.Casualties.{HeardAlert, where_of, ends, open_with, alert_at, is_alert, delay_at, since_end, open_casualty}
 use Rattle.coast_station.specs.Events.{alert_in, delay_for}
 use Rattle.coast_station.specs.Firsts.{from_first, first_told, before_first}
 

@@ -1,6 +1,6 @@
 -- what each event changes of the open casualties
-use Rattle.std.proofs.Common.{◌≡◌, ℕ, ◌==◌, ◌&&◌, ◌||◌, not, Bool, true, false, if◌then◌else◌, Option, Some, None, is_some, List, [], ◌∷◌, ◌++◌, map, refl, sym, ◌∙◌, ap, subst}
-use Rattle.std.proofs.lemmas.Bool.{false≢true, eqb-true, eq-eqb, cond-true, cond-false, not-true, not_from_true, not_from_false}
+use Rattle.std.proofs.Common.{◌≡◌, ℕ, ◌==◌, ◌&&◌, ◌||◌, not, Bool, true, false, if◌then◌else◌, Option, Some, None, is_some, List, [], ◌∷◌, ◌++◌, map, refl, sym, ◌∙◌, ap}
+use Rattle.std.proofs.lemmas.Bool.{eqb-true, eq-eqb, cond-true, cond-false, not-true, not_from_true, not_from_false}
 use Rattle.std.proofs.lemmas.List.Folds.{list_any-append}
 use Rattle.std.specs.List.{list_any, filter}
 use Rattle.std.specs.Option.{option_map, option_to_list}
@@ -9,16 +9,16 @@ use Rattle.call_values.specs.declared.calls.Casualty.{Casualty}
 use Rattle.area_rules.specs.declared.acts.Act.{Act}
 use Rattle.area_rules.specs.Histories.{Entry, History, does, last_told}
 use Rattle.coast_station.specs.declared.events.CoastWhat.{CoastWhat}
-use Rattle.coast_station.specs.declared.events.CoastWhat.TheVariants.{Accept, Tick, Heard}
+use Rattle.coast_station.specs.declared.events.CoastWhat.TheVariants.{Accept, Heard}
 use Rattle.coast_station.specs.declared.casualties.OpenCasualty.{OpenCasualty}
 use Rattle.coast_station.specs.Accepting.{is_due, find_casualty, acknowledgement, acknowledgements_due}
-use Rattle.coast_station.specs.Casualties.{HeardAlert, where_of, ends, open_with, alert_at, delay_at, since_end, since_birth, open_casualty, with_alert, born, open_casualties}
+use Rattle.coast_station.specs.Casualties.{HeardAlert, where_of, ends, alert_at, delay_at, since_birth, open_casualty, with_alert, born, open_casualties}
 use Rattle.coast_station.specs.Events.{alert_in, delay_for}
 use Rattle.coast_station.specs.Firsts.{before_first}
 use Rattle.coast_station.specs.inside.Left.{without, replaced, not_due, newly_open, noted_at, noted}
 use Rattle.coast_station.proofs.Births.{by_test, chosen, none_is_some, after, after_nothing, changed, goes_on}
-use Rattle.coast_station.proofs.Identities.{is_among, among_one_more, born_open, AreApart, born_apart, other_way}
-use Rattle.coast_station.proofs.Listed.{listed_of, listed_more, AreNamed, find_listed, same_listed, others_listed, one_replaced, one_without, due_left}
+use Rattle.coast_station.proofs.Identities.{is_among, among_one_more, born_open, born_apart, other_way}
+use Rattle.coast_station.proofs.Listed.{listed_of, AreNamed, find_listed, same_listed, others_listed, one_replaced, one_without, due_left}
 
 pub same_some : {A : Type 0} {x y : A} → Some x ≡ Some y → x ≡ y
 same_some h = cc

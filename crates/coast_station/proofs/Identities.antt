@@ -1,14 +1,13 @@
 -- the identities of the casualties that are born: each is there once, and exactly where its casualty is open
-use Rattle.std.proofs.Common.{◌≡◌, ℕ, ◌==◌, ◌&&◌, ◌||◌, not, Bool, true, false, cond, if◌then◌else◌, Option, Some, None, is_some, List, [], ◌∷◌, ◌++◌, refl, sym, ◌∙◌, ap, subst}
-use Rattle.std.proofs.lemmas.Bool.{false≢true, true≢false, or_parts, or_from, eqb-true, eqb-false, eq-eqb, ne_eqb, and_left, and_right}
+use Rattle.std.proofs.Common.{◌≡◌, ℕ, ◌==◌, ◌&&◌, ◌||◌, not, Bool, true, false, if◌then◌else◌, Option, Some, None, is_some, List, [], ◌∷◌, ◌++◌, refl, sym, ◌∙◌, ap}
+use Rattle.std.proofs.lemmas.Bool.{false≢true, true≢false, or_parts, or_from, eqb-true, eqb-false, ne_eqb, and_left, and_right}
 use Rattle.std.specs.List.{list_any, filter}
 use Rattle.call_values.specs.declared.calls.Casualty.{Casualty}
-use Rattle.area_rules.specs.Histories.{Entry, History, does}
+use Rattle.area_rules.specs.Histories.{History, does}
 use Rattle.coast_station.specs.declared.events.CoastWhat.{CoastWhat}
-use Rattle.coast_station.specs.declared.casualties.OpenCasualty.{OpenCasualty}
-use Rattle.coast_station.specs.Casualties.{HeardAlert, where_of, ends, alert_at, is_alert, delay_at, since_end, is_born, open_casualty, with_alert, born}
+use Rattle.coast_station.specs.Casualties.{where_of, ends, alert_at, is_alert, delay_at, since_end, is_born, open_casualty, with_alert, born}
 use Rattle.coast_station.specs.Events.{alert_in}
-use Rattle.coast_station.proofs.Births.{chosen, by_test, after, after_is_some, some_mapped, goes_on, is_ended, from_none, born_is_open, open_in}
+use Rattle.coast_station.proofs.Births.{chosen, by_test, after_is_some, some_mapped, goes_on, is_ended, from_none, born_is_open, open_in}
 
 or_false : (b : Bool) → (b || false) ≡ b
 or_false true = refl

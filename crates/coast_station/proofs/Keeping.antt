@@ -1,8 +1,7 @@
 -- what a coast station keeps after an event is what the history with this event tells
-use Rattle.std.proofs.Common.{◌≡◌, ℕ, ◌≤◌, ◌==◌, ◌&&◌, ◌||◌, not, Bool, true, false, if◌then◌else◌, Option, Some, None, is_some, is_none, Result, Ok, Err, List, [], ◌∷◌, ◌++◌, length, refl, sym, ◌∙◌, ap, subst}
+use Rattle.std.proofs.Common.{◌≡◌, ℕ, ◌≤◌, ◌==◌, ◌&&◌, ◌||◌, not, Bool, true, false, if◌then◌else◌, Option, Some, None, is_some, is_none, Result, Ok, Err, List, [], ◌∷◌, refl, sym, ◌∙◌, ap, subst}
 use Rattle.std.proofs.Math.Bool.{or-false}
 use Rattle.std.proofs.lemmas.Bool.{false≢true, and_parts, not-true, eq-eqb}
-use Rattle.std.specs.List.{list_any}
 use Rattle.std.specs.Prelude.{OnOk, OnErr}
 use Rattle.arrayvec.specs.ArrayVec.{ArrayVec}
 use Rattle.call_values.specs.declared.calls.Call.{Call}
@@ -15,27 +14,25 @@ use Rattle.area_rules.specs.declared.acts.Act.TheVariants as act
 use Rattle.area_rules.specs.declared.refusals.StationRefusal.{StationRefusal}
 use Rattle.area_rules.specs.declared.refusals.StationRefusal.TheVariants.{NoCasualty, NeedsDelay, NotSendable}
 use Rattle.area_rules.specs.Addressing.{is_for_coast}
-use Rattle.area_rules.specs.Histories.{Entry, History, last_moment}
-use Rattle.area_rules.specs.Holding.{Places, first_free}
+use Rattle.area_rules.specs.Histories.{History, last_moment}
+use Rattle.area_rules.specs.Holding.{Places}
 use Rattle.area_rules.specs.Rules.{listed, refusal_or, answer_to, continued, Legal}
-use Rattle.area_rules.specs.Senders.{sender_of}
 use Rattle.area_rules.proofs.Steps.{refused_on_time, refusal_of, acts_of}
-use Rattle.traffic_rules.specs.Hearing.{heard_refusal, heard_due}
+use Rattle.traffic_rules.specs.Hearing.{heard_due}
 use Rattle.traffic_rules.specs.Repeating.{repeats}
 use Rattle.traffic_rules.specs.Sending.{send_refusal, send_due, refused_full}
-use Rattle.traffic_rules.specs.inside.After.{after_sending, after_hearing}
 use Rattle.traffic_rules.proofs.HeldRules.{AreQuiet, after_nothing, after_hearing_nothing, after_send, after_answer, after_ticking, after_heard}
 use Rattle.coast_station.specs.declared.events.CoastWhat.{CoastWhat}
 use Rattle.coast_station.specs.declared.events.CoastWhat.TheVariants.{Accept, Tick, Relay, Send, Answer, Heard}
 use Rattle.coast_station.specs.declared.casualties.OpenCasualty.{OpenCasualty}
 use Rattle.coast_station.specs.declared.coasts.Coast.{Coast}
 use Rattle.coast_station.specs.Accepting.{waits, find_casualty, is_due_at_once, acknowledgement, accept_refusal, accept_due_of, acknowledgements_due}
-use Rattle.coast_station.specs.Casualties.{ends, open_casualty, open_casualties}
+use Rattle.coast_station.specs.Casualties.{open_casualty, open_casualties}
 use Rattle.coast_station.specs.CoastRules.{Station, held, is_for, at_call, relay_refusal, relay_due_of, refusal_at_call, refusal_by, due_by, refusal_at, due_at, coast_rules}
 use Rattle.coast_station.specs.Events.{IsCoastWhat, alert_in, coast_occurs}
 use Rattle.coast_station.specs.Stands.{Keeps, Stands}
-use Rattle.coast_station.specs.inside.Afterwards.{after_accept_of, after_call, open_after, held_after_relay, held_after_call, held_after, station_of, answer_by, afterwards}
-use Rattle.coast_station.specs.inside.Left.{without, replaced, noted}
+use Rattle.coast_station.specs.inside.Afterwards.{after_accept_of, after_call, open_after, held_after_relay, held_after_call, held_after, answer_by, afterwards}
+use Rattle.coast_station.specs.inside.Left.{without, replaced}
 use Rattle.coast_station.proofs.Births.{by_test, none_is_some}
 use Rattle.coast_station.proofs.Changes.{find_open, named, silent_open, closed_open, due_open, noted_open, accepted_open, accepted_before, acknowledged_open, tick_ends}
 use Rattle.coast_station.proofs.Silence.{sendable_no_ack, sent_ends, relayed_ends, answered_ends, heard_ends, acks_quiet, repeats_end}
@@ -106,7 +103,6 @@ module _ (who : Station) (h : History CoastWhat) (at : ℕ) where
       (λ _ later. accept_later k delay x was found none new later same)
       refl)
       refl
-
 
   accept_by : (k : ℕ) (delay : Option ℕ) (o : Option OpenCasualty) → find_casualty k cs ≡ o → accept_refusal who.band k delay cs ≡ None
       → open_casualties who.own (record { at = at; what = Accept k delay; acts = accept_due_of who.own who.band at delay o } ∷ h) ≡ after_accept_of who.band at delay o cs

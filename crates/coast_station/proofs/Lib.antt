@@ -10,3 +10,4 @@ pub mod Behind
 pub mod Acknowledgements
 pub mod Places
 pub mod Keeping
+pub mod Traffic

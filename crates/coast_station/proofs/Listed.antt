@@ -1,12 +1,12 @@
 -- open casualties as the list of those of some identities
-use Rattle.std.proofs.Common.{◌≡◌, ℕ, ◌==◌, ◌&&◌, ◌||◌, not, Bool, true, false, cond, if◌then◌else◌, Option, Some, None, is_some, List, [], ◌∷◌, ◌++◌, refl, sym, ◌∙◌, ap, subst, append-nil}
-use Rattle.std.proofs.lemmas.Bool.{false≢true, or_parts, eqb-true, eq-eqb, cond-true, cond-false}
-use Rattle.std.specs.List.{list_any, filter, flat_map}
+use Rattle.std.proofs.Common.{◌≡◌, ℕ, ◌==◌, ◌||◌, not, Bool, true, false, if◌then◌else◌, Option, Some, None, List, [], ◌∷◌, ◌++◌, refl, sym, ◌∙◌, ap, subst}
+use Rattle.std.proofs.lemmas.Bool.{or_parts, eqb-true, eq-eqb, cond-true, cond-false}
+use Rattle.std.specs.List.{filter, flat_map}
 use Rattle.std.specs.Option.{option_to_list}
 use Rattle.coast_station.specs.declared.casualties.OpenCasualty.{OpenCasualty}
 use Rattle.coast_station.specs.Accepting.{is_of, is_due, find_casualty}
 use Rattle.coast_station.specs.inside.Left.{without, replaced, not_due}
-use Rattle.coast_station.proofs.Births.{chosen, by_test}
+use Rattle.coast_station.proofs.Births.{by_test}
 use Rattle.coast_station.proofs.Identities.{is_among, AreApart}
 
 abbrev none_open : Option OpenCasualty

@@ -1,36 +1,27 @@
 -- what a sent acknowledgement goes back to, in legal histories
-use Rattle.std.proofs.Common.{◌≡◌, ℕ, suc, ◌+◌, ◌-◌, ◌≤◌, ◌==◌, ◌⊎◌, inl, inr, ◌&&◌, ◌||◌, not, Bool, true, false, if◌then◌else◌, Option, Some, None, is_some, IfSome, List, [], ◌∷◌, ◌++◌, map, refl, sym, ◌∙◌, ap, subst, arith}
-use Rattle.std.proofs.lemmas.Bool.{false≢true, or_left, or_right, eqb-true, eq-eqb, leb-true}
-use Rattle.std.proofs.lemmas.List.{append_assoc}
-use Rattle.std.proofs.lemmas.List.Folds.{list_any-append}
+use Rattle.std.proofs.Common.{◌≡◌, ℕ, ◌⊎◌, inl, inr, true, false, if◌then◌else◌, Option, Some, None, is_some, List, [], ◌∷◌, refl, sym, ◌∙◌, subst}
+use Rattle.std.proofs.lemmas.Bool.{false≢true, eq-eqb}
 use Rattle.std.specs.List.{list_any, filter}
-use Rattle.call_values.specs.Delays.{IsCoastDelay}
 use Rattle.call_values.specs.declared.calls.Call.{Call}
 use Rattle.call_values.specs.declared.calls.Call.TheVariants as call
 use Rattle.call_values.specs.declared.calls.Casualty.{Casualty}
-use Rattle.call_values.specs.declared.choices.Band.{Band}
 use Rattle.area_rules.specs.declared.acts.Act.{Act}
 use Rattle.area_rules.specs.declared.acts.Act.TheVariants as act
-use Rattle.area_rules.specs.Histories.{Entry, History, does, last_told, since}
-use Rattle.area_rules.specs.Moments.{has_passed}
-use Rattle.area_rules.specs.Rules.{Legal, Follows}
-use Rattle.area_rules.proofs.Steps.{legal_before}
+use Rattle.area_rules.specs.Histories.{History}
+use Rattle.area_rules.specs.Rules.{Legal}
 use Rattle.traffic_rules.specs.Hearing.{heard_due}
 use Rattle.traffic_rules.specs.Repeating.{repeats}
 use Rattle.coast_station.specs.declared.events.CoastWhat.{CoastWhat}
 use Rattle.coast_station.specs.declared.events.CoastWhat.TheVariants.{Accept, Tick, Relay, Send, Answer, Heard}
 use Rattle.coast_station.specs.declared.casualties.OpenCasualty.{OpenCasualty}
-use Rattle.coast_station.specs.Accepting.{waits, has_ended, is_due, is_due_at_once, find_casualty, acknowledgement, accept_due_of, acknowledgements_due}
-use Rattle.coast_station.specs.Acknowledged.{accepts, GoesBackToAlert}
-use Rattle.coast_station.specs.Casualties.{HeardAlert, where_of, is_ack_of, acknowledges, ends, open_with, alert_at, is_alert, delay_at, since_end, is_born, since_birth, accepted, alert_of, open_casualty, born, open_casualties}
+use Rattle.coast_station.specs.Accepting.{is_due, is_due_at_once, find_casualty, acknowledgement, accept_due_of, acknowledgements_due}
+use Rattle.coast_station.specs.Acknowledged.{accepts}
+use Rattle.coast_station.specs.Casualties.{ends, open_casualty, born, open_casualties}
 use Rattle.coast_station.specs.CoastRules.{Station, held, is_for, at_call, refusal_at, due_at, coast_rules}
-use Rattle.coast_station.specs.Events.{IsCoastWhat, alert_in, delay_for}
-use Rattle.coast_station.specs.Firsts.{from_first, first_told, before_first}
-use Rattle.coast_station.proofs.Births.{by_test, none_is_some, before_none}
-use Rattle.coast_station.proofs.Identities.{open_born}
-use Rattle.coast_station.proofs.Changes.{same_some, mapped_some, find_open, named}
-use Rattle.coast_station.proofs.Silence.{sendable_no_ack, sent_ends, relayed_ends, answered_ends, heard_ends, repeats_end, accepted_by_rules}
-use Rattle.coast_station.proofs.Among.{Among, among_here, among_append, among_any, among_kept, among_mapped, among_listed, some_among}
+use Rattle.coast_station.proofs.Births.{by_test}
+use Rattle.coast_station.proofs.Changes.{find_open}
+use Rattle.coast_station.proofs.Silence.{sendable_no_ack, sent_ends, relayed_ends, answered_ends, heard_ends, repeats_end}
+use Rattle.coast_station.proofs.Among.{Among, among_append, among_any, among_kept, among_mapped, among_listed}
 
 -- why an acknowledgement is sent at an event: its casualty's delay has passed, or it is accepted and acknowledged at once
 abbrev pub IsSentFor : Station → (at k : ℕ) → CoastWhat → OpenCasualty → Type 0
@@ -61,10 +52,10 @@ tick_origin : (who : Station) (h : History CoastWhat) (at from times : ℕ) (cas
 tick_origin who h at from times casualty legal among =
     elim (among_append (act.Send (call.Ack from casualty) times) (acknowledgements_due who.own at (open_casualties who.own h)) (repeats at 1 (held h)) among) [
       | inl here ↦
-        let sent = among_mapped (λ (x : OpenCasualty). acknowledgement who.own x.alert) _ (filter (is_due at) (open_casualties who.own h)) here in
-        let kept = among_kept (is_due at) sent.0 (open_casualties who.own h) sent.1 in
-        let told = among_listed (λ m. open_casualty who.own m h) sent.0 (born who.own h) kept.0 in
-        record { identity = told.0; open_one = sent.0; was_open = told.1; carried = same_alert who.own from times casualty sent.0.alert sent.2; reason = inl kept.1 }
+          let sent = among_mapped (λ (x : OpenCasualty). acknowledgement who.own x.alert) _ (filter (is_due at) (open_casualties who.own h)) here in
+          let kept = among_kept (is_due at) sent.0 (open_casualties who.own h) sent.1 in
+          let told = among_listed (λ m. open_casualty who.own m h) sent.0 (born who.own h) kept.0 in
+          record { identity = told.0; open_one = sent.0; was_open = told.1; carried = same_alert who.own from times casualty sent.0.alert sent.2; reason = inl kept.1 }
       | inr there ↦ absurd (not_among from times casualty (repeats at 1 (held h)) (repeats_end who h at casualty.mmsi legal) there)
     ]
 

@@ -1,12 +1,15 @@
 -- where a casualty stands, and what is found, taken out or replaced there
-use Rattle.std.proofs.Common.{◌≡◌, ℕ, zero, suc, ◌+◌, ◌<◌, ◌≤◌, nat_lt, not, Bool, true, false, if◌then◌else◌, Option, Some, None, List, [], ◌∷◌, ◌++◌, length, get_or, set, take, drop, refl, sym, ◌∙◌, ap, arith}
-use Rattle.std.proofs.lemmas.Bool.{cond-true, cond-false, ltb-false}
+use Rattle.std.proofs.Common.{◌≡◌, ℕ, zero, suc, ◌+◌, ◌<◌, ◌≤◌, nat_lt, not, true, false, if◌then◌else◌, Option, Some, None, is_some, List, [], ◌∷◌, length, get_or, set, refl, sym, ◌∙◌, ap, arith}
+use Rattle.std.proofs.lemmas.Bool.{cond-true, cond-false, ltb-false, eqb-true}
 use Rattle.std.proofs.lemmas.List.Quantifiers.{position-Some}
 use Rattle.std.specs.List.{position, position_or_len, prefix_len, remove}
 use Rattle.coast_station.specs.declared.casualties.OpenCasualty.{OpenCasualty}
-use Rattle.coast_station.specs.Accepting.{is_of, find_casualty}
+use Rattle.coast_station.specs.Accepting.{is_of, find_casualty, is_due_at_once}
+use Rattle.call_values.specs.declared.choices.Band.{Band}
+use Rattle.coast_station.specs.inside.Afterwards.{after_accept_of}
 use Rattle.coast_station.specs.inside.Left.{without, replaced}
 use Rattle.coast_station.proofs.Births.{by_test, none_is_some}
+use Rattle.coast_station.proofs.Changes.{same_some}
 
 -- what is at the first place of an identity, and what stands there after a change
 pub record AtPlace (m : ℕ) (xs : List OpenCasualty) (i : ℕ) (d y : OpenCasualty) : Type 0 where
@@ -62,3 +65,20 @@ nowhere m xs is =
     (λ _ _ some. absurd (none_is_some (sym some)))
     (λ _ past _. nowhere_by m xs (ltb-false (position_or_len (is_of m) xs) (length xs) past))
     refl is
+
+-- what is found has the identity
+pub find_named : (m : ℕ) (xs : List OpenCasualty) (x : OpenCasualty) → find_casualty m xs ≡ Some x → x.alert.mmsi ≡ m
+find_named m [] x is = absurd (none_is_some is)
+find_named m (y ∷ xs) x is =
+    by_test (is_of m y) (λ b. is_of m y ≡ b → (if b then Some y else find_casualty m xs) ≡ Some x → x.alert.mmsi ≡ m)
+    (λ _ here same. ap (λ (z : OpenCasualty). z.alert.mmsi) (sym (same_some same)) ∙ eqb-true y.alert.mmsi m here)
+    (λ _ _ there. find_named m xs x there) refl is
+
+-- a casualty that is acknowledged as it is accepted is taken out
+pub taken_at_once : (band : Band) (at k : ℕ) (delay : Option ℕ) (xs : List OpenCasualty) (x : OpenCasualty) → find_casualty k xs ≡ Some x → is_some x.delay ≡ false
+    → is_due_at_once band at delay x ≡ true → without k xs ≡ after_accept_of band at delay (find_casualty k xs) xs
+taken_at_once band at k delay xs x found new now =
+    ap (λ (n : ℕ). without n xs) (sym (find_named k xs x found))
+    ∙ sym (ap (λ (o : Option OpenCasualty). after_accept_of band at delay o xs) found
+    ∙ ap (λ b. if b then xs else (if is_due_at_once band at delay x then without x.alert.mmsi xs else replaced x.alert.mmsi (record x { delay = delay }) xs)) new
+    ∙ ap (λ b. if b then without x.alert.mmsi xs else replaced x.alert.mmsi (record x { delay = delay }) xs) now)

@@ -1,20 +1,17 @@
 -- acts that end no casualty
-use Rattle.std.proofs.Common.{◌≡◌, ℕ, suc, zero, ◌==◌, ◌&&◌, ◌||◌, not, Bool, true, false, if◌then◌else◌, Option, Some, None, is_some, List, [], ◌∷◌, ◌++◌, map, refl, sym, ◌∙◌, ap, subst}
+use Rattle.std.proofs.Common.{◌≡◌, ℕ, suc, zero, ◌==◌, ◌&&◌, ◌||◌, Bool, true, false, if◌then◌else◌, Option, Some, None, is_some, List, [], ◌∷◌, ◌++◌, map, refl, sym, ◌∙◌, ap, subst}
 use Rattle.std.proofs.lemmas.Bool.{false≢true, or_from}
 use Rattle.std.proofs.lemmas.List.Folds.{list_any-append}
 use Rattle.std.specs.List.{list_any, filter}
 use Rattle.std.specs.Option.{option_map}
 use Rattle.call_values.specs.declared.calls.Call.{Call}
 use Rattle.call_values.specs.declared.calls.Call.TheVariants as call
-use Rattle.call_values.specs.declared.calls.Casualty.{Casualty}
-use Rattle.call_values.specs.declared.choices.End.TheVariants.{Ask}
-use Rattle.call_values.specs.declared.parts.Kind.TheVariants.{Test, AskPosition, Position}
+use Rattle.call_values.specs.declared.parts.Kind.TheVariants.{Test, AskPosition}
 use Rattle.area_rules.specs.declared.acts.Act.{Act}
 use Rattle.area_rules.specs.declared.acts.Act.TheVariants as act
 use Rattle.area_rules.specs.declared.held.Holding.{Holding}
-use Rattle.area_rules.specs.declared.held.Side.TheVariants.{Sent, Got}
+use Rattle.area_rules.specs.declared.held.Side.TheVariants.{Sent}
 use Rattle.area_rules.specs.declared.refusals.StationRefusal.{StationRefusal}
-use Rattle.area_rules.specs.declared.refusals.StationRefusal.TheVariants.{NotSendable}
 use Rattle.area_rules.specs.Histories.{Entry, History, since}
 use Rattle.area_rules.specs.Holding.{Places, place_of, first_free, newly_held}
 use Rattle.area_rules.specs.Rules.{first_refusal, Legal, Follows}
@@ -23,7 +20,7 @@ use Rattle.traffic_rules.specs.HeldTold as told
 use Rattle.traffic_rules.specs.Sending.{asks, acknowledges, held_under_least, send_refusal, send_due}
 use Rattle.traffic_rules.specs.Answering.{reply_to, reply_due_to, answer_due}
 use Rattle.traffic_rules.specs.Hearing.{is_question, is_got, distress_told, question_due, answered_number, answered_or_shown, due_at_once, heard_due}
-use Rattle.traffic_rules.specs.Repeating.{is_overdue, repeated, repeats}
+use Rattle.traffic_rules.specs.Repeating.{repeated, repeats}
 use Rattle.traffic_rules.proofs.HeldRules.{AreQuiet, repeats_begin}
 use Rattle.coast_station.specs.declared.events.CoastWhat.{CoastWhat}
 use Rattle.coast_station.specs.declared.events.CoastWhat.TheVariants.{Accept, Tick, Relay, Send, Answer, Heard}
@@ -32,8 +29,7 @@ use Rattle.coast_station.specs.Accepting.{is_due, find_casualty, is_due_at_once,
 use Rattle.coast_station.specs.Casualties.{is_ack_of, ends, open_casualties}
 use Rattle.coast_station.specs.CoastRules.{Station, held, relay_due_of, refusal_at, due_at, coast_rules}
 use Rattle.coast_station.specs.Events.{coast_occurs}
-use Rattle.coast_station.proofs.Births.{by_test, chosen, none_is_some}
-use Rattle.coast_station.proofs.Changes.{EndsNone}
+use Rattle.coast_station.proofs.Births.{by_test, none_is_some}
 
 -- an operator's call that isn't refused acknowledges no alert
 pub sendable_no_ack : (own : ℕ) (places : Places) (c : Call) (m : ℕ) → send_refusal own places c ≡ None → is_ack_of m c ≡ false

@@ -1,5 +1,5 @@
 -- The first entries of histories that tell of something: this project's profile. Histories have their newest entry first.
-use Rattle.std.specs.Prelude.{Bool, Option, None, is_some, List, [], ◌∷◌, if◌then◌else◌}
+use Rattle.std.specs.Prelude.{Bool, Option, None, is_some, [], ◌∷◌, if◌then◌else◌}
 use Rattle.std.specs.List.{list_any}
 use Rattle.area_rules.specs.Histories.{Entry, History}
 

@@ -97,7 +97,7 @@ impl Coast {
             return Ok(ArrayVec::new());
         }
         let accepted = OpenCasualty { delay, ..casualty };
-        if !waits(self.band) || accepted.is_due(at) {
+        if is_due_at_once(self.band, &accepted, at) {
             self.casualties.close(mmsi);
             return Ok(single(acknowledgement(self.own, &accepted.alert)));
         }
@@ -211,6 +211,13 @@ fn waits(band: Band) -> bool
         Band::Mf | Band::Hf => true,
         Band::Vhf => false,
     }
+}
+
+/// Whether a casualty is acknowledged as it is accepted: on VHF, or where its delay has passed since its alert.
+fn is_due_at_once(band: Band, accepted: &OpenCasualty, at: u64) -> bool
+    ensures { result ≡ accepting.is_due_at_once band at accepted.now.delay accepted.now }
+{
+    !waits(band) || accepted.is_due(at)
 }
 
 /// Whether a call is for this station: another station sent it, and it reaches this one.

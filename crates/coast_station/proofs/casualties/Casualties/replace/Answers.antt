@@ -1,4 +1,4 @@
-use Rattle.std.proofs.Common.{sym, ◌∙◌}
+use Rattle.std.proofs.Common.{sym}
 use Rattle.coast_station.proofs.Places.{at_place, nowhere}
 use Rattle.coast_station.proofs.casualties.Casualties.replace.Goals as goal
 
