@@ -1,12 +1,11 @@
 -- lines at a point of a traffic file
-use Rattle.std.proofs.Common.{◌≡◌, ◌≢◌, ℕ, zero, suc, ◌≤◌, ◌<◌, ◌⊎◌, inl, inr, true, List, [], ◌∷◌, ◌++◌, take, Result, Ok, Err, refl, sym, ap, subst, arith}
-use Rattle.line_grammar.specs.Columns.{Begins, IsColumn, Answers}
+use Rattle.std.proofs.Common.{◌≡◌, ℕ, zero, suc, ◌≤◌, ◌⊎◌, inl, inr, true, List, [], ◌∷◌, Result, Ok, Err, refl, sym, ap, subst, arith}
+use Rattle.line_grammar.specs.Columns.{IsColumn}
 use Rattle.line_grammar.specs.Tokens.{is_digit}
 use Rattle.traffic_lines.specs.declared.lines.Point.{Point}
-use Rattle.traffic_lines.specs.declared.lines.Point.TheVariants as point
 use Rattle.traffic_lines.specs.declared.lines.TrafficLine.{TrafficLine}
 use Rattle.traffic_lines.specs.declared.lines.TrafficLine.TheVariants.{Ship, Coast, Base, Group, Event}
-use Rattle.traffic_lines.specs.Lines.{IsLineText, IsFirstByte, MayStand, IsTrafficLine}
+use Rattle.traffic_lines.specs.Lines.{IsLineText, IsFirstByte, IsTrafficLine}
 use Rattle.dsc_files.specs.declared.lines.Line.{Line}
 use Rattle.dsc_files.specs.declared.lines.LineFault.{LineFault}
 use Rattle.dsc_files.specs.declared.lines.LineFault.TheVariants.{Column, NoMemory}
