@@ -5,7 +5,7 @@ use Rattle.line_grammar.specs.Tokens.{is_digit}
 use Rattle.traffic_lines.specs.declared.lines.Point.{Point}
 use Rattle.traffic_lines.specs.declared.lines.Point.TheVariants as point
 use Rattle.traffic_lines.specs.declared.lines.TrafficLine.{TrafficLine}
-use Rattle.traffic_lines.specs.declared.lines.TrafficLine.TheVariants.{Ship, Base, Group, Event}
+use Rattle.traffic_lines.specs.declared.lines.TrafficLine.TheVariants.{Ship, Coast, Base, Group, Event}
 use Rattle.traffic_lines.specs.Lines.{IsLineText, IsFirstByte, MayStand, IsTrafficLine}
 use Rattle.dsc_files.specs.declared.lines.Line.{Line}
 use Rattle.dsc_files.specs.declared.lines.LineFault.{LineFault}
@@ -32,6 +32,7 @@ tells P b p no_comment no_r no_e (inr (inr h)) = no_e (subst P h p)
 
 stations_byte : (line : TrafficLine) (b : ℕ) → IsFirstByte line b → (b ≡ 35) ⊎ ((b ≡ 114) ⊎ (b ≡ 101)) → ⊥
 stations_byte (Ship mmsi) b first = tells (λ n. n ≡ 115) b first (λ h. omega (arith, h)) (λ h. omega (arith, h)) (λ h. omega (arith, h))
+stations_byte (Coast mmsi band) b first = tells (λ n. n ≡ 115) b first (λ h. omega (arith, h)) (λ h. omega (arith, h)) (λ h. omega (arith, h))
 stations_byte (Base second) b first = tells (λ n. n ≡ 98) b first (λ h. omega (arith, h)) (λ h. omega (arith, h)) (λ h. omega (arith, h))
 stations_byte (Group mmsi) b first = tells (λ n. n ≡ 103) b first (λ h. omega (arith, h)) (λ h. omega (arith, h)) (λ h. omega (arith, h))
 stations_byte (Event at what) b first = tells (λ n. is_digit n ≡ true) b first (λ h. cc) (λ h. cc) (λ h. cc)
@@ -97,58 +98,12 @@ only_station at b other (joined (reception group e)) rest is = absurd (other.1 (
 only_station at b other (joined (evidence group pairs)) rest is = absurd (other.1 (inr (head is.1.1.1.1)) is.0)
 only_station at b other (traffic line) rest is = (line, is)
 
-no_coast_line : (line : TrafficLine) → MayStand point.Coast line → ⊥
-no_coast_line (Ship mmsi) h = h
-no_coast_line (Base second) h = h
-no_coast_line (Group mmsi) h = h
-no_coast_line (Event at what) h = h
-
-no_coast : (b : ℕ) → IsStationsByte point.Coast b → (v : PointLine) (rest : List ℕ) → IsPointLine point.Coast v (b ∷ rest) → ⊥
-no_coast b other v rest is =
-    let w = only_station point.Coast b other v rest is in
-    no_coast_line w.0 w.1.0
-
-begins_empty : (at : Point) (b : ℕ) (rest : List ℕ) (k : ℕ) → k < 1 → Begins (IsPointLine at) (take k (b ∷ rest))
-begins_empty at b rest zero below = record { value = joined nothing; rest = []; whole = (tt, inl refl) }
-begins_empty at b rest (suc k) below = absurd (omega (arith, below))
-
-coast_column : (b : ℕ) (rest : List ℕ) → IsStationsByte point.Coast b → IsColumn (IsPointLine point.Coast) (b ∷ rest) 1
-coast_column b rest other = record {
-  is_none = λ v is. no_coast b other v rest is;
-  before = λ k below. begins_empty point.Coast b rest k below;
-  at = λ within begins. no_coast b other begins.value (take 0 rest ++ begins.rest) begins.whole;
-  within = omega arith;
-}
-
-no_err : (says : TrafficLine) (answer : Result TrafficLine ℕ) → answer ≡ Ok says → answer ≡ Err 1 → ⊥
-no_err says answer h k = cc
-
-pub station_read : (at : Point) (text : List ℕ) (says : TrafficLine) (answer : Result TrafficLine ℕ) → answer ≡ Ok says
-    → (at ≢ point.Coast → Answers (IsTrafficLine at) text (Ok says)) → (at ≡ point.Coast → answer ≡ Err 1) → IsTrafficLine at says text
-station_read point.Station text says answer is read coast = (read (λ h. cc)).0
-station_read point.Base text says answer is read coast = (read (λ h. cc)).0
-station_read (point.Groups held) text says answer is read coast = (read (λ h. cc)).0
-station_read point.Ship text says answer is read coast = (read (λ h. cc)).0
-station_read point.Coast text says answer is read coast = absurd (no_err says answer is (coast refl))
-
 own_column : (at : Point) (b : ℕ) (rest : List ℕ) (n : ℕ) → IsStationsByte at b → 1 ≤ n → IsColumn (IsTrafficLine at) (b ∷ rest) n → IsColumn (IsPointLine at) (b ∷ rest) n
 own_column at b rest n other some h =
     column_of_kind b (IsTrafficLine at) (IsPointLine at) (record { says = traffic; embeds = λ w text is. is; only = only_station at b other }) rest n some h
 
-err_one : (n : ℕ) (answer : Result TrafficLine ℕ) → answer ≡ Err n → answer ≡ Err 1 → n ≡ 1
-err_one n answer h k = cc
-
-column_at : (at : Point) (b : ℕ) (rest : List ℕ) (n : ℕ) → IsStationsByte at b → 1 ≤ n → (at ≢ point.Coast → IsColumn (IsTrafficLine at) (b ∷ rest) n)
-    → (at ≡ point.Coast → n ≡ 1) → IsColumn (IsPointLine at) (b ∷ rest) n
-column_at point.Station b rest n other some read coast = own_column point.Station b rest n other some (read (λ h. cc))
-column_at point.Base b rest n other some read coast = own_column point.Base b rest n other some (read (λ h. cc))
-column_at (point.Groups held) b rest n other some read coast = own_column (point.Groups held) b rest n other some (read (λ h. cc))
-column_at point.Ship b rest n other some read coast = own_column point.Ship b rest n other some (read (λ h. cc))
-column_at point.Coast b rest n other some read coast = subst (λ (m : ℕ). IsColumn (IsPointLine point.Coast) (b ∷ rest) m) (sym (coast refl)) (coast_column b rest other)
-
-pub station_column : (at : Point) (text : List ℕ) (n : ℕ) (answer : Result TrafficLine ℕ) → answer ≡ Err n
-    → (b : ℕ) × (rest : List ℕ) × (text ≡ b ∷ rest) × IsStationsByte at b → 1 ≤ n → (at ≢ point.Coast → IsColumn (IsTrafficLine at) text n) → (at ≡ point.Coast → answer ≡ Err 1)
+pub station_column : (at : Point) (text : List ℕ) (n : ℕ) → (b : ℕ) × (rest : List ℕ) × (text ≡ b ∷ rest) × IsStationsByte at b → 1 ≤ n → IsColumn (IsTrafficLine at) text n
     → IsColumn (IsPointLine at) text n
-station_column at text n answer is given some read coast =
+station_column at text n given some h =
     subst (λ (l : List ℕ). IsColumn (IsPointLine at) l n) (sym given.2)
-    (column_at at given.0 given.1 n given.3 some (λ other. subst (λ (l : List ℕ). IsColumn (IsTrafficLine at) l n) given.2 (read other)) (λ same. err_one n answer is (coast same)))
+    (own_column at given.0 given.1 n given.3 some (subst (λ (l : List ℕ). IsColumn (IsTrafficLine at) l n) given.2 h))

@@ -7,7 +7,7 @@ use Rattle.slot_evidence.specs.Sheet.{IsEnds}
 use Rattle.line_grammar.specs.Columns.{IsColumn}
 use Rattle.traffic_lines.specs.declared.lines.Point.{Point}
 use Rattle.traffic_lines.specs.declared.lines.TrafficLine.{TrafficLine}
-use Rattle.traffic_lines.specs.declared.lines.TrafficLine.TheVariants.{Ship, Base, Group, Event}
+use Rattle.traffic_lines.specs.declared.lines.TrafficLine.TheVariants.{Ship, Coast, Base, Group, Event}
 use Rattle.dsc_files.specs.declared.lines.FileKind.{FileKind}
 use Rattle.dsc_files.specs.declared.lines.FileKind.TheVariants as kind
 use Rattle.dsc_files.specs.declared.lines.Line.{Line}
@@ -60,6 +60,7 @@ ReadsSentence text (Err fault.NoMemory) = ⊥
 -- what was read of a station's line is what it says
 abbrev pub SaysTraffic : TrafficLine → Line → Type 0
 SaysTraffic (Ship mmsi) read = read ≡ line.Ship mmsi
+SaysTraffic (Coast mmsi band) read = read ≡ line.Coast mmsi band
 SaysTraffic (Base second) read = read ≡ line.Base second
 SaysTraffic (Group mmsi) read = read ≡ line.Group mmsi
 SaysTraffic (Event at what) read = read ≡ line.Event at what

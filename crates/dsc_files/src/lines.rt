@@ -1,7 +1,7 @@
 ghost use Rattle.std.specs.Prelude.{◌≡◌};
 ghost use Rattle.dsc_files.specs.declared.lines.LineFault.TheVariants.{NoMemory};
 
-use call_values::{Call, Mmsi};
+use call_values::{Band, Call, Mmsi};
 use slot_evidence::{Reception, Sheet};
 use slot_join::Extra;
 use std::alloc::AllocError;
@@ -36,6 +36,8 @@ pub enum Line {
     Sentence,
     /// The station is this ship.
     Ship(Mmsi),
+    /// The station is this coast station, which works in this band.
+    Coast(Mmsi, Band),
     /// The second that moments count from, from the beginning of 1970, at most 9,999,999,999.
     Base(u64),
     /// The ship belongs to this group.

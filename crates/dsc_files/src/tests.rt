@@ -1,4 +1,5 @@
 use crate::{EventLine, FileKind, Line, LineFault, Point, line_of};
+use call_values::Band;
 use slot_evidence::Seen;
 use std::test::Fail;
 use ten_unit::Element;
@@ -113,9 +114,9 @@ fn evidence_has_pairs(rt: HostRuntime) -> Result<(), Fail> {
 }
 
 // Lines at points of a traffic file, and the column at which each is ill-formed there.
-const POINT_COLUMNS: [(Point, &str, usize); 12] = [
+const POINT_COLUMNS: [(Point, &str, usize); 14] = [
     (Point::Station, "base 0", 1),
-    (Point::Station, "station coast 002241022 mf", 9),
+    (Point::Station, "station coast 002241022 lf", 25),
     (Point::Station, "r YB", 1),
     (Point::Base, "e 0:112", 1),
     (Point::Base, "0 tick", 1),
@@ -124,7 +125,9 @@ const POINT_COLUMNS: [(Point, &str, usize); 12] = [
     (Point::Groups { held: 0 }, "r YBX", 5),
     (Point::Ship, "group 000000001", 1),
     (Point::Ship, "e 64:1", 4),
-    (Point::Ship, "0 answer 1", 4),
+    (Point::Ship, "0 answer 0", 10),
+    (Point::Coast, "group 000000001", 1),
+    (Point::Coast, "0 alert nature=106 then=100", 4),
     (Point::Ship, "0 tick\r", 7),
 ];
 
@@ -151,6 +154,17 @@ fn lines_of_points_say_what_they_say(rt: HostRuntime) -> Result<(), Fail> {
         return Err("no evidence")?;
     };
     assert_eq!(rt; group, 5);
+    let station = FileKind::Traffic(Point::Station);
+    let Line::Coast(mmsi, band) = line_of(rt.alloc(), station, b"station coast 002241022 hf")?
+    else {
+        return Err("no coast station")?;
+    };
+    assert_eq!(rt; (mmsi.number(), band), (2_241_022, Band::Hf));
+    let coast = FileKind::Traffic(Point::Coast);
+    let Line::Event { at, what } = line_of(rt.alloc(), coast, b"8 answer 16")? else {
+        return Err("no event")?;
+    };
+    assert_eq!(rt; (at, what), (8, EventLine::Answer(16, true)));
     let base = FileKind::Traffic(Point::Base);
     let Line::Base(second) = line_of(rt.alloc(), base, b"base 1714594740")? else {
         return Err("no base")?;

@@ -25,6 +25,7 @@ fn line_that_says(says: &TrafficLine) -> Line
 {
     match *says {
         TrafficLine::Ship(mmsi) => Line::Ship(mmsi),
+        TrafficLine::Coast(mmsi, band) => Line::Coast(mmsi, band),
         TrafficLine::Base(second) => Line::Base(second),
         TrafficLine::Group(mmsi) => Line::Group(mmsi),
         TrafficLine::Event { at, what } => Line::Event { at, what },

@@ -1,5 +1,5 @@
-mod SymbolTexts
-mod FieldTexts
+pub mod SymbolTexts
+pub mod FieldTexts
 mod CallSections
 mod CallTexts
 mod ExpansionTexts

@@ -6,6 +6,7 @@ ghost use Rattle.line_grammar.specs.Shapes as shape;
 ghost use Rattle.line_grammar.specs.Shapes.{digits, is_within};
 ghost use Rattle.line_grammar.specs.inside.Reading as readers;
 ghost use Rattle.line_grammar.specs.inside.Reading.{read_shape, read_token};
+ghost use Rattle.call_values.specs.Parts.{IsTo};
 ghost use Rattle.call_values.specs.Places.{IsArc, IsPosition};
 ghost use Rattle.call_grammar.specs.Spelling as spelling;
 ghost use Rattle.dsc_texts.specs.CallGrammar as grammar;
@@ -438,6 +439,22 @@ impl Token for To {
         let numbered = further(&to_group(bytes), &to_one(bytes));
         let some = further(&to_area(bytes), &numbered);
         further(&all, &some)
+    }
+}
+
+/// Whom a relay is for (ITU-R M.493, format specifier and address), at the front of these bytes, and what follows it. An
+/// error is how many bytes are left where no address goes on.
+pub fn read_address(bytes: &[u8]) -> Result<(To, &[u8]), usize>
+    ensures lawful { IfOk result (λ parts. IsTo parts.0) }
+    ensures value { IfOk result (λ parts. read_token grammar.address bytes.now ≡ Ok (texts.address_text parts.0, parts.1.now)) }
+    ensures left { IfErr result (λ left. read_token grammar.address bytes.now ≡ Err left) }
+{
+    match To::read(bytes) {
+        Ok((to, rest)) => {
+            to.lawful();
+            Ok((to, rest))
+        }
+        Err(left) => Err(left),
     }
 }
 

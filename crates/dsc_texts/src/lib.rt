@@ -17,7 +17,7 @@ mod values;
 
 pub use answers::{put_answer, put_answer_line};
 pub use calls::{append_call, put_call};
-pub use fields::read_position;
+pub use fields::{read_address, read_position};
 pub use laws::{
     bare_call_texts_are_read, call_texts_are_read, expansions_are_refused_at_their_blank,
     texts_tell_calls_apart,

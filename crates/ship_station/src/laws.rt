@@ -1,8 +1,9 @@
-ghost use Rattle.std.specs.Prelude.{◌≡◌, ◌+◌, ◌≤◌, ◌∷◌, ◌++◌, false, IsTrue};
+ghost use Rattle.std.specs.Prelude.{◌≡◌, ℕ, ◌+◌, ◌≤◌, ◌∷◌, ◌++◌, false, IsTrue};
 ghost use Rattle.area_rules.specs.Histories.{Entry, History, does, NoneIs};
 ghost use Rattle.area_rules.specs.Rules.{Legal};
+ghost use Rattle.traffic_rules.specs.Sendings.{times_sent};
 ghost use Rattle.ship_station.specs.declared.events.ShipWhat.{ShipWhat};
-ghost use Rattle.ship_station.specs.Events.{begins_alert, MayEndAlert};
+ghost use Rattle.ship_station.specs.Events.{ship_occurs, begins_alert, MayEndAlert};
 ghost use Rattle.ship_station.specs.Past.{is_attempt, is_end};
 ghost use Rattle.ship_station.specs.ShipRules.{Identities, ship_rules};
 
@@ -27,4 +28,10 @@ pub fn attempts_are_apart()
         → Legal (ship_rules who) (later ++ second ∷ (between ++ first ∷ earlier))
         → IsTrue (does is_attempt first) → NoneIs (does is_attempt) between → IsTrue (does is_attempt second) → begins_alert second ≡ false
         → first.at + 210000 ≤ second.at }
+{}
+
+/// The law that each call that a ship sends and holds is sent at most twice: when it begins to be held, and once again at a
+/// tick, in every legal history. It does nothing.
+pub fn held_calls_are_sent_at_most_twice()
+    ensures { (who : Identities) (h : History ShipWhat) (number : ℕ) → Legal (ship_rules who) h → times_sent ship_occurs number h ≤ 2 }
 {}

@@ -1,4 +1,4 @@
-//! A ship's station: its own distress alert, and the distress calls that it hears.
+//! A ship's station: its own distress alert, the calls that it sends, and those that it hears.
 #![tactic(auto)]
 
 mod alerts;
@@ -9,7 +9,8 @@ mod ships;
 
 pub use events::{ShipEvent, ShipWhat};
 pub use laws::{
-    alerts_end_by_hand_or_acknowledgement, attempts_are_apart, no_attempt_after_an_end,
+    alerts_end_by_hand_or_acknowledgement, attempts_are_apart, held_calls_are_sent_at_most_twice,
+    no_attempt_after_an_end,
 };
 pub use ships::Ship;
 

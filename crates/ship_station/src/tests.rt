@@ -1,8 +1,9 @@
 use super::*;
-use area_rules::{Act, Acts, StationRefusal, single};
+use area_rules::{Act, Acts, StationRefusal, put, single};
 use arrayvec::ArrayVec;
 use call_values::{
-    AlertDelay, Call, Casualty, Category, Comm, Fix, HourMinute, Kind, Mmsi, Nature, Position,
+    AlertDelay, Area, Call, Casualty, Category, Comm, End, Field, First, Fix, HourMinute, Kind,
+    Message, Mmsi, Nature, Position, Second, To,
 };
 use std::test::Fail;
 
@@ -132,16 +133,173 @@ fn heard_calls(rt: HostRuntime) -> Result<(), Fail> {
         from: other.mmsi,
         kind: Kind::Test { reply: false },
     };
+    let reply = Call::Service {
+        to: other.mmsi,
+        category: Category::Safety,
+        from: Mmsi::new(OTHER).ok_or("identity")?,
+        kind: Kind::Test { reply: true },
+    };
     let rows = [
         (7, Call::Alert(other), single(Act::Distress(other))),
         (8, Call::Alert(casualty(OTHER)?), nothing()),
-        (8, test, nothing()),
+        (8, test, sent(reply)),
     ];
     let groups = [other.mmsi; 16];
     let mut ship = Ship::new(Mmsi::new(OTHER).ok_or("identity")?, &groups);
     for (at, call, want) in rows {
         let what = ShipWhat::Heard(call);
         assert_eq!(rt; ship.step(&ShipEvent { at, what }), Ok(want), "at {at}");
+    }
+    Ok(())
+}
+
+fn to_one(to: u32, from: u32, kind: Kind) -> Result<Call, Fail> {
+    Ok(Call::Service {
+        to: Mmsi::new(to).ok_or("identity")?,
+        category: Category::Routine,
+        from: Mmsi::new(from).ok_or("identity")?,
+        kind,
+    })
+}
+
+fn proposal(to: u32, from: u32, first: u8, second: u8, end: End) -> Result<Call, Fail> {
+    Ok(Call::Individual {
+        to: Mmsi::new(to).ok_or("identity")?,
+        category: Category::Routine,
+        from: Mmsi::new(from).ok_or("identity")?,
+        first: First::new(first).ok_or("telecommand")?,
+        second: Second::new(second).ok_or("telecommand")?,
+        message: Message::Fields(Field::absent(), Field::absent()),
+        end,
+    })
+}
+
+fn sent(call: Call) -> Acts {
+    single(Act::Send { call, times: 1 })
+}
+
+fn and(mut acts: Acts, act: Act) -> Acts {
+    if acts.len() < 32 {
+        put(&mut acts, act);
+    }
+    acts
+}
+
+#[test]
+fn calls_for_the_ship_are_answered(rt: HostRuntime) -> Result<(), Fail> {
+    let place = casualty(OWN)?;
+    let unknown = HourMinute::unknown();
+    let ask = to_one(OTHER, COAST, Kind::AskPosition)?;
+    let told = to_one(COAST, OTHER, Kind::Position(place.position, unknown))?;
+    let test = to_one(OWN, COAST, Kind::Test { reply: false })?;
+    let question = proposal(OTHER, COAST, 109, 126, End::Ask)?;
+    let refusal = proposal(COAST, OTHER, 104, 100, End::Reply)?;
+    let rows = [
+        (
+            0,
+            ShipWhat::Position(place.position, unknown),
+            Ok(nothing()),
+        ),
+        (1_000, ShipWhat::Heard(ask), Ok(sent(told))),
+        (1_500, ShipWhat::Heard(test), Ok(nothing())),
+        (2_000, ShipWhat::Heard(question), Ok(single(Act::Held(1)))),
+        (2_500, ShipWhat::Heard(question), Ok(nothing())),
+        (
+            2_600,
+            ShipWhat::Answer(2, false),
+            Err(StationRefusal::NoSuchCall(2)),
+        ),
+        (3_000, ShipWhat::Answer(1, false), Ok(sent(refusal))),
+        (
+            3_000,
+            ShipWhat::Answer(1, false),
+            Err(StationRefusal::NoSuchCall(1)),
+        ),
+    ];
+    let mut ship = ship(OTHER)?;
+    for (at, what, want) in rows {
+        assert_eq!(rt; ship.step(&ShipEvent { at, what }), want, "at {at}");
+    }
+    Ok(())
+}
+
+#[test]
+fn sent_calls_are_repeated_once(rt: HostRuntime) -> Result<(), Fail> {
+    let call = proposal(COAST, OWN, 109, 126, End::Ask)?;
+    let reply = proposal(OWN, COAST, 109, 126, End::Reply)?;
+    let alert = Call::Alert(casualty(OWN)?);
+    let rows = [
+        (0, ShipWhat::Send(alert), Err(StationRefusal::NotSendable)),
+        (0, ShipWhat::Send(reply), Err(StationRefusal::NotSendable)),
+        (0, ShipWhat::Send(call), Ok(and(sent(call), Act::Held(1)))),
+        (299_999, ShipWhat::Tick, Ok(nothing())),
+        (300_000, ShipWhat::Tick, Ok(sent(call))),
+        (
+            300_001,
+            ShipWhat::Answer(1, true),
+            Err(StationRefusal::NoSuchCall(1)),
+        ),
+        (599_999, ShipWhat::Tick, Ok(nothing())),
+        (600_000, ShipWhat::Tick, Ok(single(Act::GaveUp(1)))),
+        (600_001, ShipWhat::Heard(reply), Ok(single(Act::Shown))),
+        (
+            600_002,
+            ShipWhat::Send(call),
+            Ok(and(sent(call), Act::Held(1))),
+        ),
+        (
+            600_003,
+            ShipWhat::Heard(reply),
+            Ok(single(Act::Answered(1))),
+        ),
+        (900_003, ShipWhat::Tick, Ok(nothing())),
+    ];
+    let mut ship = ship(OWN)?;
+    for (at, what, want) in rows {
+        assert_eq!(rt; ship.step(&ShipEvent { at, what }), want, "at {at}");
+    }
+    Ok(())
+}
+
+#[test]
+fn a_full_ship_refuses_a_relay_in_whole(rt: HostRuntime) -> Result<(), Fail> {
+    let test = to_one(COAST, OWN, Kind::Test { reply: false })?;
+    let relay = |to, ask| -> Result<ShipWhat, Fail> {
+        Ok(ShipWhat::Heard(Call::Relay {
+            to,
+            from: Mmsi::new(COAST).ok_or("identity")?,
+            casualty: casualty(OTHER)?,
+            ask,
+        }))
+    };
+    let mut ship = ship(OWN)?;
+    for number in 1..=16 {
+        let event = ShipEvent {
+            at: 5,
+            what: ShipWhat::Send(test),
+        };
+        assert_eq!(rt; ship.step(&event), Ok(and(sent(test), Act::Held(number))));
+    }
+    let distress = single(Act::Distress(casualty(OTHER)?));
+    let south = Area::new(1, 42, 84, 2, 2).ok_or("area")?;
+    let rows = [
+        (9, relay(To::All, true)?, Err(StationRefusal::Full)),
+        (6, ShipWhat::Send(test), Err(StationRefusal::Full)),
+        (6, relay(To::All, false)?, Ok(distress)),
+        (
+            6,
+            relay(To::Area(south), false)?,
+            Ok(single(Act::Distress(casualty(OTHER)?))),
+        ),
+        (
+            6,
+            ShipWhat::Position(casualty(OWN)?.position, HourMinute::unknown()),
+            Ok(nothing()),
+        ),
+        (6, relay(To::Area(south), false)?, Ok(nothing())),
+    ];
+    for (at, what, want) in rows {
+        assert_eq!(rt; ship.step(&ShipEvent { at, what }), want, "at {at}");
     }
     Ok(())
 }

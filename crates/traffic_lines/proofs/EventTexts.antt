@@ -1,35 +1,31 @@
--- events by the grammars of their texts, and calls that are heard
-use Rattle.std.proofs.Common.{◌≡◌, ℕ, ◌+◌, ◌-◌, ◌≤◌, true, List, [], ◌++◌, length, codes, decimal, Ok, Err, ◌⊎◌, inl, inr, refl, sym, ◌∙◌, ap, append-nil, arith}
-use Rattle.std.proofs.lemmas.List.{append_cancel_left}
-use Rattle.call_values.specs.declared.calls.Call.{Call}
-use Rattle.call_values.specs.declared.calls.Call.TheVariants.{Service}
-use Rattle.call_values.specs.declared.choices.Category.TheVariants.{Routine}
-use Rattle.call_values.specs.declared.parts.Kind.TheVariants.{AskPosition}
-use Rattle.call_values.specs.Delays.{IsAlertDelay}
+-- events by the grammars of their texts
+use Rattle.std.proofs.Common.{◌≡◌, ℕ, ◌≤◌, Bool, true, false, List, [], ◌++◌, codes, decimal, Result, Ok, Err, IfOk, IfErr, ◌⊎◌, inl, inr, Option, Some, None, refl, sym, ◌∙◌, ap, subst, append-nil, arith}
+use Rattle.call_values.specs.declared.parts.To.{To}
+use Rattle.call_values.specs.Delays.{IsAlertDelay, IsCoastDelay}
+use Rattle.call_values.specs.Identity.{IsMmsi}
+use Rattle.call_values.specs.Parts.{IsTo}
 use Rattle.call_values.specs.Places.{IsPosition}
 use Rattle.dsc_symbols.specs.Telecommands.{IsComm}
-use Rattle.dsc_texts.specs.CallGrammar.{nature, comm, position as position_token}
-use Rattle.dsc_texts.specs.CallParts.{position_text}
-use Rattle.dsc_texts.specs.Texts.{IsCallText, reported_text}
-use Rattle.slot_join.specs.declared.joined.Extra.TheVariants.{Absent}
+use Rattle.dsc_texts.specs.CallGrammar.{address, identity, labelled, nature, comm, position as position_token}
+use Rattle.dsc_texts.specs.CallParts.{address_text, position_text}
+use Rattle.dsc_texts.proofs.FieldTexts.{address_told, position_told}
+use Rattle.dsc_texts.proofs.SymbolTexts.{Told, comm_told, identity_told, nature_told}
 use Rattle.line_grammar.specs.Shapes.{digits}
 use Rattle.line_grammar.specs.Tokens.{Token, free_number}
-use Rattle.line_grammar.specs.Columns.{IsColumn}
-use Rattle.line_grammar.specs.Grammar.{finish, anything, word, either, Parts, none, part, first, second, Spells}
-use Rattle.line_grammar.specs.inside.Reading.{fits, after}
+use Rattle.line_grammar.specs.Grammar.{Grammar, finish, either, Parts, none, part, first, second, Spells}
+use Rattle.line_grammar.specs.inside.Reading.{fits, after, read}
 use Rattle.line_grammar.specs.inside.Soundness.{is_sound}
-use Rattle.line_grammar.proofs.Chains.{after_list, word_missed}
+use Rattle.line_grammar.proofs.Chains.{after_list}
 use Rattle.line_grammar.proofs.Fields.{field_of}
 use Rattle.line_grammar.proofs.Grammars.{choice_back}
-use Rattle.line_grammar.proofs.Repeats.{read_stops}
 use Rattle.line_grammar.proofs.Stops.{IsChoice}
 use Rattle.traffic_lines.specs.declared.lines.EventLine.{EventLine}
-use Rattle.traffic_lines.specs.declared.lines.EventLine.TheVariants.{Position, Delay, Alert, Cancel, Tick, Hear, Heard}
-use Rattle.traffic_lines.specs.Lines.{IsHear, IsEventText}
-use Rattle.traffic_lines.specs.inside.Grammars.{only, lone, position, delay, alert, cancel, tick, heard, plain_events}
-use Rattle.traffic_lines.proofs.Languages.{HasLine, IsBehind, IsFronts, Stops-behind, Stops-front, stops_column, found_stops}
-use Rattle.traffic_lines.proofs.PositionTexts.{position_told}
-use Rattle.traffic_lines.proofs.Tokens.{Told, nature_told, comm_told, number_told}
+use Rattle.traffic_lines.specs.declared.lines.EventLine.TheVariants.{Position, Delay, Alert, Cancel, Tick, Send, Answer, Hear, Heard, Accept, Relay}
+use Rattle.traffic_lines.specs.Lines.{IsEventText, IsHeldNumber, delay_text, ask_text}
+use Rattle.traffic_lines.specs.inside.Grammars.{only, lone, position, delay, alert, cancel, tick, heard, answer, decline, coast_delay, perhaps_delay, accept, ask_or_tell, relay, shared_events, ship_events, coast_events}
+use Rattle.traffic_lines.specs.inside.Reading.{ReadsBy, Finds, IsShipText, IsCoastText, IsSharedText, IsCallEvent, IsDelayText, IsAskText}
+use Rattle.traffic_lines.proofs.Languages.{HasLine}
+use Rattle.traffic_lines.proofs.Tokens.{number_told}
 
 -- the end of a line
 pub finished : (parts : Parts) (bytes : List ℕ) → Spells finish parts bytes → bytes ≡ []
@@ -38,131 +34,286 @@ finished (part a b) bytes h = absurd h
 finished (first a) bytes h = absurd h
 finished (second a) bytes h = absurd h
 
+-- a value behind a word, and what follows it
+pub labelled_of : {V : Type 0} (label : List ℕ) (token : Token) (rest : Grammar) (Lawful : V → Type 0) (text : V → List ℕ) → Told token Lawful text → (parts : Parts) (bytes : List ℕ)
+    → Spells (labelled label token rest) parts bytes → (v : V) × (more : Parts) × (back : List ℕ) × Lawful v × Spells rest more back × (bytes ≡ label ++ (text v ++ back))
+labelled_of label token rest Lawful text told parts bytes h =
+    let f = field_of token rest parts h.0 h.2 in
+    let v = told.of f.front f.is_token in
+    let list = f.list ∙ ap (λ (l : List ℕ). l ++ f.back) v.2 in
+    (v.0, f.parts, f.back, v.1, f.spelled, h.1 ∙ ap (λ (l : List ℕ). label ++ l) list)
+
+pub labelled_is : {V : Type 0} (label : List ℕ) (token : Token) (rest : Grammar) (Lawful : V → Type 0) (text : V → List ℕ) → Told token Lawful text → (v : V) (more : Parts) (back bytes : List ℕ)
+    → Lawful v → Spells rest more back → bytes ≡ label ++ (text v ++ back) → (parts : Parts) × Spells (labelled label token rest) parts bytes
+labelled_is label token rest Lawful text told v more back bytes h k e = (part (text v) more, (text v ++ back, e, (told.is v h, (back, refl, k))))
+
 -- a value behind a word, to the end of the line
 pub only_of : {V : Type 0} (label : List ℕ) (token : Token) (Lawful : V → Type 0) (text : V → List ℕ) → Told token Lawful text → (parts : Parts) (bytes : List ℕ) → Spells (only label token) parts bytes
     → (v : V) × Lawful v × (bytes ≡ label ++ text v)
 only_of label token Lawful text told parts bytes h =
-    let f = field_of token finish parts h.0 h.2 in
-    let v = told.of f.front f.is_token in
-    let all = f.list ∙ ap (λ (l : List ℕ). f.front ++ l) (finished f.parts f.back f.spelled) ∙ append-nil f.front ∙ v.2 in
-    (v.0, v.1, h.1 ∙ ap (λ (l : List ℕ). label ++ l) all)
+    let f = labelled_of label token finish Lawful text told parts bytes h in
+    let all = ap (λ (l : List ℕ). text f.0 ++ l) (finished f.1 f.2 f.4) ∙ append-nil (text f.0) in
+    (f.0, f.3, f.5 ∙ ap (λ (l : List ℕ). label ++ l) all)
 
 pub only_is : {V : Type 0} (label : List ℕ) (token : Token) (Lawful : V → Type 0) (text : V → List ℕ) → Told token Lawful text → (v : V) (bytes : List ℕ) → Lawful v → bytes ≡ label ++ text v
     → (parts : Parts) × Spells (only label token) parts bytes
-only_is label token Lawful text told v bytes h e = (part (text v) none, (text v, e, (told.is v h, ([], sym (append-nil (text v)), refl))))
+only_is label token Lawful text told v bytes h e =
+    labelled_is label token finish Lawful text told v none [] bytes h refl (e ∙ ap (λ (l : List ℕ). label ++ l) (sym (append-nil (text v))))
 
 -- a lone word
-lone_of : (text : List ℕ) (parts : Parts) (bytes : List ℕ) → Spells (lone text) parts bytes → bytes ≡ text
+pub lone_of : (text : List ℕ) (parts : Parts) (bytes : List ℕ) → Spells (lone text) parts bytes → bytes ≡ text
 lone_of text parts bytes h = h.1 ∙ ap (λ (l : List ℕ). text ++ l) (finished parts h.0 h.2) ∙ append-nil text
 
-lone_is : (text bytes : List ℕ) → bytes ≡ text → (parts : Parts) × Spells (lone text) parts bytes
+pub lone_is : (text bytes : List ℕ) → bytes ≡ text → (parts : Parts) × Spells (lone text) parts bytes
 lone_is text bytes e = (none, ([], e ∙ sym (append-nil text), refl))
 
 -- an alert
-alert_of : (parts : Parts) (bytes : List ℕ) → Spells alert parts bytes → (e : EventLine) × IsEventText e bytes
+alert_of : (parts : Parts) (bytes : List ℕ) → Spells alert parts bytes → (e : EventLine) × IsShipText e bytes
 alert_of parts bytes h =
-    let f = field_of nature (only (codes " then=") comm) parts h.0 h.2 in
-    let n = nature_told.of f.front f.is_token in
-    let c = only_of (codes " then=") comm IsComm (digits 3) comm_told f.parts f.back f.spelled in
-    let rest = f.list ∙ ap (λ (l : List ℕ). l ++ f.back) n.2 ∙ ap (λ (l : List ℕ). digits 3 n.0 ++ l) c.2 in
-    (Alert n.0 c.0, (n.1, c.1, h.1 ∙ ap (λ (l : List ℕ). codes "alert nature=" ++ l) rest))
+    let n = labelled_of (codes "alert nature=") nature (only (codes " then=") comm) _ (digits 3) nature_told parts bytes h in
+    let c = only_of (codes " then=") comm IsComm (digits 3) comm_told n.1 n.2 n.4 in
+    (Alert n.0 c.0, (tt, (n.3, c.1, n.5 ∙ ap (λ (l : List ℕ). codes "alert nature=" ++ (digits 3 n.0 ++ l)) c.2)))
 
 alert_is : (n c : ℕ) (bytes : List ℕ) → IsEventText (Alert n c) bytes → (parts : Parts) × Spells alert parts bytes
 alert_is n c bytes h =
     let rest = codes " then=" ++ digits 3 c in
     let k = only_is (codes " then=") comm IsComm (digits 3) comm_told c rest h.1 refl in
-    (part (digits 3 n) k.0, (digits 3 n ++ rest, h.2, (nature_told.is n h.0, (rest, refl, k.1))))
+    labelled_is (codes "alert nature=") nature (only (codes " then=") comm) _ (digits 3) nature_told n k.0 rest bytes h.0 k.1 h.2
 
 pub alert_text : (bytes rest back : List ℕ) (n c : ℕ) → after (codes "alert nature=") bytes ≡ Ok rest → rest ≡ digits 3 n ++ back → back ≡ codes " then=" ++ digits 3 c
     → bytes ≡ codes "alert nature=" ++ (digits 3 n ++ (codes " then=" ++ digits 3 c))
 alert_text bytes rest back n c h e k =
     after_list (codes "alert nature=") bytes rest h ∙ ap (λ (l : List ℕ). codes "alert nature=" ++ l) (e ∙ ap (λ (l : List ℕ). digits 3 n ++ l) k)
 
--- the events of the grammar, and those that name a call
-plain_of : (parts : Parts) (bytes : List ℕ) → Spells plain_events parts bytes → (e : EventLine) × IsEventText e bytes
-plain_of parts bytes h =
-    elim (choice_back position (either delay (either alert (either cancel (either tick heard)))) parts bytes h) [
-      | inl k ↦ (let v = only_of (codes "position ") position_token IsPosition position_text position_told k.0 bytes k.1 in (Position v.0, (v.1, v.2)))
-      | inr a ↦ (elim (choice_back delay (either alert (either cancel (either tick heard))) a.0 bytes a.1) [
-        | inl k ↦ (let v = only_of (codes "delay ") (free_number 210000 270000) IsAlertDelay decimal (number_told 210000 270000 (omega arith)) k.0 bytes k.1 in (Delay v.0, (v.1, v.2)))
-        | inr b ↦ (elim (choice_back alert (either cancel (either tick heard)) b.0 bytes b.1) [
+-- numbers of held calls
+held_told : Told (free_number 1 16) IsHeldNumber decimal
+held_told = number_told 1 16 (omega arith)
+
+-- an alert that is accepted
+coast_delay_told : Told (free_number 60000 165000) IsCoastDelay decimal
+coast_delay_told = number_told 60000 165000 (omega arith)
+
+delay_of : (parts : Parts) (bytes : List ℕ) → Spells perhaps_delay parts bytes → (d : Option ℕ) × IsDelayText d bytes
+delay_of parts bytes h =
+    elim (choice_back finish coast_delay parts bytes h) [
+      | inl k ↦ (None, (tt, finished k.0 bytes k.1))
+      | inr k ↦ (let v = only_of (codes " ") (free_number 60000 165000) IsCoastDelay decimal coast_delay_told k.0 bytes k.1 in (Some v.0, (v.1, v.2)))
+    ]
+
+delay_is : (d : Option ℕ) (bytes : List ℕ) → IsDelayText d bytes → (parts : Parts) × Spells perhaps_delay parts bytes
+delay_is None bytes h = (first none, h.1)
+delay_is (Some ms) bytes h = let k = only_is (codes " ") (free_number 60000 165000) IsCoastDelay decimal coast_delay_told ms bytes h.0 h.1 in (second k.0, k.1)
+
+pub accept_text : (ship : ℕ) (d : Option ℕ) (bytes back : List ℕ) → IsMmsi ship → bytes ≡ codes "accept " ++ (digits 9 ship ++ back) → IsDelayText d back → IsCoastText (Accept ship d) bytes
+accept_text ship d bytes back m e h = (tt, (m, h.0, e ∙ ap (λ (l : List ℕ). codes "accept " ++ (digits 9 ship ++ l)) h.1))
+
+accept_of : (parts : Parts) (bytes : List ℕ) → Spells accept parts bytes → (e : EventLine) × IsCoastText e bytes
+accept_of parts bytes h =
+    let f = labelled_of (codes "accept ") identity perhaps_delay IsMmsi (digits 9) identity_told parts bytes h in
+    let d = delay_of f.1 f.2 f.4 in
+    (Accept f.0 d.0, accept_text f.0 d.0 bytes f.2 f.3 f.5 d.1)
+
+accept_is : (ship : ℕ) (d : Option ℕ) (bytes : List ℕ) → IsEventText (Accept ship d) bytes → (parts : Parts) × Spells accept parts bytes
+accept_is ship d bytes h =
+    let k = delay_is d (delay_text d) (h.1, refl) in
+    labelled_is (codes "accept ") identity perhaps_delay IsMmsi (digits 9) identity_told ship k.0 (delay_text d) bytes h.0 k.1 h.2
+
+-- an alert that is relayed
+ask_of : (parts : Parts) (bytes : List ℕ) → Spells ask_or_tell parts bytes → (ask : Bool) × IsAskText ask bytes
+ask_of parts bytes h =
+    elim (choice_back (lone (codes " ask")) (lone (codes " tell")) parts bytes h) [
+      | inl k ↦ (true, lone_of (codes " ask") k.0 bytes k.1)
+      | inr k ↦ (false, lone_of (codes " tell") k.0 bytes k.1)
+    ]
+
+pub ask_is : (ask : Bool) (bytes : List ℕ) → IsAskText ask bytes → (parts : Parts) × Spells ask_or_tell parts bytes
+ask_is true bytes e = let k = lone_is (codes " ask") bytes e in (first k.0, k.1)
+ask_is false bytes e = let k = lone_is (codes " tell") bytes e in (second k.0, k.1)
+
+pub relay_text : (ship : ℕ) (to : To) (ask : Bool) (bytes rest back : List ℕ) → IsMmsi ship → IsTo to → bytes ≡ codes "relay " ++ (digits 9 ship ++ rest) → rest ≡ codes " to=" ++ (address_text to ++ back)
+    → IsAskText ask back → IsCoastText (Relay ship to ask) bytes
+relay_text ship to ask bytes rest back m t e f h =
+    (tt, (m, t, e ∙ ap (λ (l : List ℕ). codes "relay " ++ (digits 9 ship ++ l)) (f ∙ ap (λ (l : List ℕ). codes " to=" ++ (address_text to ++ l)) h)))
+
+relay_of : (parts : Parts) (bytes : List ℕ) → Spells relay parts bytes → (e : EventLine) × IsCoastText e bytes
+relay_of parts bytes h =
+    let f = labelled_of (codes "relay ") identity (labelled (codes " to=") address ask_or_tell) IsMmsi (digits 9) identity_told parts bytes h in
+    let t = labelled_of (codes " to=") address ask_or_tell IsTo address_text address_told f.1 f.2 f.4 in
+    let a = ask_of t.1 t.2 t.4 in
+    (Relay f.0 t.0 a.0, relay_text f.0 t.0 a.0 bytes f.2 t.2 f.3 t.3 f.5 t.5 a.1)
+
+relay_is : (ship : ℕ) (to : To) (ask : Bool) (bytes : List ℕ) → IsEventText (Relay ship to ask) bytes → (parts : Parts) × Spells relay parts bytes
+relay_is ship to ask bytes h =
+    let a = ask_is ask (ask_text ask) refl in
+    let rest = codes " to=" ++ (address_text to ++ ask_text ask) in
+    let t = labelled_is (codes " to=") address ask_or_tell IsTo address_text address_told to a.0 (ask_text ask) rest h.1 a.1 refl in
+    labelled_is (codes "relay ") identity (labelled (codes " to=") address ask_or_tell) IsMmsi (digits 9) identity_told ship t.0 rest bytes h.0 t.1 h.2
+
+-- the events of both kinds of stations
+group_told : Told (free_number 0 4294967295) (λ (n : ℕ). (0 ≤ n) × (n ≤ 4294967295)) decimal
+group_told = number_told 0 4294967295 (omega arith)
+
+shared_of : (parts : Parts) (bytes : List ℕ) → Spells shared_events parts bytes → (e : EventLine) × IsSharedText e bytes
+shared_of parts bytes h =
+    elim (choice_back tick (either heard (either answer decline)) parts bytes h) [
+      | inl k ↦ (Tick, (tt, tt, lone_of (codes "tick") k.0 bytes k.1))
+      | inr a ↦ (elim (choice_back heard (either answer decline) a.0 bytes a.1) [
+        | inl k ↦ (let v = only_of (codes "heard g") (free_number 0 4294967295) (λ (n : ℕ). (0 ≤ n) × (n ≤ 4294967295)) decimal group_told k.0 bytes k.1 in (Heard v.0, (tt, tt, (omega (arith, v.1), v.2))))
+        | inr b ↦ (elim (choice_back answer decline b.0 bytes b.1) [
+          | inl k ↦ (let v = only_of (codes "answer ") (free_number 1 16) IsHeldNumber decimal held_told k.0 bytes k.1 in (Answer v.0 true, (tt, tt, (v.1, v.2))))
+          | inr k ↦ (let v = only_of (codes "decline ") (free_number 1 16) IsHeldNumber decimal held_told k.0 bytes k.1 in (Answer v.0 false, (tt, tt, (v.1, v.2))))
+        ])
+      ])
+    ]
+
+shared_ship : (e : EventLine) (bytes : List ℕ) → IsSharedText e bytes → IsShipText e bytes
+shared_ship e bytes h = (h.0, h.2)
+
+shared_coast : (e : EventLine) (bytes : List ℕ) → IsSharedText e bytes → IsCoastText e bytes
+shared_coast e bytes h = (h.1, h.2)
+
+tick_is : (bytes : List ℕ) → IsEventText Tick bytes → (parts : Parts) × Spells shared_events parts bytes
+tick_is bytes h = let k = lone_is (codes "tick") bytes h in (first k.0, k.1)
+
+heard_is : (group : ℕ) (bytes : List ℕ) → IsEventText (Heard group) bytes → (parts : Parts) × Spells shared_events parts bytes
+heard_is group bytes h =
+    let k = only_is (codes "heard g") (free_number 0 4294967295) (λ (n : ℕ). (0 ≤ n) × (n ≤ 4294967295)) decimal group_told group bytes (omega arith, omega (arith, h.0)) h.1 in
+    (second (first k.0), k.1)
+
+answer_is : (k : ℕ) (accepts : Bool) (bytes : List ℕ) → IsEventText (Answer k accepts) bytes → (parts : Parts) × Spells shared_events parts bytes
+answer_is n true bytes h = let k = only_is (codes "answer ") (free_number 1 16) IsHeldNumber decimal held_told n bytes h.0 h.1 in (second (second (first k.0)), k.1)
+answer_is n false bytes h = let k = only_is (codes "decline ") (free_number 1 16) IsHeldNumber decimal held_told n bytes h.0 h.1 in (second (second (second k.0)), k.1)
+
+-- the events of a ship, and those that name a call
+ship_of : (parts : Parts) (bytes : List ℕ) → Spells ship_events parts bytes → (e : EventLine) × IsShipText e bytes
+ship_of parts bytes h =
+    elim (choice_back position (either delay (either alert (either cancel shared_events))) parts bytes h) [
+      | inl k ↦ (let v = only_of (codes "position ") position_token IsPosition position_text position_told k.0 bytes k.1 in (Position v.0, (tt, (v.1, v.2))))
+      | inr a ↦ (elim (choice_back delay (either alert (either cancel shared_events)) a.0 bytes a.1) [
+        | inl k ↦ (let v = only_of (codes "delay ") (free_number 210000 270000) IsAlertDelay decimal (number_told 210000 270000 (omega arith)) k.0 bytes k.1 in (Delay v.0, (tt, (v.1, v.2))))
+        | inr b ↦ (elim (choice_back alert (either cancel shared_events) b.0 bytes b.1) [
           | inl k ↦ alert_of k.0 bytes k.1
-          | inr d ↦ (elim (choice_back cancel (either tick heard) d.0 bytes d.1) [
-            | inl k ↦ (Cancel, lone_of (codes "cancel") k.0 bytes k.1)
-            | inr f ↦ (elim (choice_back tick heard f.0 bytes f.1) [
-              | inl k ↦ (Tick, lone_of (codes "tick") k.0 bytes k.1)
-              | inr k ↦ (let v = only_of (codes "heard g") (free_number 0 4294967295) (λ (n : ℕ). (0 ≤ n) × (n ≤ 4294967295)) decimal (number_told 0 4294967295 (omega arith)) k.0 bytes k.1 in (Heard v.0, (omega (arith, v.1), v.2)))
-            ])
+          | inr d ↦ (elim (choice_back cancel shared_events d.0 bytes d.1) [
+            | inl k ↦ (Cancel, (tt, lone_of (codes "cancel") k.0 bytes k.1))
+            | inr k ↦ (let s = shared_of k.0 bytes k.1 in (s.0, shared_ship s.0 bytes s.1))
           ])
         ])
       ])
     ]
 
-event_back : (e : EventLine) (bytes : List ℕ) → IsEventText e bytes → ((parts : Parts) × Spells plain_events parts bytes) ⊎ ((call : Call) × IsHear call bytes)
-event_back (Position p) bytes h = let k = only_is (codes "position ") position_token IsPosition position_text position_told p bytes h.0 h.1 in inl (first k.0, k.1)
-event_back (Delay ms) bytes h =
-    let k = only_is (codes "delay ") (free_number 210000 270000) IsAlertDelay decimal (number_told 210000 270000 (omega arith)) ms bytes h.0 h.1 in
+ship_back : (e : EventLine) (bytes : List ℕ) → IsShipText e bytes → ((parts : Parts) × Spells ship_events parts bytes) ⊎ ((c : EventLine) × IsCallEvent c bytes)
+ship_back (Position p) bytes h = let k = only_is (codes "position ") position_token IsPosition position_text position_told p bytes h.1.0 h.1.1 in inl (first k.0, k.1)
+ship_back (Delay ms) bytes h =
+    let k = only_is (codes "delay ") (free_number 210000 270000) IsAlertDelay decimal (number_told 210000 270000 (omega arith)) ms bytes h.1.0 h.1.1 in
     inl (second (first k.0), k.1)
-event_back (Alert n c) bytes h = let k = alert_is n c bytes h in inl (second (second (first k.0)), k.1)
-event_back Cancel bytes h = let k = lone_is (codes "cancel") bytes h in inl (second (second (second (first k.0))), k.1)
-event_back Tick bytes h = let k = lone_is (codes "tick") bytes h in inl (second (second (second (second (first k.0)))), k.1)
-event_back (Hear call) bytes h = inr (call, h)
-event_back (Heard group) bytes h =
-    let k = only_is (codes "heard g") (free_number 0 4294967295) (λ (n : ℕ). (0 ≤ n) × (n ≤ 4294967295)) decimal (number_told 0 4294967295 (omega arith)) group bytes (omega arith, omega (arith, h.0)) h.1 in
-    inl (second (second (second (second (second k.0)))), k.1)
+ship_back (Alert n c) bytes h = let k = alert_is n c bytes h.1 in inl (second (second (first k.0)), k.1)
+ship_back Cancel bytes h = let k = lone_is (codes "cancel") bytes h.1 in inl (second (second (second (first k.0))), k.1)
+ship_back Tick bytes h = let k = tick_is bytes h.1 in inl (second (second (second (second k.0))), k.1)
+ship_back (Send call) bytes h = inr (Send call, h.1)
+ship_back (Answer n accepts) bytes h = let k = answer_is n accepts bytes h.1 in inl (second (second (second (second k.0))), k.1)
+ship_back (Hear call) bytes h = inr (Hear call, h.1)
+ship_back (Heard group) bytes h = let k = heard_is group bytes h.1 in inl (second (second (second (second k.0))), k.1)
+ship_back (Accept ship d) bytes h = absurd h.0
+ship_back (Relay ship to ask) bytes h = absurd h.0
 
-pub event_choice : IsChoice (Spells plain_events) IsHear IsEventText
-event_choice = record {
-  left = plain_of;
-  right = λ call bytes h. (Hear call, h);
-  back = event_back;
+call_of_ship : (e : EventLine) (bytes : List ℕ) → IsCallEvent e bytes → IsShipText e bytes
+call_of_ship (Send call) bytes h = (tt, h)
+call_of_ship (Hear call) bytes h = (tt, h)
+call_of_ship (Position p) bytes h = absurd h
+call_of_ship (Delay ms) bytes h = absurd h
+call_of_ship (Alert n c) bytes h = absurd h
+call_of_ship Cancel bytes h = absurd h
+call_of_ship Tick bytes h = absurd h
+call_of_ship (Answer n accepts) bytes h = absurd h
+call_of_ship (Heard group) bytes h = absurd h
+call_of_ship (Accept ship d) bytes h = absurd h
+call_of_ship (Relay ship to ask) bytes h = absurd h
+
+pub ship_choice : IsChoice (Spells ship_events) IsCallEvent IsShipText
+ship_choice = record {
+  left = ship_of;
+  right = λ e bytes h. (e, call_of_ship e bytes h);
+  back = ship_back;
 }
 
-pub plain_sound : is_sound plain_events ≡ true
+-- the events of a coast station, and those that name a call
+coast_of : (parts : Parts) (bytes : List ℕ) → Spells coast_events parts bytes → (e : EventLine) × IsCoastText e bytes
+coast_of parts bytes h =
+    elim (choice_back accept (either relay shared_events) parts bytes h) [
+      | inl k ↦ accept_of k.0 bytes k.1
+      | inr a ↦ (elim (choice_back relay shared_events a.0 bytes a.1) [
+        | inl k ↦ relay_of k.0 bytes k.1
+        | inr k ↦ (let s = shared_of k.0 bytes k.1 in (s.0, shared_coast s.0 bytes s.1))
+      ])
+    ]
+
+coast_back : (e : EventLine) (bytes : List ℕ) → IsCoastText e bytes → ((parts : Parts) × Spells coast_events parts bytes) ⊎ ((c : EventLine) × IsCallEvent c bytes)
+coast_back (Position p) bytes h = absurd h.0
+coast_back (Delay ms) bytes h = absurd h.0
+coast_back (Alert n c) bytes h = absurd h.0
+coast_back Cancel bytes h = absurd h.0
+coast_back Tick bytes h = let k = tick_is bytes h.1 in inl (second (second k.0), k.1)
+coast_back (Send call) bytes h = inr (Send call, h.1)
+coast_back (Answer n accepts) bytes h = let k = answer_is n accepts bytes h.1 in inl (second (second k.0), k.1)
+coast_back (Hear call) bytes h = inr (Hear call, h.1)
+coast_back (Heard group) bytes h = let k = heard_is group bytes h.1 in inl (second (second k.0), k.1)
+coast_back (Accept ship d) bytes h = let k = accept_is ship d bytes h.1 in inl (first k.0, k.1)
+coast_back (Relay ship to ask) bytes h = let k = relay_is ship to ask bytes h.1 in inl (second (first k.0), k.1)
+
+call_of_coast : (e : EventLine) (bytes : List ℕ) → IsCallEvent e bytes → IsCoastText e bytes
+call_of_coast (Send call) bytes h = (tt, h)
+call_of_coast (Hear call) bytes h = (tt, h)
+call_of_coast (Position p) bytes h = absurd h
+call_of_coast (Delay ms) bytes h = absurd h
+call_of_coast (Alert n c) bytes h = absurd h
+call_of_coast Cancel bytes h = absurd h
+call_of_coast Tick bytes h = absurd h
+call_of_coast (Answer n accepts) bytes h = absurd h
+call_of_coast (Heard group) bytes h = absurd h
+call_of_coast (Accept ship d) bytes h = absurd h
+call_of_coast (Relay ship to ask) bytes h = absurd h
+
+pub coast_choice : IsChoice (Spells coast_events) IsCallEvent IsCoastText
+coast_choice = record {
+  left = coast_of;
+  right = λ e bytes h. (e, call_of_coast e bytes h);
+  back = coast_back;
+}
+
+-- their grammars are sound, and have lines
+pub ship_sound : is_sound ship_events ≡ true
 unfolding fits
-plain_sound = refl
+ship_sound = refl
 
-pub some_plain : HasLine (Spells plain_events)
-some_plain = record { value = second (second (second (first none))); text = codes "cancel"; line = ([], refl, refl) }
+pub coast_sound : is_sound coast_events ≡ true
+unfolding fits
+coast_sound = refl
 
--- a call that is heard
-some_call : Call
-some_call = Service 0 Routine 0 AskPosition
+pub some_ship_event : HasLine (Spells ship_events)
+some_ship_event = record { value = second (second (second (first none))); text = codes "cancel"; line = ([], refl, refl) }
 
-pub some_text : HasLine IsCallText
-unfolding some_call
-some_text = record { value = (some_call, Absent); text = reported_text some_call Absent; line = (((omega arith, omega arith, tt), tt), refl) }
+pub some_coast_event : HasLine (Spells coast_events)
+some_coast_event = record { value = second (second (first none)); text = codes "tick"; line = ([], refl, refl) }
 
--- hear and a blank in front of a call's text
-IsHearWord : List ℕ → Type 0
-IsHearWord front = front ≡ codes "hear "
+-- what was found of both kinds of stations was found of each
+pub shared_by_ship : (bytes : List ℕ) (r : Result EventLine ℕ) → ReadsBy shared_events IsSharedText bytes r → ReadsBy shared_events IsShipText bytes r
+shared_by_ship bytes (Ok e) h = shared_ship e bytes h
+shared_by_ship bytes (Err left) h = h
 
-hear_behind : IsBehind IsHearWord IsCallText IsHear
-unfolding IsHearWord
-hear_behind = record {
-  to = λ front back v is h. (v.0, (v.1, back, h, ap (λ (l : List ℕ). l ++ back) is));
-  of = λ call bytes h. (codes "hear ", h.1, (call, h.0), refl, h.2, h.3);
-  one = λ a b r s h k e. (h ∙ sym k, append_cancel_left (codes "hear ") r s (sym (ap (λ (l : List ℕ). l ++ r) h) ∙ e ∙ ap (λ (l : List ℕ). l ++ s) k));
-}
+pub shared_by_coast : (bytes : List ℕ) (r : Result EventLine ℕ) → ReadsBy shared_events IsSharedText bytes r → ReadsBy shared_events IsCoastText bytes r
+shared_by_coast bytes (Ok e) h = shared_coast e bytes h
+shared_by_coast bytes (Err left) h = h
 
-hear_fronts : IsFronts IsHearWord (word (codes "hear ") anything)
-unfolding IsHearWord
-hear_fronts = record {
-  to = λ front back is. (none, (back, ap (λ (l : List ℕ). l ++ back) is, tt));
-  of = λ parts bytes h. (codes "hear ", h.0, refl, h.1);
-}
+pub call_by_ship : (bytes : List ℕ) (r : Result EventLine ℕ) → Finds IsCallEvent IsCallEvent bytes r → Finds IsCallEvent IsShipText bytes r
+call_by_ship bytes (Ok e) h = call_of_ship e bytes h
+call_by_ship bytes (Err left) h = h
 
-pub no_hear : (bytes : List ℕ) (left : ℕ) → after (codes "hear ") bytes ≡ Err left → IsColumn IsHear bytes (length bytes + 1 - left)
-no_hear bytes left h =
-    stops_column IsHear bytes left
-    (Stops-front IsHearWord (word (codes "hear ") anything) IsCallText IsHear bytes left hear_fronts hear_behind some_text
-    (read_stops (word (codes "hear ") anything) bytes left refl (word_missed (codes "hear ") anything bytes left h)))
+pub call_by_coast : (bytes : List ℕ) (r : Result EventLine ℕ) → Finds IsCallEvent IsCallEvent bytes r → Finds IsCallEvent IsCoastText bytes r
+call_by_coast bytes (Ok e) h = call_of_coast e bytes h
+call_by_coast bytes (Err left) h = h
 
-pub hear_fault : (bytes rest : List ℕ) (left : ℕ) → after (codes "hear ") bytes ≡ Ok rest → IsColumn IsCallText rest (length rest + 1 - left) → IsColumn IsHear bytes (length bytes + 1 - left)
-unfolding IsHearWord
-hear_fault bytes rest left h k =
-    stops_column IsHear bytes left
-    (Stops-behind IsHearWord IsCallText IsHear bytes (codes "hear ") rest left hear_behind refl (after_list (codes "hear ") bytes rest h) (found_stops IsCallText rest left some_text k))
-
-pub some_hear : HasLine IsHear
-some_hear = record { value = some_text.value.0; text = codes "hear " ++ some_text.text; line = (some_text.value.1, some_text.text, some_text.line, refl) }
+-- a text to the end of the line was read as the value that it stands for
+pub value_by : {W : Type 0} (text : List ℕ) (L : W → List ℕ → Type 0) (value : W) (bytes : List ℕ) (r : Result W ℕ) → L value text → IfOk r (λ found. (found ≡ value) × (bytes ≡ text))
+    → IfErr r (λ left. read (lone text) bytes ≡ Err left) → ReadsBy (lone text) L bytes r
+value_by text L value bytes (Ok found) is h k = subst (λ w. L w bytes) (sym h.0) (subst (L value) (sym h.1) is)
+value_by text L value bytes (Err left) is h k = k

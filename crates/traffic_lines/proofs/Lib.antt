@@ -1,7 +1,7 @@
 pub mod Tokens
-pub mod PositionTexts
 pub mod Languages
 pub mod Steps
 pub mod EventTexts
+pub mod CallEvents
 pub mod LineTexts
 pub mod OneLine

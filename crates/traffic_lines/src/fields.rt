@@ -1,23 +1,26 @@
 #![tactic(auto, unfolding(line_grammar::specs::inside::Reading::read_token))]
 
 ghost use Rattle.std.specs.Prelude.{◌≡◌, ◌≤◌, ◌<◌, ◌^◌, ◌++◌, IfOk, IfErr, Ok, Err, List, ℕ, decimal};
-ghost use Rattle.call_values.specs.Delays.{IsAlertDelay};
+ghost use Rattle.call_values.specs.Delays.{IsAlertDelay, IsCoastDelay};
 ghost use Rattle.call_values.specs.Identity.{IsMmsi};
+ghost use Rattle.call_values.specs.Parts.{IsTo};
 ghost use Rattle.call_values.specs.Places.{IsPosition};
 ghost use Rattle.dsc_symbols.specs.Natures.{IsNature};
 ghost use Rattle.dsc_symbols.specs.Telecommands.{IsComm};
 ghost use Rattle.dsc_texts.specs.CallGrammar as calls;
-ghost use Rattle.dsc_texts.specs.CallParts.{position_text};
+ghost use Rattle.dsc_texts.specs.CallParts.{address_text, position_text};
+ghost use Rattle.line_grammar.specs.Grammar.{Grammar};
 ghost use Rattle.line_grammar.specs.Shapes.{digits};
 ghost use Rattle.line_grammar.specs.Tokens as tokens;
 ghost use Rattle.line_grammar.specs.Tokens.{Token};
 ghost use Rattle.line_grammar.specs.inside.Reading.{read, read_token};
+ghost use Rattle.traffic_lines.specs.Lines.{IsHeldNumber};
 ghost use Rattle.traffic_lines.specs.inside.Grammars as grammar;
 
-use call_values::{AlertDelay, Comm, Mmsi, Nature, Position};
+use call_values::{AlertDelay, CoastDelay, Comm, Mmsi, Nature, Position, To};
 use dsc_symbols::natures::NATURES;
 use dsc_symbols::telecommands::COMMS;
-use dsc_texts::read_position;
+use dsc_texts::{read_address, read_position};
 use line_grammar::{end, fixed_number, free_number, word};
 
 const IDENTITIES: [(u64, u64); 1] = [(0, 999_999_999)];
@@ -39,6 +42,18 @@ pub trait Field: Copy {
         ensures list { IfOk result (λ parts. bytes.now ≡ text parts.0 ++ parts.1.now) }
         ensures value { IfOk result (λ parts. read_token token bytes.now ≡ Ok (text parts.0, parts.1.now)) }
         ensures left { IfErr result (λ left. read_token token bytes.now ≡ Err left) };
+}
+
+/// The value behind a word at the front of these bytes, and what follows it. An error is how many bytes are left at the fault.
+pub fn labelled<'a, T: Field>(label: &[u8], bytes: &'a [u8]) -> Result<(T, &'a [u8]), usize>
+    ensures lawful { IfOk result (λ parts. T.Lawful parts.0) }
+    ensures text { IfOk result (λ parts. bytes.now ≡ label.now ++ (T.text parts.0 ++ parts.1.now)) }
+    ensures value { IfOk result (λ parts. (rest : Grammar) (left : ℕ) → read rest parts.1.now ≡ Err left → read (calls.labelled label.now T.token rest) bytes.now ≡ Err left) }
+    ensures left { IfErr result (λ left. (rest : Grammar) → read (calls.labelled label.now T.token rest) bytes.now ≡ Err left) }
+{
+    let rest = word(label, bytes)?;
+    let (value, rest) = T::read(rest)?;
+    Ok((value, rest))
 }
 
 /// Reads a value behind a word, to the end of the line. An error is how many bytes are left at the fault.
@@ -122,6 +137,33 @@ impl Field for AlertDelay {
     }
 }
 
+/// The milliseconds of a coast station's delay, without leading zeros.
+impl Field for CoastDelay {
+    ghost token = { tokens.free_number 60000 165000 };
+
+    ghost Lawful = { IsCoastDelay };
+
+    ghost text = { λ v. decimal v };
+
+    fn read(bytes: &[u8]) -> Result<(CoastDelay, &[u8]), usize> {
+        let (number, rest) = free_number(60_000, 165_000, bytes)?;
+        Ok((CoastDelay::new(number as u32).unwrap(), rest))
+    }
+}
+
+/// Whom a relay is for: all, or an area, a group or a station behind a word.
+impl Field for To {
+    ghost token = { calls.address };
+
+    ghost Lawful = { IsTo };
+
+    ghost text = { λ v. address_text v };
+
+    fn read(bytes: &[u8]) -> Result<(To, &[u8]), usize> {
+        read_address(bytes)
+    }
+}
+
 /// A group or a moment, without leading zeros.
 impl Field for u32 {
     ghost token = { tokens.free_number 0 4294967295 };
@@ -153,5 +195,26 @@ impl Field for Second {
     fn read(bytes: &[u8]) -> Result<(Second, &[u8]), usize> {
         let (number, rest) = free_number(0, 9_999_999_999, bytes)?;
         Ok((Second { number }, rest))
+    }
+}
+
+/// The number of a held call.
+#[derive(Clone, Copy)]
+pub struct HeldNumber {
+    pub number: u8,
+}
+
+/// The number of a held call, without leading zeros.
+impl Field for HeldNumber {
+    ghost token = { tokens.free_number 1 16 };
+
+    ghost Lawful = { λ v. IsHeldNumber v.number };
+
+    ghost text = { λ v. decimal v.number };
+
+    fn read(bytes: &[u8]) -> Result<(HeldNumber, &[u8]), usize> {
+        let (number, rest) = free_number(1, 16, bytes)?;
+        let number = number as u8;
+        Ok((HeldNumber { number }, rest))
     }
 }

@@ -1,18 +1,40 @@
+ghost use Rattle.std.specs.Prelude.{◌≡◌, ◌<◌, ◌^◌, ◌++◌, IfOk, IfErr, Err, codes, decimal};
+ghost use Rattle.line_grammar.specs.inside.Reading.{read};
 ghost use Rattle.traffic_lines.specs.Lines.{IsTrafficLine};
-ghost use Rattle.traffic_lines.specs.declared.lines.Point.TheVariants.{Ship};
+ghost use Rattle.traffic_lines.specs.declared.lines.Point.TheVariants.{Coast, Ship};
+ghost use Rattle.traffic_lines.specs.inside.Grammars as grammar;
 ghost use Rattle.traffic_lines.specs.inside.Reading.{Finds};
 
-use crate::events::event;
+use crate::events::{coast_event, ship_event};
 use crate::fields::Field;
 use crate::lines::TrafficLine;
 use line_grammar::word;
 
-/// Reads an event behind its moment. An error is how many bytes are left at the fault.
-pub fn event_line(bytes: &[u8]) -> Result<TrafficLine, usize>
-    ensures { Finds (IsTrafficLine Ship) (IsTrafficLine Ship) bytes.now result }
+/// The moment and the blank at the front of these bytes, and what follows them. An error is how many bytes are left at the fault.
+fn moment(bytes: &[u8]) -> Result<(u32, &[u8]), usize>
+    ensures small { IfOk result (λ parts. parts.0 < 2 ^ 32) }
+    ensures list { IfOk result (λ parts. bytes.now ≡ decimal parts.0 ++ (codes " " ++ parts.1.now)) }
+    ensures left { IfErr result (λ left. read grammar.moment bytes.now ≡ Err left) }
 {
     let (at, rest) = u32::read(bytes)?;
     let rest = word(b" ", rest)?;
-    let what = event(rest)?;
+    Ok((at, rest))
+}
+
+/// Reads an event of a ship behind its moment. An error is how many bytes are left at the fault.
+pub fn ship_line(bytes: &[u8]) -> Result<TrafficLine, usize>
+    ensures { Finds (IsTrafficLine Ship) (IsTrafficLine Ship) bytes.now result }
+{
+    let (at, rest) = moment(bytes)?;
+    let what = ship_event(rest)?;
+    Ok(TrafficLine::Event { at, what })
+}
+
+/// Reads an event of a coast station behind its moment. An error is how many bytes are left at the fault.
+pub fn coast_line(bytes: &[u8]) -> Result<TrafficLine, usize>
+    ensures { Finds (IsTrafficLine Coast) (IsTrafficLine Coast) bytes.now result }
+{
+    let (at, rest) = moment(bytes)?;
+    let what = coast_event(rest)?;
     Ok(TrafficLine::Event { at, what })
 }

@@ -1,23 +1,55 @@
 ghost use Rattle.std.specs.Prelude.{◌<◌};
 ghost use Rattle.traffic_lines.specs.Lines.{IsTrafficLine};
 ghost use Rattle.traffic_lines.specs.declared.lines.Point.TheVariants.{Station, Base, Groups};
-ghost use Rattle.traffic_lines.specs.inside.Reading.{Finds, IsGroupLine};
+ghost use Rattle.traffic_lines.specs.inside.Grammars as grammar;
+ghost use Rattle.traffic_lines.specs.inside.Reading.{Finds, ReadsBy, IsBandText, IsGroupLine};
 
 use crate::choices::further;
-use crate::fields::{Second, only};
+use crate::fields::{Second, labelled, only};
 use crate::lines::TrafficLine;
-use crate::moments::event_line;
-use call_values::Mmsi;
+use crate::moments::ship_line;
+use crate::words::lone_value;
+use call_values::{Band, Mmsi};
 
 /// How many groups a ship belongs to at most.
 const MOST_GROUPS: u8 = 16;
 
-/// Reads a ship's station. An error is how many bytes are left at the fault.
-pub fn station_line(bytes: &[u8]) -> Result<TrafficLine, usize>
-    ensures { Finds (IsTrafficLine Station) (IsTrafficLine Station) bytes.now result }
+/// Reads that the station is a ship. An error is how many bytes are left at the fault.
+fn ship(bytes: &[u8]) -> Result<TrafficLine, usize>
+    ensures { ReadsBy grammar.ship (IsTrafficLine Station) bytes.now result }
 {
     let mmsi: Mmsi = only(b"station ship ", bytes)?;
     Ok(TrafficLine::Ship(mmsi))
+}
+
+/// Reads a band. An error is how many bytes are left at the fault.
+fn band(bytes: &[u8]) -> Result<Band, usize>
+    ensures { ReadsBy grammar.band IsBandText bytes.now result }
+{
+    let mf = lone_value(b" mf", Band::Mf, bytes);
+    let hf = lone_value(b" hf", Band::Hf, bytes);
+    let vhf = lone_value(b" vhf", Band::Vhf, bytes);
+    let others = further(&hf, &vhf);
+    further(&mf, &others)
+}
+
+/// Reads that the station is a coast station. An error is how many bytes are left at the fault.
+fn coast(bytes: &[u8]) -> Result<TrafficLine, usize>
+    ensures { ReadsBy grammar.coast (IsTrafficLine Station) bytes.now result }
+{
+    let (mmsi, rest) = match labelled::<Mmsi>(b"station coast ", bytes) {
+        Ok(parts) => parts,
+        Err(left) => return Err(left),
+    };
+    let band = band(rest)?;
+    Ok(TrafficLine::Coast(mmsi, band))
+}
+
+/// Reads a station. An error is how many bytes are left at the fault.
+pub fn station_line(bytes: &[u8]) -> Result<TrafficLine, usize>
+    ensures { Finds (IsTrafficLine Station) (IsTrafficLine Station) bytes.now result }
+{
+    further(&ship(bytes), &coast(bytes))
 }
 
 /// Reads a base. An error is how many bytes are left at the fault.
@@ -41,7 +73,7 @@ fn group_or_event(held: u8, bytes: &[u8]) -> Result<TrafficLine, usize>
     requires { held < 16 }
     ensures { Finds (IsTrafficLine (Groups held)) (IsTrafficLine (Groups held)) bytes.now result }
 {
-    further(&group_line(bytes), &event_line(bytes))
+    further(&group_line(bytes), &ship_line(bytes))
 }
 
 /// Reads a line behind so many groups. An error is how many bytes are left at the fault.
@@ -51,6 +83,6 @@ pub fn line_behind_groups(held: u8, bytes: &[u8]) -> Result<TrafficLine, usize>
     if held < MOST_GROUPS {
         group_or_event(held, bytes)
     } else {
-        event_line(bytes)
+        ship_line(bytes)
     }
 }

@@ -1,17 +1,30 @@
 use crate::{EventLine, Point, TrafficLine, read_traffic};
-use call_values::{AlertDelay, Call, Category, Comm, Fix, Kind, Mmsi, Nature, Position};
+use call_values::{
+    AlertDelay, Area, Band, Call, Category, CoastDelay, Comm, Fix, Kind, Mmsi, Nature, Position, To,
+};
+use std::test::Fail;
 
 // Points, lines that aren't of these points, and the column at which each is ill-formed.
-const COLUMNS: [(Point, &str, usize); 36] = [
+const COLUMNS: [(Point, &str, usize); 47] = [
     (Point::Station, "", 1),
     (Point::Station, "base 0", 1),
     (Point::Station, "0 tick", 1),
     (Point::Station, "station", 8),
-    (Point::Station, "station coast 002241022 mf", 9),
+    (Point::Station, "station x", 9),
     (Point::Station, "station ship  ", 14),
     (Point::Station, "station ship 33815813", 22),
     (Point::Station, "station ship 3381581370", 23),
     (Point::Station, "station ship 338158137 ", 23),
+    (Point::Station, "station c", 10),
+    (Point::Station, "station cost 002241022 mf", 11),
+    (Point::Station, "station coast 02241022 mf", 23),
+    (Point::Station, "station coast 002241022", 24),
+    (Point::Station, "station coast 002241022 ", 25),
+    (Point::Station, "station coast 002241022 uhf", 25),
+    (Point::Station, "station coast 002241022 m", 26),
+    (Point::Station, "station coast 002241022 vf", 26),
+    (Point::Station, "station coast 002241022 mff", 27),
+    (Point::Station, "station coast 002241022 mf ", 27),
     (Point::Base, "station ship 338158137", 1),
     (Point::Base, "0 tick", 1),
     (Point::Base, "base", 5),
@@ -38,21 +51,16 @@ const COLUMNS: [(Point, &str, usize); 36] = [
     (Point::Ship, "4294967296 tick", 10),
     (Point::Ship, "42949672950 tick", 11),
     (Point::Coast, "", 1),
-    (Point::Coast, "0 tick", 1),
+    (Point::Coast, "base 0", 1),
+    (Point::Coast, "group 338158137", 1),
 ];
 
 // What isn't an event of a ship behind the moment 5, and the column of the line.
-const EVENTS: [(&str, usize); 52] = [
-    ("5 Tick", 3),
-    ("5 tic", 6),
-    ("5 tick ", 7),
-    ("5 ticks", 7),
+const SHIP_EVENTS: [(&str, usize); 32] = [
+    ("5 a", 4),
     ("5 cancel\r", 9),
-    ("5 send test", 3),
     ("5 relay 338040079 to=all ask", 3),
     ("5 accept 002241022", 4),
-    ("5 answer 1", 4),
-    ("5 decline 1", 5),
     ("5 delay", 8),
     ("5 delay 0", 9),
     ("5 delay 20", 10),
@@ -81,6 +89,82 @@ const EVENTS: [(&str, usize); 52] = [
     ("5 position 1423118001", 21),
     ("5 position 14231083120", 22),
     ("5 position 999999999", 21),
+];
+
+// What isn't an event of a coast station behind the moment 5, and the column of the line.
+const COAST_EVENTS: [(&str, usize); 38] = [
+    ("5 position 1423108312", 3),
+    ("5 delay 210000", 5),
+    ("5 alert nature=106 then=100", 4),
+    ("5 cancel", 3),
+    ("5 a", 4),
+    ("5 accept", 9),
+    ("5 accepts", 9),
+    ("5 accept ", 10),
+    ("5 accept 33804007", 18),
+    ("5 accept 3380400791", 19),
+    ("5 accept 338040079 ", 20),
+    ("5 accept 338040079  ", 20),
+    ("5 accept 338040079 0", 20),
+    ("5 accept 338040079 5", 20),
+    ("5 accept 338040079 59999", 20),
+    ("5 accept 338040079 6", 21),
+    ("5 accept 338040079 17", 21),
+    ("5 accept 338040079 166", 22),
+    ("5 accept 338040079 60000 ", 25),
+    ("5 accept 338040079 600000", 25),
+    ("5 accept 338040079 165001", 25),
+    ("5 relay", 8),
+    ("5 relay all", 9),
+    ("5 relay 338040079", 18),
+    ("5 relay 338040079 ", 19),
+    ("5 relay 338040079 ask", 19),
+    ("5 relay 338040079 to=al ask", 24),
+    ("5 relay 338040079 to=all", 25),
+    ("5 relay 338040079 to=all ", 26),
+    ("5 relay 338040079 to=all no", 26),
+    ("5 relay 338040079 to=all as", 28),
+    ("5 relay 338040079 to=all asks", 29),
+    ("5 relay 338040079 to=all tells", 30),
+    ("5 relay 338040079 to=area:1910840202 ask", 29),
+    ("5 relay 338040079 to=area:143084020 ask", 36),
+    ("5 relay 338040079 to=group:338040079", 37),
+    ("5 relay 338040079 to=one:33804007 tell", 34),
+    ("5 relayack to=all", 8),
+];
+
+// What is no event of either behind the moment 5, and the column of the line.
+const OTHER_EVENTS: [(&str, usize); 41] = [
+    ("5 Tick", 3),
+    ("5 tic", 6),
+    ("5 tick ", 7),
+    ("5 ticks", 7),
+    ("5 s", 4),
+    ("5 sent", 6),
+    ("5 send", 7),
+    ("5 send ", 8),
+    ("5 send  ", 8),
+    ("5 send test", 12),
+    ("5 send alert from=338158137 nature=111", 38),
+    ("5 send askpos to=002241022 cat=100 from=338158137 ", 50),
+    ("5 send askpos to=002241022 cat=100 from=338158137 exp", 50),
+    (
+        "5 send askpos to=002241022 cat=100 from=338158137 exp speed=0125",
+        50,
+    ),
+    ("5 answer", 9),
+    ("5 answers 1", 9),
+    ("5 answer ", 10),
+    ("5 answer 0", 10),
+    ("5 answer 01", 10),
+    ("5 answer 17", 11),
+    ("5 answer 20", 11),
+    ("5 answer 2 ", 11),
+    ("5 answer 161", 12),
+    ("5 declin", 9),
+    ("5 decline 0", 11),
+    ("5 decline 17", 12),
+    ("5 decline 16 ", 13),
     ("5 hea", 6),
     ("5 hear", 7),
     ("5 hears", 7),
@@ -97,6 +181,41 @@ const EVENTS: [(&str, usize); 52] = [
     ("5 heard g4294967296", 19),
 ];
 
+// Lines of files of stations, and the points at which they stand there.
+const LINES: [(Point, &str); 19] = [
+    (Point::Station, "station ship 338040079"),
+    (Point::Base, "base 1714594740"),
+    (Point::Groups { held: 0 }, "0 position 1423108312"),
+    (Point::Ship, "0 delay 210000"),
+    (Point::Ship, "5 alert nature=106 then=100"),
+    (Point::Ship, "5 answer 3"),
+    (Point::Ship, "3000 decline 1"),
+    (
+        Point::Ship,
+        "0 send one to=002241022 cat=100 from=338040079 first=109 second=126 f1=021820 f2=021820 end=117",
+    ),
+    (
+        Point::Ship,
+        "1000 hear askpos to=338158137 cat=100 from=002241022",
+    ),
+    (Point::Station, "station coast 002241022 mf"),
+    (Point::Station, "station coast 002241022 hf"),
+    (Point::Station, "station coast 002241022 vhf"),
+    (
+        Point::Coast,
+        "0 hear alert from=338040079 nature=106 pos=1423108312 time=2019 then=100",
+    ),
+    (Point::Coast, "5000 accept 338040079 60000"),
+    (Point::Coast, "5000 accept 338040079"),
+    (Point::Coast, "59999 tick"),
+    (
+        Point::Coast,
+        "0 hear test to=002241022 cat=108 from=338040079 end=117",
+    ),
+    (Point::Coast, "6000 relay 338040079 to=all tell"),
+    (Point::Coast, "7 heard g0"),
+];
+
 #[test]
 fn ill_formed_lines_have_columns(rt: HostRuntime) {
     for (point, text, column) in COLUMNS {
@@ -104,19 +223,30 @@ fn ill_formed_lines_have_columns(rt: HostRuntime) {
     }
 }
 
+/// Whether a line has this column at each of these points.
+fn is_ill_formed(points: &[Point], text: &str, column: usize) -> bool {
+    points.iter().all(|point| read_traffic(*point, text.as_bytes()) == Err(column))
+}
+
 #[test]
 fn ill_formed_events_have_columns(rt: HostRuntime) {
-    for (text, column) in EVENTS {
-        assert_eq!(rt;
-            read_traffic(Point::Ship, text.as_bytes()),
-            Err(column),
-            "{text}"
-        );
-        assert_eq!(rt;
-            read_traffic(Point::Groups { held: 3 }, text.as_bytes()),
-            Err(column),
-            "{text}"
-        );
+    let ship = [Point::Ship, Point::Groups { held: 3 }];
+    let both = [Point::Ship, Point::Groups { held: 3 }, Point::Coast];
+    for (text, column) in SHIP_EVENTS {
+        assert!(rt; is_ill_formed(&ship, text, column), "{text}");
+    }
+    for (text, column) in COAST_EVENTS {
+        assert!(rt; is_ill_formed(&[Point::Coast], text, column), "{text}");
+    }
+    for (text, column) in OTHER_EVENTS {
+        assert!(rt; is_ill_formed(&both, text, column), "{text}");
+    }
+}
+
+#[test]
+fn lines_of_stations_are_well_formed(rt: HostRuntime) {
+    for (point, text) in LINES {
+        assert!(rt; read_traffic(point, text.as_bytes()).is_ok(), "{text}");
     }
 }
 
@@ -127,6 +257,18 @@ fn openings_are_read(rt: HostRuntime) {
     assert_eq!(rt;
         read_traffic(Point::Station, b"station ship 000000007"),
         Ok(TrafficLine::Ship(mmsi))
+    );
+    assert_eq!(rt;
+        read_traffic(Point::Station, b"station coast 000000007 mf"),
+        Ok(TrafficLine::Coast(mmsi, Band::Mf))
+    );
+    assert_eq!(rt;
+        read_traffic(Point::Station, b"station coast 000000007 hf"),
+        Ok(TrafficLine::Coast(mmsi, Band::Hf))
+    );
+    assert_eq!(rt;
+        read_traffic(Point::Station, b"station coast 000000007 vhf"),
+        Ok(TrafficLine::Coast(mmsi, Band::Vhf))
     );
     assert_eq!(rt;
         read_traffic(Point::Base, b"base 0"),
@@ -142,11 +284,16 @@ fn openings_are_read(rt: HostRuntime) {
     );
 }
 
-/// Whether this event is read of its line, wherever events stand.
+/// Whether this event of a ship is read of its line, wherever events of ships stand.
 fn is_read(text: &[u8], at: u32, what: &EventLine) -> bool {
     let line = Ok(TrafficLine::Event { at, what: *what });
     read_traffic(Point::Ship, text) == line
         && read_traffic(Point::Groups { held: 16 }, text) == line
+}
+
+/// Whether this event is read of its line in the file of a coast station.
+fn is_read_ashore(text: &[u8], at: u32, what: &EventLine) -> bool {
+    read_traffic(Point::Coast, text) == Ok(TrafficLine::Event { at, what: *what })
 }
 
 #[test]
@@ -196,4 +343,78 @@ fn an_expansion_behind_a_call_says_nothing(rt: HostRuntime) {
     let longer = b"3 hear askpos to=002241022 cat=100 from=338158137 exp speed=0125";
     assert!(rt; is_read(alone, 3, &heard));
     assert!(rt; is_read(longer, 3, &heard));
+}
+
+#[test]
+fn held_calls_are_answered_and_declined(rt: HostRuntime) {
+    for (text, number, accepts) in [
+        ("8 answer 1", 1, true),
+        ("8 answer 16", 16, true),
+        ("8 decline 1", 1, false),
+        ("8 decline 16", 16, false),
+    ] {
+        let what = EventLine::Answer(number, accepts);
+        assert!(rt; is_read(text.as_bytes(), 8, &what), "{text}");
+        assert!(rt; is_read_ashore(text.as_bytes(), 8, &what), "{text}");
+    }
+}
+
+#[test]
+fn calls_are_sent(rt: HostRuntime) {
+    let call = Call::Service {
+        to: Mmsi::new(338_040_079).expect(&rt, "an identity"),
+        category: Category::Safety,
+        from: Mmsi::new(2_241_022).expect(&rt, "an identity"),
+        kind: Kind::Test { reply: false },
+    };
+    let sent = EventLine::Send(call);
+    let text = b"3 send test to=338040079 cat=108 from=002241022 end=117";
+    assert!(rt; is_read(text, 3, &sent));
+    assert!(rt; is_read_ashore(text, 3, &sent));
+}
+
+#[test]
+fn alerts_are_accepted(rt: HostRuntime) -> Result<(), Fail> {
+    let ship = Mmsi::new(338_040_079).ok_or("an identity")?;
+    let least = CoastDelay::new(60_000).ok_or("a delay")?;
+    let most = CoastDelay::new(165_000).ok_or("a delay")?;
+    for (text, delay) in [
+        ("9 accept 338040079", None),
+        ("9 accept 338040079 60000", Some(least)),
+        ("9 accept 338040079 165000", Some(most)),
+    ] {
+        let what = EventLine::Accept(ship, delay);
+        assert!(rt; is_read_ashore(text.as_bytes(), 9, &what), "{text}");
+    }
+    Ok(())
+}
+
+#[test]
+fn alerts_are_relayed(rt: HostRuntime) -> Result<(), Fail> {
+    let ship = Mmsi::new(338_040_079).ok_or("an identity")?;
+    let group = Mmsi::new(23_200_001).ok_or("an identity")?;
+    let area = Area::new(1, 43, 84, 2, 2).ok_or("an area")?;
+    for (text, to, ask) in [
+        ("9 relay 338040079 to=all ask", To::All, true),
+        ("9 relay 338040079 to=all tell", To::All, false),
+        (
+            "9 relay 338040079 to=area:1430840202 tell",
+            To::Area(area),
+            false,
+        ),
+        (
+            "9 relay 338040079 to=group:023200001 ask",
+            To::Group(group),
+            true,
+        ),
+        (
+            "9 relay 338040079 to=one:338040079 ask",
+            To::One(ship),
+            true,
+        ),
+    ] {
+        let what = EventLine::Relay(ship, to, ask);
+        assert!(rt; is_read_ashore(text.as_bytes(), 9, &what), "{text}");
+    }
+    Ok(())
 }

@@ -1,15 +1,18 @@
 -- What happens at the event lines of a traffic file: this project's profile.
 use Rattle.std.specs.Prelude.{◌≡◌, ℕ, Option, Some, None, Result, Ok, Err, List, [], ◌∷◌}
+use Rattle.call_values.specs.declared.calls.Call.{Call}
 use Rattle.call_values.specs.declared.places.Fix.{Fix}
 use Rattle.slot_join.specs.declared.joined.Joined.{Joined}
 use Rattle.slot_join.specs.declared.joined.Joined.TheVariants.{Reported, Missing, Differ, Outside, Check}
 use Rattle.slot_join.specs.Answer.{IsAnswer}
 use Rattle.civil_time.specs.CivilTime.{second_of, hour_of, minute_of}
 use Rattle.traffic_lines.specs.declared.lines.EventLine.{EventLine}
-use Rattle.traffic_lines.specs.declared.lines.EventLine.TheVariants.{Position, Delay, Alert, Cancel, Tick, Hear, Heard}
+use Rattle.traffic_lines.specs.declared.lines.EventLine.TheVariants.{Position, Delay, Alert, Cancel, Tick, Send, Answer, Hear, Heard, Accept, Relay}
 use Rattle.traffic_lines.specs.declared.lines.TrafficLine.TheVariants.{Event}
 use Rattle.ship_station.specs.declared.events.ShipWhat.{ShipWhat}
 use Rattle.ship_station.specs.declared.events.ShipWhat.TheVariants as ship
+use Rattle.coast_station.specs.declared.events.CoastWhat.{CoastWhat}
+use Rattle.coast_station.specs.declared.events.CoastWhat.TheVariants as coast
 use Rattle.dsc_files.specs.PointLine.{traffic}
 use Rattle.traffic_replay.specs.declared.outcomes.Unreported.{Unreported}
 use Rattle.traffic_replay.specs.Said.{Said, base_of}
@@ -20,23 +23,58 @@ abbrev pub time_of : (base at : ℕ) → Option Fix → Option (ℕ × ℕ)
 time_of base at (Some fix) = Some (hour_of (second_of base at), minute_of (second_of base at))
 time_of base at None = None
 
--- what comes of the answer to a heard group: its call is heard; or the group isn't reported, and that is no event
-abbrev pub heard_as : (group : ℕ) → Joined → Result ShipWhat Unreported
-heard_as group (Reported call extra) = Ok (ship.Heard call)
-heard_as group (Missing n) = Err (record { group = group; answer = Missing n })
-heard_as group (Differ n least greatest) = Err (record { group = group; answer = Differ n least greatest })
-heard_as group (Outside n symbol) = Err (record { group = group; answer = Outside n symbol })
-heard_as group (Check n want got) = Err (record { group = group; answer = Check n want got })
+-- the event at a ship that an event line gives of itself
+abbrev pub ship_event : (base at : ℕ) → EventLine → Option ShipWhat
+ship_event base at (Position place) = Some (ship.Position place (time_of base at place))
+ship_event base at (Delay delay) = Some (ship.Delay delay)
+ship_event base at (Alert nature comm) = Some (ship.Alert nature comm)
+ship_event base at Cancel = Some ship.Cancel
+ship_event base at Tick = Some ship.Tick
+ship_event base at (Send call) = Some (ship.Send call)
+ship_event base at (Answer number accepts) = Some (ship.Answer number accepts)
+ship_event base at (Hear call) = Some (ship.Heard call)
+ship_event base at (Heard group) = None
+ship_event base at (Accept mmsi delay) = None
+ship_event base at (Relay mmsi to ask) = None
 
--- what comes of an event line behind these lines: an event at the ship, or a group that isn't reported
-abbrev pub ComesOf : Said → (at : ℕ) → EventLine → Result ShipWhat Unreported → Type 0
-ComesOf earlier at (Position place) outcome = outcome ≡ Ok (ship.Position place (time_of (base_of earlier) at place))
-ComesOf earlier at (Delay delay) outcome = outcome ≡ Ok (ship.Delay delay)
-ComesOf earlier at (Alert nature comm) outcome = outcome ≡ Ok (ship.Alert nature comm)
-ComesOf earlier at Cancel outcome = outcome ≡ Ok ship.Cancel
-ComesOf earlier at Tick outcome = outcome ≡ Ok ship.Tick
-ComesOf earlier at (Hear call) outcome = outcome ≡ Ok (ship.Heard call)
-ComesOf earlier at (Heard group) outcome = (answer : Joined) × IsAnswer (facts_since_heard group earlier) answer × (outcome ≡ heard_as group answer)
+-- the event at a coast station that an event line gives of itself
+abbrev pub coast_event : (base at : ℕ) → EventLine → Option CoastWhat
+coast_event base at (Accept mmsi delay) = Some (coast.Accept mmsi delay)
+coast_event base at Tick = Some coast.Tick
+coast_event base at (Relay mmsi to ask) = Some (coast.Relay mmsi to ask)
+coast_event base at (Send call) = Some (coast.Send call)
+coast_event base at (Answer number accepts) = Some (coast.Answer number accepts)
+coast_event base at (Hear call) = Some (coast.Heard call)
+coast_event base at (Heard group) = None
+coast_event base at (Position place) = None
+coast_event base at (Delay delay) = None
+coast_event base at (Alert nature comm) = None
+coast_event base at Cancel = None
+
+-- what comes of the answer to a heard group: its call is heard; or the group isn't reported, and that is no event
+abbrev pub heard_as : {What : Type 0} → (Call → What) → (group : ℕ) → Joined → Result What Unreported
+heard_as heard group (Reported call extra) = Ok (heard call)
+heard_as heard group (Missing n) = Err (record { group = group; answer = Missing n })
+heard_as heard group (Differ n least greatest) = Err (record { group = group; answer = Differ n least greatest })
+heard_as heard group (Outside n symbol) = Err (record { group = group; answer = Outside n symbol })
+heard_as heard group (Check n want got) = Err (record { group = group; answer = Check n want got })
+
+-- how a kind of station takes event lines: the events that they give of themselves, and a call that is heard
+pub record Taking (What : Type 0) : Type 0 where
+  pub event : (base at : ℕ) → EventLine → Option What
+  pub heard : Call → What
+
+abbrev pub taking_ship : Taking ShipWhat
+taking_ship = record { event = ship_event; heard = ship.Heard }
+
+abbrev pub taking_coast : Taking CoastWhat
+taking_coast = record { event = coast_event; heard = coast.Heard }
+
+-- what comes of an event line behind these lines: an event at the station, or a group that isn't reported
+abbrev pub ComesOf : {What : Type 0} → Taking What → Said → (at : ℕ) → EventLine → Result What Unreported → Type 0
+ComesOf taking earlier at (Heard group) outcome =
+    (answer : Joined) × IsAnswer (facts_since_heard group earlier) answer × (outcome ≡ heard_as taking.heard group answer)
+ComesOf {What} taking earlier at line outcome = (event : What) × (taking.event (base_of earlier) at line ≡ Some event) × (outcome ≡ Ok event)
 
 -- what happened at a moment: an event at the station, or a group that isn't reported
 pub record Happening (What : Type 0) : Type 0 where
@@ -44,8 +82,9 @@ pub record Happening (What : Type 0) : Type 0 where
   pub outcome : Result What Unreported
 
 -- of each event line what came of it, the newest first
-abbrev pub AreHappenings : Said → List (Happening ShipWhat) → Type 0
-AreHappenings [] happened = happened ≡ []
-AreHappenings (traffic (Event at what) ∷ earlier) [] = ⊥
-AreHappenings (traffic (Event at what) ∷ earlier) (h ∷ happened) = (h.at ≡ at) × ComesOf earlier at what h.outcome × AreHappenings earlier happened
-AreHappenings (line ∷ earlier) happened = AreHappenings earlier happened
+abbrev pub AreHappenings : {What : Type 0} → Taking What → Said → List (Happening What) → Type 0
+AreHappenings taking [] happened = happened ≡ []
+AreHappenings taking (traffic (Event at what) ∷ earlier) [] = ⊥
+AreHappenings taking (traffic (Event at what) ∷ earlier) (h ∷ happened) =
+    (h.at ≡ at) × ComesOf taking earlier at what h.outcome × AreHappenings taking earlier happened
+AreHappenings taking (line ∷ earlier) happened = AreHappenings taking earlier happened

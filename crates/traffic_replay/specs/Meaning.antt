@@ -4,12 +4,12 @@ use Rattle.line_grammar.specs.Columns.{IsColumn}
 use Rattle.line_engine.specs.Lines.{Lines}
 use Rattle.line_engine.specs.Meaning.{Meaning}
 use Rattle.area_rules.specs.Rules.{Rules}
-use Rattle.ship_station.specs.declared.events.ShipWhat.{ShipWhat}
 use Rattle.ship_station.specs.ShipRules.{ship_rules}
+use Rattle.coast_station.specs.CoastRules.{coast_rules}
 use Rattle.dsc_files.specs.PointLine.{IsPointLine}
-use Rattle.traffic_replay.specs.Said.{Said, identities_of, point_of, AreSaid}
+use Rattle.traffic_replay.specs.Said.{Said, Kind, ship, coast, kind_of, identities_of, station_of, point_of, AreSaid}
 use Rattle.traffic_replay.specs.HeardGroups.{IsOverfull}
-use Rattle.traffic_replay.specs.Happenings.{Happening, AreHappenings}
+use Rattle.traffic_replay.specs.Happenings.{Taking, taking_ship, taking_coast, Happening, AreHappenings}
 use Rattle.traffic_replay.specs.Output.{text_of, all_accepted}
 
 -- behind these lines this one is no line of the point at which it stands, and this is its column there
@@ -18,18 +18,23 @@ pub record IsIllFormed (earlier : Lines) (text : List ℕ) (column : ℕ) : Type
   pub are_said : AreSaid said earlier
   pub is_column : IsColumn (IsPointLine (point_of said)) text column
 
--- the rules of the ship that lines name
-abbrev pub rules_of : Said → Rules ShipWhat
-rules_of said = ship_rules (identities_of said)
+-- what was said gives this text by the rules of a station; all is well where no event was refused and each heard group was reported
+pub record Tells {What : Type 0} (rules : Rules What) (taking : Taking What) (said : Said) (text : List ℕ) (is_well : Bool) : Type 0 where
+  pub happened : List (Happening What)
+  pub are_happenings : AreHappenings taking said happened
+  pub text_is : text ≡ text_of rules happened
+  pub well_is : is_well ≡ all_accepted rules happened
 
--- these lines give this text; all is well where no event was refused and each heard group was reported
+-- the same for the station that lines name
+abbrev pub StationTells : Kind → Said → (text : List ℕ) → (is_well : Bool) → Type 0
+StationTells ship said text is_well = Tells (ship_rules (identities_of said)) taking_ship said text is_well
+StationTells (coast band) said text is_well = Tells (coast_rules (station_of band said)) taking_coast said text is_well
+
+-- these lines give this text
 pub record Replays (lines : Lines) (text : List ℕ) (is_well : Bool) : Type 0 where
   pub said : Said
   pub are_said : AreSaid said lines
-  pub happened : List (Happening ShipWhat)
-  pub are_happenings : AreHappenings said happened
-  pub text_is : text ≡ text_of (rules_of said) happened
-  pub well_is : is_well ≡ all_accepted (rules_of said) happened
+  pub tells : StationTells (kind_of said) said text is_well
 
 -- each event is told as soon as its line is read; the status is 0 where all is well, and else 1
 abbrev pub replay_meaning : Meaning

@@ -9,13 +9,14 @@ ghost use Rattle.join_groups.specs.Meanings.{BringsTooMany};
 ghost use Rattle.traffic_replay.specs.Said.{Said};
 ghost use Rattle.traffic_replay.specs.HeardGroups.{of_receivers};
 ghost use Rattle.traffic_replay.specs.Meaning.{replay_meaning};
-ghost use Rattle.traffic_replay.specs.inside.Progress.{Keeps, StandsFor, IsBeforeEvents, IsReady, IsShown, BringsGroup};
+ghost use Rattle.traffic_replay.specs.inside.Progress.{Keeps, StandsFor, IsBeforeEvents, IsEventAt, IsReady, IsShown, BringsGroup};
 ghost use Rattle.traffic_replay.specs.inside.Gives.{gives_text};
 
 use crate::heard::{HeardGroups, shown_by};
-use crate::outcomes::outcome;
-use crate::steps::{append_unreported, step};
-use call_values::Mmsi;
+use crate::stations::Station;
+use crate::steps::{happen_at_coast, happen_at_ship};
+use call_values::{Band, Mmsi};
+use coast_station::Coast;
 use dsc_files::{EventLine, FileKind, Line, LineFault, Point, Status, line_of, one_point_line};
 use line_engine::{Command, Refusal};
 use ship_station::Ship;
@@ -28,12 +29,12 @@ use std::alloc::{AllocError, Global};
 pub struct Replay {
     alloc: Global,
     pub(crate) point: Point,
-    /// The ship's identity, and 0 before its line.
+    /// The station's identity, and 0 before its line.
     pub(crate) own: Mmsi,
     /// The second that moments count from.
     pub(crate) base: u64,
     pub(crate) groups: Vec<Mmsi>,
-    pub(crate) ship: Ship,
+    pub(crate) station: Station,
     pub(crate) heard: HeardGroups,
     /// No event was refused, and each heard group was reported.
     pub(crate) is_well: bool,
@@ -51,7 +52,7 @@ impl Replay {
             own: nobody,
             base: 0,
             groups: Vec::new(alloc),
-            ship: Ship::new(nobody, &[]),
+            station: Station::Ship(Ship::new(nobody, &[])),
             heard: HeardGroups::new(alloc),
             is_well: true,
         }
@@ -69,6 +70,10 @@ impl Replay {
         match read {
             Line::Ship(mmsi) => {
                 self.name_ship(*mmsi);
+                Ok(())
+            }
+            Line::Coast(mmsi, band) => {
+                self.name_coast(*mmsi, *band);
                 Ok(())
             }
             Line::Base(second) => {
@@ -93,7 +98,17 @@ impl Replay {
         ensures { (said : Said) (text : List ℕ) → Keeps self.old said text → Keeps self.new (traffic (station.Ship mmsi) ∷ said) text }
     {
         self.own = mmsi;
-        self.ship = Ship::new(mmsi, &self.groups);
+        self.station = Station::Ship(Ship::new(mmsi, &self.groups));
+        self.point = Point::Base;
+    }
+
+    /// The station is this coast station.
+    fn name_coast(&mut self, mmsi: Mmsi, band: Band)
+        requires { self.old.point ≡ At.Station }
+        ensures { (said : Said) (text : List ℕ) → Keeps self.old said text → Keeps self.new (traffic (station.Coast mmsi band) ∷ said) text }
+    {
+        self.own = mmsi;
+        self.station = Station::Coast(Coast::new(mmsi, band));
         self.point = Point::Base;
     }
 
@@ -104,7 +119,10 @@ impl Replay {
         ensures { (said : Said) (text : List ℕ) → Keeps self.old said text → Keeps self.new (traffic (station.Base second) ∷ said) text }
     {
         self.base = second;
-        self.point = Point::Groups { held: 0 };
+        self.point = match self.station {
+            Station::Ship(_) => Point::Groups { held: 0 },
+            Station::Coast(_) => Point::Coast,
+        };
     }
 
     /// The ship belongs to this group too.
@@ -115,7 +133,7 @@ impl Replay {
         ensures err { IfErr result (λ refusal. refusal ≡ Refusal.Memory) }
     {
         self.groups.push(mmsi)?;
-        self.ship = Ship::new(self.own, &self.groups);
+        self.station = Station::Ship(Ship::new(self.own, &self.groups));
         self.point = Point::Groups {
             held: self.groups.len() as u8,
         };
@@ -131,7 +149,7 @@ impl Replay {
     {
         match self.heard.meet(group, shown) {
             Ok(()) => {
-                self.point = Point::Ship;
+                self.point = self.station.among_events();
                 Ok(())
             }
             Err(refusal) => Err(refusal),
@@ -140,24 +158,20 @@ impl Replay {
 
     /// Goes through what happens at a moment, and appends what is written of it.
     fn happen(&mut self, at: u32, what: &EventLine, out: &mut Vec<u8>) -> Result<(), AllocError>
-        requires { self.old.base ≤ 9999999999 }
+        requires within { self.old.base ≤ 9999999999 }
+        requires event { IsEventAt self.old.station what.now }
         ensures { OnOk result ((said : Said) (text : List ℕ) → Keeps self.old said (text ++ out.old.items)
             → Keeps self.new (traffic (station.Event at what.now) ∷ said) (text ++ out.new.items)) }
     {
-        let came = outcome(&mut self.heard, self.base, at, what);
-        self.point = Point::Ship;
-        match came {
-            Ok(event) => {
-                let accepted = step(&mut self.ship, at, event, out)?;
-                self.is_well &= accepted;
-                Ok(())
+        self.point = self.station.among_events();
+        let accepted = match &mut self.station {
+            Station::Ship(ship) => {
+                happen_at_ship(ship, &mut self.heard, self.base, at, what, out)?
             }
-            Err(unreported) => {
-                append_unreported(out, at, &unreported)?;
-                self.is_well = false;
-                Ok(())
-            }
-        }
+            Station::Coast(coast) => happen_at_coast(coast, &mut self.heard, at, what, out)?,
+        };
+        self.is_well &= accepted;
+        Ok(())
     }
 }
 

@@ -1,10 +1,11 @@
-//! Replays of traffic files: a ship's station, the events that the lines of a file give it, and what it does at them.
+//! Replays of traffic files: a station, the events that the lines of a file give it, and what it does at them.
 #![tactic(auto)]
 
 mod command;
 mod heard;
 mod outcomes;
 mod replaying;
+mod stations;
 mod steps;
 
 pub use act_texts::{put_act, put_refused};

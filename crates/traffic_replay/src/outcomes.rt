@@ -1,13 +1,9 @@
-ghost use Rattle.std.specs.Prelude.{◌≡◌, ◌∷◌, ◌≤◌, ℕ};
-ghost use Rattle.dsc_files.specs.PointLine.{traffic};
-ghost use Rattle.traffic_lines.specs.declared.lines.TrafficLine.TheVariants as station;
-ghost use Rattle.traffic_replay.specs.Said.{Said, base_of};
-ghost use Rattle.traffic_replay.specs.Happenings.{ComesOf, heard_as, time_of};
-ghost use Rattle.traffic_replay.specs.inside.Kept.{KeepsGroups};
+ghost use Rattle.std.specs.Prelude.{◌≡◌, ◌≤◌, ℕ};
+ghost use Rattle.traffic_replay.specs.Happenings as happenings;
 
-use crate::heard::HeardGroups;
-use call_values::{HourMinute, Position};
+use call_values::{Call, HourMinute, Position};
 use civil_time::civil_minute;
+use coast_station::CoastWhat;
 use dsc_files::EventLine;
 use ship_station::ShipWhat;
 use slot_join::Joined;
@@ -22,7 +18,7 @@ pub struct Unreported {
 /// The time of a position: that of its line's moment in UTC, and unknown where the position is.
 fn time_at(base: u64, at: u32, position: &Position) -> HourMinute
     requires { base ≤ 9999999999 }
-    ensures { result ≡ time_of base at position.now }
+    ensures { result ≡ happenings.time_of base at position.now }
 {
     match position.known() {
         Some(_) => civil_minute(base, at),
@@ -30,37 +26,52 @@ fn time_at(base: u64, at: u32, position: &Position) -> HourMinute
     }
 }
 
-/// What comes of the answer to a heard group.
-fn heard(group: u32, answer: &Joined) -> Result<ShipWhat, Unreported>
-    ensures { result ≡ heard_as group answer.now }
+/// The call that is heard by the answer to a heard group, or the group that isn't reported.
+pub(crate) fn heard_call(group: u32, answer: &Joined) -> Result<Call, Unreported>
+    ensures { result ≡ happenings.heard_as (λ call. call) group answer.now }
 {
     match *answer {
-        Joined::Reported { call, .. } => Ok(ShipWhat::Heard(call)),
+        Joined::Reported { call, .. } => Ok(call),
         answer => Err(Unreported { group, answer }),
     }
 }
 
-/// What comes of an event line: an event at the ship, or a heard group that isn't reported.
-pub(crate) fn outcome(
-    groups: &mut HeardGroups,
-    base: u64,
-    at: u32,
-    what: &EventLine,
-) -> Result<ShipWhat, Unreported>
+/// The event at a ship that an event line gives of itself.
+pub(crate) fn ship_event(base: u64, at: u32, what: &EventLine) -> Option<ShipWhat>
     requires { base ≤ 9999999999 }
-    ensures comes { (said : Said) → KeepsGroups groups.old.sheets.entries said → base ≡ base_of said → ComesOf said at what.now result }
-    ensures kept { (said : Said) → KeepsGroups groups.old.sheets.entries said → KeepsGroups groups.new.sheets.entries (traffic (station.Event at what.now) ∷ said) }
+    ensures { result ≡ happenings.ship_event base at what.now }
 {
     match *what {
-        EventLine::Position(position) => Ok(ShipWhat::Position(
+        EventLine::Position(position) => Some(ShipWhat::Position(
             position,
             time_at(base, at, &position),
         )),
-        EventLine::Delay(delay) => Ok(ShipWhat::Delay(delay)),
-        EventLine::Alert(nature, comm) => Ok(ShipWhat::Alert(nature, comm)),
-        EventLine::Cancel => Ok(ShipWhat::Cancel),
-        EventLine::Tick => Ok(ShipWhat::Tick),
-        EventLine::Hear(call) => Ok(ShipWhat::Heard(call)),
-        EventLine::Heard(group) => heard(group, &groups.hear(group)),
+        EventLine::Delay(delay) => Some(ShipWhat::Delay(delay)),
+        EventLine::Alert(nature, comm) => Some(ShipWhat::Alert(nature, comm)),
+        EventLine::Cancel => Some(ShipWhat::Cancel),
+        EventLine::Tick => Some(ShipWhat::Tick),
+        EventLine::Send(call) => Some(ShipWhat::Send(call)),
+        EventLine::Answer(number, accepts) => Some(ShipWhat::Answer(number, accepts)),
+        EventLine::Hear(call) => Some(ShipWhat::Heard(call)),
+        EventLine::Heard(_) | EventLine::Accept(_, _) | EventLine::Relay(_, _, _) => None,
+    }
+}
+
+/// The event at a coast station that an event line gives of itself.
+pub(crate) fn coast_event(what: &EventLine) -> Option<CoastWhat>
+    ensures { (base at : ℕ) → result ≡ happenings.coast_event base at what.now }
+{
+    match *what {
+        EventLine::Accept(mmsi, delay) => Some(CoastWhat::Accept(mmsi, delay)),
+        EventLine::Tick => Some(CoastWhat::Tick),
+        EventLine::Relay(mmsi, to, ask) => Some(CoastWhat::Relay(mmsi, to, ask)),
+        EventLine::Send(call) => Some(CoastWhat::Send(call)),
+        EventLine::Answer(number, accepts) => Some(CoastWhat::Answer(number, accepts)),
+        EventLine::Hear(call) => Some(CoastWhat::Heard(call)),
+        EventLine::Heard(_)
+        | EventLine::Position(_)
+        | EventLine::Delay(_)
+        | EventLine::Alert(_, _)
+        | EventLine::Cancel => None,
     }
 }

@@ -1,15 +1,28 @@
-ghost use Rattle.std.specs.Prelude.{◌≡◌, ◌++◌, ℕ, is_ok, OnOk, IfOk};
+ghost use Rattle.std.specs.Prelude.{◌≡◌, ◌≤◌, ◌∷◌, ◌++◌, ℕ, false, is_ok, OnOk, IfOk};
 ghost use Rattle.std.specs.List.{flat_map};
 ghost use Rattle.area_rules.specs.Histories.{History};
-ghost use Rattle.area_rules.specs.Rules.{answer_to, continued};
-ghost use Rattle.ship_station.specs.declared.events.ShipWhat.{ShipWhat as What};
+ghost use Rattle.area_rules.specs.Rules.{listed, answer_to, continued};
+ghost use Rattle.ship_station.specs.declared.events.ShipWhat.{ShipWhat as AtShip};
 ghost use Rattle.ship_station.specs.ShipRules.{Identities, ship_rules};
-ghost use Rattle.ship_station.specs.Stands.{Stands};
+ghost use Rattle.ship_station.specs.Stands.{Stands as ShipStands};
+ghost use Rattle.coast_station.specs.declared.events.CoastWhat.{CoastWhat as AtCoast};
+ghost use Rattle.coast_station.specs.CoastRules.{Station, coast_rules};
+ghost use Rattle.coast_station.specs.Stands.{Stands as CoastStands};
+ghost use Rattle.traffic_lines.specs.declared.lines.TrafficLine.TheVariants as line;
+ghost use Rattle.traffic_lines.specs.Lines.{IsShipEvent, IsCoastEvent};
+ghost use Rattle.dsc_files.specs.PointLine.{traffic};
+ghost use Rattle.traffic_replay.specs.Said.{Said, base_of};
+ghost use Rattle.traffic_replay.specs.Happenings.{taking_ship, taking_coast};
 ghost use Rattle.traffic_replay.specs.Output.{act_line, refusal_line, unreported_line, answer_lines};
+ghost use Rattle.traffic_replay.specs.inside.Happens.{Happens};
+ghost use Rattle.traffic_replay.specs.inside.Kept.{KeepsGroups};
 
-use crate::outcomes::Unreported;
+use crate::heard::HeardGroups;
+use crate::outcomes::{Unreported, coast_event, heard_call, ship_event};
 use act_texts::{put_act, put_refused};
-use area_rules::{Act, StationRefusal};
+use area_rules::{Act, Acts, StationRefusal};
+use coast_station::{Coast, CoastEvent, CoastWhat};
+use dsc_files::EventLine;
 use dsc_texts::put_answer_line;
 use itoa::Buffer;
 use ship_station::{Ship, ShipEvent, ShipWhat};
@@ -45,46 +58,143 @@ fn append_refusal(out: &mut Vec<u8>, at: u32, refusal: &StationRefusal) -> Resul
     Ok(())
 }
 
-/// Appends the line of a heard group that isn't reported.
+/// Appends the line of a heard group that isn't reported, and tells that no event was accepted.
 #[tactic(auto, unfolding(crate::specs::Output::unreported_line))]
-pub(crate) fn append_unreported(
+fn append_unreported(
     out: &mut Vec<u8>,
     at: u32,
     unreported: &Unreported,
-) -> Result<(), AllocError>
-    ensures { OnOk result (out.new.items ≡ out.old.items ++ unreported_line at unreported.now) }
+) -> Result<bool, AllocError>
+    ensures line { OnOk result (out.new.items ≡ out.old.items ++ unreported_line at unreported.now) }
+    ensures accepted { IfOk result (λ accepted. accepted ≡ false) }
 {
     let mut moment = Buffer::new();
     out.extend_from_slice(moment.format(at).as_bytes())?;
     out.extend_from_slice(b" ")?;
     out.extend_from_slice(&put_answer_line(unreported.group, &unreported.answer))?;
-    Ok(())
+    Ok(false)
 }
 
-/// Gives the ship an event, appends the lines of what it answers, and answers whether it accepted the event.
-pub(crate) fn step(
+/// Appends the lines of what a station answers, and tells whether it accepted the event.
+fn append_answer(
+    out: &mut Vec<u8>,
+    at: u32,
+    answer: &Result<Acts, StationRefusal>,
+) -> Result<bool, AllocError>
+    ensures lines { OnOk result (out.new.items ≡ out.old.items ++ answer_lines at (listed answer.now)) }
+    ensures accepted { IfOk result (λ accepted. accepted ≡ is_ok (listed answer.now)) }
+{
+    match answer {
+        Ok(acts) => {
+            append_acts(out, at, acts)?;
+            Ok(true)
+        }
+        Err(refusal) => {
+            append_refusal(out, at, refusal)?;
+            Ok(false)
+        }
+    }
+}
+
+/// Gives the ship an event, appends the lines of what it answers, and tells whether it accepted the event.
+fn step_ship(
     ship: &mut Ship,
     at: u32,
     what: ShipWhat,
     out: &mut Vec<u8>,
 ) -> Result<bool, AllocError>
-    ensures stands { OnOk result ((who : Identities) (h : History What) → Stands ship.old who h → Stands ship.new who (continued (ship_rules who) h at what)) }
-    ensures lines { OnOk result ((who : Identities) (h : History What) → Stands ship.old who h
+    ensures stands { OnOk result ((who : Identities) (h : History AtShip) → ShipStands ship.old who h → ShipStands ship.new who (continued (ship_rules who) h at what)) }
+    ensures lines { OnOk result ((who : Identities) (h : History AtShip) → ShipStands ship.old who h
         → out.new.items ≡ out.old.items ++ answer_lines at (answer_to (ship_rules who) h at what)) }
-    ensures accepted { IfOk result (λ accepted. (who : Identities) (h : History What) → Stands ship.old who h → accepted ≡ is_ok (answer_to (ship_rules who) h at what)) }
+    ensures accepted { IfOk result (λ accepted. (who : Identities) (h : History AtShip) → ShipStands ship.old who h → accepted ≡ is_ok (answer_to (ship_rules who) h at what)) }
 {
     let event = ShipEvent {
         at: u64::from(at),
         what,
     };
-    match ship.step(&event) {
-        Ok(acts) => {
-            append_acts(out, at, &acts)?;
-            Ok(true)
+    let accepted = append_answer(out, at, &ship.step(&event))?;
+    Ok(accepted)
+}
+
+/// Gives the coast station an event, appends the lines of what it answers, and tells whether it accepted the event.
+fn step_coast(
+    coast: &mut Coast,
+    at: u32,
+    what: CoastWhat,
+    out: &mut Vec<u8>,
+) -> Result<bool, AllocError>
+    ensures stands { OnOk result ((who : Station) (h : History AtCoast) → CoastStands coast.old who h → CoastStands coast.new who (continued (coast_rules who) h at what)) }
+    ensures lines { OnOk result ((who : Station) (h : History AtCoast) → CoastStands coast.old who h
+        → out.new.items ≡ out.old.items ++ answer_lines at (answer_to (coast_rules who) h at what)) }
+    ensures accepted { IfOk result (λ accepted. (who : Station) (h : History AtCoast) → CoastStands coast.old who h → accepted ≡ is_ok (answer_to (coast_rules who) h at what)) }
+{
+    let event = CoastEvent {
+        at: u64::from(at),
+        what,
+    };
+    let accepted = append_answer(out, at, &coast.step(&event))?;
+    Ok(accepted)
+}
+
+/// Goes through what happens at an event line of a ship's file: appends what is written of it, and tells whether an event
+/// was accepted.
+pub(crate) fn happen_at_ship(
+    ship: &mut Ship,
+    groups: &mut HeardGroups,
+    base: u64,
+    at: u32,
+    what: &EventLine,
+    out: &mut Vec<u8>,
+) -> Result<bool, AllocError>
+    requires within { base ≤ 9999999999 }
+    requires event { IsShipEvent what.now }
+    ensures kept { OnOk result ((said : Said) → KeepsGroups groups.old.sheets.entries said → KeepsGroups groups.new.sheets.entries (traffic (line.Event at what.now) ∷ said)) }
+    ensures happens { IfOk result (λ accepted. (said : Said) (who : Identities) (h : History AtShip) → KeepsGroups groups.old.sheets.entries said → base ≡ base_of said
+        → ShipStands ship.old who h
+        → Happens (ship_rules who) taking_ship (ShipStands ship.new who) h said at what.now out.old.items out.new.items accepted) }
+{
+    if let EventLine::Heard(group) = *what {
+        let accepted = match heard_call(group, &groups.hear(group)) {
+            Ok(call) => step_ship(ship, at, ShipWhat::Heard(call), out)?,
+            Err(unreported) => append_unreported(out, at, &unreported)?,
+        };
+        return Ok(accepted);
+    }
+    match ship_event(base, at, what) {
+        Some(event) => {
+            let accepted = step_ship(ship, at, event, out)?;
+            Ok(accepted)
         }
-        Err(refusal) => {
-            append_refusal(out, at, &refusal)?;
-            Ok(false)
+        None => unreachable!(),
+    }
+}
+
+/// The same at an event line of a coast station's file.
+pub(crate) fn happen_at_coast(
+    coast: &mut Coast,
+    groups: &mut HeardGroups,
+    at: u32,
+    what: &EventLine,
+    out: &mut Vec<u8>,
+) -> Result<bool, AllocError>
+    requires { IsCoastEvent what.now }
+    ensures kept { OnOk result ((said : Said) → KeepsGroups groups.old.sheets.entries said → KeepsGroups groups.new.sheets.entries (traffic (line.Event at what.now) ∷ said)) }
+    ensures happens { IfOk result (λ accepted. (said : Said) (who : Station) (h : History AtCoast) → KeepsGroups groups.old.sheets.entries said
+        → CoastStands coast.old who h
+        → Happens (coast_rules who) taking_coast (CoastStands coast.new who) h said at what.now out.old.items out.new.items accepted) }
+{
+    if let EventLine::Heard(group) = *what {
+        let accepted = match heard_call(group, &groups.hear(group)) {
+            Ok(call) => step_coast(coast, at, CoastWhat::Heard(call), out)?,
+            Err(unreported) => append_unreported(out, at, &unreported)?,
+        };
+        return Ok(accepted);
+    }
+    match coast_event(what) {
+        Some(event) => {
+            let accepted = step_coast(coast, at, event, out)?;
+            Ok(accepted)
         }
+        None => unreachable!(),
     }
 }

@@ -4,3 +4,4 @@ pub mod HeldAfter
 pub mod HeldLists
 pub mod HeldRules
 pub mod Acts
+pub mod Twice

@@ -4,4 +4,5 @@ pub mod Sending
 pub mod Answering
 pub mod Repeating
 pub mod Hearing
+pub mod Sendings
 pub mod inside

@@ -1,12 +1,12 @@
 -- The grammars by which traffic lines are read: this project's profile.
 use Rattle.std.specs.Prelude.{List, ℕ, codes}
-use Rattle.dsc_texts.specs.CallGrammar.{identity, nature, comm, position as position_token}
+use Rattle.dsc_texts.specs.CallGrammar.{address, identity, labelled, nature, comm, position as position_token}
 use Rattle.line_grammar.specs.Tokens.{Token, free_number}
 use Rattle.line_grammar.specs.Grammar.{Grammar, finish, anything, word, field, either}
 
 -- a value behind a word, to the end of the line
 abbrev pub only : List ℕ → Token → Grammar
-only label token = word label (field token finish)
+only label token = labelled label token finish
 
 -- a word, to the end of the line
 abbrev pub lone : List ℕ → Grammar
@@ -19,7 +19,7 @@ abbrev pub delay : Grammar
 delay = only (codes "delay ") (free_number 210000 270000)
 
 abbrev pub alert : Grammar
-alert = word (codes "alert nature=") (field nature (only (codes " then=") comm))
+alert = labelled (codes "alert nature=") nature (only (codes " then=") comm)
 
 abbrev pub cancel : Grammar
 cancel = lone (codes "cancel")
@@ -30,12 +30,51 @@ tick = lone (codes "tick")
 abbrev pub heard : Grammar
 heard = only (codes "heard g") (free_number 0 4294967295)
 
--- the events that name no call
-abbrev pub plain_events : Grammar
-plain_events = either position (either delay (either alert (either cancel (either tick heard))))
+abbrev pub answer : Grammar
+answer = only (codes "answer ") (free_number 1 16)
+
+abbrev pub decline : Grammar
+decline = only (codes "decline ") (free_number 1 16)
+
+-- a coast station's delay, and the same or the end of the line
+abbrev pub coast_delay : Grammar
+coast_delay = only (codes " ") (free_number 60000 165000)
+
+abbrev pub perhaps_delay : Grammar
+perhaps_delay = either finish coast_delay
+
+abbrev pub accept : Grammar
+accept = labelled (codes "accept ") identity perhaps_delay
+
+-- whether a relay asks for an acknowledgement
+abbrev pub ask_or_tell : Grammar
+ask_or_tell = either (lone (codes " ask")) (lone (codes " tell"))
+
+abbrev pub relay : Grammar
+relay = labelled (codes "relay ") identity (labelled (codes " to=") address ask_or_tell)
+
+-- the events of both kinds of stations, of a ship and of a coast station, but for those that name a call
+abbrev pub shared_events : Grammar
+shared_events = either tick (either heard (either answer decline))
+
+abbrev pub ship_events : Grammar
+ship_events = either position (either delay (either alert (either cancel shared_events)))
+
+abbrev pub coast_events : Grammar
+coast_events = either accept (either relay shared_events)
+
+abbrev pub ship : Grammar
+ship = only (codes "station ship ") identity
+
+-- a coast station's band, to the end of the line
+abbrev pub band : Grammar
+band = either (lone (codes " mf")) (either (lone (codes " hf")) (lone (codes " vhf")))
+
+abbrev pub coast : Grammar
+coast = labelled (codes "station coast ") identity band
 
 abbrev pub station : Grammar
-station = only (codes "station ship ") identity
+station = either ship coast
 
 abbrev pub base : Grammar
 base = only (codes "base ") (free_number 0 9999999999)

@@ -1,11 +1,14 @@
 -- What the readers of traffic lines answer: this project's profile.
-use Rattle.std.specs.Prelude.{◌≡◌, ℕ, ◌+◌, ◌-◌, List, length, Result, Ok, Err}
+use Rattle.std.specs.Prelude.{◌≡◌, ℕ, ◌+◌, ◌-◌, Bool, List, ◌++◌, length, Option, Result, Ok, Err, codes}
+use Rattle.call_values.specs.declared.choices.Band.{Band}
 use Rattle.line_grammar.specs.Columns.{Spelling, IsColumn}
 use Rattle.line_grammar.specs.Grammar.{Grammar}
 use Rattle.line_grammar.specs.inside.Reading.{read}
+use Rattle.traffic_lines.specs.declared.lines.EventLine.{EventLine}
+use Rattle.traffic_lines.specs.declared.lines.EventLine.TheVariants.{Send, Hear}
 use Rattle.traffic_lines.specs.declared.lines.TrafficLine.{TrafficLine}
 use Rattle.traffic_lines.specs.declared.lines.TrafficLine.TheVariants.{Group}
-use Rattle.traffic_lines.specs.Lines.{IsLineText}
+use Rattle.traffic_lines.specs.Lines.{IsHear, IsSend, IsPerhapsDelay, delay_text, ask_text, band_text, IsEventText, IsShipEvent, IsCoastEvent, IsLineText}
 
 -- the bytes spell the value, or so many bytes are left where the grammar's reader stops
 abbrev pub ReadsBy : {W : Type 0} (G : Grammar) (L : Spelling W) → List ℕ → Result W ℕ → Type 0
@@ -16,6 +19,33 @@ ReadsBy G L bytes (Err left) = read G bytes ≡ Err left
 abbrev pub Finds : {V W : Type 0} (M : Spelling V) (L : Spelling W) → List ℕ → Result W ℕ → Type 0
 Finds M L bytes (Ok w) = L w bytes
 Finds M L bytes (Err left) = IsColumn M bytes (length bytes + 1 - left)
+
+-- the texts of a ship's events, of a coast station's, and of those that both have
+abbrev pub IsShipText : EventLine → List ℕ → Type 0
+IsShipText what text = IsShipEvent what × IsEventText what text
+
+abbrev pub IsCoastText : EventLine → List ℕ → Type 0
+IsCoastText what text = IsCoastEvent what × IsEventText what text
+
+abbrev pub IsSharedText : EventLine → List ℕ → Type 0
+IsSharedText what text = IsShipEvent what × IsCoastEvent what × IsEventText what text
+
+-- the texts of the events that name a call
+abbrev pub IsCallEvent : EventLine → List ℕ → Type 0
+IsCallEvent (Send call) text = IsSend call text
+IsCallEvent (Hear call) text = IsHear call text
+IsCallEvent _ text = ⊥
+
+-- what stands behind the identity in an accepted alert, and behind the address in a relay
+abbrev pub IsDelayText : Option ℕ → List ℕ → Type 0
+IsDelayText delay text = IsPerhapsDelay delay × (text ≡ delay_text delay)
+
+abbrev pub IsAskText : Bool → List ℕ → Type 0
+IsAskText ask text = text ≡ ask_text ask
+
+-- a blank and a band
+abbrev pub IsBandText : Band → List ℕ → Type 0
+IsBandText band text = text ≡ codes " " ++ band_text band
 
 -- the lines of groups
 abbrev pub IsGroupLine : TrafficLine → List ℕ → Type 0

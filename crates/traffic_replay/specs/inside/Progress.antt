@@ -1,5 +1,5 @@
 -- What a replay has come to.
-use Rattle.std.specs.Prelude.{◌≡◌, ℕ, ◌≤◌, ◌<◌, ◌==◌, List, [], ◌∷◌, length}
+use Rattle.std.specs.Prelude.{◌≡◌, ℕ, ◌≤◌, ◌<◌, ◌==◌, Bool, List, [], ◌∷◌, length}
 use Rattle.ten_unit.specs.declared.character.Element.{Element}
 use Rattle.slot_evidence.specs.declared.places.Seen.{Seen}
 use Rattle.slot_evidence.specs.Sheet.{IsEnds}
@@ -7,8 +7,15 @@ use Rattle.phasing.specs.declared.reception.TheConstants.{LONGEST}
 use Rattle.line_engine.specs.Lines.{Lines}
 use Rattle.traffic_lines.specs.declared.lines.Point.{Point}
 use Rattle.traffic_lines.specs.declared.lines.Point.TheVariants as point
-use Rattle.ship_station.specs.declared.events.ShipWhat.{ShipWhat}
-use Rattle.ship_station.specs.Stands.{Stands}
+use Rattle.traffic_lines.specs.declared.lines.EventLine.{EventLine}
+use Rattle.traffic_lines.specs.Lines.{IsShipEvent, IsCoastEvent}
+use Rattle.area_rules.specs.Histories.{History}
+use Rattle.area_rules.specs.Rules.{Rules}
+use Rattle.ship_station.specs.ShipRules.{ship_rules}
+use Rattle.ship_station.specs.Stands.{Stands as ShipStands}
+use Rattle.coast_station.specs.CoastRules.{coast_rules}
+use Rattle.coast_station.specs.Stands.{Stands as CoastStands}
+use Rattle.call_values.specs.declared.choices.Band.{Band}
 use Rattle.dsc_files.specs.JoinLine.{JoinLine}
 use Rattle.dsc_files.specs.PointLine.{PointLine, joined}
 use Rattle.dsc_files.specs.declared.lines.Line.{Line}
@@ -16,11 +23,12 @@ use Rattle.dsc_files.specs.declared.lines.Line.TheVariants as got
 use Rattle.join_groups.specs.Groups.{facts_of_line, names}
 use Rattle.join_groups.specs.Meanings.{BringsTooMany}
 use Rattle.traffic_replay.specs.declared.command.Replay.{Replay}
-use Rattle.traffic_replay.specs.Said.{Said, own_of, base_of, groups_of, identities_of, point_of, AreSaid}
+use Rattle.traffic_replay.specs.declared.stations.Station.{Station}
+use Rattle.traffic_replay.specs.declared.stations.Station.TheVariants as station
+use Rattle.traffic_replay.specs.Said.{Said, Kind, ship, coast, kind_of, own_of, base_of, groups_of, identities_of, station_of, among_events, point_of, AreSaid}
 use Rattle.traffic_replay.specs.HeardGroups.{of_receivers}
-use Rattle.traffic_replay.specs.Happenings.{Happening, AreHappenings}
+use Rattle.traffic_replay.specs.Happenings.{Taking, taking_ship, taking_coast, Happening, AreHappenings}
 use Rattle.traffic_replay.specs.Output.{history_of, text_of, all_accepted}
-use Rattle.traffic_replay.specs.Meaning.{rules_of}
 use Rattle.traffic_replay.specs.inside.Kept.{KeepsGroups}
 
 -- events come behind the groups alone
@@ -39,6 +47,32 @@ IsBehindGroups (point.Groups held) groups = held ≡ length groups
 IsBehindGroups point.Ship groups = Unit {0}
 IsBehindGroups point.Coast groups = Unit {0}
 
+-- the kind of the station behind whose lines a point stands
+abbrev pub IsPointOf : Point → Kind → Type 0
+IsPointOf (point.Groups held) kind = kind ≡ ship
+IsPointOf point.Ship kind = kind ≡ ship
+IsPointOf point.Coast ship = ⊥
+IsPointOf point.Coast (coast band) = Unit {0}
+IsPointOf point.Station kind = Unit {0}
+IsPointOf point.Base kind = Unit {0}
+
+-- what happened so far, and its text; the station stands for its history
+pub record TellsSoFar {What : Type 0} (rules : Rules What) (taking : Taking What) (IsAt : History What → Type 0) (IsEarly : Type 0) (said : Said) (text : List ℕ) (is_well : Bool) : Type 0 where
+  pub happened : List (Happening What)
+  pub are_happenings : AreHappenings taking said happened
+  pub early : IsEarly → happened ≡ []
+  pub stands : IsAt (history_of rules happened)
+  pub text_is : text ≡ text_of rules happened
+  pub well_is : is_well ≡ all_accepted rules happened
+
+-- the same for the station that lines name
+abbrev pub IsTold : Kind → Station → (IsEarly : Type 0) → Said → (text : List ℕ) → (is_well : Bool) → Type 0
+IsTold ship (station.Ship s) IsEarly said text is_well =
+    TellsSoFar (ship_rules (identities_of said)) taking_ship (ShipStands s (identities_of said)) IsEarly said text is_well
+IsTold (coast band) (station.Coast s) IsEarly said text is_well =
+    TellsSoFar (coast_rules (station_of band said)) taking_coast (CoastStands s (station_of band said)) IsEarly said text is_well
+IsTold _ _ IsEarly said text is_well = ⊥
+
 -- a replay keeps what these lines say, and this is their text
 pub record Keeps (replay : Replay) (said : Said) (text : List ℕ) : Type 0 where
   pub point : replay.point ≡ point_of said
@@ -49,12 +83,8 @@ pub record Keeps (replay : Replay) (said : Said) (text : List ℕ) : Type 0 wher
   pub counted : IsBehindGroups replay.point replay.groups.items
   pub most : length replay.groups.items ≤ 16
   pub heard : KeepsGroups replay.heard.sheets.entries said
-  pub happened : List (Happening ShipWhat)
-  pub are_happenings : AreHappenings said happened
-  pub early : IsBeforeEvents replay.point → happened ≡ []
-  pub ship : Stands replay.ship (identities_of said) (history_of (rules_of said) happened)
-  pub text_is : text ≡ text_of (rules_of said) happened
-  pub well_is : replay.is_well ≡ all_accepted (rules_of said) happened
+  pub kind : IsPointOf replay.point (kind_of said)
+  pub told : IsTold (kind_of said) replay.station (IsBeforeEvents replay.point) said text replay.is_well
 
 -- a replay stands for these lines, and this is their text
 pub record StandsFor (replay : Replay) (lines : Lines) (text : List ℕ) : Type 0 where
@@ -62,20 +92,32 @@ pub record StandsFor (replay : Replay) (lines : Lines) (text : List ℕ) : Type 
   pub are_said : AreSaid said lines
   pub keeps : Keeps replay said text
 
+-- where a line behind one of events or receivers stands, by the station
+abbrev pub point_at : Station → Point
+point_at (station.Ship s) = point.Ship
+point_at (station.Coast s) = point.Coast
+
+-- an event that a kind of station has
+abbrev pub IsEventAt : Station → EventLine → Type 0
+IsEventAt (station.Ship s) what = IsShipEvent what
+IsEventAt (station.Coast s) what = IsCoastEvent what
+
 -- what was read of a line may stand where the replay is
 pub record IsReady (replay : Replay) (read : Line) : Type 0 where
   pub within : replay.base ≤ 9999999999
   pub most : length replay.groups.items ≤ 16
   pub ship : (mmsi : ℕ) → read ≡ got.Ship mmsi → replay.point ≡ point.Station
   pub base : (second : ℕ) → read ≡ got.Base second → (replay.point ≡ point.Base) × (second ≤ 9999999999)
+  pub coast : (mmsi : ℕ) (band : Band) → read ≡ got.Coast mmsi band → replay.point ≡ point.Station
   pub group : (mmsi : ℕ) → read ≡ got.Group mmsi → IsBeforeEvents replay.point × (length replay.groups.items < 16)
+  pub event : (at : ℕ) (what : EventLine) → read ≡ got.Event at what → IsEventAt replay.station what
   pub short : (group : ℕ) (e : List Element) → read ≡ got.Reception group e → length e ≤ LONGEST
 
 -- a line of receivers showed this of its group
 pub record IsShown (line : JoinLine) (group : ℕ) (shown : List Seen) : Type 0 where
   pub named : (k : ℕ) → names k line ≡ (group == k)
   pub ends : IsEnds (facts_of_line group line) shown
-  pub point : (earlier : Said) → point_of (joined line ∷ earlier) ≡ point.Ship
+  pub point : (earlier : Said) → point_of (joined line ∷ earlier) ≡ among_events (kind_of earlier)
 
 -- behind what was said this brings a group too many
 pub record BringsGroup (said : Said) (says : PointLine) : Type 0 where

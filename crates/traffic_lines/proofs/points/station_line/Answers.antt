@@ -1,8 +1,9 @@
 use Rattle.traffic_lines.specs.declared.lines.Point.TheVariants.{Station}
 use Rattle.traffic_lines.specs.Lines.{IsTrafficLine}
-use Rattle.traffic_lines.proofs.Languages.{exit_found}
-use Rattle.traffic_lines.proofs.LineTexts.{station_fault}
+use Rattle.traffic_lines.specs.inside.Grammars.{ship, coast}
+use Rattle.traffic_lines.proofs.Languages.{further_by}
+use Rattle.traffic_lines.proofs.LineTexts.{station_found}
 use Rattle.traffic_lines.proofs.points.station_line.Goals as goal
 
-pub returns-in_err-mmsi : goal.returns-in_err-mmsi
-returns-in_err-mmsi c = exit_found (IsTrafficLine Station) (IsTrafficLine Station) _ _ _ c.from_residual.ensures.1 (station_fault _ _ c.in_err-mmsi.ensures.left)
+pub returns : goal.returns
+returns c = station_found _ _ (further_by ship coast (IsTrafficLine Station) _ _ _ _ c.further.ensures c.ship.ensures c.coast.ensures)

@@ -1,8 +1,7 @@
 use Rattle.std.proofs.lemmas.Result.{IfOk-weaker}
 use Rattle.dsc_texts.specs.CallGrammar.{position}
 use Rattle.dsc_texts.specs.CallParts.{position_text}
-use Rattle.traffic_lines.proofs.PositionTexts.{some_position}
-use Rattle.traffic_lines.proofs.Tokens.{token_list}
+use Rattle.traffic_lines.proofs.Tokens.{token_list, some_position}
 use Rattle.traffic_lines.proofs.fields.PositionField.read.Goals as goal
 
 pub returns-clause-list : goal.returns-clause-list

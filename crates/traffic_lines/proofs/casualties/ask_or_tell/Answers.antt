@@ -1,0 +1,12 @@
+use Rattle.std.proofs.Common.{true, false, codes, refl}
+use Rattle.traffic_lines.specs.inside.Grammars.{lone}
+use Rattle.traffic_lines.specs.inside.Reading.{IsAskText}
+use Rattle.traffic_lines.proofs.EventTexts.{value_by}
+use Rattle.traffic_lines.proofs.Languages.{further_by}
+use Rattle.traffic_lines.proofs.casualties.ask_or_tell.Goals as goal
+
+pub returns : goal.returns
+returns c =
+    further_by (lone (codes " ask")) (lone (codes " tell")) IsAskText _ _ _ _ c.further.ensures
+    (value_by (codes " ask") IsAskText true _ _ refl c.lone_value-ask.ensures.text c.lone_value-ask.ensures.left)
+    (value_by (codes " tell") IsAskText false _ _ refl c.lone_value-tell.ensures.text c.lone_value-tell.ensures.left)

@@ -1,0 +1,45 @@
+ghost use Rattle.std.specs.Prelude.{◌≡◌, ◌+◌, ◌-◌, ◌≤◌, length};
+ghost use Rattle.traffic_lines.specs.Lines.{IsHear, IsSend};
+ghost use Rattle.traffic_lines.specs.inside.Reading.{Finds, IsCallEvent};
+
+use crate::choices::further;
+use crate::lines::EventLine;
+use dsc_texts::{read_bare_call, read_call};
+use line_grammar::word;
+
+/// How many bytes of a call's text are left at this column.
+fn left_at(text: &[u8], column: usize) -> usize
+    requires { column ≤ length text.now + 1 }
+    ensures { result ≡ length text.now + 1 - column }
+{
+    text.len() + 1 - column
+}
+
+/// Reads a call that is heard; an expansion behind it says nothing. An error is how many bytes are left at the fault.
+fn hear(bytes: &[u8]) -> Result<EventLine, usize>
+    ensures { Finds IsHear IsCallEvent bytes.now result }
+{
+    let text = word(b"hear ", bytes)?;
+    match read_call(text) {
+        Ok((call, _)) => Ok(EventLine::Hear(call)),
+        Err(column) => Err(left_at(text, column)),
+    }
+}
+
+/// Reads a call that is to be sent, behind which no expansion may stand. An error is how many bytes are left at the fault.
+fn send(bytes: &[u8]) -> Result<EventLine, usize>
+    ensures { Finds IsSend IsCallEvent bytes.now result }
+{
+    let text = word(b"send ", bytes)?;
+    match read_bare_call(text) {
+        Ok(call) => Ok(EventLine::Send(call)),
+        Err(column) => Err(left_at(text, column)),
+    }
+}
+
+/// Reads an event that names a call. An error is how many bytes are left at the fault.
+pub fn call_event(bytes: &[u8]) -> Result<EventLine, usize>
+    ensures { Finds IsCallEvent IsCallEvent bytes.now result }
+{
+    further(&hear(bytes), &send(bytes))
+}

@@ -1,0 +1,25 @@
+ghost use Rattle.std.specs.Prelude.{◌≡◌};
+ghost use Rattle.traffic_replay.specs.inside.Progress.{point_at};
+
+use coast_station::Coast;
+use dsc_files::Point;
+use ship_station::Ship;
+
+/// The station that the lines of a traffic file name.
+#[derive(Drop)]
+pub(crate) enum Station {
+    Ship(Ship),
+    Coast(Coast),
+}
+
+impl Station {
+    /// Where a line behind one of events or receivers stands.
+    pub(crate) fn among_events(&self) -> Point
+        ensures { result ≡ point_at self.now }
+    {
+        match self {
+            Station::Ship(_) => Point::Ship,
+            Station::Coast(_) => Point::Coast,
+        }
+    }
+}
