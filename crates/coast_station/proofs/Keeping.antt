@@ -17,7 +17,6 @@ use Rattle.area_rules.specs.Addressing.{is_for_coast}
 use Rattle.area_rules.specs.Histories.{History, last_moment}
 use Rattle.area_rules.specs.Holding.{Places}
 use Rattle.area_rules.specs.Rules.{listed, refusal_or, answer_to, continued, Legal}
-use Rattle.area_rules.proofs.Steps.{refused_on_time, refusal_of, acts_of}
 use Rattle.traffic_rules.specs.Hearing.{heard_due}
 use Rattle.traffic_rules.specs.Repeating.{repeats}
 use Rattle.traffic_rules.specs.Sending.{send_refusal, send_due, refused_full}
@@ -37,7 +36,7 @@ use Rattle.coast_station.proofs.Births.{by_test, none_is_some}
 use Rattle.coast_station.proofs.Changes.{find_open, named, silent_open, closed_open, due_open, noted_open, accepted_open, accepted_before, acknowledged_open, tick_ends}
 use Rattle.coast_station.proofs.Silence.{sendable_no_ack, sent_ends, relayed_ends, answered_ends, heard_ends, acks_quiet, repeats_end}
 use Rattle.coast_station.proofs.Origins.{none_from}
-use Rattle.coast_station.proofs.Steps.{accepted, stays}
+use Rattle.coast_station.proofs.Frame.{on_ok, on_err, goes_on}
 
 some_from : {A : Type 0} (o : Option A) → is_some o ≡ true → (x : A) × (o ≡ Some x)
 some_from (Some x) is = (x, refl)
@@ -215,10 +214,6 @@ answer_same who h coast at what keeps =
     ∙ ap (λ (cs : List OpenCasualty). refusal_or (refusal_by who cs coast.held what) (due_by who cs coast.held at what)) keeps.casualties
     ∙ ap (λ (l : Places). refusal_or (refusal_by who (open_casualties who.own h) l what) (due_by who (open_casualties who.own h) l at what)) keeps.held
 
-pub answer_on_time : (who : Station) (h : History CoastWhat) (at : ℕ) (what : CoastWhat) → last_moment h ≤ at
-    → answer_to (coast_rules who) h at what ≡ refusal_or (refusal_at who h what) (due_at who h at what)
-answer_on_time who h at what late = ap (λ (r : Option StationRefusal). refusal_or r (due_at who h at what)) (refused_on_time (coast_rules who) h at what late)
-
 -- what it keeps afterwards is what the history tells with the event put last
 pub keeps_afterwards : (who : Station) (h : History CoastWhat) (old : Coast) (at : ℕ) (what : CoastWhat) → Keeps old who h → Legal (coast_rules who) h → refusal_at who h what ≡ None
     → Keeps (afterwards old at what) who (record { at = at; what = what; acts = due_at who h at what } ∷ h)
@@ -235,14 +230,13 @@ keeps_afterwards who h old at what keeps legal none = record {
       ∙ ap (held_after who at what (open_casualties who.own h)) keeps.held ∙ sym (held_goes_on who h at what none);
 }
 
--- a station that is as it was after a refusal, and keeps this after an accepted event, goes on as its history does
+-- a station that is as it was after a refusal, and keeps this after an accepted event, stands for its history as this goes on
 pub goes : (who : Station) (h : History CoastWhat) (at : ℕ) (what : CoastWhat) (old new : Coast) (result : Result (ArrayVec Act) StationRefusal)
     → last_moment h ≤ at → IsCoastWhat what → Stands old who h → listed result ≡ answer_by old at what
     → OnErr result (new ≡ old) → OnOk result (new ≡ afterwards old at what) → Stands new who (continued (coast_rules who) h at what)
-goes who h at what old new (Err refusal) late event stands answer same after =
-    stays who h at what refusal new late (refusal_of (refusal_at who h what) (due_at who h at what) refusal (answer ∙ answer_same who h old at what stands.1))
-    (subst (λ (coast : Coast). Stands coast who h) (sym same) stands)
-goes who h at what old new (Ok acts) late event stands answer same after =
-    let none = (acts_of (refusal_at who h what) (due_at who h at what) acts.items (answer ∙ answer_same who h old at what stands.1)).0 in
-    accepted who h at what (due_at who h at what) new late event stands.0 none refl
-    (subst (λ (coast : Coast). Keeps coast who (record { at = at; what = what; acts = due_at who h at what } ∷ h)) (sym after) (keeps_afterwards who h old at what stands.1 stands.0 none))
+goes who h at what old new result late event stands answer same after =
+    goes_on (coast_rules who) h at what (λ (g : History CoastWhat). Keeps new who g) result late event stands.0 (answer ∙ answer_same who h old at what stands.1)
+    (on_err result (λ is. subst (λ (coast : Coast). Keeps coast who h) (sym is) stands.1) same)
+    (λ none. on_ok result
+    (λ is. subst (λ (coast : Coast). Keeps coast who (record { at = at; what = what; acts = due_at who h at what } ∷ h)) (sym is) (keeps_afterwards who h old at what stands.1 stands.0 none))
+    after)

@@ -3,7 +3,7 @@ pub mod Identities
 pub mod Listed
 pub mod Changes
 pub mod Silence
-pub mod Steps
+pub mod Frame
 pub mod Among
 pub mod Origins
 pub mod Behind

@@ -122,10 +122,10 @@ impl Coast {
         ensures after { OnOk result (self.new ≡ afterwards self.old at (What.Relay mmsi to ask)) }
         ensures unchanged { OnErr result (self.new ≡ self.old) }
     {
-        let Some(casualty) = self.casualties.find(mmsi) else {
+        let Some(told) = self.casualties.find(mmsi) else {
             return Err(StationRefusal::NoCasualty(mmsi));
         };
-        let relay = relay(self.own, to, &casualty.alert, ask);
+        let relay = relay(self.own, to, &told.alert, ask);
         let acts = send(&mut self.held, self.own, &relay, at)?;
         self.last = at;
         Ok(acts)
