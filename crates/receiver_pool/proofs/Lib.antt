@@ -6,3 +6,5 @@ pub mod Changes
 pub mod Loads
 pub mod Rests
 pub mod Core
+pub mod Unions
+pub mod Parts

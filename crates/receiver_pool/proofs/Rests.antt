@@ -30,7 +30,7 @@ fresh_seated share alive = record {
   };
 }
 
-lawful_order : (x : Seen) → IsLawful x → AreInOrder (least_of x) (past_of x)
+pub lawful_order : (x : Seen) → IsLawful x → AreInOrder (least_of x) (past_of x)
 lawful_order seen.None lawful = refl
 lawful_order (seen.One v) lawful = (omega arith, lawful)
 lawful_order (seen.Differ a b) lawful = (omega (arith, lawful), lawful.1)

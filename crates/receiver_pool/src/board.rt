@@ -1,6 +1,7 @@
 //! The board.
 ghost use Rattle.std.specs.Prelude.{◌≡◌, ℕ, ◌+◌, ◌<◌, ◌≤◌, IfOk, length};
-ghost use Rattle.slot_evidence.specs.Sheet.{seen_at};
+ghost use Rattle.slot_evidence.specs.Facts.{Facts, no_facts, union};
+ghost use Rattle.slot_evidence.specs.Sheet.{IsEnds, seen_at};
 ghost use Rattle.slot_evidence.specs.Allowed.{OnlyAllowed};
 ghost use Rattle.receiver_pool.specs.Views.{no_reach, place_at, fresh, given_sheet, seen_sheet};
 ghost use Rattle.receiver_pool.specs.Rule.{words_of};
@@ -52,7 +53,8 @@ fn empty_words() -> [u64; 128]
 impl<A: Allowed> Board<A> {
     /// An empty board, and a seat with the whole share that posted and saw nothing. The error is want of memory.
     pub fn new(alloc: Global) -> Result<(Board<A>, Seat<A>), AllocError>
-        ensures { IfOk result (λ made. (made.1.table ≡ made.0) × (made.1.view ≡ fresh WHOLE)) }
+        ensures seat { IfOk result (λ made. (made.1.table ≡ made.0) × (made.1.view ≡ fresh WHOLE)) }
+        ensures empty { IfOk result (λ made. IsEnds no_facts (given_sheet made.1.view)) }
     {
         let words = empty_words();
         let (table, token) = Table::of_words(alloc, &words, &())?;
@@ -66,6 +68,7 @@ impl<A: Allowed> Board<A> {
         ensures board { result.table ≡ self.now }
         ensures share { result.view.share ≡ seat.view.share }
         ensures places { (p : ℕ) → p < 64 → place_at result.view p ≡ admitted (seen_at sheet.now p) (place_at seat.view p) }
+        ensures union { (F G : Facts) → IsEnds F (given_sheet seat.view) → IsEnds G sheet.now → IsEnds (union F G) (given_sheet result.view) }
     {
         self.admit_at(&mut seat, sheet);
         seat
@@ -78,6 +81,7 @@ impl<A: Allowed> Board<A> {
         ensures board { seat.new.table ≡ self.now }
         ensures share { seat.new.view.share ≡ seat.old.view.share }
         ensures places { (p : ℕ) → p < 64 → place_at seat.new.view p ≡ admitted (seen_at sheet.now p) (place_at seat.old.view p) }
+        ensures union { (F G : Facts) → IsEnds F (given_sheet seat.old.view) → IsEnds G sheet.now → IsEnds (union F G) (given_sheet seat.new.view) }
     {
         sheet_is_lawful(sheet);
         post(&self.table.shared, &mut seat.token, sheet);
@@ -92,6 +96,7 @@ impl<A: Allowed> Board<A> {
         ensures halves { (1 ≤ result.1.view.share) × (result.1.view.share ≤ result.0.view.share) × (result.0.view.share ≤ result.1.view.share + 1) }
         ensures kept { (p : ℕ) → p < 64 → place_at result.0.view p ≡ place_at seat.view p }
         ensures new { (p : ℕ) → p < 64 → place_at result.1.view p ≡ uncounted (place_at seat.view p) }
+        ensures given { (given_sheet result.0.view ≡ given_sheet seat.view) × (given_sheet result.1.view ≡ given_sheet seat.view) }
     {
         let other = self.split_off(&mut seat);
         (seat, other)
@@ -106,6 +111,7 @@ impl<A: Allowed> Board<A> {
         ensures halves { (1 ≤ result.view.share) × (result.view.share ≤ seat.new.view.share) × (seat.new.view.share ≤ result.view.share + 1) }
         ensures kept { (p : ℕ) → p < 64 → place_at seat.new.view p ≡ place_at seat.old.view p }
         ensures new { (p : ℕ) → p < 64 → place_at result.view p ≡ uncounted (place_at seat.old.view p) }
+        ensures given { (given_sheet seat.new.view ≡ given_sheet seat.old.view) × (given_sheet result.view ≡ given_sheet seat.old.view) }
     {
         let token = self.table.shared.split_seat::<Halves>(&mut seat.token);
         let half = seat.share / 2;
@@ -119,6 +125,7 @@ impl<A: Allowed> Board<A> {
         ensures board { result.table ≡ self.now }
         ensures share { result.view.share ≡ a.view.share + b.view.share }
         ensures places { (p : ℕ) → p < 64 → place_at result.view p ≡ joined (place_at a.view p) (place_at b.view p) }
+        ensures union { (F G : Facts) → IsEnds F (given_sheet a.view) → IsEnds G (given_sheet b.view) → IsEnds (union F G) (given_sheet result.view) }
     {
         self.join_into(&mut a, b);
         a
@@ -130,6 +137,7 @@ impl<A: Allowed> Board<A> {
         ensures board { seat.new.table ≡ self.now }
         ensures share { seat.new.view.share ≡ seat.old.view.share + other.view.share }
         ensures places { (p : ℕ) → p < 64 → place_at seat.new.view p ≡ joined (place_at seat.old.view p) (place_at other.view p) }
+        ensures union { (F G : Facts) → IsEnds F (given_sheet seat.old.view) → IsEnds G (given_sheet other.view) → IsEnds (union F G) (given_sheet seat.new.view) }
     {
         let Seat { token, share, .. } = other;
         self.table.shared.join_seat::<Adds>(&mut seat.token, token);

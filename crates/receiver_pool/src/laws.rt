@@ -1,5 +1,5 @@
 ghost use Rattle.std.specs.Prelude.{◌≡◌, ℕ, List};
-ghost use Rattle.receiver_pool.specs.Seats.{IsAtRest};
+ghost use Rattle.receiver_pool.specs.Seats.{IsSeated};
 ghost use Rattle.receiver_pool.specs.Events.{Event, words_after, IsLeast, IsPastGreatest, HaveSame};
 
 use crate::allowed::Allowed;
@@ -13,9 +13,9 @@ pub fn one_core()
     ensures alike { (events others : List Event) → HaveSame events others → (p : ℕ) → words_after events p ≡ words_after others p }
 {}
 
-/// The law that every seat is at rest between two calls. It does nothing.
+/// The law that every seat has a share and is at rest between two calls. It does nothing.
 pub fn seats_are_at_rest<A: Allowed>(seat: &Seat<A>)
-    ensures { IsAtRest seat.now.view }
+    ensures { IsSeated seat.now.view }
 {
     let _share = &seat.share;
 }

@@ -6,6 +6,7 @@ mod board;
 mod gate;
 mod laws;
 mod looking;
+mod pools;
 mod posting;
 mod seats;
 mod steps;
@@ -15,6 +16,7 @@ pub use allowed::{AllFacts, Allowed, all_facts_may_be_posted};
 pub use board::Board;
 pub use gate::{Gate, Open};
 pub use laws::{one_core, seats_are_at_rest};
+pub use pools::pool;
 pub use seats::{Seat, WHOLE};
 
 #[cfg(test)]

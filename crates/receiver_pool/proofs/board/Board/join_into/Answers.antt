@@ -1,9 +1,12 @@
 use Rattle.std.proofs.Common.{arith, subst, sym, ◌∙◌, ap}
-use Rattle.receiver_pool.specs.Views.{View, place_at}
-use Rattle.receiver_pool.specs.Steps.{joined}
+use Rattle.slot_evidence.specs.Facts.{union}
+use Rattle.slot_evidence.specs.Sheet.{IsEnds}
+use Rattle.receiver_pool.specs.Views.{View, place_at, given_sheet}
+use Rattle.receiver_pool.specs.Steps.{both, joined}
 use Rattle.receiver_pool.specs.Seats.{Held, IsSeated}
 use Rattle.receiver_pool.proofs.StepKinds.{joins_keep, weighs_keeps}
 use Rattle.receiver_pool.proofs.Rests.{both_place, both_seated}
+use Rattle.receiver_pool.proofs.Unions.{join_ends}
 use Rattle.receiver_pool.proofs.board.Board.join_into.Goals as goal
 
 pub join_seat-requires : goal.join_seat-requires
@@ -43,3 +46,14 @@ returns-clause-places g c =
     ∙ both_place a b p c.seat.invariant.1.size c.other.invariant.1.size below
     ∙ ap (λ (h : Held). joined (place_at h.view p) (place_at b p)) c.seat.view_is
     ∙ ap (λ (h : Held). joined (place_at c.args.seat.now.view p) (place_at h.view p)) c.other.view_is
+
+pub returns-clause-union : goal.returns-clause-union
+returns-clause-union g c =
+    λ F G f h.
+    let a = c.seat.inside.token.me.0 in
+    let b = c.other.inside.token.me.0 in
+    let view = ap (λ m. m.0) (c.load.ensures.2.0 ∙ c.join_seat.ensures.2) in
+    subst (λ (v : View). IsEnds (union F G) (given_sheet v)) (sym view)
+    (join_ends a b (both a b) c.seat.invariant.1 c.other.invariant.1 (both_seated a b c.seat.invariant.1 c.other.invariant.1).size (λ p below. both_place a b p c.seat.invariant.1.size c.other.invariant.1.size below) F G
+    (subst (λ (s : Held). IsEnds F (given_sheet s.view)) (sym c.seat.view_is) f)
+    (subst (λ (s : Held). IsEnds G (given_sheet s.view)) (sym c.other.view_is) h))
