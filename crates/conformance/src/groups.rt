@@ -1,7 +1,7 @@
 use crate::receptions::{DX_AND_PLACE_7, REPORTED, Row, WHOLE, joined, line, words_of};
 use dsc_cmd::{SureSink, SureSource, run};
 use dsc_symbols::worked::ALERT_SLOTS;
-use slot_join::Open;
+use receiver_pool::Open;
 use std::test::Fail;
 
 // The evidence of a clean reception of the worked alert.

@@ -1,7 +1,7 @@
 //! Receptions as lines, and runs over them: what the tests of joins share.
 
 use dsc_cmd::{SureSink, SureSource, run};
-use slot_join::Open;
+use receiver_pool::Open;
 use std::alloc::{AllocError, Global};
 use std::thread::Threads;
 use ten_unit::{Element, word};

@@ -1,7 +1,7 @@
 use crate::receptions::{WHOLE, line, words_of};
 use dsc_cmd::{ByteSink, ByteSource, Failed, Source, SureSink, SureSource, run};
 use dsc_symbols::worked::ALERT_SLOTS;
-use slot_join::{Gate, Open};
+use receiver_pool::{Gate, Open};
 use std::alloc::{AllocError, Global};
 use std::sync::atomic::{AtomicU32, Ordering};
 use std::test::Fail;

@@ -2,7 +2,7 @@
 #![tactic(auto)]
 
 use dsc_cmd::{StdSink, StdSource, run};
-use slot_join::Open;
+use receiver_pool::Open;
 use std::alloc::{AllocError, Global};
 use std::io::Eprint;
 use std::process::ExitCode;

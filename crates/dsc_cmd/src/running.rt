@@ -12,10 +12,11 @@ use dsc_words::{Plan, PlanError, one_plan, plan_of};
 use encode_calls::{Encode, LongDots, ShortDots};
 use join_groups::{Answers, Ends, TellGroups};
 use line_engine::{MOST_TAKEN, drive};
+use receiver_pool::Gate;
 use sentence_files::Sentences;
 use slot_evidence::ends_are_kept;
 use slot_join::{
-    Gate, alike_facts_have_one_answer, intact_copies_report_the_call, sent_call_is_answered,
+    alike_facts_have_one_answer, intact_copies_report_the_call, sent_call_is_answered,
 };
 use std::alloc::Global;
 use std::thread::Threads;

@@ -1,13 +1,14 @@
 -- The two numbers of each place, and what a sheet says of it.
-use Rattle.std.proofs.Common.{◌≡◌, ℕ, zero, suc, ◌-◌, ◌&&◌, eqb, map, set, ◌<◌, Bool, cond, List, [], ◌∷◌, length, slice_index_or, refl, ap, sym, ◌∙◌, arith, subst, inl, inr}
+use Rattle.std.proofs.Common.{◌≡◌, ℕ, zero, suc, ◌-◌, ◌&&◌, eqb, map, set, ◌<◌, ◌+◌, min, max, Bool, cond, List, [], ◌∷◌, length, slice_index, slice_index_or, refl, ap, sym, ◌∙◌, arith, subst, inl, inr}
+use Rattle.std.proofs.lemmas.List.{get_or_default}
 use lib.Pointwise.{pointwise}
 use Rattle.std.proofs.lemmas.Bool.{cases_eq, eq-eqb, ne_eqb}
 use Rattle.slot_evidence.specs.declared.places.Seen.{Seen}
 use Rattle.slot_evidence.specs.declared.places.Seen.TheVariants as seen
 use Rattle.slot_evidence.specs.Seen.{IsLawful}
 use Rattle.slot_evidence.specs.Sheet.{seen_at, IsSheet}
-use Rattle.slot_evidence.specs.inside.Back.{leasts_back, pasts_back}
-use Rattle.slot_evidence.specs.inside.Kept.{span_seen, seen_between, seen_of, least_of, past_of, AreInOrder, AreOrdered, AreKept}
+use Rattle.slot_evidence.specs.inside.Back.{least_back, past_back, leasts_back, pasts_back}
+use Rattle.slot_evidence.specs.inside.Kept.{span_seen, seen_between, seen_of, seen_with, least_of, past_of, AreInOrder, AreOrdered, AreKept}
 
 -- what the numbers of a place say: the one symbol, or two that differ
 pub one_or_differ : (least greatest : ℕ) (P : Seen → Type 0) → (least ≡ greatest → P (seen.One least)) → ((least ≡ greatest → ⊥) → P (seen.Differ least greatest)) → P (seen_between least (suc greatest))
@@ -96,3 +97,26 @@ seen_set [] (y ∷ pasts) p least past ordered = absurd ordered
 seen_set (x ∷ leasts) [] p least past ordered = absurd ordered
 seen_set (x ∷ leasts) (y ∷ pasts) zero least past ordered = refl
 seen_set (x ∷ leasts) (y ∷ pasts) (suc p) least past ordered = ap (λ (l : List Seen). seen_between x y ∷ l) (seen_set leasts pasts p least past ordered.1)
+
+-- the two numbers of a place, back from what the sheet says of it
+pub least_at : (leasts pasts : List ℕ) (p : ℕ) → AreKept leasts pasts → p < 64 → least_of (seen_at (seen_of leasts pasts) p) ≡ slice_index leasts p
+least_at leasts pasts p kept inside =
+    ap least_of (kept_at leasts pasts kept p)
+    ∙ least_back _ _ (ordered_at leasts pasts kept.ordered p)
+    ∙ get_or_default leasts p 128 0 (omega (arith, kept.places))
+
+pub past_at : (leasts pasts : List ℕ) (p : ℕ) → AreKept leasts pasts → past_of (seen_at (seen_of leasts pasts) p) ≡ slice_index pasts p
+past_at leasts pasts p kept = ap past_of (kept_at leasts pasts kept p) ∙ past_back (slice_index_or leasts p 128) _
+
+-- a symbol more at a place
+pub added : (leasts pasts : List ℕ) (p symbol least past : ℕ) (old : List Seen) → AreKept leasts pasts → p < 64 → least ≡ min (slice_index leasts p) symbol → past ≡ max (slice_index pasts p) (symbol + 1)
+    → seen_of leasts pasts ≡ old → seen_of (set leasts p least) (set pasts p past) ≡ set old p (seen_with (seen_at old p) symbol)
+added leasts pasts p symbol least past old kept inside is_least is_past is =
+    let lower : min (least_of (seen_at (seen_of leasts pasts) p)) symbol ≡ least = ap (λ (n : ℕ). min n symbol) (least_at leasts pasts p kept inside) ∙ sym is_least in
+    let upper : max (past_of (seen_at (seen_of leasts pasts) p)) (symbol + 1) ≡ past = ap (λ (n : ℕ). max n (symbol + 1)) (past_at leasts pasts p kept) ∙ sym is_past in
+    let here : seen_with (seen_at (seen_of leasts pasts) p) symbol ≡ seen_between least past =
+    ap (λ (n : ℕ). seen_between n (max (past_of (seen_at (seen_of leasts pasts) p)) (symbol + 1))) lower ∙ ap (seen_between least) upper
+    in
+    seen_set leasts pasts p least past kept.ordered
+    ∙ ap (set (seen_of leasts pasts) p) (sym here)
+    ∙ ap (λ (s : List Seen). set s p (seen_with (seen_at s p) symbol)) is

@@ -2,4 +2,5 @@ pub mod Facts
 pub mod Seen
 pub mod Sheet
 pub mod Alike
+pub mod Allowed
 pub mod inside

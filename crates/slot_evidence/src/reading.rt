@@ -4,6 +4,7 @@ ghost use Rattle.slot_evidence.specs.Facts.{facts_of};
 ghost use Rattle.slot_evidence.specs.inside.Kept.{past_symbol};
 ghost use Rattle.slot_evidence.specs.Sheet.{IsEnds};
 
+use crate::receptions::Reception;
 use crate::sheets::Sheet;
 use crate::slots::{Shown, read_slots};
 use phasing::{LONGEST, lead};
@@ -53,4 +54,15 @@ pub fn read_sheet(e: &[Element]) -> Option<Sheet>
     let lead = lead(e)?;
     let shown = read_slots(e, lead);
     Some(Sheet::of_numbers(leasts_of(&shown), pasts_of(&shown)))
+}
+
+/// The sheet of what a receiver heard: it is empty where no origin is found.
+pub fn shown_by(heard: &Reception) -> Sheet
+    requires { length heard.now ≤ LONGEST }
+    ensures { IsEnds (facts_of heard.now) result }
+{
+    match read_sheet(heard.elements()) {
+        Some(sheet) => sheet,
+        None => Sheet::empty(),
+    }
 }

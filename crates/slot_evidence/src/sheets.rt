@@ -1,6 +1,6 @@
-ghost use Rattle.std.specs.Prelude.{◌≡◌, ℕ, ◌||◌, ◌<◌, ◌≤◌, length, replicate, min, max, slice_index};
+ghost use Rattle.std.specs.Prelude.{◌≡◌, ℕ, ◌||◌, ◌<◌, ◌≤◌, length, replicate, min, max, slice_index, slice_set};
 ghost use Rattle.slot_evidence.specs.Facts.{Facts, Symbols, no_facts, one_fact, union};
-ghost use Rattle.slot_evidence.specs.inside.Kept.{AreKept, seen_of};
+ghost use Rattle.slot_evidence.specs.inside.Kept.{AreKept, seen_of, seen_with};
 ghost use Rattle.slot_evidence.specs.Seen.{IsSeen, IsLawful};
 ghost use Rattle.slot_evidence.specs.Sheet.{IsEnds, IsMeet, IsSheet, seen_at, facts_in};
 
@@ -71,7 +71,8 @@ impl Sheet {
     pub fn add(&mut self, p: u8, symbol: u8)
         requires place { p < 64 }
         requires symbol { symbol < 128 }
-        ensures { (F : Facts) → IsEnds F self.old → IsEnds (union F (one_fact p symbol)) self.new }
+        ensures union { (F : Facts) → IsEnds F self.old → IsEnds (union F (one_fact p symbol)) self.new }
+        ensures place { self.new ≡ slice_set self.old p (seen_with (seen_at self.old p) symbol) }
     {
         let least = self.leasts[p as usize].min(symbol);
         let past = self.pasts[p as usize].max(symbol + 1);

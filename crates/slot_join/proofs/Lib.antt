@@ -5,6 +5,7 @@ pub mod IntactCalls
 pub mod Heads
 pub mod LateCalls
 pub mod WholeCalls
+pub mod OneCalls
 pub mod OneWay
 pub mod CallOrMissing
 pub mod AnswerOfEnds

@@ -1,9 +1,10 @@
 -- Facts of one call: this project's profile, over the places of ITU-R M.493.
-use Rattle.std.specs.Prelude.{◌≡◌, ℕ, ◌<◌, true, ◌⊎◌, List, length, slice_index}
+use Rattle.std.specs.Prelude.{◌≡◌, ℕ, ◌+◌, ◌<◌, true, ◌⊎◌, ◌↔◌, List, ◌++◌, length, slice_index}
 use Rattle.call_values.specs.declared.calls.Call.{Call}
-use Rattle.call_grammar.specs.Spelling.{through_check}
+use Rattle.call_grammar.specs.Spelling.{through_check, spell}
 use Rattle.slot_evidence.specs.Facts.{Facts}
 use Rattle.slot_evidence.specs.Seen.{ShowsNone}
+use Rattle.slot_evidence.specs.Allowed.{IsAllowed}
 use Rattle.slot_join.specs.declared.joined.Joined.{Joined}
 use Rattle.slot_join.specs.declared.joined.Joined.TheVariants.{Reported, Missing}
 use Rattle.slot_join.specs.declared.joined.Extra.{Extra}
@@ -29,3 +30,14 @@ pub record IsCallReported (F : Facts) (call : Call) (answer : Joined) : Type 0 w
 -- the call, or a place of it up to its error check character that showed nothing
 abbrev pub IsCallOrMissing : Facts → Call → Joined → Type 0
 IsCallOrMissing F call answer = IsCallReported F call answer ⊎ IsMissing F (through_check call) answer
+
+-- a list's transmission, with errors in one sense alone, may show this symbol at this place: the list's own at the places of
+-- which both copies are sent, and any symbol at its last two places and past it
+pub record MayShow (list : List ℕ) (p v : ℕ) : Type 0 where
+  pub place : p < 64
+  pub symbol : v < 128
+  pub own : p + 2 < length list → v ≡ slice_index list p
+
+-- the facts that may be posted are exactly those that a call with this tail may show
+abbrev pub AreOneCalls : List (ℕ × ℕ) → Call → List ℕ → Type 0
+AreOneCalls facts call tail = (p v : ℕ) → IsAllowed facts p v ↔ MayShow (spell call ++ tail) p v

@@ -12,13 +12,14 @@ ghost use Rattle.slot_evidence.specs.declared.places.Seen.{Seen};
 ghost use Rattle.slot_evidence.specs.Facts.{Facts, facts_of, union};
 ghost use Rattle.slot_evidence.specs.Sheet.{IsEnds, facts_in};
 ghost use Rattle.slot_evidence.specs.Alike.{AreAlike};
+ghost use Rattle.slot_evidence.specs.Allowed.{OnlyAllowed};
 ghost use Rattle.slot_join.specs.declared.joined.Joined.{Joined};
 ghost use Rattle.slot_join.specs.declared.joined.Joined.TheVariants.{Reported};
 ghost use Rattle.slot_join.specs.declared.joined.Extra.TheVariants.{Absent, Whole};
 ghost use Rattle.slot_join.specs.Answer.{IsAnswer};
 ghost use Rattle.slot_join.specs.Heard.{IsOneWayAt, IsTrulyPhased, IsHeard};
 ghost use Rattle.slot_join.specs.Intact.{ArrivesIntact, EndsWithin, IsExpandedBy};
-ghost use Rattle.slot_join.specs.OneCall.{ShowsNoOther, IsCallOrMissing};
+ghost use Rattle.slot_join.specs.OneCall.{ShowsNoOther, IsCallOrMissing, AreOneCalls};
 
 use call_grammar::{formats_begin_calls, fronts_differ, lists_are_characters, lists_are_short};
 use phasing::{late_starts_are_found, whole_calls_are_found};
@@ -127,4 +128,17 @@ pub fn call_or_missing_place()
 {
     fronts_differ();
     formats_begin_calls();
+}
+
+/// The law of a board on which one call's facts alone may be posted: whatever a look at it shows, the answer is the call, or names as missing a
+/// place of it that showed nothing; and the sheet of every truly phased reception of the call with one-way errors may be posted there. It does nothing.
+pub fn looks_report_the_call()
+    ensures looked { (facts : List (ℕ × ℕ)) (call : Call) (tail : List ℕ) (sheet : List Seen) (answer : Joined) → IsCall call → AreOneCalls facts call tail
+        → OnlyAllowed facts sheet → IsAnswer (facts_in sheet) answer → IsCallOrMissing (facts_in sheet) call answer }
+    ensures admitted { (facts : List (ℕ × ℕ)) (call : Call) (tail : List ℕ) (reception : List Element) (sheet : List Seen) → IsCall call → All (λ symbol. symbol < 128) tail
+        → AreOneCalls facts call tail → IsHeard reception (spell call ++ tail) → IsEnds (facts_of reception) sheet → OnlyAllowed facts sheet }
+{
+    call_or_missing_place();
+    heard_calls_show_no_other();
+    lists_are_characters();
 }

@@ -2,19 +2,17 @@
 #![tactic(auto)]
 
 mod extras;
-mod gate;
 mod hearing;
 mod joined;
 mod laws;
 mod reading;
 
-pub use gate::{Gate, Open};
 pub use hearing::{intact_copies_report_the_call, sent_call_is_answered};
 pub use joined::{Extra, Joined};
 pub use laws::{
     alike_facts_have_one_answer, call_or_missing_place, ends_give_the_answer,
-    heard_calls_show_no_other, intact_call_is_reported, late_calls_are_found, one_answer,
-    transmissions_are_answered, unphased_receptions_are_heard,
+    heard_calls_show_no_other, intact_call_is_reported, late_calls_are_found,
+    looks_report_the_call, one_answer, transmissions_are_answered, unphased_receptions_are_heard,
 };
 pub use reading::report;
 pub use slot_evidence::{Seen, Sheet, read_sheet};

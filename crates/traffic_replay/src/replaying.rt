@@ -7,7 +7,7 @@ ghost use Rattle.traffic_replay.specs.Meaning.{replay_meaning};
 use crate::command::Replay;
 use dsc_streams::{Sink, Source, Status};
 use line_engine::{MOST_TAKEN, drive};
-use slot_join::Gate;
+use receiver_pool::Gate;
 use std::alloc::Global;
 use std::thread::Threads;
 

@@ -1,6 +1,6 @@
 use super::*;
 use dsc_files::{SureSink, SureSource};
-use slot_join::Open;
+use receiver_pool::Open;
 use std::alloc::{AllocError, Global};
 use std::test::Fail;
 use std::thread::Threads;

@@ -9,7 +9,7 @@ least_either : (b : Bool) (least greatest : ℕ) → least_of (cond b (seen.One 
 least_either true least greatest = refl
 least_either false least greatest = refl
 
-least_back : (least past : ℕ) → AreInOrder least past → least_of (seen_between least past) ≡ least
+pub least_back : (least past : ℕ) → AreInOrder least past → least_of (seen_between least past) ≡ least
 least_back least zero order = sym order
 least_back least (suc greatest) order = least_either (least == greatest) least greatest
 
@@ -17,7 +17,7 @@ past_either : (b : Bool) (least greatest : ℕ) → (least == greatest) ≡ b �
 past_either true least greatest same = ap suc (eqb-true least greatest same)
 past_either false least greatest other = refl
 
-past_back : (least past : ℕ) → past_of (seen_between least past) ≡ past
+pub past_back : (least past : ℕ) → past_of (seen_between least past) ≡ past
 past_back least zero = refl
 past_back least (suc greatest) = past_either (least == greatest) least greatest refl
 

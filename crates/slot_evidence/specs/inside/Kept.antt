@@ -1,5 +1,5 @@
 -- How a sheet keeps its places: two numbers each. This project's own form.
-use Rattle.std.specs.Prelude.{◌≡◌, ℕ, zero, suc, ◌+◌, ◌<◌, ◌≤◌, ◌==◌, nat_lt, if◌then◌else◌, List, [], ◌∷◌, length}
+use Rattle.std.specs.Prelude.{◌≡◌, ℕ, zero, suc, ◌+◌, ◌<◌, ◌≤◌, ◌==◌, min, max, nat_lt, if◌then◌else◌, List, [], ◌∷◌, length}
 use Rattle.slot_evidence.specs.declared.places.Seen.{Seen}
 use Rattle.slot_evidence.specs.declared.places.Seen.TheVariants as seen
 
@@ -28,6 +28,10 @@ abbrev pub past_of : Seen → ℕ
 past_of seen.None = 0
 past_of (seen.One v) = suc v
 past_of (seen.Differ least greatest) = suc greatest
+
+-- what is kept of a place with one symbol more
+abbrev pub seen_with : Seen → ℕ → Seen
+seen_with seen symbol = seen_between (min (least_of seen) symbol) (max (past_of seen) (symbol + 1))
 
 -- the number after a symbol, and 0 after 128
 abbrev pub past_symbol : ℕ → ℕ

@@ -19,4 +19,4 @@ returns-in_err-place-clause-left c =
 pub loop-rest-preserved : goal.loop-rest-preserved
 loop-rest-preserved c =
     let x = c.in_ok-place.ensures in
-    taken_more _ _ _ _ _ _ c.loop-rest.invariant x.pair.0 x.pair.1 x.goes_on c.add.ensures
+    taken_more _ _ _ _ _ _ c.loop-rest.invariant x.pair.0 x.pair.1 x.goes_on c.add.ensures.union

@@ -1,7 +1,6 @@
 //! The gate that workers pass before their first reception.
 
-/// What each worker, numbered from 0, calls once before its first reception. It answers nothing and
-/// changes no result; no gate is entered while `join` works on the caller's thread.
+/// What each worker, numbered from 0, calls once before its first reception. It answers nothing and changes no result.
 pub trait Gate: Sync {
     fn enter(&self, worker: u32);
 }

@@ -1,0 +1,131 @@
+-- The facts of the receptions whose turn it is.
+use Rattle.std.proofs.Common.{◌≡◌, ℕ, zero, suc, ◌+◌, ◌%◌, ◌<◌, ◌≤◌, ◌==◌, Bool, true, false, ◌&&◌, ◌||◌, nat_le, nat_lt, List, [], length, take, slice_index_or, refl, arith, ap, sym, ◌∙◌, subst, inl, inr, add-one}
+use Rattle.std.specs.List.{list_any}
+use Rattle.std.proofs.lemmas.Bool.{cases_eq, cases_lt, eq-eqb, ne_eqb, lt-ltb, le-ltb, le-leb, lt-leb}
+use Rattle.std.proofs.lemmas.List.{take_all}
+use Rattle.std.proofs.lemmas.List.Folds.{list_any_more}
+use Rattle.ten_unit.specs.declared.character.Element.{Element}
+use Rattle.slot_evidence.specs.Facts.{Facts, no_facts, facts_of, facts_of_all, union}
+use Rattle.slot_evidence.specs.declared.places.Seen.{Seen}
+use Rattle.slot_evidence.specs.Sheet.{IsEnds}
+use Rattle.slot_evidence.proofs.Ends.{IsEnds-same}
+use Rattle.receiver_pool.specs.inside.Turns.{is_turn, part}
+
+both_true : (a b : Bool) → a ≡ true → b ≡ true → (a && b) ≡ true
+both_true a b p q = ap (λ (x : Bool). x && b) p ∙ q
+
+left_false : (a b : Bool) → a ≡ false → (a && b) ≡ false
+left_false a b p = ap (λ (x : Bool). x && b) p
+
+right_false : (a b : Bool) → b ≡ false → (a && b) ≡ false
+right_false true b q = q
+right_false false b q = refl
+
+or_left_false : (a b : Bool) → a ≡ false → (a || b) ≡ b
+or_left_false a b p = ap (λ (x : Bool). x || b) p
+
+or_left_true : (a b : Bool) → a ≡ true → (a || b) ≡ true
+or_left_true a b p = ap (λ (x : Bool). x || b) p
+
+-- whose turn it is
+turn_yes : (workers low high index : ℕ) → low ≤ index % workers → index % workers < high → is_turn workers low high index ≡ true
+turn_yes workers low high index above below = both_true _ _ (le-leb low (index % workers) above) (lt-ltb (index % workers) high below)
+
+turn_below : (workers low high index : ℕ) → index % workers < low → is_turn workers low high index ≡ false
+turn_below workers low high index below = left_false _ _ (lt-leb low (index % workers) below)
+
+turn_above : (workers low high index : ℕ) → high ≤ index % workers → is_turn workers low high index ≡ false
+turn_above workers low high index above = right_false (nat_le low (index % workers)) _ (le-ltb (index % workers) high above)
+
+pub one_turn : (workers worker index : ℕ) → ((index % workers) == worker) ≡ is_turn workers worker (worker + 1) index
+one_turn workers worker index =
+    elim (cases_eq (index % workers) worker) [
+      | inl same ↦ eq-eqb (index % workers) worker same ∙ sym (turn_yes workers worker (worker + 1) index (omega arith) (omega arith))
+      | inr apart ↦
+          elim (cases_lt (index % workers) worker) [
+            | inl below ↦ ne_eqb (index % workers) worker apart ∙ sym (turn_below workers worker (worker + 1) index below)
+            | inr above ↦ ne_eqb (index % workers) worker apart ∙ sym (turn_above workers worker (worker + 1) index (omega arith))
+          ]
+    ]
+
+turn_halves : (workers low middle high index : ℕ) → low ≤ middle → middle ≤ high → is_turn workers low high index ≡ (is_turn workers low middle index || is_turn workers middle high index)
+turn_halves workers low middle high index left right =
+    elim (cases_lt (index % workers) low) [
+      | inl below ↦ turn_below workers low high index below ∙ sym (or_left_false _ _ (turn_below workers low middle index below) ∙ turn_below workers middle high index (omega arith))
+      | inr above ↦
+          elim (cases_lt (index % workers) middle) [
+            | inl first ↦ turn_yes workers low high index above (omega arith) ∙ sym (or_left_true _ _ (turn_yes workers low middle index above first))
+            | inr second ↦
+                elim (cases_lt (index % workers) high) [
+                  | inl inside ↦ turn_yes workers low high index above inside ∙ sym (or_left_false _ _ (turn_above workers low middle index second) ∙ turn_yes workers middle high index second inside)
+                  | inr outside ↦ turn_above workers low high index outside ∙ sym (or_left_false _ _ (turn_above workers low middle index second) ∙ turn_above workers middle high index outside)
+                ]
+          ]
+    ]
+
+spread : (a b s t x : Bool) → (a || b || ((s || t) && x)) ≡ (a || (s && x) || (b || (t && x)))
+spread true b s t x = refl
+spread false true true t true = refl
+spread false true true t false = refl
+spread false true false t x = refl
+spread false false true t true = refl
+spread false false true true false = refl
+spread false false true false false = refl
+spread false false false t x = refl
+
+-- the parts of two halves together
+pub part_halves : (workers low middle high : ℕ) (list : List (List Element)) (n p v : ℕ) → low ≤ middle → middle ≤ high
+    → part (is_turn workers low high) list n p v ≡ (part (is_turn workers low middle) list n p v || part (is_turn workers middle high) list n p v)
+part_halves workers low middle high list zero p v left right = refl
+part_halves workers low middle high list (suc n) p v left right =
+    let x = facts_of (slice_index_or list n []) p v in
+    let a = part (is_turn workers low middle) list n p v in
+    let b = part (is_turn workers middle high) list n p v in
+    ap (λ (c : Bool). c || (is_turn workers low high n && x)) (part_halves workers low middle high list n p v left right)
+    ∙ ap (λ (t : Bool). a || b || (t && x)) (turn_halves workers low middle high n left right)
+    ∙ spread a b (is_turn workers low middle n) (is_turn workers middle high n) x
+
+-- the part of all workers is what all receptions show
+any_taken : (workers : ℕ) (list : List (List Element)) (n p v : ℕ) → 0 < workers → n ≤ length list → part (is_turn workers 0 workers) list n p v ≡ list_any (λ e. facts_of e p v) (take n list)
+any_taken workers list zero p v some_there inside = refl
+any_taken workers list (suc n) p v some_there inside =
+    let x = facts_of (slice_index_or list n []) p v in
+    ap (λ (c : Bool). c || (is_turn workers 0 workers n && x)) (any_taken workers list n p v some_there (omega arith))
+    ∙ ap (λ (t : Bool). list_any (λ e. facts_of e p v) (take n list) || (t && x)) (turn_yes workers 0 workers n (omega arith) (omega arith))
+    ∙ sym (ap (λ (k : ℕ). list_any (λ e. facts_of e p v) (take k list)) (sym (add-one n)) ∙ list_any_more (λ e. facts_of e p v) list n [] (omega arith))
+
+pub part_all : (workers : ℕ) (list : List (List Element)) (p v : ℕ) → 0 < workers → part (is_turn workers 0 workers) list (length list) p v ≡ facts_of_all list p v
+unfolding facts_of_all
+part_all workers list p v some_there =
+    any_taken workers list (length list) p v some_there (omega arith) ∙ ap (list_any (λ e. facts_of e p v)) (take_all (length list) list (omega arith))
+
+-- sheets of parts
+pub turn_taken : (takes : Bool) (F G : Facts) (sheet : List Seen) → takes ≡ true → IsEnds (union F G) sheet → IsEnds (union F (λ p v. takes && G p v)) sheet
+turn_taken takes F G sheet is ends = IsEnds-same _ _ sheet (λ p v. ap (λ (b : Bool). F p v || (b && G p v)) (sym is)) ends
+
+pub one_more : (workers worker index : ℕ) (list : List (List Element)) (e : List Element) (sheet : List Seen) → e ≡ slice_index_or list index []
+    → IsEnds (union (part (is_turn workers worker (worker + 1)) list index) (λ p v. ((index % workers) == worker) && facts_of e p v)) sheet
+    → IsEnds (part (is_turn workers worker (worker + 1)) list (index + 1)) sheet
+one_more workers worker index list e sheet is ends =
+    subst (λ (n : ℕ). IsEnds (part (is_turn workers worker (worker + 1)) list n) sheet) (sym (add-one index))
+    (IsEnds-same _ _ sheet
+    (λ p v.
+    ap (λ (b : Bool). part (is_turn workers worker (worker + 1)) list index p v || (b && facts_of e p v)) (one_turn workers worker index)
+    ∙ ap (λ (x : List Element). part (is_turn workers worker (worker + 1)) list index p v || (is_turn workers worker (worker + 1) index && facts_of x p v)) is)
+    ends)
+
+fold_twice : (f a b : Bool) → (f || a || (f || b)) ≡ (f || (a || b))
+fold_twice true a b = refl
+fold_twice false a b = refl
+
+pub halves_joined : (workers low middle high : ℕ) (list : List (List Element)) (F : Facts) (sheet : List Seen) → low ≤ middle → middle ≤ high
+    → IsEnds (union (union F (part (is_turn workers low middle) list (length list))) (union F (part (is_turn workers middle high) list (length list)))) sheet
+    → IsEnds (union F (part (is_turn workers low high) list (length list))) sheet
+halves_joined workers low middle high list F sheet left right ends =
+    IsEnds-same _ _ sheet (λ p v. fold_twice (F p v) _ _ ∙ ap (λ (b : Bool). F p v || b) (sym (part_halves workers low middle high list (length list) p v left right))) ends
+
+pub all_joined : (workers : ℕ) (list : List (List Element)) (sheet : List Seen) → 0 < workers → IsEnds (union no_facts (part (is_turn workers 0 workers) list (length list))) sheet → IsEnds (facts_of_all list) sheet
+all_joined workers list sheet some_there ends = IsEnds-same _ _ sheet (λ p v. part_all workers list p v some_there) ends
+
+pub all_by_one : (workers : ℕ) (list : List (List Element)) (sheet : List Seen) → 0 < workers → IsEnds (part (is_turn workers 0 workers) list (length list)) sheet → IsEnds (facts_of_all list) sheet
+all_by_one workers list sheet some_there ends = IsEnds-same _ _ sheet (λ p v. part_all workers list p v some_there) ends

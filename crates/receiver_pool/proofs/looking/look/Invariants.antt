@@ -1,0 +1,16 @@
+use Rattle.std.proofs.Common.{◌≡◌, ℕ, ◌<◌, ◌≤◌, length}
+use Rattle.slot_evidence.specs.declared.places.Seen.TheVariants as seen
+use Rattle.slot_evidence.specs.Sheet.{seen_at}
+use Rattle.receiver_pool.specs.Views.{place_at, kept_of}
+use Rattle.receiver_pool.specs.inside.Through.{Through, LooksAt}
+use Rattle.receiver_pool.proofs.looking.look.Given as goal
+
+abbrev pub invariant-loop-p : goal.invariant-loop-p
+invariant-loop-p g l = record {
+  table : l.token.table_id ≡ l.initial.token.table_id;
+  no_slot : l.token.me.1 ≡ l.initial.token.me.1;
+  through : Through (LooksAt g.A.Allowed.facts) l.initial.token.me.0 l.token.me.0 l.p;
+  size : length l.sheet ≡ 64;
+  below : (p : ℕ) → p < l.p → seen_at l.sheet p ≡ kept_of (place_at l.token.me.0 p).seen;
+  above : (p : ℕ) → l.p ≤ p → seen_at l.sheet p ≡ seen.None;
+}

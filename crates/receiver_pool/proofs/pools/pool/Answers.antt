@@ -1,0 +1,14 @@
+use Rattle.std.proofs.Common.{List, arith, subst, sym}
+use Rattle.slot_evidence.specs.declared.places.Seen.{Seen}
+use Rattle.slot_evidence.specs.Facts.{no_facts, facts_of_all}
+use Rattle.slot_evidence.specs.Sheet.{IsEnds}
+use Rattle.receiver_pool.proofs.Parts.{all_joined, all_by_one}
+use Rattle.receiver_pool.proofs.pools.pool.Goals as goal
+
+pub returns-then-workers-eq1 : goal.returns-then-workers-eq1
+returns-then-workers-eq1 g c = all_by_one 1 c.args.list.now c.heard_by.result (omega arith) c.heard_by.ensures
+
+pub returns : goal.returns
+returns g c =
+    subst (λ (s : List Seen). IsEnds (facts_of_all c.args.list.now) s) (sym c.close.ensures)
+    (all_joined c.args.workers c.args.list.now _ (omega (arith, c.requires.workers)) (c.fork-seat.ensures.ends no_facts c.in_ok-board.ensures.empty))

@@ -1,0 +1,5 @@
+pub mod May
+pub mod Tells
+pub mod Through
+pub mod Turns
+pub mod Worked

@@ -1,0 +1,23 @@
+//! A board on which receiver threads join one call: each posts what it heard by single steps on shared words, and no call waits.
+#![tactic(auto)]
+
+mod allowed;
+mod board;
+mod gate;
+mod laws;
+mod looking;
+mod pools;
+mod posting;
+mod seats;
+mod steps;
+mod words;
+
+pub use allowed::{AllFacts, Allowed, all_facts_may_be_posted};
+pub use board::Board;
+pub use gate::{Gate, Open};
+pub use laws::{one_core, seats_are_at_rest};
+pub use pools::pool;
+pub use seats::{Seat, WHOLE};
+
+#[cfg(test)]
+mod tests;

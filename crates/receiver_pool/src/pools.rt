@@ -1,0 +1,125 @@
+//! Receptions joined by several workers on one board.
+ghost use Rattle.std.specs.Prelude.{◌≡◌, ◌+◌, ◌-◌, ◌%◌, ◌<◌, ◌≤◌, ◌&&◌, ◌==◌, All, IfOk, length};
+ghost use Rattle.std.specs.Thread.{IsSync, IsSend};
+ghost use Rattle.slot_evidence.specs.Facts.{Facts, facts_of, facts_of_all, union};
+ghost use Rattle.slot_evidence.specs.Sheet.{IsEnds};
+ghost use Rattle.receiver_pool.specs.Views.{given_sheet};
+ghost use Rattle.receiver_pool.specs.inside.Turns.{is_turn, part};
+
+use crate::allowed::{AllFacts, all_facts_may_be_posted};
+use crate::board::Board;
+use crate::gate::Gate;
+use crate::seats::Seat;
+use phasing::LONGEST;
+use slot_evidence::{Reception, Sheet, sheet_is_lawful, shown_by};
+use std::alloc::{AllocError, Global};
+use std::thread::{Threads, join};
+
+/// Takes a reception into a sheet where it is one's turn.
+fn take_turn(sheet: &mut Sheet, heard: &Reception, mine: bool)
+    requires { length heard.now ≤ LONGEST }
+    ensures { (F : Facts) → IsEnds F sheet.old → IsEnds (union F (λ p v. mine && facts_of heard.now p v)) sheet.new }
+{
+    if mine {
+        sheet.meet(&shown_by(heard));
+    }
+}
+
+/// The sheet of a worker's receptions: those whose index leaves its number when divided by that of all workers.
+fn heard_by(list: &[Reception], workers: u32, worker: u32) -> Sheet
+    requires worker { worker < workers }
+    requires short { All (λ heard. length heard ≤ LONGEST) list.now }
+    ensures { IsEnds (part (is_turn workers worker (worker + 1)) list.now (length list.now)) result }
+{
+    let mut sheet = Sheet::empty();
+    for (index, heard) in list.iter().enumerate() {
+        let mine = index % workers as usize == worker as usize;
+        take_turn(&mut sheet, heard, mine);
+    }
+    sheet
+}
+
+/// One worker: it enters the gate, joins its receptions, and posts what they showed.
+fn work<G: Gate>(
+    board: &Board<AllFacts>,
+    seat: Seat<AllFacts>,
+    list: &[Reception],
+    workers: u32,
+    worker: u32,
+    gate: &G,
+) -> Seat<AllFacts>
+    requires board { seat.table ≡ board.now }
+    requires worker { worker < workers }
+    requires short { All (λ heard. length heard ≤ LONGEST) list.now }
+    ensures board { result.table ≡ board.now }
+    ensures share { result.view.share ≡ seat.view.share }
+    ensures ends { (F : Facts) → IsEnds F (given_sheet seat.view) → IsEnds (union F (part (is_turn workers worker (worker + 1)) list.now (length list.now))) (given_sheet result.view) }
+{
+    gate.enter(worker);
+    let sheet = heard_by(list, workers, worker);
+    all_facts_may_be_posted();
+    sheet_is_lawful(&sheet);
+    board.admit(seat, &sheet)
+}
+
+/// The workers from `low` on and below `high`, by halves of halves in threads of their own.
+#[cycle(workers)]
+fn fork<R: Threads + Sync, G: Gate>(
+    rt: &R,
+    board: &Board<AllFacts>,
+    seat: Seat<AllFacts>,
+    list: &[Reception],
+    low: u32,
+    high: u32,
+    workers: u32,
+    gate: &G,
+) -> Seat<AllFacts>
+    requires sync { IsSync R.row × IsSync G.row }
+    requires board { seat.table ≡ board.now }
+    requires range { (low < high) × (high ≤ workers) }
+    requires share { high ≤ low + seat.view.share }
+    requires short { All (λ heard. length heard ≤ LONGEST) list.now }
+    ensures board { result.table ≡ board.now }
+    ensures share { result.view.share ≡ seat.view.share }
+    ensures ends { (F : Facts) → IsEnds F (given_sheet seat.view) → IsEnds (union F (part (is_turn workers low high) list.now (length list.now))) (given_sheet result.view) }
+{
+    if high - low == 1 {
+        return work(board, seat, list, workers, low, gate);
+    }
+    let middle = low + (high - low).div_ceil(2);
+    let (first, second) = board.split(seat);
+    let (first, second) = join(
+        rt,
+        move || -> Seat<AllFacts>
+            requires { IsSync R.row × IsSync G.row × (first.table ≡ board.now) × ((low < middle) × (middle ≤ workers)) × (middle ≤ low + first.view.share) × All (λ heard. length heard ≤ LONGEST) list.now }
+            ensures { (result.table ≡ board.entry.now) × (result.view.share ≡ first.view.share) × ((F : Facts) → IsEnds F (given_sheet first.view) → IsEnds (union F (part (is_turn workers low middle) list.entry.now (length list.entry.now))) (given_sheet result.view)) }
+        { fork(rt, board, first, list, low, middle, workers, gate) },
+        move || -> Seat<AllFacts>
+            requires { IsSync R.row × IsSync G.row × (second.table ≡ board.now) × ((middle < high) × (high ≤ workers)) × (high ≤ middle + second.view.share) × All (λ heard. length heard ≤ LONGEST) list.now }
+            ensures { (result.table ≡ board.entry.now) × (result.view.share ≡ second.view.share) × ((F : Facts) → IsEnds F (given_sheet second.view) → IsEnds (union F (part (is_turn workers middle high) list.entry.now (length list.entry.now))) (given_sheet result.view)) }
+        { fork(rt, board, second, list, middle, high, workers, gate) },
+    );
+    board.join(first, second)
+}
+
+/// The sheet of all facts that receptions show, joined by 1 to 64 workers: worker w takes those whose index leaves w when divided by
+/// their number. Each enters the gate once, first thing. With one worker nothing is forked and no board is made. The error is want of memory.
+pub fn pool<R: Threads + Sync, G: Gate>(
+    rt: &R,
+    alloc: Global,
+    list: &[Reception],
+    workers: u32,
+    gate: &G,
+) -> Result<Sheet, AllocError>
+    requires workers { (1 ≤ workers) × (workers ≤ 64) }
+    requires short { All (λ heard. length heard ≤ LONGEST) list.now }
+    ensures { IfOk result (λ sheet. IsEnds (facts_of_all list.now) sheet) }
+{
+    if workers == 1 {
+        gate.enter(0);
+        return Ok(heard_by(list, 1, 0));
+    }
+    let (board, seat) = Board::new(alloc)?;
+    let seat = fork(rt, &board, seat, list, 0, workers, workers, gate);
+    Ok(board.close(seat))
+}
