@@ -4,5 +4,6 @@ pub mod Turns
 pub mod OptionTurns
 pub mod OptionWords
 pub mod LoneWords
+pub mod NumberWords
 pub mod CommandWords
 pub mod PlanWords

@@ -11,15 +11,16 @@ use Rattle.clap.specs.Simple.{Shape, new_shape, entered, label_of, rows_at, subc
 use Rattle.clap.specs.Faults.{entered_fault, fault_of, level_fault}
 use Rattle.clap.proofs.SimpleLemmas.{is_nil}
 use Rattle.clap.proofs.WalkLemmas.{both}
-use Rattle.dsc_words.specs.Words.{HasWorkers, IsDots, IsCommand, IsInRange, IsNumber, IsOption, IsPlan, IsWorkers}
+use Rattle.dsc_words.specs.Words.{HasWorkers, IsDots, IsGroups, IsCommand, IsInRange, IsNumber, IsOption, IsPlan, IsWorkers}
 use Rattle.dsc_words.specs.inside.Asked.{IsAsked}
-use Rattle.dsc_words.specs.inside.CommandLine.{dsc, with_option}
+use Rattle.dsc_words.specs.inside.CommandLine.{dsc, with_number, with_option}
 use Rattle.dsc_words.specs.declared.plans.Plan.{Plan}
-use Rattle.dsc_words.specs.declared.plans.Plan.TheVariants.{Join, Evidence, Encode, Sentences, Replay}
+use Rattle.dsc_words.specs.declared.plans.Plan.TheVariants.{Join, Evidence, Encode, Sentences, Replay, Make}
 use Rattle.dsc_words.proofs.LongWords.{IsBare, IsName, none_is_some, same_text}
 use Rattle.dsc_words.proofs.Turns.{HasNoDashes}
 use Rattle.dsc_words.proofs.OptionTurns.{leaf}
 use Rattle.dsc_words.proofs.LoneWords.{alone_passes, alone_taken}
+use Rattle.dsc_words.proofs.NumberWords.{number_passes, number_taken}
 use Rattle.dsc_words.proofs.OptionWords.{option_passes, option_taken}
 use Rattle.dsc_words.proofs.CommandWords.{Enters, IsMet, app, entered_passes, enters}
 
@@ -96,6 +97,15 @@ long_is_at : (given : Option Text) (long : Bool) → IsDots given long → long_
 long_is_at None long is = sym is
 long_is_at (Some text) true is = ap (λ t. bytes_eq t (codes "200")) is
 long_is_at (Some text) false is = ap (λ t. bytes_eq t (codes "200")) is
+
+-- how many groups the number's text gives, where it gives any
+abbrev groups_at : Option Text → ℕ
+groups_at None = 0
+groups_at (Some text) = digits_value 10 text
+
+groups_are : (given : Option Text) (n : ℕ) → IsGroups given n → groups_at given ≡ n
+groups_are None n is = absurd is
+groups_are (Some text) n is = ap (digits_value 10) is.0 ∙ (decimal_is_IsNumeral n (omega (arith, is.2))).1
 
 -- ---- the command that the words enter
 
@@ -196,6 +206,9 @@ has_encode = record { undashed = refl; met = refl; fault = λ ws. refl; rows = �
 has_sentences : Has (codes "sentences") (new_shape (codes "sentences"))
 has_sentences = record { undashed = refl; met = refl; fault = λ ws. refl; rows = λ ws. refl }
 
+has_make : Has (codes "make") (with_number (codes "make"))
+has_make = record { undashed = refl; met = refl; fault = λ ws. refl; rows = λ ws. refl }
+
 -- words that `clap` takes for what a plan asks are the plan
 pub asked_is_plan : (words : List Text) → HasNoDashes (drop 1 words) → fault_of dsc words ≡ [] → (found : Text) (rows : List Row) (plan : Plan)
     → subcommand_of dsc words ≡ Some (found, rows) → IsAsked found (first_of (codes "number") rows) plan → IsPlan words plan
@@ -220,6 +233,11 @@ asked_is_plan words undashed passes found rows plan gives asked =
     go e behind Sentences asked =
         let got = entered_as (codes "sentences") (new_shape (codes "sentences")) has_sentences words e found rows gives asked in
         (got.0, alone_passes (codes "sentences") e.rest behind got.1)
+    go e behind (Make n) asked =
+        let got = entered_as (codes "make") (with_number (codes "make")) has_make words e found rows gives asked.0 in
+        let passes = number_passes (codes "make") e.rest behind got.1 in
+        let given = ap (first_of (codes "number")) got.2 ∙ passes.2 in
+        (got.0, (passes.0, passes.1, subst (λ (g : Option Text). IsGroups g n) given asked.1))
 
 -- a plan's words are taken
 pub plan_is_taken : (words : List Text) (plan : Plan) → IsPlan words plan → Taken words plan
@@ -239,6 +257,11 @@ plan_is_taken words plan is = subst (λ (ws : List Text). Taken ws plan) (sym is
     go word ws Sentences (at, none) =
         subst (λ (xs : List Text). Taken (is.name ∷ word ∷ xs) Sentences) (sym none)
         (command_taken (codes "sentences") (new_shape (codes "sentences")) has_sentences Sentences is.name word [] at tt (alone_taken (codes "sentences")) refl)
+    go word ws (Make n) (at, (text, words_are, number)) =
+        let taken = number_taken (codes "make") text (number_bare 1000 n text (omega arith) number) in
+        subst (λ (xs : List Text). Taken (is.name ∷ word ∷ xs) (Make n)) (sym words_are)
+        (command_taken (codes "make") (with_number (codes "make")) has_make (Make n) is.name word (text ∷ []) at taken.0 taken.1
+        (subst (λ (g : Option Text). IsAsked (codes "make") g (Make n)) (sym taken.2) (refl, number)))
 
 pub plan_in_range : (words : List Text) (plan : Plan) → IsPlan words plan → IsInRange plan
 plan_in_range words plan is = go is.rest plan is.is_command
@@ -249,6 +272,7 @@ plan_in_range words plan is = go is.rest plan is.is_command
     go ws (Encode long) c = tt
     go ws Sentences c = tt
     go ws (Replay n) c = workers_in_range ws n c.1
+    go ws (Make n) c = (c.1.2.1, c.1.2.2)
 
 -- the plan that a command and its option's text ask for, where they ask for one
 abbrev plan_at : Text → Option Text → Option Plan
@@ -257,7 +281,8 @@ plan_at name given =
     else (if bytes_eq name (codes "evidence") then Some (Evidence (workers_at given))
     else (if bytes_eq name (codes "encode") then Some (Encode (long_at given))
     else (if bytes_eq name (codes "sentences") then Some Sentences
-    else (if bytes_eq name (codes "replay") then Some (Replay (workers_at given)) else None))))
+    else (if bytes_eq name (codes "replay") then Some (Replay (workers_at given))
+    else (if bytes_eq name (codes "make") then Some (Make (groups_at given)) else None)))))
 
 asked_at : (name : Text) (given : Option Text) (plan : Plan) → IsAsked name given plan → plan_at name given ≡ Some plan
 asked_at name given (Join n) (is, workers) = ap (λ c. plan_at c given) is ∙ ap (λ k. Some (Join k)) (workers_are given n workers)
@@ -265,6 +290,7 @@ asked_at name given (Evidence n) (is, workers) = ap (λ c. plan_at c given) is �
 asked_at name given (Encode long) (is, dots) = ap (λ c. plan_at c given) is ∙ ap (λ b. Some (Encode b)) (long_is_at given long dots)
 asked_at name given Sentences is = ap (λ c. plan_at c given) is
 asked_at name given (Replay n) (is, workers) = ap (λ c. plan_at c given) is ∙ ap (λ k. Some (Replay k)) (workers_are given n workers)
+asked_at name given (Make n) (is, groups) = ap (λ c. plan_at c given) is ∙ ap (λ k. Some (Make k)) (groups_are given n groups)
 
 pub plan_is_one : (words : List Text) (a b : Plan) → IsPlan words a → IsPlan words b → a ≡ b
 plan_is_one words a b left right =

@@ -1,7 +1,7 @@
 -- The words of the command line: this project's profile.
 use Rattle.std.specs.Prelude.{◌≡◌, ◌⊎◌, ◌≤◌, ◌++◌, ◌∷◌, ℕ, List, [], Option, Some, None, codes, decimal, Bool, false, if◌then◌else◌}
 use Rattle.dsc_words.specs.declared.plans.Plan.{Plan}
-use Rattle.dsc_words.specs.declared.plans.Plan.TheVariants.{Join, Evidence, Encode, Sentences, Replay}
+use Rattle.dsc_words.specs.declared.plans.Plan.TheVariants.{Join, Evidence, Encode, Sentences, Replay, Make}
 
 abbrev pub Text : Type 0
 Text = List ℕ
@@ -34,6 +34,15 @@ IsDots (Some text) long = text ≡ (if long then codes "200" else codes "20")
 abbrev pub HasDots : List Text → Bool → Type 0
 HasDots words long = (given : Option Text) × IsOption (codes "dots") words given × IsDots given long
 
+-- the number of groups: 1 to 1,000, which has to be given
+abbrev pub IsGroups : Option Text → ℕ → Type 0
+IsGroups None n = ⊥
+IsGroups (Some text) n = IsNumber 1000 text n
+
+-- one word: the number of groups
+abbrev pub HasGroups : List Text → ℕ → Type 0
+HasGroups words n = (text : Text) × (words ≡ text ∷ []) × IsNumber 1000 text n
+
 -- the command's word, and the words behind it
 abbrev pub IsCommand : Text → List Text → Plan → Type 0
 IsCommand command words (Join n) = (command ≡ codes "join") × HasWorkers words n
@@ -41,8 +50,9 @@ IsCommand command words (Evidence n) = (command ≡ codes "evidence") × HasWork
 IsCommand command words (Encode long) = (command ≡ codes "encode") × HasDots words long
 IsCommand command words Sentences = (command ≡ codes "sentences") × (words ≡ [])
 IsCommand command words (Replay n) = (command ≡ codes "replay") × HasWorkers words n
+IsCommand command words (Make n) = (command ≡ codes "make") × HasGroups words n
 
--- the words are the program's name, a command, and the words of its option
+-- the words are the program's name, a command, and the words of its option or its number
 pub record IsPlan (words : List Text) (plan : Plan) : Type 0 where
   pub name : Text
   pub command : Text
@@ -57,3 +67,4 @@ IsInRange (Evidence n) = (1 ≤ n) × (n ≤ 64)
 IsInRange (Encode long) = Unit {0}
 IsInRange Sentences = Unit {0}
 IsInRange (Replay n) = (1 ≤ n) × (n ≤ 64)
+IsInRange (Make n) = (1 ≤ n) × (n ≤ 1000)

@@ -1,7 +1,7 @@
 ghost use Rattle.std.specs.Prelude.{◌≡◌, IfOk, false};
 ghost use Rattle.clap.specs.Words.{app_of, shape_of};
 ghost use Rattle.clap.specs.declared.builder.command.Command.TheViews.{out-Command as fields_of};
-ghost use Rattle.dsc_words.specs.inside.CommandLine.{dsc, program, with_option};
+ghost use Rattle.dsc_words.specs.inside.CommandLine.{dsc, program, with_number, with_option};
 
 use clap::{Arg, Command};
 use std::alloc::{AllocError, Global};
@@ -16,6 +16,7 @@ pub fn command_line<'a>(alloc: Global) -> Result<Command<'a>, AllocError>
     let program = program.subcommand(with_option(alloc, "encode", "dots")?)?;
     let program = program.subcommand(Command::new(alloc, "sentences"))?;
     let program = program.subcommand(with_option(alloc, "replay", "workers")?)?;
+    let program = program.subcommand(with_number(alloc, "make")?)?;
     Ok(program)
 }
 
@@ -36,4 +37,12 @@ fn with_option<'a>(alloc: Global, name: &'a str, long: &'a str) -> Result<Comman
     ensures local { IfOk result (λ r. (fields_of r).has_globals ≡ false) }
 {
     Command::new(alloc, name).arg(Arg::new(alloc, "number").long(long))
+}
+
+/// A command without options, behind which one number has to stand.
+fn with_number<'a>(alloc: Global, name: &'a str) -> Result<Command<'a>, AllocError>
+    ensures shape { IfOk result (λ r. shape_of r ≡ with_number name.now) }
+    ensures local { IfOk result (λ r. (fields_of r).has_globals ≡ false) }
+{
+    Command::new(alloc, name).arg(Arg::new(alloc, "number").required(true))
 }

@@ -1,10 +1,13 @@
 ghost use Rattle.std.specs.Prelude.{ℕ, Bool, IfSome, IsNone, option_map};
-ghost use Rattle.dsc_words.specs.Words.{IsDots, IsWorkers};
+ghost use Rattle.dsc_words.specs.Words.{IsDots, IsGroups, IsWorkers};
 
 use crate::numbers::number;
 
 /// The most workers that a command takes.
 const MOST_WORKERS: u16 = 64;
+
+/// The most groups that `make` takes.
+const MOST_GROUPS: u16 = 1000;
 
 /// The number of workers: 1 where none is given.
 pub fn workers(given: Option<&str>) -> Option<u8>
@@ -26,5 +29,16 @@ pub fn is_long(given: Option<&str>) -> Option<bool>
         None | Some("20") => Some(false),
         Some("200") => Some(true),
         Some(_) => None,
+    }
+}
+
+/// The number of groups, which has to be given.
+pub fn groups(given: Option<&str>) -> Option<u16>
+    ensures some { IfSome result (IsGroups (option_map (λ s. s.now) given.entry)) }
+    ensures none { IsNone result → (n : ℕ) → IsGroups (option_map (λ s. s.now) given.entry) n → ⊥ }
+{
+    match given {
+        None => None,
+        Some(text) => Some(number(text, MOST_GROUPS)?),
     }
 }

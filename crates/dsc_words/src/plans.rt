@@ -17,6 +17,8 @@ pub enum Plan {
     Sentences,
     /// `replay [--workers N]`: what a station does at the events of a traffic file. 1 to 64 workers, 1 where none are given.
     Replay { workers: u8 },
+    /// `make N`: how the receptions of N generated groups are joined. 1 to 1,000 groups.
+    Make { groups: u16 },
 }
 
 /// Why words gave no plan.

@@ -8,7 +8,7 @@ ghost use Rattle.dsc_words.specs.inside.CommandLine.{dsc};
 ghost use Rattle.dsc_words.specs.declared.plans.Plan.{Plan};
 
 use crate::command_line::command_line;
-use crate::options::{is_long, workers};
+use crate::options::{groups, is_long, workers};
 use crate::plans::{Plan, PlanError};
 use clap::error::ErrorKind;
 use clap::{ArgMatches, Error};
@@ -66,7 +66,7 @@ fn read(matches: &ArgMatches) -> Option<Plan>
     asked(command, values.get_str("number"))
 }
 
-/// The plan that a command asks for, with the text that its option was given.
+/// The plan that a command asks for, with the text that its number was given.
 fn asked(command: &str, given: Option<&str>) -> Option<Plan>
     ensures some { IfSome result (IsAsked command.now (option_map (λ s. s.now) given.entry)) }
     ensures none { IsNone result → (plan : Plan) → IsAsked command.now (option_map (λ s. s.now) given.entry) plan → ⊥ }
@@ -84,6 +84,9 @@ fn asked(command: &str, given: Option<&str>) -> Option<Plan>
         "sentences" => Some(Plan::Sentences),
         "replay" => Some(Plan::Replay {
             workers: workers(given)?,
+        }),
+        "make" => Some(Plan::Make {
+            groups: groups(given)?,
         }),
         _ => None,
     }

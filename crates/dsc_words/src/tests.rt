@@ -12,7 +12,7 @@ fn words_of(alloc: Global, line: &str) -> Result<Vec<String>, AllocError> {
 }
 
 /// Word lists, and the plan that each is.
-static PLANS: [(&str, Plan); 23] = [
+static PLANS: [(&str, Plan); 26] = [
     ("dsc|join", Plan::Join { workers: 1 }),
     ("dsc|evidence", Plan::Evidence { workers: 1 }),
     ("dsc|join|--workers|1", Plan::Join { workers: 1 }),
@@ -38,10 +38,14 @@ static PLANS: [(&str, Plan); 23] = [
     ("dsc|sentences", Plan::Sentences),
     ("dsc|replay", Plan::Replay { workers: 1 }),
     ("dsc|replay|--workers=64", Plan::Replay { workers: 64 }),
+    // A command with a number.
+    ("dsc|make|1", Plan::Make { groups: 1 }),
+    ("dsc|make|70", Plan::Make { groups: 70 }),
+    ("dsc|make|1000", Plan::Make { groups: 1000 }),
 ];
 
 /// Word lists that are no plan.
-static REFUSED: [&str; 59] = [
+static REFUSED: [&str; 73] = [
     // No command, or none that there is.
     "dsc",
     "",
@@ -53,7 +57,6 @@ static REFUSED: [&str; 59] = [
     "dsc|joins",
     "dsc| join",
     "dsc|replay|--workers|65",
-    "dsc|make|7",
     // Help and version are no plans.
     "dsc|help",
     "dsc|help|join",
@@ -107,6 +110,22 @@ static REFUSED: [&str; 59] = [
     "dsc|sentences|-h",
     "dsc|sentences|--",
     "dsc|sentences|",
+    // Of the command with a number.
+    "dsc|make",
+    "dsc|make|",
+    "dsc|make|0",
+    "dsc|make|07",
+    "dsc|make|1001",
+    "dsc|make|65537",
+    "dsc|make|+7",
+    "dsc|make|-7",
+    "dsc|make| 7",
+    "dsc|make|seven",
+    "dsc|make|7|7",
+    "dsc|make|--number=7",
+    "dsc|make|--number|7",
+    "dsc|make|--|7",
+    "dsc|make|--workers=2|7",
 ];
 
 #[test]

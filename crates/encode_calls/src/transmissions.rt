@@ -37,6 +37,7 @@ fn list_of(call: &Call, extra: &Extra) -> ArrayVec<u8, 64>
 pub fn slots_of(call: &Call, extra: &Extra) -> ArrayVec<u8, 160>
     requires { IsWholeOrAbsent extra.now }
     ensures slots { result.items ≡ diversity.on_air (list_on_air call.now extra.now) }
+    ensures length { length result.items ≤ 140 }
     ensures symbols { All (λ v. v < 128) result.items }
 {
     on_air(&list_of(call, extra))

@@ -12,16 +12,17 @@ ghost use Rattle.join_groups.specs.inside.Kept.{Keeps, IsRefused, IsShort};
 use dsc_files::{FileKind, Line, LineFault, line_of};
 use line_engine::{LONGEST_LINE, Refusal};
 use phasing::LONGEST;
-use slot_evidence::{Reception, Sheet, read_sheet};
+use slot_evidence::{Sheet, read_sheet};
 use std::alloc::Global;
 use std::collections::BTreeMap;
+use ten_unit::Element;
 
-/// The sheet of what a receiver heard: it is empty where no origin is found.
-fn shown_by(heard: &Reception) -> Sheet
+/// The sheet of what a receiver heard, at most 1,000,000 elements: it is empty where no origin is found.
+pub fn shown_by(heard: &[Element]) -> Sheet
     requires { length heard.now ≤ LONGEST }
     ensures { IsEnds (facts_of heard.now) result }
 {
-    match read_sheet(heard.elements()) {
+    match read_sheet(heard) {
         Some(sheet) => sheet,
         None => Sheet::empty(),
     }
@@ -71,7 +72,7 @@ impl Groups {
             → Says line read.now → (refusal ≡ Refusal.TooManyGroups) × BringsTooMany said line)) }
     {
         match read {
-            Line::Reception { group, elements } => self.meet(*group, &shown_by(elements)),
+            Line::Reception { group, elements } => self.meet(*group, &shown_by(elements.elements())),
             Line::Evidence { group, sheet } => self.meet(*group, sheet),
             _ => Ok(()),
         }

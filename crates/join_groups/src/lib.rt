@@ -7,6 +7,6 @@ mod laws;
 mod telling;
 
 pub use commands::TellGroups;
-pub use groups::{Groups, MOST_GROUPS};
+pub use groups::{Groups, MOST_GROUPS, shown_by};
 pub use laws::{evidence_stands_for_lines, texts_forget_order};
-pub use telling::{Answers, Ends, Teller};
+pub use telling::{Answers, Ends, Teller, is_reported};

@@ -39,7 +39,7 @@ impl Teller for Answers {
 }
 
 /// Whether a call was reported.
-fn is_reported(answer: &Joined) -> bool
+pub fn is_reported(answer: &Joined) -> bool
     ensures { result ≡ output.is_reported answer.now }
 {
     match answer {

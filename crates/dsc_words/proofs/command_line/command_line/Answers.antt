@@ -10,4 +10,5 @@ returns c =
     let with_encode = c.in_ok-program-3.ensures.shape c.in_ok-with_option-3.ensures.local ∙ ap₂ with_subcommand with_evidence c.in_ok-with_option-3.ensures.shape in
     let with_sentences = c.in_ok-program-4.ensures.shape c.new.ensures.local ∙ ap₂ with_subcommand with_encode (ap (λ (a : App). a.top) c.new.ensures.app) in
     let with_replay = c.in_ok-program-5.ensures.shape c.in_ok-with_option-4.ensures.local ∙ ap₂ with_subcommand with_sentences c.in_ok-with_option-4.ensures.shape in
-    with_replay
+    let with_make = c.in_ok-program-6.ensures.shape c.in_ok-with_number.ensures.local ∙ ap₂ with_subcommand with_replay c.in_ok-with_number.ensures.shape in
+    with_make

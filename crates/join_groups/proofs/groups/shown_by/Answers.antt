@@ -1,5 +1,4 @@
-use Rattle.std.proofs.Common.{List, ◌≡◌, sym, ap, subst, ◌∙◌, refl, None}
-use Rattle.ten_unit.specs.declared.character.Element.{Element}
+use Rattle.std.proofs.Common.{◌≡◌, sym, ap, subst, refl, None}
 use Rattle.phasing.specs.Origin.{lead_of}
 use Rattle.slot_evidence.specs.Facts.{Facts, facts_of, facts_at}
 use Rattle.slot_evidence.specs.Sheet.{IsEnds}
@@ -8,5 +7,5 @@ use Rattle.join_groups.proofs.groups.shown_by.Goals as goal
 pub returns-in-None : goal.returns-in-None
 unfolding facts_of
 returns-in-None c =
-    let none : lead_of c.args.heard.now ≡ None = ap (λ (e : List Element). lead_of e) (sym c.elements.ensures) ∙ c.in-None.ensures.none.0 refl in
+    let none : lead_of c.args.heard.now ≡ None = c.in-None.ensures.none.0 refl in
     subst (λ (F : Facts). IsEnds F c.empty.result) (sym (ap (facts_at c.args.heard.now) none)) c.empty.ensures.ends

@@ -1,5 +1,6 @@
-use Rattle.std.proofs.Common.{sym, subst, inl, inr}
-use Rattle.slot_evidence.specs.Facts.{Facts}
+use Rattle.std.proofs.Common.{List, sym, subst, inl, inr}
+use Rattle.ten_unit.specs.declared.character.Element.{Element}
+use Rattle.slot_evidence.specs.Facts.{Facts, facts_of}
 use Rattle.slot_evidence.specs.Sheet.{IsEnds}
 use Rattle.dsc_files.specs.declared.lines.Line.{Line}
 use Rattle.dsc_files.specs.Lines.{Says}
@@ -14,7 +15,8 @@ pub returns-in-Reception-clause-ok : goal.returns-in-Reception-clause-ok
 returns-in-Reception-clause-ok c = map_ok c.meet.result
     (λ ok. λ said line keeps is.
     let says = says_reception line c.in-Reception.group c.in-Reception.elements (subst (λ (read : Line). Says line read) c.in-Reception.is is) in
-    ok said line keeps says.0 (subst (λ (F : Facts). IsEnds F c.shown_by.result) (sym says.1) c.shown_by.ensures))
+    ok said line keeps says.0 (subst (λ (F : Facts). IsEnds F c.shown_by.result) (sym says.1)
+    (subst (λ (e : List Element). IsEnds (facts_of e) c.shown_by.result) c.elements.ensures c.shown_by.ensures)))
     c.meet.ensures.ok
 
 pub returns-in-Reception-clause-err : goal.returns-in-Reception-clause-err

@@ -1,0 +1,113 @@
+-- Which groups the generated lines name, and their facts: those of their own lines.
+use Rattle.std.proofs.Common.{◌≡◌, ℕ, ◌+◌, Bool, true, false, ◌&&◌, ◌||◌, ◌==◌, List, [], ◌∷◌, flat_map, map, refl, sym, ap, ap₂, subst, ◌∙◌, arith}
+use Rattle.std.specs.List.{AllByRecursion, range_with_len}
+use Rattle.std.proofs.lemmas.List.Folds.{list_any-append}
+use Rattle.std.proofs.lemmas.List.FromFn.{map-range_with_len_more}
+use Rattle.slot_evidence.specs.declared.places.Seen.{Seen}
+use Rattle.slot_evidence.specs.Facts.{Facts, no_facts, facts_of, union}
+use Rattle.slot_evidence.specs.Sheet.{IsEnds, IsMeet}
+use Rattle.slot_join.specs.Answer.{IsAnswer}
+use Rattle.ten_unit.specs.declared.character.Element.{Element}
+use Rattle.dsc_files.specs.JoinLine.{JoinLine, reception}
+use Rattle.join_groups.specs.Groups.{names, is_named, is_among, facts_of_line, group_facts, AreGroups}
+use Rattle.join_groups.proofs.Naming.{same_facts, unnamed_facts, facts_push}
+use Rattle.generated_join.specs.Generator.{heard, generated, lines_of_group}
+use Rattle.generated_join.specs.Summary.{Answered}
+use Rattle.generated_join.proofs.Ranges.{rising_range}
+
+is_equal : (a b : ℕ) → (a == b) ≡ true → a ≡ b
+is_equal a b h = grind arith
+
+same_number : (k : ℕ) → (k == k) ≡ true
+same_number k = grind arith
+
+four_or : (b : Bool) → (b || (b || (b || (b || false)))) ≡ b
+four_or true = refl
+four_or false = refl
+
+-- the lines of a group name it and no other
+named_group : (i k : ℕ) → is_named (lines_of_group i) k ≡ (i == k)
+unfolding is_named lines_of_group
+named_group i k = four_or (i == k)
+
+named_all : (numbers : List ℕ) (k : ℕ) → is_named (flat_map lines_of_group numbers) k ≡ is_among numbers k
+unfolding is_named
+named_all [] k = refl
+named_all (i ∷ numbers) k =
+    list_any-append (names k) (lines_of_group i) (flat_map lines_of_group numbers) ∙ ap₂ (λ (a b : Bool). a || b) (named_group i k) (named_all numbers k)
+
+-- the groups of the generated lines are those below their number
+pub are_groups : (n : ℕ) → AreGroups (generated n) (range_with_len 0 n)
+unfolding generated
+are_groups n = record { rising = rising_range 0 n; named = λ k. sym (named_all (range_with_len 0 n) k) }
+
+absorbed : (a b : Bool) → (a || (b && a)) ≡ a
+absorbed true b = refl
+absorbed false true = refl
+absorbed false false = refl
+
+facts_split : (i : ℕ) (numbers : List ℕ) (k p v : ℕ)
+    → group_facts (flat_map lines_of_group (i ∷ numbers)) k p v ≡ (group_facts (lines_of_group i) k p v || group_facts (flat_map lines_of_group numbers) k p v)
+unfolding group_facts
+facts_split i numbers k p v = list_any-append (λ line. facts_of_line k line p v) (lines_of_group i) (flat_map lines_of_group numbers)
+
+-- the facts of a group, where it is one of these, are those of its own lines
+facts_all : (numbers : List ℕ) (k p v : ℕ) → group_facts (flat_map lines_of_group numbers) k p v ≡ (is_among numbers k && group_facts (lines_of_group k) k p v)
+unfolding group_facts
+facts_all [] k p v = refl
+facts_all (i ∷ numbers) k p v = facts_split i numbers k p v ∙ by_test (i == k) refl (facts_all numbers k p v)
+  where
+    by_test : (t : Bool) → (i == k) ≡ t → group_facts (flat_map lines_of_group numbers) k p v ≡ (is_among numbers k && group_facts (lines_of_group k) k p v)
+        → (group_facts (lines_of_group i) k p v || group_facts (flat_map lines_of_group numbers) k p v) ≡ ((t || is_among numbers k) && group_facts (lines_of_group k) k p v)
+    by_test true is rest =
+        ap₂ (λ (n : ℕ) (b : Bool). group_facts (lines_of_group n) k p v || b) (is_equal i k is) rest ∙ absorbed (group_facts (lines_of_group k) k p v) (is_among numbers k)
+    by_test false is rest = ap₂ (λ (a b : Bool). a || b) (unnamed_facts (lines_of_group i) k p v (named_group i k ∙ is)) rest
+
+facts_here : (n k : ℕ) → is_among (range_with_len 0 n) k ≡ true → group_facts (lines_of_group k) k ≡ group_facts (generated n) k
+unfolding generated
+facts_here n k h =
+    same_facts (group_facts (lines_of_group k) k) (group_facts (generated n) k) (λ p v.
+    sym (facts_all (range_with_len 0 n) k p v ∙ ap (λ (b : Bool). b && group_facts (lines_of_group k) k p v) h))
+
+or_right : (a b : Bool) → b ≡ true → (a || b) ≡ true
+or_right true b h = refl
+or_right false b h = h
+
+-- what answers to the facts of a group's own lines answers to all its facts
+pub each_here : (n : ℕ) (all : List Answered) → ((k : ℕ) → is_among (map (λ one. one.group) all) k ≡ true → is_among (range_with_len 0 n) k ≡ true)
+    → AllByRecursion (λ one. IsAnswer (group_facts (lines_of_group one.group) one.group) one.answer) all
+    → AllByRecursion (λ one. IsAnswer (group_facts (generated n) one.group) one.answer) all
+each_here n [] within each = tt
+each_here n (one ∷ all) within each =
+    let first = ap (λ (b : Bool). b || is_among (map (λ one. one.group) all) one.group) (same_number one.group) in (
+      subst (λ (F : Facts). IsAnswer F one.answer) (facts_here n one.group (within one.group first)) each.0,
+      each_here n all (λ k h. within k (or_right (one.group == k) (is_among (map (λ one. one.group) all) k) h)) each.1,
+    )
+
+-- ---- the facts of one group, line by line
+
+-- no line gives no facts
+pub no_lines : (k : ℕ) → no_facts ≡ group_facts [] k
+unfolding group_facts
+no_lines k = same_facts no_facts (group_facts [] k) (λ p v. refl)
+
+-- a reception of the group gives its own facts
+pub own_facts : (k : ℕ) (e : List Element) → facts_of e ≡ facts_of_line k (reception k e)
+own_facts k e = same_facts (facts_of e) (facts_of_line k (reception k e)) (λ p v. sym (ap (λ (b : Bool). b && facts_of e p v) (same_number k)))
+
+-- the lines of the first receivers of a group
+abbrev pub first_lines : ℕ → ℕ → List JoinLine
+first_lines k n = map (λ j. reception k (heard k j)) (range_with_len 0 n)
+
+facts_more : (k n : ℕ) → union (group_facts (first_lines k n) k) (facts_of (heard k n)) ≡ group_facts (first_lines k (n + 1)) k
+facts_more k n =
+    ap (λ (G : Facts). union (group_facts (first_lines k n) k) G) (own_facts k (heard k n))
+    ∙ sym (facts_push (first_lines k n) (reception k (heard k n)) k)
+    ∙ ap (λ (said : List JoinLine). group_facts said k) (sym (map-range_with_len_more (λ j. reception k (heard k j)) 0 n n (omega arith)))
+
+-- one receiver more was joined
+pub met_more : (k n : ℕ) (e : List Element) (old shown new : List Seen) → e ≡ heard k n → IsEnds (group_facts (first_lines k n) k) old → IsEnds (facts_of e) shown
+    → IsMeet old shown new → IsEnds (group_facts (first_lines k (n + 1)) k) new
+met_more k n e old shown new same ends showed meet =
+    subst (λ (F : Facts). IsEnds F new) (facts_more k n)
+    (meet (group_facts (first_lines k n) k) (facts_of (heard k n)) ends (subst (λ (h : List Element). IsEnds (facts_of h) shown) same showed))

@@ -1,0 +1,5 @@
+pub mod Ranges
+pub mod Groups
+pub mod Counting
+pub mod LineTexts
+pub mod JoinTexts
