@@ -4,15 +4,13 @@
 prefix=${DESTDIR-}${PREFIX-/usr/local}
 documents=$prefix/share/doc/dsc
 
-# Names each file of the repository that is installed, and the folder that it is put into.
+# Names each file of the repository that is installed, and the folder that it is put into. Documents keep their places to each
+# other, so that their links hold.
 list_installed() (
     cd "$top" || exit
     echo "man/dsc.1 $prefix/share/man/man1"
-    for file in README.md docs/*.md; do
-        echo "$file $documents"
+    for file in README.md docs/*.md docs/pictures/*.svg examples/* tools/cut_recording tools/split_groups; do
+        folder=$documents/$file
+        echo "$file ${folder%/*}"
     done
-    for file in examples/*; do
-        echo "$file $documents/examples"
-    done
-    echo "tools/cut_recording $documents/tools"
 )
