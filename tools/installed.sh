@@ -1,0 +1,16 @@
+# Read by `tools/install` and `tools/uninstall`: where the files of the suite stand on a system. Who reads this has set `top`,
+# the folder of the repository.
+
+prefix=${DESTDIR-}${PREFIX-/usr/local}
+documents=$prefix/share/doc/dsc
+
+# Names each file of the repository that is installed, and the folder that it is put into. Documents keep their places to each
+# other, so that their links hold.
+list_installed() (
+    cd "$top" || exit
+    echo "man/dsc.1 $prefix/share/man/man1"
+    for file in README.md docs/*.md docs/pictures/*.svg examples/* tools/cut_recording tools/split_groups; do
+        folder=$documents/$file
+        echo "$file ${folder%/*}"
+    done
+)
