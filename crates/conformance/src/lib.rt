@@ -13,6 +13,8 @@ mod groups;
 #[cfg(test)]
 mod joins;
 #[cfg(test)]
+mod made;
+#[cfg(test)]
 mod receptions;
 #[cfg(test)]
 mod replays;

@@ -1,3 +1,4 @@
 pub mod Behind
 pub mod SentGroups
 pub mod EncodedCalls
+pub mod MadeEndings

@@ -1,24 +1,40 @@
 -- What a run of each command promises: this project's profile.
-use Rattle.std.specs.Prelude.{ℕ, List, Option, codes}
+use Rattle.std.specs.Prelude.{◌≡◌, ℕ, List, [], Option, Some, codes}
 use Rattle.line_engine.specs.Meaning.{Meaning, IsQuiet}
-use Rattle.line_engine.specs.Endings.{WritesFront, CutsOff, TellsFront}
+use Rattle.line_engine.specs.Endings.{Writes, WritesFront, CutsOff, TellsFront}
 use Rattle.dsc_words.specs.declared.plans.Plan.{Plan}
-use Rattle.dsc_words.specs.declared.plans.Plan.TheVariants.{Join, Evidence, Encode, Sentences, Replay}
+use Rattle.dsc_words.specs.declared.plans.Plan.TheVariants.{Join, Evidence, Encode, Sentences, Replay, Make}
 use Rattle.dsc_words.specs.Words.{IsPlan}
 use Rattle.join_groups.specs.Output.{TellsAnswer, TellsEvidence}
 use Rattle.join_groups.specs.Meanings.{groups_meaning}
 use Rattle.encode_calls.specs.Encoding.{encode_meaning}
 use Rattle.sentence_files.specs.Telling.{sentences_meaning}
 use Rattle.traffic_replay.specs.Meaning.{replay_meaning}
+use Rattle.generated_join.specs.Summary.{IsMade}
+
+-- what `make n` writes at the end, whatever the lines: the summary of the join of n generated groups
+abbrev pub made_meaning : ℕ → Meaning
+made_meaning n = record {
+  IsIllFormed = λ earlier line column. ⊥;
+  IsOverfull = λ earlier line. ⊥;
+  Gives = λ lines text. text ≡ [];
+  Ends = λ lines text status. IsMade n text status;
+}
 
 -- what the lines of each command's input mean: of receptions and evidence, the answer of each group, or its ends; of calls, their transmissions;
--- of calls and sentences, the sentences of the calls and verdicts; of a traffic file, what its station does
+-- of calls and sentences, the sentences of the calls and verdicts; of a traffic file, what its station does; `make` has no input
 abbrev pub meaning_of : Plan → Meaning
 meaning_of (Join workers) = groups_meaning TellsAnswer
 meaning_of (Evidence workers) = groups_meaning TellsEvidence
 meaning_of (Encode long) = encode_meaning long
 meaning_of Sentences = sentences_meaning
 meaning_of (Replay workers) = replay_meaning
+meaning_of (Make n) = made_meaning n
+
+-- the input that a command has where this is left of the source: all of it, and no byte for `make`, which leaves the source alone
+abbrev pub input_of : Plan → Option (List ℕ) → Option (List ℕ)
+input_of (Make n) left = Some []
+input_of _ left = left
 
 -- the commands that write nothing before their input's end
 abbrev pub IsQuietPlan : Plan → Type 0
@@ -41,10 +57,23 @@ pub record CutsOffWords (words : List (List ℕ)) (before after : Option (List �
 pub record CutsOffPlan (words : List (List ℕ)) (left_before left_after before after : Option (List ℕ)) : Type 0 where
   pub plan : Plan
   pub planned : IsPlan words plan
-  pub cuts : CutsOff (meaning_of plan) left_before left_after before after
+  pub cuts : CutsOff (meaning_of plan) (input_of plan left_before) (input_of plan left_after) before after
 
 -- 6: a front of what the plan's first lines give was appended
 pub record TellsPlanFront (words : List (List ℕ)) (left_before left_after before after : Option (List ℕ)) : Type 0 where
   pub plan : Plan
   pub planned : IsPlan words plan
-  pub tells : TellsFront (meaning_of plan) left_before left_after before after
+  pub tells : TellsFront (meaning_of plan) (input_of plan left_before) (input_of plan left_after) before after
+
+-- 0 and 1 of `make n`: exactly the summary of the join of n generated groups was written
+pub record WritesSummary (n : ℕ) (before after : Option (List ℕ)) (flushed status : ℕ) : Type 0 where
+  pub text : List ℕ
+  pub is_made : IsMade n text status
+  pub writes : Writes before after flushed text
+
+-- 5 of `make n`: a front of this summary was appended
+pub record CutsOffSummary (n : ℕ) (before after : Option (List ℕ)) : Type 0 where
+  pub text : List ℕ
+  pub status : ℕ
+  pub is_made : IsMade n text status
+  pub writes : WritesFront before after text

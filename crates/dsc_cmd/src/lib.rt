@@ -2,6 +2,7 @@
 #![tactic(auto)]
 
 mod laws;
+mod making;
 mod running;
 
 pub use dsc_streams::{

@@ -2,11 +2,12 @@ ghost use Rattle.std.specs.Prelude.{◌≡◌, ◌⊎◌, ◌≤◌, ◌≢◌, 
 ghost use Rattle.dsc_streams.specs.Streams.{Rises, Told};
 ghost use Rattle.line_engine.specs.Endings.{IsFinished, IsOfFault, Writes, WritesFront, TellsWhole, TellsFault, TellsSoFar, TellsFront, CutsOff, TakesAtMost};
 ghost use Rattle.dsc_words.specs.Words.{IsInRange, IsPlan};
-ghost use Rattle.dsc_words.specs.declared.plans.Plan.TheVariants.{Join as joins};
+ghost use Rattle.dsc_words.specs.declared.plans.Plan.TheVariants.{Join as joins, Make as makes};
 ghost use Rattle.dsc_words.specs.declared.plans.Plan.{Plan as Planned};
-ghost use Rattle.dsc_cmd.specs.Plans.{meaning_of, words_refused, IsQuietPlan, IsUnplanned, CutsOffWords, CutsOffPlan, TellsPlanFront};
+ghost use Rattle.dsc_cmd.specs.Plans.{meaning_of, input_of, words_refused, IsQuietPlan, IsUnplanned, CutsOffWords, CutsOffPlan, TellsPlanFront, WritesSummary};
 ghost use Rattle.dsc_cmd.specs.Sent.{ReportsSent};
 
+use crate::making::make;
 use dsc_streams::{Failed, Sink, Source, Status, write_all};
 use dsc_words::{Plan, PlanError, one_plan, plan_of};
 use encode_calls::{Encode, LongDots, ShortDots};
@@ -23,7 +24,7 @@ use std::thread::Threads;
 use traffic_replay::replay;
 
 /// Writes a text and flushes the sink.
-fn write_flushed<K: Sink>(sink: &mut K, text: &[u8]) -> Result<(), Failed>
+pub(crate) fn write_flushed<K: Sink>(sink: &mut K, text: &[u8]) -> Result<(), Failed>
     ensures ok { OnOk result (Writes (K.written sink.old) (K.written sink.new) (K.flushed sink.new) text.now) }
     ensures sound { OnOk result (K.faults sink.new ≡ K.faults sink.old) }
     ensures front { OnErr result (WritesFront (K.written sink.old) (K.written sink.new) text.now) }
@@ -59,11 +60,11 @@ fn execute<R: Threads + Sync, S: Source, K: Sink, G: Gate>(
     gate: &G,
 ) -> Status
     requires { IsInRange plan }
-    ensures whole { IsFinished result → TellsWhole (meaning_of plan) (S.left source.old) (S.left source.new) (K.written sink.old) (K.written sink.new) (K.flushed sink.new) result }
-    ensures faulty { IsOfFault result → TellsFault (meaning_of plan) (S.left source.old) (S.left source.new) (K.written sink.old) (K.written sink.new) (K.flushed sink.new) result }
-    ensures stopped { result ≡ 4 → TellsSoFar (meaning_of plan) (S.left source.old) (S.left source.new) (K.written sink.old) (K.written sink.new) }
-    ensures cut { result ≡ 5 → CutsOff (meaning_of plan) (S.left source.old) (S.left source.new) (K.written sink.old) (K.written sink.new) }
-    ensures memory { result ≡ 6 → TellsFront (meaning_of plan) (S.left source.old) (S.left source.new) (K.written sink.old) (K.written sink.new) }
+    ensures whole { IsFinished result → TellsWhole (meaning_of plan) (input_of plan (S.left source.old)) (input_of plan (S.left source.new)) (K.written sink.old) (K.written sink.new) (K.flushed sink.new) result }
+    ensures faulty { IsOfFault result → TellsFault (meaning_of plan) (input_of plan (S.left source.old)) (input_of plan (S.left source.new)) (K.written sink.old) (K.written sink.new) (K.flushed sink.new) result }
+    ensures stopped { result ≡ 4 → TellsSoFar (meaning_of plan) (input_of plan (S.left source.old)) (input_of plan (S.left source.new)) (K.written sink.old) (K.written sink.new) }
+    ensures cut { result ≡ 5 → CutsOff (meaning_of plan) (input_of plan (S.left source.old)) (input_of plan (S.left source.new)) (K.written sink.old) (K.written sink.new) }
+    ensures memory { result ≡ 6 → TellsFront (meaning_of plan) (input_of plan (S.left source.old)) (input_of plan (S.left source.new)) (K.written sink.old) (K.written sink.new) }
     ensures unwritten { IsQuietPlan plan → (result ≡ 4) ⊎ (result ≡ 6) → sink.new ≡ sink.old }
     ensures bounded { TakesAtMost (S.left source.old) (S.left source.new) MOST_TAKEN }
     ensures read_cause { result ≡ 4 → Rises (S.faults source.old) (S.faults source.new) }
@@ -72,6 +73,7 @@ fn execute<R: Threads + Sync, S: Source, K: Sink, G: Gate>(
     ensures write_sound { result ≢ 5 → K.faults sink.new ≡ K.faults sink.old }
     ensures told { Told (S.left source.old) (S.left source.new) × Told (K.written sink.old) (K.written sink.new) }
     ensures range { IsFinished result ⊎ IsOfFault result ⊎ (result ≡ 4) ⊎ (result ≡ 5) ⊎ (result ≡ 6) }
+    ensures unread { (n : ℕ) → plan ≡ makes n → (source.new ≡ source.old) × (IsFinished result ⊎ (result ≡ 5)) }
 {
     match plan {
         Plan::Join { .. } => drive(alloc, TellGroups::new(alloc, Answers), source, sink),
@@ -80,6 +82,7 @@ fn execute<R: Threads + Sync, S: Source, K: Sink, G: Gate>(
         Plan::Encode { long: true } => drive(alloc, Encode::new(alloc, LongDots), source, sink),
         Plan::Sentences => drive(alloc, Sentences::new(alloc), source, sink),
         Plan::Replay { workers } => replay(rt, alloc, source, sink, u32::from(workers), gate),
+        Plan::Make { groups } => make(groups, sink),
     }
 }
 
@@ -93,12 +96,13 @@ fn execute<R: Threads + Sync, S: Source, K: Sink, G: Gate>(
 /// | `encode [--dots D]` | for each line of a call the line of a reception that heard its whole transmission |
 /// | `sentences` | for each line of a call its DSC sentence, and the DSE sentence of its expansion; for each sentence a verdict |
 /// | `replay [--workers N]` | for each event line of a traffic file what the station does, or why it refuses the event |
+/// | `make N` | the summary of the join of N generated groups, of four receptions each; nothing is read |
 ///
-/// N is 1 to 64 and changes nothing yet. D is 20 or 200, and 20 where it isn't given.
+/// Of workers N is 1 to 64 and changes nothing yet; of groups it is 1 to 1,000. D is 20 or 200, and 20 where it isn't given.
 ///
 /// | Status | What it says |
 /// |---|---|
-/// | 0 | all was written: in `join` a call was reported of each group |
+/// | 0 | all was written: in `join` and `make` a call was reported of each group |
 /// | 1 | all was written, and some group has another answer; in `sentences` some sentence was refused; in `replay` some event was refused, or some heard group has another answer |
 /// | 2 | the words are no command: nothing was read, and `dsc: words refused` was written |
 /// | 3 | a line is ill-formed, and the line of this first fault was written, as `dsc: line 3 column 7` |
@@ -107,7 +111,7 @@ fn execute<R: Threads + Sync, S: Source, K: Sink, G: Gate>(
 /// | 6 | there was no memory: a front of what the lines so far gave may have been written |
 /// | 7 | a limit was passed, 4,096 lines, 4,200 bytes in one or 1,024 groups, and the line of this first fault was written |
 ///
-/// `join` and `evidence` write nothing before the end of their input. What the lines before a fault gave stands before its line.
+/// `join`, `evidence` and `make` write nothing before the end of their input. What the lines before a fault gave stands before its line.
 pub fn run<R: Threads + Sync, S: Source, K: Sink, G: Gate>(
     rt: &R,
     alloc: Global,
@@ -118,12 +122,18 @@ pub fn run<R: Threads + Sync, S: Source, K: Sink, G: Gate>(
 ) -> Status
     // Exactly what the lines of the whole input ask for, and its status: for `join` the answers that the facts of each group determine.
     ensures answered { (plan : Planned) → IsPlan (map string_bytes words.now) plan → IsFinished result
-        → TellsWhole (meaning_of plan) (S.left source.old) (S.left source.new) (K.written sink.old) (K.written sink.new) (K.flushed sink.new) result }
+        → TellsWhole (meaning_of plan) (input_of plan (S.left source.old)) (input_of plan (S.left source.new)) (K.written sink.old) (K.written sink.new) (K.flushed sink.new) result }
 
     // Where all receptions of a group are of one call, truly phased and wrong in one sense alone: this call, or a place of it no copy of which
     // came intact; and the call, where each of its places came intact at some receiver.
     ensures sent { (n : ℕ) → IsPlan (map string_bytes words.now) (joins n) → IsFinished result
         → ReportsSent (S.left source.old) (S.left source.new) (K.written sink.old) (K.written sink.new) (K.flushed sink.new) result }
+
+    // Exactly the summary of the answers that the generated groups determine; of the source nothing is read.
+    ensures made { (n : ℕ) → IsPlan (map string_bytes words.now) (makes n) → IsFinished result
+        → WritesSummary n (K.written sink.old) (K.written sink.new) (K.flushed sink.new) result }
+    ensures unread_made { (n : ℕ) → IsPlan (map string_bytes words.now) (makes n)
+        → (source.new ≡ source.old) × (IsFinished result ⊎ (result ≡ 5) ⊎ (result ≡ 6)) }
 
     // The cause of each status, and what it leaves.
     ensures planned { IsFinished result ⊎ IsOfFault result ⊎ (result ≡ 4) → (plan : Planned) × IsPlan (map string_bytes words.now) plan }
@@ -131,9 +141,9 @@ pub fn run<R: Threads + Sync, S: Source, K: Sink, G: Gate>(
     ensures words { result ≡ 2 → Writes (K.written sink.old) (K.written sink.new) (K.flushed sink.new) words_refused }
     ensures unread { result ≡ 2 → source.new ≡ source.old }
     ensures faulty { (plan : Planned) → IsPlan (map string_bytes words.now) plan → IsOfFault result
-        → TellsFault (meaning_of plan) (S.left source.old) (S.left source.new) (K.written sink.old) (K.written sink.new) (K.flushed sink.new) result }
+        → TellsFault (meaning_of plan) (input_of plan (S.left source.old)) (input_of plan (S.left source.new)) (K.written sink.old) (K.written sink.new) (K.flushed sink.new) result }
     ensures stopped { (plan : Planned) → IsPlan (map string_bytes words.now) plan → result ≡ 4
-        → TellsSoFar (meaning_of plan) (S.left source.old) (S.left source.new) (K.written sink.old) (K.written sink.new) }
+        → TellsSoFar (meaning_of plan) (input_of plan (S.left source.old)) (input_of plan (S.left source.new)) (K.written sink.old) (K.written sink.new) }
     ensures read_fault { result ≡ 4 → Rises (S.faults source.old) (S.faults source.new) }
     ensures write_fault { result ≡ 5 → Rises (K.faults sink.old) (K.faults sink.new) }
     ensures cut { result ≡ 5 → CutsOffWords (map string_bytes words.now) (K.written sink.old) (K.written sink.new)

@@ -1,9 +1,10 @@
-use Rattle.std.proofs.Common.{Err, inl, ap, sym, subst}
+use Rattle.std.proofs.Common.{Err, inl, inr, ap, sym, subst}
 use Rattle.dsc_words.specs.declared.plans.PlanError.{PlanError}
 use Rattle.dsc_words.specs.declared.plans.Plan.{Plan}
-use Rattle.dsc_words.specs.declared.plans.Plan.TheVariants.{Join}
+use Rattle.dsc_words.specs.declared.plans.Plan.TheVariants.{Join, Make}
 use Rattle.line_engine.specs.Endings.{TellsWhole}
-use Rattle.dsc_cmd.specs.Plans.{meaning_of, IsQuietPlan}
+use Rattle.dsc_cmd.specs.Plans.{meaning_of, input_of, IsQuietPlan}
+use Rattle.dsc_cmd.proofs.MadeEndings.{summary_of_whole}
 use Rattle.dsc_cmd.proofs.SentGroups.{Laws, reports_sent}
 use Rattle.dsc_cmd.proofs.running.run.Goals as goal
 
@@ -18,7 +19,7 @@ returns-in-Ok-clause-sent g c = λ n planned finished.
     } in
     let same = c.one_plan.ensures _ c.in-Ok.plan (Join n) c.in-Ok.ensures.planned planned in
     reports_sent laws _ _ _ _ _ _
-    (subst (λ (plan : Plan). TellsWhole (meaning_of plan) (g.S.Source.left c.args.source.now) (g.S.Source.left c.execute.new.source)
+    (subst (λ (plan : Plan). TellsWhole (meaning_of plan) (input_of plan (g.S.Source.left c.args.source.now)) (input_of plan (g.S.Source.left c.execute.new.source))
     (g.K.Sink.written c.args.sink.now) (g.K.Sink.written c.execute.new.sink) (g.K.Sink.flushed c.execute.new.sink) c.execute.result) same (c.execute.ensures.whole finished))
 
 pub returns-in-Ok-clause-unwritten : goal.returns-in-Ok-clause-unwritten
@@ -35,3 +36,31 @@ returns-in-Err-Refused-clause-cut g c = λ is.
 
 pub returns-in-Err-Refused-clause-completes : goal.returns-in-Err-Refused-clause-completes
 returns-in-Err-Refused-clause-completes g c = λ plan planned read write. absurd (c.in-Err-Refused.ensures.refused (ap (λ (e : PlanError). Err e) c.in-Err-Refused.field-0-is) plan planned)
+
+pub returns-in-Ok-clause-made : goal.returns-in-Ok-clause-made
+returns-in-Ok-clause-made g c = λ n planned finished.
+    let same = c.one_plan.ensures _ c.in-Ok.plan (Make n) c.in-Ok.ensures.planned planned in
+    summary_of_whole n _ _ _ _ _ _
+    (subst (λ (plan : Plan). TellsWhole (meaning_of plan) (input_of plan (g.S.Source.left c.args.source.now)) (input_of plan (g.S.Source.left c.execute.new.source))
+    (g.K.Sink.written c.args.sink.now) (g.K.Sink.written c.execute.new.sink) (g.K.Sink.flushed c.execute.new.sink) c.execute.result) same (c.execute.ensures.whole finished))
+
+pub returns-in-Ok-clause-unread_made : goal.returns-in-Ok-clause-unread_made
+returns-in-Ok-clause-unread_made g c = λ n planned.
+    let same = c.one_plan.ensures _ c.in-Ok.plan (Make n) c.in-Ok.ensures.planned planned in
+    let unread = c.execute.ensures.unread n same in (
+      unread.0,
+      elim unread.1 [
+        | inl finished ↦ inl finished
+        | inr cut ↦ inr (inl cut)
+      ],
+    )
+
+pub returns-in-Err-Refused-clause-unread_made : goal.returns-in-Err-Refused-clause-unread_made
+returns-in-Err-Refused-clause-unread_made g c = λ n planned.
+    absurd (c.in-Err-Refused.ensures.refused (ap (λ (e : PlanError). Err e) c.in-Err-Refused.field-0-is) (Make n) planned)
+
+pub returns-in-Ok-clause-answered : goal.returns-in-Ok-clause-answered
+returns-in-Ok-clause-answered g c = λ plan planned finished.
+    subst (λ (plan : Plan). TellsWhole (meaning_of plan) (input_of plan (g.S.Source.left c.args.source.now)) (input_of plan (g.S.Source.left c.execute.new.source))
+    (g.K.Sink.written c.args.sink.now) (g.K.Sink.written c.execute.new.sink) (g.K.Sink.flushed c.execute.new.sink) c.execute.result)
+    (c.one_plan.ensures _ c.in-Ok.plan plan c.in-Ok.ensures.planned planned) (c.execute.ensures.whole finished)

@@ -1,0 +1,96 @@
+-- What `make` writes is what an empty input ends with.
+use Rattle.std.proofs.Common.{◌≡◌, ◌⊎◌, inl, inr, ℕ, Bool, List, [], ◌∷◌, ◌++◌, Option, Some, refl, sym, subst}
+use Rattle.line_engine.specs.Lines.{Lines, lines_of}
+use Rattle.line_engine.specs.Meaning.{Meaning}
+use Rattle.line_engine.specs.Faults.{IsFaultless}
+use Rattle.line_engine.specs.Output.{IsWhole, Asks}
+use Rattle.line_engine.specs.Endings.{IsFinished, IsRest, TellsWhole, CutsOff}
+use Rattle.dsc_words.specs.declared.plans.Plan.TheVariants.{Join, Evidence, Encode, Sentences, Replay, Make}
+use Rattle.generated_join.specs.Summary.{IsMade}
+use Rattle.dsc_cmd.specs.Plans.{made_meaning, WritesSummary, CutsOffSummary}
+
+-- there is no line in an empty list
+no_line : (earlier : Lines) (line : List ℕ) (later : Lines) → [] ≡ earlier ++ line ∷ later → ⊥
+no_line [] line later e = cc
+no_line (first ∷ earlier) line later e = cc
+
+nothing_left : {rest : List ℕ} → ◌≡◌ {A = Option (List ℕ)} (Some []) (Some rest) → rest ≡ []
+nothing_left e = cc
+
+faultless : (meaning : Meaning) → IsFaultless meaning []
+faultless meaning = record { none = λ earlier line later fault list is. no_line earlier line later list }
+
+whole_of : (n : ℕ) (text : List ℕ) (status : ℕ) → IsMade n text status → IsWhole (made_meaning n) (lines_of []) text status
+unfolding lines_of
+whole_of n text status made = record { faultless = faultless (made_meaning n); ends = made }
+
+pub made_whole : (n : ℕ) (before after : Option (List ℕ)) (flushed status : ℕ) → WritesSummary n before after flushed status
+    → TellsWhole (made_meaning n) (Some []) (Some []) before after flushed status
+made_whole n before after flushed status w = record {
+  input = [];
+  lost = refl;
+  ended = λ rest is. nothing_left is;
+  text = w.text;
+  whole = whole_of n w.text status w.is_made;
+  writes = w.writes;
+}
+
+-- what an empty input ends with is what `make` wrote
+pub summary_of_whole : (n : ℕ) (left_before left_after before after : Option (List ℕ)) (flushed status : ℕ)
+    → TellsWhole (made_meaning n) left_before left_after before after flushed status → WritesSummary n before after flushed status
+summary_of_whole n left_before left_after before after flushed status w = record { text = w.text; is_made = w.whole.ends; writes = w.writes }
+
+rest_is : (rest : List ℕ) → IsRest (Some []) rest → rest ≡ []
+rest_is rest (inl is) = is
+rest_is rest (inr is) = nothing_left is
+
+pub made_cut : (n : ℕ) (before after : Option (List ℕ)) → CutsOffSummary n before after → CutsOff (made_meaning n) (Some []) (Some []) before after
+made_cut n before after w = record {
+  taken = [];
+  lost = refl;
+  text = w.text;
+  asked = λ rest is.
+      subst (λ (r : List ℕ). Asks (made_meaning n) (lines_of r) w.text) (sym (rest_is rest is)) (inl (w.status, inl (whole_of n w.text w.status w.is_made)));
+  writes = w.writes;
+}
+
+-- ---- other plans make nothing
+
+pub join_is_not_make : {m n : ℕ} → Join m ≡ Make n → ⊥
+join_is_not_make e = cc
+
+pub evidence_is_not_make : {m n : ℕ} → Evidence m ≡ Make n → ⊥
+evidence_is_not_make e = cc
+
+pub encode_is_not_make : {long : Bool} {n : ℕ} → Encode long ≡ Make n → ⊥
+encode_is_not_make e = cc
+
+pub sentences_is_not_make : {n : ℕ} → Sentences ≡ Make n → ⊥
+sentences_is_not_make e = cc
+
+pub replay_is_not_make : {m n : ℕ} → Replay m ≡ Make n → ⊥
+replay_is_not_make e = cc
+
+-- ---- `make` ends with no other status
+
+pub no_fault : (status : ℕ) → IsFinished status ⊎ (status ≡ 5) → (status ≡ 3) ⊎ (status ≡ 7) → ⊥
+no_fault status (inl (inl a)) (inl b) = absurd (cc)
+no_fault status (inl (inl a)) (inr b) = absurd (cc)
+no_fault status (inl (inr a)) (inl b) = absurd (cc)
+no_fault status (inl (inr a)) (inr b) = absurd (cc)
+no_fault status (inr a) (inl b) = absurd (cc)
+no_fault status (inr a) (inr b) = absurd (cc)
+
+pub no_read_fault : (status : ℕ) → IsFinished status ⊎ (status ≡ 5) → status ≡ 4 → ⊥
+no_read_fault status (inl (inl a)) b = absurd (cc)
+no_read_fault status (inl (inr a)) b = absurd (cc)
+no_read_fault status (inr a) b = absurd (cc)
+
+pub no_want : (status : ℕ) → IsFinished status ⊎ (status ≡ 5) → status ≡ 6 → ⊥
+no_want status (inl (inl a)) b = absurd (cc)
+no_want status (inl (inr a)) b = absurd (cc)
+no_want status (inr a) b = absurd (cc)
+
+pub no_cut : (status : ℕ) → IsFinished status → status ≡ 5 → ⊥
+no_cut status (inl a) b = absurd (cc)
+no_cut status (inr a) b = absurd (cc)

@@ -1,0 +1,42 @@
+ghost use Rattle.std.specs.Prelude.{◌≡◌, ◌⊎◌, ◌≤◌, List, if◌then◌else◌};
+ghost use Rattle.std.specs.List.{list_all};
+ghost use Rattle.dsc_streams.specs.Streams.{Rises, Told};
+ghost use Rattle.line_engine.specs.Endings.{IsFinished};
+ghost use Rattle.dsc_files.specs.JoinLine.{JoinLine};
+ghost use Rattle.join_groups.specs.Output.{is_reported};
+ghost use Rattle.generated_join.specs.Summary.{IsSummary};
+ghost use Rattle.dsc_cmd.specs.Plans.{WritesSummary, CutsOffSummary};
+
+use crate::running::write_flushed;
+use dsc_streams::{Failed, Sink, Status};
+use generated_join::{Summary, summary_of};
+
+/// The status of a join with this summary: 0 where a call was reported of every group, and else 1.
+fn status_of(summary: &Summary) -> Status
+    ensures which { IsFinished result }
+    ensures whole { (said : List JoinLine) (is : IsSummary said summary.now) → result ≡ (if list_all (λ one. is_reported one.answer) is.all then 0 else 1) }
+{
+    if summary.is_whole() {
+        Status::new(0)
+    } else {
+        Status::new(1)
+    }
+}
+
+/// Joins so many generated groups, at most 1,000, and writes the summary. It ends with status 0 where a call was reported of every
+/// group, with 1 where not, or with that of a write fault.
+pub(crate) fn make<K: Sink>(groups: u16, sink: &mut K) -> Status
+    requires { groups ≤ 1000 }
+    ensures which { IsFinished result ⊎ (result ≡ 5) }
+    ensures done { IsFinished result → WritesSummary groups (K.written sink.old) (K.written sink.new) (K.flushed sink.new) result }
+    ensures sound { IsFinished result → K.faults sink.new ≡ K.faults sink.old }
+    ensures cut { result ≡ 5 → CutsOffSummary groups (K.written sink.old) (K.written sink.new) }
+    ensures cause { result ≡ 5 → Rises (K.faults sink.old) (K.faults sink.new) }
+    ensures told { Told (K.written sink.old) (K.written sink.new) }
+{
+    let summary = summary_of(groups);
+    match write_flushed(sink, &summary.text()) {
+        Ok(()) => status_of(&summary),
+        Err(Failed) => Status::new(5),
+    }
+}
