@@ -48,6 +48,13 @@ fn sent(call: Call) -> Acts {
     single(Act::Send { call, times: 1 })
 }
 
+fn sent_and_held(call: Call, number: u8) -> Acts {
+    let mut acts = ArrayVec::new();
+    put(&mut acts, Act::Send { call, times: 1 });
+    put(&mut acts, Act::Held(number));
+    acts
+}
+
 fn acknowledged(casualty: Casualty) -> Result<Acts, Fail> {
     let from = mmsi(COAST)?;
     Ok(sent(Call::Ack { from, casualty }))
@@ -164,41 +171,51 @@ fn a_casualty_is_told_on_and_closed(rt: HostRuntime) -> Result<(), Fail> {
 }
 
 #[test]
-fn calls_of_traffic(rt: HostRuntime) -> Result<(), Fail> {
+fn services(rt: HostRuntime) -> Result<(), Fail> {
+    let own = mmsi(COAST)?;
+    let ship = mmsi(SHIP)?;
+    let test = |to, from, reply| Call::Service {
+        to,
+        category: Category::Safety,
+        from,
+        kind: Kind::Test { reply },
+    };
+    let asks = Call::Service {
+        to: own,
+        category: Category::Safety,
+        from: ship,
+        kind: Kind::AskPosition,
+    };
+    let rows = [
+        (test(own, ship, false), sent(test(ship, own, true))),
+        (asks, single(Act::Shown)),
+        (test(ship, own, false), nothing()),
+        (test(ship, mmsi(OTHER_SHIP)?, false), nothing()),
+    ];
+    let mut coast = Coast::new(own, Band::Mf);
+    for (call, want) in rows {
+        let what = CoastWhat::Heard(call);
+        assert_eq!(rt; coast.step(&CoastEvent { at: 0, what }), Ok(want));
+    }
+    Ok(())
+}
+
+#[test]
+fn a_relay_waits_for_its_acknowledgement(rt: HostRuntime) -> Result<(), Fail> {
     let alert = casualty(SHIP, 20, 19)?;
     let own = mmsi(COAST)?;
+    let to = To::One(mmsi(OTHER_COAST)?);
     let relay = Call::Relay {
-        to: To::One(mmsi(OTHER_COAST)?),
+        to,
         from: own,
         casualty: alert,
         ask: true,
     };
-    let mut held = sent(relay);
-    put(&mut held, Act::Held(1));
-    let test = |reply| Kind::Test { reply };
-    let service = |to, from, kind| Call::Service {
-        to,
-        category: Category::Safety,
-        from,
-        kind,
+    let back = StationRefusal::TimeBack {
+        last: 600_002,
+        given: 4,
     };
-    let ship = alert.mmsi;
     let rows = [
-        (
-            0,
-            CoastWhat::Heard(service(own, ship, test(false))),
-            Ok(sent(service(ship, own, test(true)))),
-        ),
-        (
-            0,
-            CoastWhat::Heard(service(own, ship, Kind::AskPosition)),
-            Ok(single(Act::Shown)),
-        ),
-        (
-            0,
-            CoastWhat::Heard(service(ship, own, test(false))),
-            Ok(nothing()),
-        ),
         (
             0,
             CoastWhat::Send(Call::Alert(alert)),
@@ -212,20 +229,13 @@ fn calls_of_traffic(rt: HostRuntime) -> Result<(), Fail> {
         (1, heard(alert), Ok(distress(alert))),
         (
             2,
-            CoastWhat::Relay(ship, To::One(mmsi(OTHER_COAST)?), true),
-            Ok(held),
+            CoastWhat::Relay(alert.mmsi, to, true),
+            Ok(sent_and_held(relay, 1)),
         ),
         (300_001, CoastWhat::Tick, Ok(nothing())),
         (300_002, CoastWhat::Tick, Ok(sent(relay))),
         (600_002, CoastWhat::Tick, Ok(single(Act::GaveUp(1)))),
-        (
-            4,
-            CoastWhat::Tick,
-            Err(StationRefusal::TimeBack {
-                last: 600_002,
-                given: 4,
-            }),
-        ),
+        (4, CoastWhat::Tick, Err(back)),
     ];
     let mut coast = Coast::new(own, Band::Hf);
     for (at, what, want) in rows {
