@@ -6,9 +6,8 @@ use Rattle.slot_evidence.specs.Facts.{Facts, facts_of}
 use Rattle.slot_evidence.specs.Sheet.{IsEnds}
 use Rattle.call_values.specs.declared.calls.Call.{Call}
 use Rattle.slot_join.specs.declared.joined.Extra.{Extra}
-use Rattle.traffic_lines.specs.declared.lines.Point.TheVariants as point
 use Rattle.traffic_lines.specs.declared.lines.TrafficLine.{TrafficLine}
-use Rattle.traffic_lines.specs.declared.lines.TrafficLine.TheVariants.{Ship, Base, Group, Event}
+use Rattle.traffic_lines.specs.declared.lines.TrafficLine.TheVariants.{Ship, Coast, Base, Group, Event}
 use Rattle.dsc_files.specs.declared.lines.Line.{Line}
 use Rattle.dsc_files.specs.declared.lines.Line.TheVariants as got
 use Rattle.dsc_files.specs.JoinLine.{JoinLine, nothing, reception, evidence}
@@ -17,10 +16,11 @@ use Rattle.dsc_files.specs.Lines.{Says, SaysTraffic, SaysAtPoint}
 use Rattle.join_groups.specs.Meanings.{BringsTooMany}
 use Rattle.join_groups.proofs.Keeping.{says_reception, says_evidence}
 use Rattle.traffic_replay.specs.declared.command.Replay.{Replay}
-use Rattle.traffic_replay.specs.Said.{Said, point_of}
+use Rattle.traffic_replay.specs.Said.{Said, kind_of, among_events, point_of}
 use Rattle.traffic_replay.specs.HeardGroups.{of_receivers}
-use Rattle.traffic_replay.specs.inside.Progress.{Keeps, IsShown, BringsGroup}
+use Rattle.traffic_replay.specs.inside.Progress.{IsBeforeEvents, Keeps, IsShown, BringsGroup}
 use Rattle.traffic_replay.proofs.GroupKeeping.{keeps_nothing}
+use Rattle.traffic_replay.proofs.Told.{carry_joined}
 
 -- what a line of receivers shows
 pub record Shows (says : PointLine) (group : ℕ) (shown : List Seen) : Type 0 where
@@ -30,18 +30,21 @@ pub record Shows (says : PointLine) (group : ℕ) (shown : List Seen) : Type 0 w
 
 no_station : (line : TrafficLine) (group : ℕ) (e : List Element) → SaysTraffic line (got.Reception group e) → ⊥
 no_station (Ship mmsi) group e h = cc
+no_station (Coast mmsi band) group e h = cc
 no_station (Base second) group e h = cc
 no_station (Group mmsi) group e h = cc
 no_station (Event at what) group e h = cc
 
 no_station_too : (line : TrafficLine) (group : ℕ) (sheet : List Seen) → SaysTraffic line (got.Evidence group sheet) → ⊥
 no_station_too (Ship mmsi) group sheet h = cc
+no_station_too (Coast mmsi band) group sheet h = cc
 no_station_too (Base second) group sheet h = cc
 no_station_too (Group mmsi) group sheet h = cc
 no_station_too (Event at what) group sheet h = cc
 
 station_says : (line : TrafficLine) → SaysTraffic line got.Nothing → ⊥
 station_says (Ship mmsi) h = cc
+station_says (Coast mmsi band) h = cc
 station_says (Base second) h = cc
 station_says (Group mmsi) h = cc
 station_says (Event at what) h = cc
@@ -52,12 +55,12 @@ apart h = cc
 apart_too : {group : ℕ} {sheet : List Seen} → got.Evidence group sheet ≡ got.Nothing → ⊥
 apart_too h = cc
 
-body_of_reception : (line : JoinLine) (group : ℕ) (e : List Element) → Says line (got.Reception group e) → (earlier : Said) → point_of (joined line ∷ earlier) ≡ point.Ship
+body_of_reception : (line : JoinLine) (group : ℕ) (e : List Element) → Says line (got.Reception group e) → (earlier : Said) → point_of (joined line ∷ earlier) ≡ among_events (kind_of earlier)
 body_of_reception nothing group e h earlier = absurd (apart h)
 body_of_reception (reception g f) group e h earlier = refl
 body_of_reception (evidence g pairs) group e h earlier = refl
 
-body_of_evidence : (line : JoinLine) (group : ℕ) (sheet : List Seen) → Says line (got.Evidence group sheet) → (earlier : Said) → point_of (joined line ∷ earlier) ≡ point.Ship
+body_of_evidence : (line : JoinLine) (group : ℕ) (sheet : List Seen) → Says line (got.Evidence group sheet) → (earlier : Said) → point_of (joined line ∷ earlier) ≡ among_events (kind_of earlier)
 body_of_evidence nothing group sheet h earlier = absurd (apart_too h)
 body_of_evidence (reception g f) group sheet h earlier = refl
 body_of_evidence (evidence g pairs) group sheet h earlier = refl
@@ -112,12 +115,8 @@ nothing_taken replay said (joined nothing) read text is keeps h = (
     counted = keeps.counted;
     most = keeps.most;
     heard = keeps_nothing said replay.heard.sheets.entries keeps.heard;
-    happened = keeps.happened;
-    are_happenings = keeps.are_happenings;
-    early = keeps.early;
-    ship = keeps.ship;
-    text_is = keeps.text_is;
-    well_is = keeps.well_is;
+    kind = keeps.kind;
+    told = carry_joined (kind_of said) replay.station (IsBeforeEvents replay.point) (IsBeforeEvents replay.point) nothing said text replay.is_well (λ early. early) keeps.told;
   },
 )
   where
@@ -136,6 +135,7 @@ no_call (joined (evidence g pairs)) call extra h = other h.1.0
     other : {g : ℕ} {sheet : List Seen} → got.Call call extra ≡ got.Evidence g sheet → ⊥
     other h = cc
 no_call (traffic (Ship mmsi)) call extra h = cc
+no_call (traffic (Coast mmsi band)) call extra h = cc
 no_call (traffic (Base second)) call extra h = cc
 no_call (traffic (Group mmsi)) call extra h = cc
 no_call (traffic (Event at what)) call extra h = cc
@@ -148,6 +148,7 @@ no_sentence (joined (evidence g pairs)) h = other h.1.0
     other : {g : ℕ} {sheet : List Seen} → got.Sentence ≡ got.Evidence g sheet → ⊥
     other h = cc
 no_sentence (traffic (Ship mmsi)) h = cc
+no_sentence (traffic (Coast mmsi band)) h = cc
 no_sentence (traffic (Base second)) h = cc
 no_sentence (traffic (Group mmsi)) h = cc
 no_sentence (traffic (Event at what)) h = cc

@@ -9,7 +9,7 @@ ghost use Rattle.join_groups.specs.Meanings.{BringsTooMany};
 ghost use Rattle.traffic_replay.specs.Said.{Said};
 ghost use Rattle.traffic_replay.specs.HeardGroups.{of_receivers};
 ghost use Rattle.traffic_replay.specs.Meaning.{replay_meaning};
-ghost use Rattle.traffic_replay.specs.inside.Progress.{Keeps, StandsFor, IsBeforeEvents, IsEventAt, IsReady, IsShown, BringsGroup};
+ghost use Rattle.traffic_replay.specs.inside.Progress.{Keeps, StandsFor, IsAmongGroups, IsEventAt, IsReady, IsShown, BringsGroup};
 ghost use Rattle.traffic_replay.specs.inside.Gives.{gives_text};
 
 use crate::heard::{HeardGroups, shown_by};
@@ -119,15 +119,12 @@ impl Replay {
         ensures { (said : Said) (text : List ℕ) → Keeps self.old said text → Keeps self.new (traffic (station.Base second) ∷ said) text }
     {
         self.base = second;
-        self.point = match self.station {
-            Station::Ship(_) => Point::Groups { held: 0 },
-            Station::Coast(_) => Point::Coast,
-        };
+        self.point = self.station.behind_base();
     }
 
     /// The ship belongs to this group too.
     fn name_group(&mut self, mmsi: Mmsi) -> Result<(), Refusal>
-        requires early { IsBeforeEvents self.old.point }
+        requires among { IsAmongGroups self.old.point }
         requires few { length self.old.groups.items < 16 }
         ensures ok { OnOk result ((said : Said) (text : List ℕ) → Keeps self.old said text → Keeps self.new (traffic (station.Group mmsi) ∷ said) text) }
         ensures err { IfErr result (λ refusal. refusal ≡ Refusal.Memory) }
@@ -164,14 +161,17 @@ impl Replay {
             → Keeps self.new (traffic (station.Event at what.now) ∷ said) (text ++ out.new.items)) }
     {
         self.point = self.station.among_events();
-        let accepted = match &mut self.station {
+        match &mut self.station {
             Station::Ship(ship) => {
-                happen_at_ship(ship, &mut self.heard, self.base, at, what, out)?
+                let heard = &mut self.heard;
+                self.is_well &= happen_at_ship(ship, heard, self.base, at, what, out)?;
+                Ok(())
             }
-            Station::Coast(coast) => happen_at_coast(coast, &mut self.heard, at, what, out)?,
-        };
-        self.is_well &= accepted;
-        Ok(())
+            Station::Coast(coast) => {
+                self.is_well &= happen_at_coast(coast, &mut self.heard, at, what, out)?;
+                Ok(())
+            }
+        }
     }
 }
 

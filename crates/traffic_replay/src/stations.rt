@@ -1,5 +1,5 @@
 ghost use Rattle.std.specs.Prelude.{◌≡◌};
-ghost use Rattle.traffic_replay.specs.inside.Progress.{point_at};
+ghost use Rattle.traffic_replay.specs.inside.Progress.{point_at, point_behind_base};
 
 use coast_station::Coast;
 use dsc_files::Point;
@@ -19,6 +19,16 @@ impl Station {
     {
         match self {
             Station::Ship(_) => Point::Ship,
+            Station::Coast(_) => Point::Coast,
+        }
+    }
+
+    /// Where the line behind the base stands.
+    pub(crate) fn behind_base(&self) -> Point
+        ensures { result ≡ point_behind_base self.now }
+    {
+        match self {
+            Station::Ship(_) => Point::Groups { held: 0 },
             Station::Coast(_) => Point::Coast,
         }
     }

@@ -14,7 +14,7 @@ struct Row {
     status: u8,
 }
 
-const ROWS: [Row; 9] = [
+const ROWS: [Row; 17] = [
     Row {
         name: "an alert, its repetition and its acknowledgement",
         file: "station ship 338040079\nbase 1714594740\n0 position 1423108312\n0 delay 210000\n0 alert nature=106 then=100\n209999 tick\n210000 tick\n220000 hear ack from=002241022 casualty=338158137 nature=106 pos=1423108312 time=2019 then=100\n221000 hear ack from=002241022 casualty=338040079 nature=106 pos=1423108312 time=2019 then=100\n430000 tick\n",
@@ -68,6 +68,54 @@ const ROWS: [Row; 9] = [
         file: "station ship 338158137\nbase 0\ne g1 0:112\n1 heard g1\ne g1 1:112\n2 heard g1\n",
         want: "1 g1 missing 1\n2 g1 missing 0\n",
         status: 1,
+    },
+    Row {
+        name: "a position request is answered",
+        file: "station ship 338158137\nbase 0\n0 position 1423108312\n1000 hear askpos to=338158137 cat=100 from=002241022\n",
+        want: "1000 send 1 pos to=002241022 cat=100 from=338158137 pos=1423108312 time=0000\n",
+        status: 0,
+    },
+    Row {
+        name: "a call is held and declined",
+        file: "station ship 338158137\nbase 0\n2000 hear one to=338158137 cat=100 from=002241022 first=109 second=126 f1=none f2=none end=117\n3000 decline 1\n",
+        want: "2000 held 1\n3000 send 1 one to=002241022 cat=100 from=338158137 first=104 second=100 f1=none f2=none end=122\n",
+        status: 0,
+    },
+    Row {
+        name: "an alert is not sent by hand",
+        file: "station ship 338158137\nbase 0\n0 send alert from=338158137 nature=106 pos=9999999999 time=8888 then=100\n",
+        want: "0 refused notsendable\n",
+        status: 1,
+    },
+    Row {
+        name: "a coast station on MF",
+        file: "station coast 002241022 mf\nbase 1714594740\n0 hear alert from=338040079 nature=106 pos=1423108312 time=2019 then=100\n5000 accept 338040079 60000\n59999 tick\n60000 tick\n",
+        want: "0 distress casualty=338040079 nature=106 pos=1423108312 time=2019 then=100\n60000 send 1 ack from=002241022 casualty=338040079 nature=106 pos=1423108312 time=2019 then=100\n",
+        status: 0,
+    },
+    Row {
+        name: "a coast station on VHF",
+        file: "station coast 002241022 vhf\nbase 1714594740\n0 hear alert from=338040079 nature=106 pos=1423108312 time=2019 then=100\n5000 accept 338040079\n",
+        want: "0 distress casualty=338040079 nature=106 pos=1423108312 time=2019 then=100\n5000 send 1 ack from=002241022 casualty=338040079 nature=106 pos=1423108312 time=2019 then=100\n",
+        status: 0,
+    },
+    Row {
+        name: "a casualty that another station closed",
+        file: "station coast 002241022 mf\nbase 0\n0 hear alert from=338040079 nature=106 pos=1423108312 time=2019 then=100\n7000 hear ack from=002320001 casualty=338040079 nature=106 pos=1423108312 time=2019 then=100\n8000 accept 338040079 60000\n8001 heard g1\n",
+        want: "0 distress casualty=338040079 nature=106 pos=1423108312 time=2019 then=100\n7000 closed 338040079\n8000 refused nocasualty 338040079\n8001 g1 missing 0\n",
+        status: 1,
+    },
+    Row {
+        name: "an event of a ship at a coast station",
+        file: "station coast 002241022 mf\nbase 0\n0 tick\n0 cancel\n",
+        want: "dsc: line 4 column 3\n",
+        status: 3,
+    },
+    Row {
+        name: "an event of a coast station at a ship",
+        file: "station ship 338158137\nbase 0\n0 accept 338040079\n",
+        want: "dsc: line 3 column 4\n",
+        status: 3,
     },
 ];
 

@@ -39,6 +39,11 @@ IsBeforeEvents (point.Groups held) = Unit {0}
 IsBeforeEvents point.Ship = ⊥
 IsBeforeEvents point.Coast = ⊥
 
+-- behind a ship's base and its groups
+abbrev pub IsAmongGroups : Point → Type 0
+IsAmongGroups (point.Groups held) = Unit {0}
+IsAmongGroups _ = ⊥
+
 -- how many groups a point stands behind
 abbrev pub IsBehindGroups : Point → List ℕ → Type 0
 IsBehindGroups point.Station groups = groups ≡ []
@@ -97,6 +102,11 @@ abbrev pub point_at : Station → Point
 point_at (station.Ship s) = point.Ship
 point_at (station.Coast s) = point.Coast
 
+-- where the line behind the base stands, by the station
+abbrev pub point_behind_base : Station → Point
+point_behind_base (station.Ship s) = point.Groups 0
+point_behind_base (station.Coast s) = point.Coast
+
 -- an event that a kind of station has
 abbrev pub IsEventAt : Station → EventLine → Type 0
 IsEventAt (station.Ship s) what = IsShipEvent what
@@ -109,7 +119,7 @@ pub record IsReady (replay : Replay) (read : Line) : Type 0 where
   pub ship : (mmsi : ℕ) → read ≡ got.Ship mmsi → replay.point ≡ point.Station
   pub base : (second : ℕ) → read ≡ got.Base second → (replay.point ≡ point.Base) × (second ≤ 9999999999)
   pub coast : (mmsi : ℕ) (band : Band) → read ≡ got.Coast mmsi band → replay.point ≡ point.Station
-  pub group : (mmsi : ℕ) → read ≡ got.Group mmsi → IsBeforeEvents replay.point × (length replay.groups.items < 16)
+  pub group : (mmsi : ℕ) → read ≡ got.Group mmsi → IsAmongGroups replay.point × (length replay.groups.items < 16)
   pub event : (at : ℕ) (what : EventLine) → read ≡ got.Event at what → IsEventAt replay.station what
   pub short : (group : ℕ) (e : List Element) → read ≡ got.Reception group e → length e ≤ LONGEST
 

@@ -1,25 +1,29 @@
-use Rattle.std.proofs.Common.{sym, inl, inr}
+use Rattle.std.proofs.Common.{◌∙◌, sym, subst, inl, inr}
+use Rattle.traffic_lines.specs.declared.lines.Point.{Point}
+use Rattle.traffic_replay.specs.Said.{kind_of}
+use Rattle.traffic_replay.specs.inside.Progress.{IsBeforeEvents, IsBehindGroups, IsPointOf}
+use Rattle.traffic_replay.proofs.Told.{carry_joined, at_events, events_of, events_behind, no_more_early}
 use Rattle.traffic_replay.proofs.command.Replay.meet.Goals as goal
 
 pub returns-in-Ok-clause-ok : goal.returns-in-Ok-clause-ok
 returns-in-Ok-clause-ok c = λ said line text keeps shown.
+    let old = c.args.self.now in
+    let kind = kind_of said in
+    let early = IsBeforeEvents old.point in
+    let here = sym (c.among_events-self.ensures ∙ at_events kind old.station early said text old.is_well keeps.told) in
     let taken = c.in-Ok.ensures.ok said line keeps.heard shown.named shown.ends in (
       taken.0,
       record {
-        point = sym (shown.point said);
+        point = sym here ∙ sym (shown.point said);
         own = keeps.own;
         base = keeps.base;
         within = keeps.within;
         groups = keeps.groups;
-        counted = tt;
+        counted = subst (λ (p : Point). IsBehindGroups p old.groups.items) here (events_behind kind old.groups.items);
         most = keeps.most;
         heard = taken.1;
-        happened = keeps.happened;
-        are_happenings = keeps.are_happenings;
-        early = λ never. absurd never;
-        ship = keeps.ship;
-        text_is = keeps.text_is;
-        well_is = keeps.well_is;
+        kind = subst (λ (p : Point). IsPointOf p kind) here (events_of kind);
+        told = carry_joined kind old.station early (IsBeforeEvents c.among_events-self.result) line said text old.is_well (λ b. absurd (no_more_early kind (subst IsBeforeEvents (sym here) b))) keeps.told;
       },
     )
 

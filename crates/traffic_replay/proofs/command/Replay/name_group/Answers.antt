@@ -2,9 +2,15 @@ use Rattle.std.proofs.Common.{◌≡◌, ◌+◌, ◌∙◌, ℕ, List, [], ◌�
 use Rattle.traffic_lines.specs.declared.lines.Point.TheVariants as point
 use Rattle.traffic_lines.specs.declared.lines.TrafficLine.TheVariants.{Group}
 use Rattle.ship_station.specs.Stands.{Stands}
-use Rattle.traffic_replay.specs.Said.{groups_of}
+use Rattle.dsc_files.specs.PointLine.{traffic}
+use Rattle.traffic_replay.specs.declared.stations.Station.TheVariants as at
+use Rattle.ship_station.specs.declared.events.ShipWhat.{ShipWhat}
+use Rattle.traffic_replay.specs.Happenings.{taking_ship}
+use Rattle.traffic_replay.specs.inside.Progress.{IsBeforeEvents, IsTold}
+use Rattle.traffic_replay.specs.Said.{Kind, ship, kind_of, groups_of}
 use Rattle.traffic_replay.proofs.GroupKeeping.{silent}
-use Rattle.traffic_replay.proofs.Beginnings.{no_text, all_well, nothing_happened}
+use Rattle.traffic_replay.proofs.Beginnings.{before_events}
+use Rattle.traffic_replay.proofs.Told.{groups_early, groups_ship}
 use Rattle.traffic_replay.proofs.command.Replay.name_group.Goals as goal
 
 one_more : (gs : List ℕ) (m : ℕ) → length (gs ++ m ∷ []) ≡ length gs + 1
@@ -13,6 +19,8 @@ one_more gs m = length-append gs (m ∷ [])
 pub returns-clause-ok : goal.returns-clause-ok
 returns-clause-ok c = λ said text keeps.
     let old = c.args.self.now in
+    let before = before_events old said text keeps (groups_early old.point c.requires.among) in
+    let only : kind_of said ≡ ship = groups_ship old.point (kind_of said) c.requires.among keeps.kind in
     let new = c.push.new.self.items in
     let pushed : new ≡ old.groups.items ++ c.args.mmsi ∷ [] = c.in_ok-push.ensures.items in
     let more : length new ≡ length old.groups.items + 1 = ap length pushed ∙ one_more old.groups.items c.args.mmsi in
@@ -29,11 +37,14 @@ returns-clause-ok c = λ said text keeps.
       counted = counted;
       most = omega (arith, more, c.requires.few);
       heard = silent said (Group c.args.mmsi) old.heard.sheets.entries (λ k. refl) keeps.heard;
-      happened = [];
-      are_happenings = nothing_happened old said text keeps c.requires.early;
-      early = λ _. refl;
-      ship = subst (λ (own : ℕ). Stands c.new-self.result (record { own = own; groups = groups_of said ++ c.args.mmsi ∷ [] }) []) keeps.own
-          (subst (λ (gs : List ℕ). Stands c.new-self.result (record { own = old.own; groups = gs }) []) (c.deref.ensures.value ∙ groups) c.new-self.ensures);
-      text_is = no_text old said text keeps c.requires.early;
-      well_is = all_well old said text keeps c.requires.early;
+      kind = only;
+      told = subst (λ (k : Kind). IsTold k (at.Ship c.new.result) (IsBeforeEvents (point.Groups c.len.result)) (traffic (Group c.args.mmsi) ∷ said) (text) old.is_well) (sym only) (record {
+        happened = [];
+        are_happenings = before.none ShipWhat taking_ship;
+        early = λ _. refl;
+        stands = subst (λ (own : ℕ). Stands c.new.result (record { own = own; groups = groups_of said ++ c.args.mmsi ∷ [] }) []) keeps.own
+            (subst (λ (gs : List ℕ). Stands c.new.result (record { own = old.own; groups = gs }) []) (c.deref.ensures.value ∙ groups) c.new.ensures);
+        text_is = before.empty;
+        well_is = before.well;
+      });
     }

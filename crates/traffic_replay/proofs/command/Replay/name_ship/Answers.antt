@@ -2,15 +2,18 @@ use Rattle.std.proofs.Common.{◌∙◌, ℕ, List, [], refl, sym, subst}
 use Rattle.traffic_lines.specs.declared.lines.Point.{Point}
 use Rattle.traffic_lines.specs.declared.lines.TrafficLine.TheVariants.{Ship}
 use Rattle.ship_station.specs.Stands.{Stands}
+use Rattle.ship_station.specs.declared.events.ShipWhat.{ShipWhat}
+use Rattle.traffic_replay.specs.Happenings.{taking_ship}
 use Rattle.traffic_replay.specs.inside.Progress.{IsBeforeEvents, IsBehindGroups}
 use Rattle.traffic_replay.proofs.GroupKeeping.{silent}
-use Rattle.traffic_replay.proofs.Beginnings.{no_text, all_well, nothing_happened}
+use Rattle.traffic_replay.proofs.Beginnings.{before_events}
 use Rattle.traffic_replay.proofs.command.Replay.name_ship.Goals as goal
 
 pub returns : goal.returns
 returns c = λ said text keeps.
     let old = c.args.self.now in
     let early : IsBeforeEvents old.point = subst IsBeforeEvents (sym c.requires.first) tt in
+    let before = before_events old said text keeps early in
     record {
       point = refl;
       own = refl;
@@ -20,10 +23,13 @@ returns c = λ said text keeps.
       counted = subst (λ (p : Point). IsBehindGroups p old.groups.items) c.requires.first keeps.counted;
       most = keeps.most;
       heard = silent said (Ship c.args.mmsi) old.heard.sheets.entries (λ k. refl) keeps.heard;
-      happened = [];
-      are_happenings = nothing_happened old said text keeps early;
-      early = λ _. refl;
-      ship = subst (λ (gs : List ℕ). Stands c.new-self.result (record { own = c.args.mmsi; groups = gs }) []) (c.deref.ensures.value ∙ keeps.groups) c.new-self.ensures;
-      text_is = no_text old said text keeps early;
-      well_is = all_well old said text keeps early;
+      kind = tt;
+      told = record {
+        happened = [];
+        are_happenings = before.none ShipWhat taking_ship;
+        early = λ _. refl;
+        stands = subst (λ (gs : List ℕ). Stands c.new.result (record { own = c.args.mmsi; groups = gs }) []) (c.deref.ensures.value ∙ keeps.groups) c.new.ensures;
+        text_is = before.empty;
+        well_is = before.well;
+      };
     }
