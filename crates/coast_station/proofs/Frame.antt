@@ -1,5 +1,5 @@
 -- a step of a station, whatever its rules and whatever it keeps of its histories
-use Rattle.std.proofs.Common.{◌≡◌, ℕ, ◌≤◌, Option, Some, None, Result, Ok, Err, List, ◌∷◌, sym, ◌∙◌, ap, subst}
+use Rattle.std.proofs.Common.{◌≡◌, ℕ, ◌≤◌, Option, None, Result, Ok, Err, ◌∷◌, sym, ◌∙◌, ap, subst}
 use Rattle.std.specs.Prelude.{OnOk, OnErr}
 use Rattle.arrayvec.specs.ArrayVec.{ArrayVec}
 use Rattle.area_rules.specs.declared.acts.Act.{Act}

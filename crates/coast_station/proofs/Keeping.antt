@@ -1,5 +1,5 @@
 -- what a coast station keeps after an event is what the history with this event tells
-use Rattle.std.proofs.Common.{◌≡◌, ℕ, ◌≤◌, ◌==◌, ◌&&◌, ◌||◌, not, Bool, true, false, if◌then◌else◌, Option, Some, None, is_some, is_none, Result, Ok, Err, List, [], ◌∷◌, refl, sym, ◌∙◌, ap, subst}
+use Rattle.std.proofs.Common.{◌≡◌, ℕ, ◌≤◌, ◌==◌, ◌&&◌, ◌||◌, not, Bool, true, false, if◌then◌else◌, Option, Some, None, is_some, is_none, Result, List, [], ◌∷◌, refl, sym, ◌∙◌, ap, subst}
 use Rattle.std.proofs.Math.Bool.{or-false}
 use Rattle.std.proofs.lemmas.Bool.{false≢true, and_parts, not-true, eq-eqb}
 use Rattle.std.specs.Prelude.{OnOk, OnErr}
@@ -16,7 +16,7 @@ use Rattle.area_rules.specs.declared.refusals.StationRefusal.TheVariants.{NoCasu
 use Rattle.area_rules.specs.Addressing.{is_for_coast}
 use Rattle.area_rules.specs.Histories.{History, last_moment}
 use Rattle.area_rules.specs.Holding.{Places}
-use Rattle.area_rules.specs.Rules.{listed, refusal_or, answer_to, continued, Legal}
+use Rattle.area_rules.specs.Rules.{listed, refusal_or, continued, Legal}
 use Rattle.traffic_rules.specs.Hearing.{heard_due}
 use Rattle.traffic_rules.specs.Repeating.{repeats}
 use Rattle.traffic_rules.specs.Sending.{send_refusal, send_due, refused_full}
