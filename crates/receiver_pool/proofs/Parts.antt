@@ -1,15 +1,17 @@
 -- The facts of the receptions whose turn it is.
-use Rattle.std.proofs.Common.{◌≡◌, ℕ, zero, suc, ◌+◌, ◌%◌, ◌<◌, ◌≤◌, ◌==◌, Bool, true, false, ◌&&◌, ◌||◌, nat_le, nat_lt, List, [], length, take, slice_index_or, refl, arith, ap, sym, ◌∙◌, subst, inl, inr, add-one}
+use Rattle.std.proofs.Common.{◌≡◌, ℕ, zero, suc, ◌+◌, ◌%◌, ◌<◌, ◌≤◌, ◌==◌, Bool, true, false, ◌&&◌, ◌||◌, nat_le, List, [], ◌∷◌, ◌++◌, length, set, take, drop, slice_index_or, refl, arith, ap, sym, ◌∙◌, subst, inl, inr, add-one}
 use Rattle.std.specs.List.{list_any}
 use Rattle.std.proofs.lemmas.Bool.{cases_eq, cases_lt, eq-eqb, ne_eqb, lt-ltb, le-ltb, le-leb, lt-leb}
-use Rattle.std.proofs.lemmas.List.{take_all}
+use Rattle.std.proofs.lemmas.List.{take_all, drop_all, append-nil, length-set, length-append, get_or_push, get_or_append_left, get_or-set_same, get_or-set_other}
 use Rattle.std.proofs.lemmas.List.Folds.{list_any_more}
 use Rattle.ten_unit.specs.declared.character.Element.{Element}
 use Rattle.slot_evidence.specs.Facts.{Facts, no_facts, facts_of, facts_of_all, union}
 use Rattle.slot_evidence.specs.declared.places.Seen.{Seen}
-use Rattle.slot_evidence.specs.Sheet.{IsEnds}
+use Rattle.slot_evidence.specs.Sheet.{IsEnds, IsMeet}
 use Rattle.slot_evidence.proofs.Ends.{IsEnds-same}
-use Rattle.receiver_pool.specs.inside.Turns.{is_turn, part}
+use Rattle.receiver_pool.specs.declared.heard.Heard.{Heard}
+use Rattle.receiver_pool.specs.Groups.{facts_of_group, AreSheets}
+use Rattle.receiver_pool.specs.inside.Turns.{is_turn, taken, nth, part, nobody, nth_of, group_part}
 
 both_true : (a b : Bool) → a ≡ true → b ≡ true → (a && b) ≡ true
 both_true a b p q = ap (λ (x : Bool). x && b) p ∙ q
@@ -26,6 +28,10 @@ or_left_false a b p = ap (λ (x : Bool). x || b) p
 
 or_left_true : (a b : Bool) → a ≡ true → (a || b) ≡ true
 or_left_true a b p = ap (λ (x : Bool). x || b) p
+
+or_false : (a : Bool) → (a || false) ≡ a
+or_false true = refl
+or_false false = refl
 
 -- whose turn it is
 turn_yes : (workers low high index : ℕ) → low ≤ index % workers → index % workers < high → is_turn workers low high index ≡ true
@@ -74,30 +80,39 @@ spread false false true false false = refl
 spread false false false t x = refl
 
 -- the parts of two halves together
-pub part_halves : (workers low middle high : ℕ) (list : List (List Element)) (n p v : ℕ) → low ≤ middle → middle ≤ high
-    → part (is_turn workers low high) list n p v ≡ (part (is_turn workers low middle) list n p v || part (is_turn workers middle high) list n p v)
-part_halves workers low middle high list zero p v left right = refl
-part_halves workers low middle high list (suc n) p v left right =
-    let x = facts_of (slice_index_or list n []) p v in
-    let a = part (is_turn workers low middle) list n p v in
-    let b = part (is_turn workers middle high) list n p v in
-    ap (λ (c : Bool). c || (is_turn workers low high n && x)) (part_halves workers low middle high list n p v left right)
+pub part_halves : (workers low middle high : ℕ) (F : ℕ → Facts) (n p v : ℕ) → low ≤ middle → middle ≤ high
+    → taken (is_turn workers low high) F n p v ≡ (taken (is_turn workers low middle) F n p v || taken (is_turn workers middle high) F n p v)
+part_halves workers low middle high F zero p v left right = refl
+part_halves workers low middle high F (suc n) p v left right =
+    let x = F n p v in
+    let a = taken (is_turn workers low middle) F n p v in
+    let b = taken (is_turn workers middle high) F n p v in
+    ap (λ (c : Bool). c || (is_turn workers low high n && x)) (part_halves workers low middle high F n p v left right)
     ∙ ap (λ (t : Bool). a || b || (t && x)) (turn_halves workers low middle high n left right)
     ∙ spread a b (is_turn workers low middle n) (is_turn workers middle high n) x
 
 -- the part of all workers is what all receptions show
-any_taken : (workers : ℕ) (list : List (List Element)) (n p v : ℕ) → 0 < workers → n ≤ length list → part (is_turn workers 0 workers) list n p v ≡ list_any (λ e. facts_of e p v) (take n list)
-any_taken workers list zero p v some_there inside = refl
-any_taken workers list (suc n) p v some_there inside =
-    let x = facts_of (slice_index_or list n []) p v in
-    ap (λ (c : Bool). c || (is_turn workers 0 workers n && x)) (any_taken workers list n p v some_there (omega arith))
-    ∙ ap (λ (t : Bool). list_any (λ e. facts_of e p v) (take n list) || (t && x)) (turn_yes workers 0 workers n (omega arith) (omega arith))
-    ∙ sym (ap (λ (k : ℕ). list_any (λ e. facts_of e p v) (take k list)) (sym (add-one n)) ∙ list_any_more (λ e. facts_of e p v) list n [] (omega arith))
+any_taken : {X : Type 0} (shows : X → Bool) (list : List X) (d : X) (workers : ℕ) (F : ℕ → Facts) (n p v : ℕ) → 0 < workers → n ≤ length list
+    → ((k : ℕ) → F k p v ≡ shows (slice_index_or list k d)) → taken (is_turn workers 0 workers) F n p v ≡ list_any shows (take n list)
+any_taken shows list d workers F zero p v some_there inside same = refl
+any_taken shows list d workers F (suc n) p v some_there inside same =
+    ap (λ (c : Bool). c || (is_turn workers 0 workers n && F n p v)) (any_taken shows list d workers F n p v some_there (omega arith) same)
+    ∙ ap (λ (t : Bool). list_any shows (take n list) || (t && F n p v)) (turn_yes workers 0 workers n (omega arith) (omega arith))
+    ∙ ap (λ (x : Bool). list_any shows (take n list) || x) (same n)
+    ∙ sym (ap (λ (k : ℕ). list_any shows (take k list)) (sym (add-one n)) ∙ list_any_more shows list n d (omega arith))
+
+all_taken : {X : Type 0} (shows : X → Bool) (list : List X) (d : X) (workers : ℕ) (F : ℕ → Facts) (p v : ℕ) → 0 < workers
+    → ((k : ℕ) → F k p v ≡ shows (slice_index_or list k d)) → taken (is_turn workers 0 workers) F (length list) p v ≡ list_any shows list
+all_taken shows list d workers F p v some_there same =
+    any_taken shows list d workers F (length list) p v some_there (omega arith) same ∙ ap (list_any shows) (take_all (length list) list (omega arith))
 
 pub part_all : (workers : ℕ) (list : List (List Element)) (p v : ℕ) → 0 < workers → part (is_turn workers 0 workers) list (length list) p v ≡ facts_of_all list p v
 unfolding facts_of_all
-part_all workers list p v some_there =
-    any_taken workers list (length list) p v some_there (omega arith) ∙ ap (list_any (λ e. facts_of e p v)) (take_all (length list) list (omega arith))
+part_all workers list p v some_there = all_taken (λ e. facts_of e p v) list [] workers (nth list) p v some_there (λ k. refl)
+
+pub groups_all : (workers : ℕ) (batch : List Heard) (k p v : ℕ) → 0 < workers → group_part (is_turn workers 0 workers) batch (length batch) k p v ≡ facts_of_group batch k p v
+unfolding facts_of_group
+groups_all workers batch k p v some_there = all_taken (λ heard. heard.group == k && facts_of heard.reception p v) batch nobody workers (nth_of batch k) p v some_there (λ i. refl)
 
 -- sheets of parts
 pub turn_taken : (takes : Bool) (F G : Facts) (sheet : List Seen) → takes ≡ true → IsEnds (union F G) sheet → IsEnds (union F (λ p v. takes && G p v)) sheet
@@ -122,10 +137,103 @@ pub halves_joined : (workers low middle high : ℕ) (list : List (List Element))
     → IsEnds (union (union F (part (is_turn workers low middle) list (length list))) (union F (part (is_turn workers middle high) list (length list)))) sheet
     → IsEnds (union F (part (is_turn workers low high) list (length list))) sheet
 halves_joined workers low middle high list F sheet left right ends =
-    IsEnds-same _ _ sheet (λ p v. fold_twice (F p v) _ _ ∙ ap (λ (b : Bool). F p v || b) (sym (part_halves workers low middle high list (length list) p v left right))) ends
+    IsEnds-same _ _ sheet (λ p v. fold_twice (F p v) _ _ ∙ ap (λ (b : Bool). F p v || b) (sym (part_halves workers low middle high (nth list) (length list) p v left right))) ends
 
 pub all_joined : (workers : ℕ) (list : List (List Element)) (sheet : List Seen) → 0 < workers → IsEnds (union no_facts (part (is_turn workers 0 workers) list (length list))) sheet → IsEnds (facts_of_all list) sheet
 all_joined workers list sheet some_there ends = IsEnds-same _ _ sheet (λ p v. part_all workers list p v some_there) ends
 
 pub all_by_one : (workers : ℕ) (list : List (List Element)) (sheet : List Seen) → 0 < workers → IsEnds (part (is_turn workers 0 workers) list (length list)) sheet → IsEnds (facts_of_all list) sheet
 all_by_one workers list sheet some_there ends = IsEnds-same _ _ sheet (λ p v. part_all workers list p v some_there) ends
+
+-- sheets of groups
+pub same_sheets : (F G : ℕ → Facts) (sheets : List (List Seen)) (n : ℕ) → ((k p v : ℕ) → F k p v ≡ G k p v) → AreSheets F sheets n → AreSheets G sheets n
+same_sheets F G sheets n same are = record { count = are.count; each = λ k below. IsEnds-same (F k) (G k) _ (same k) (are.each k below) }
+
+pub groups_joined : (workers low middle high : ℕ) (batch : List Heard) (sheets : List (List Seen)) (n : ℕ) → low ≤ middle → middle ≤ high
+    → AreSheets (λ k. union (group_part (is_turn workers low middle) batch (length batch) k) (group_part (is_turn workers middle high) batch (length batch) k)) sheets n
+    → AreSheets (group_part (is_turn workers low high) batch (length batch)) sheets n
+groups_joined workers low middle high batch sheets n left right are =
+    same_sheets _ _ sheets n (λ k p v. sym (part_halves workers low middle high (nth_of batch k) (length batch) p v left right)) are
+
+pub all_groups : (workers : ℕ) (batch : List Heard) (sheets : List (List Seen)) (n : ℕ) → 0 < workers → AreSheets (group_part (is_turn workers 0 workers) batch (length batch)) sheets n → AreSheets (facts_of_group batch) sheets n
+all_groups workers batch sheets n some_there are = same_sheets _ _ sheets n (λ k p v. groups_all workers batch k p v some_there) are
+
+pub no_groups : (takes : ℕ → Bool) (batch : List Heard) (sheets : List (List Seen)) (n : ℕ) → AreSheets (λ k. no_facts) sheets n → AreSheets (group_part takes batch 0) sheets n
+no_groups takes batch sheets n are = same_sheets _ _ sheets n (λ k p v. refl) are
+
+pub one_more_heard : (workers worker index : ℕ) (batch : List Heard) (h : Heard) (sheets : List (List Seen)) (n : ℕ) → h ≡ slice_index_or batch index nobody
+    → AreSheets (λ k. union (group_part (is_turn workers worker (worker + 1)) batch index k) (λ p v. ((index % workers) == worker) && (h.group == k && facts_of h.reception p v))) sheets n
+    → AreSheets (group_part (is_turn workers worker (worker + 1)) batch (index + 1)) sheets n
+one_more_heard workers worker index batch h sheets n is are =
+    subst (λ (m : ℕ). AreSheets (group_part (is_turn workers worker (worker + 1)) batch m) sheets n) (sym (add-one index))
+    (same_sheets _ _ sheets n
+    (λ k p v.
+    ap (λ (b : Bool). group_part (is_turn workers worker (worker + 1)) batch index k p v || (b && (h.group == k && facts_of h.reception p v))) (one_turn workers worker index)
+    ∙ ap (λ (x : Heard). group_part (is_turn workers worker (worker + 1)) batch index k p v || (is_turn workers worker (worker + 1) index && (x.group == k && facts_of x.reception p v))) is)
+    are)
+
+-- a turn that isn't one's own, and one's own
+pub not_mine : (mine : Bool) (h : Heard) (F : ℕ → Facts) (sheets : List (List Seen)) (n : ℕ) → mine ≡ false → AreSheets F sheets n
+    → AreSheets (λ k. union (F k) (λ p v. mine && (h.group == k && facts_of h.reception p v))) sheets n
+not_mine mine h F sheets n is are =
+    same_sheets _ _ sheets n (λ k p v. sym (ap (λ (b : Bool). F k p v || (b && (h.group == k && facts_of h.reception p v))) is ∙ or_false (F k p v))) are
+
+pub mine_met : (mine : Bool) (h : Heard) (F : ℕ → Facts) (old new : List (List Seen)) (shown met : List Seen) (n : ℕ) → mine ≡ true → h.group < length old → new ≡ set old h.group met
+    → ((F G : Facts) → IsEnds F (slice_index_or old h.group []) → IsEnds G shown → IsEnds (union F G) met) → IsEnds (facts_of h.reception) shown → AreSheets F old n
+    → AreSheets (λ k. union (F k) (λ p v. mine && (h.group == k && facts_of h.reception p v))) new n
+mine_met mine h F old new shown met n is inside changed meets ends are = record {
+  count = ap length changed ∙ length-set old h.group met ∙ are.count;
+  each = λ k below. elim (cases_eq k h.group) [
+    | inl here ↦
+        subst (λ (s : List Seen). IsEnds (union (F k) (λ p v. mine && (h.group == k && facts_of h.reception p v))) s)
+        (sym (ap (λ (s : List (List Seen)). slice_index_or s k []) changed ∙ ap (λ (j : ℕ). slice_index_or (set old h.group met) j []) here ∙ get_or-set_same old h.group met [] inside))
+        (IsEnds-same _ _ met
+        (λ p v. ap (λ (b : Bool). F k p v || b) (sym (ap (λ (b : Bool). b && (h.group == k && facts_of h.reception p v)) is ∙ ap (λ (b : Bool). b && facts_of h.reception p v) (eq-eqb h.group k (sym here)))))
+        (meets (F k) (facts_of h.reception) (subst (λ (j : ℕ). IsEnds (F k) (slice_index_or old j [])) here (are.each k below)) ends))
+    | inr apart ↦
+        subst (λ (s : List Seen). IsEnds (union (F k) (λ p v. mine && (h.group == k && facts_of h.reception p v))) s)
+        (sym (ap (λ (s : List (List Seen)). slice_index_or s k []) changed ∙ get_or-set_other old h.group k met [] apart))
+        (IsEnds-same _ _ _
+        (λ p v. sym (ap (λ (b : Bool). F k p v || (mine && (b && facts_of h.reception p v))) (ne_eqb h.group k (λ e. apart (sym e))) ∙ ap (λ (b : Bool). F k p v || b) (right_false mine _ refl) ∙ or_false (F k p v)))
+        (are.each k below))
+  ];
+}
+
+pub sheets_pushed : (sheets : List (List Seen)) (x : List Seen) (n : ℕ) → AreSheets (λ k. no_facts) sheets n → IsEnds no_facts x → AreSheets (λ k. no_facts) (sheets ++ x ∷ []) (n + 1)
+sheets_pushed sheets x n are ends = record {
+  count = length-append sheets (x ∷ []) ∙ ap (λ (k : ℕ). k + 1) are.count;
+  each = λ k below. elim (cases_eq k n) [
+    | inl last ↦ subst (IsEnds no_facts) (sym (get_or_push sheets x [] k (are.count ∙ sym last))) ends
+    | inr apart ↦ subst (IsEnds no_facts) (sym (get_or_append_left sheets (x ∷ []) [] k (omega (arith, are.count)))) (are.each k (omega arith))
+  ];
+}
+
+pub met_further : (start theirs old new : List (List Seen)) (met : List Seen) (k : ℕ) → k < length old → new ≡ set old k met → IsMeet (slice_index_or old k []) (slice_index_or theirs k []) met → slice_index_or old k [] ≡ slice_index_or start k []
+    → ((j : ℕ) → j < k → IsMeet (slice_index_or start j []) (slice_index_or theirs j []) (slice_index_or old j []))
+    → (j : ℕ) → j < k + 1 → IsMeet (slice_index_or start j []) (slice_index_or theirs j []) (slice_index_or new j [])
+met_further start theirs old new met k inside changed meets same below j under =
+    elim (cases_eq j k) [
+      | inl here ↦
+          subst (λ (i : ℕ). IsMeet (slice_index_or start i []) (slice_index_or theirs i []) (slice_index_or new i [])) (sym here)
+          (subst (λ (s : List Seen). IsMeet (slice_index_or start k []) (slice_index_or theirs k []) s) (sym (ap (λ (s : List (List Seen)). slice_index_or s k []) changed ∙ get_or-set_same old k met [] inside))
+          (subst (λ (s : List Seen). IsMeet s (slice_index_or theirs k []) met) same meets))
+      | inr apart ↦
+          subst (λ (s : List Seen). IsMeet (slice_index_or start j []) (slice_index_or theirs j []) s) (sym (ap (λ (s : List (List Seen)). slice_index_or s j []) changed ∙ get_or-set_other old k j met [] apart)) (below j (omega arith))
+    ]
+
+pub rest_stays : (start old new : List (List Seen)) (met : List Seen) (k : ℕ) → new ≡ set old k met → ((j : ℕ) → k ≤ j → slice_index_or old j [] ≡ slice_index_or start j []) → (j : ℕ) → k + 1 ≤ j → slice_index_or new j [] ≡ slice_index_or start j []
+rest_stays start old new met k changed above j over = ap (λ (s : List (List Seen)). slice_index_or s j []) changed ∙ get_or-set_other old k j met [] (λ e. omega arith) ∙ above j (omega arith)
+
+pub all_met : (F G : ℕ → Facts) (start theirs new : List (List Seen)) (n : ℕ) → length new ≡ length start → length start ≡ length theirs → ((j : ℕ) → j < length theirs → IsMeet (slice_index_or start j []) (slice_index_or theirs j []) (slice_index_or new j []))
+    → AreSheets F start n → AreSheets G theirs n → AreSheets (λ k. union (F k) (G k)) new n
+all_met F G start theirs new n count same met f g = record {
+  count = count ∙ f.count;
+  each = λ k below. met k (omega (arith, g.count)) (F k) (G k) (f.each k below) (g.each k below);
+}
+
+-- a row that was lent whole
+pub lent_whole : (X : Type 0) (items new : List X) (len : ℕ) → len ≡ length items → length new ≡ length items → take len (new ++ drop (length new) items) ≡ new
+lent_whole X items new len is same =
+    ap (λ (rest : List X). take len (new ++ rest)) (drop_all (length new) items (omega arith))
+    ∙ ap (take len) (append-nil new)
+    ∙ take_all len new (omega arith)

@@ -5,4 +5,5 @@ pub mod Looks
 pub mod Seats
 pub mod Facts
 pub mod Events
+pub mod Groups
 pub mod inside

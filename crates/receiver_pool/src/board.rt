@@ -146,7 +146,7 @@ impl<A: Allowed> Board<A> {
     }
 
     /// Looks at the board: at each place the greatest word is loaded, and behind it the least word where the greatest isn't empty. It
-    /// answers what the seat saw until then, which may be more than what is loaded where the seat itself saw more.
+    /// answers what the seat then saw of each place, which is what was loaded, and no less than it saw before.
     pub fn look(&self, mut seat: Seat<A>) -> (Seat<A>, Sheet)
         requires { seat.table ≡ self.now }
         ensures board { result.0.table ≡ self.now }

@@ -2,8 +2,10 @@
 #![tactic(auto)]
 
 mod allowed;
+mod batches;
 mod board;
 mod gate;
+mod heard;
 mod laws;
 mod looking;
 mod pools;
@@ -13,8 +15,10 @@ mod steps;
 mod words;
 
 pub use allowed::{AllFacts, Allowed, all_facts_may_be_posted};
+pub use batches::pool_groups;
 pub use board::Board;
 pub use gate::{Gate, Open};
+pub use heard::Heard;
 pub use laws::{one_core, seats_are_at_rest};
 pub use pools::pool;
 pub use seats::{Seat, WHOLE};

@@ -1,8 +1,9 @@
 ghost use Rattle.std.specs.Prelude.{◌≡◌, ◌≤◌, ◌⊎◌, All, IsTrue, length};
 ghost use Rattle.slot_evidence.specs.Allowed.{OnlyAllowed};
+ghost use Rattle.receiver_pool.specs.Groups.{Belongs};
 ghost use Rattle.receiver_pool.specs.inside.Worked.{two_facts};
 
-use crate::{Allowed, Board, Gate, Open, Seat, WHOLE, pool};
+use crate::{Allowed, Board, Gate, Heard, Open, Seat, WHOLE, pool, pool_groups};
 use dsc_symbols::worked::ALERT_SLOTS;
 use phasing::LONGEST;
 use slot_evidence::{Reception, Seen, Sheet, shown_by};
@@ -209,5 +210,57 @@ fn any_number_of_workers(rt: HostRuntime) -> Result<(), Fail> {
         );
     }
     assert_eq!(rt; pool(&rt, rt.alloc(), &[], 5, &Open)?, Sheet::empty());
+    Ok(())
+}
+
+/// Whether each reception of a batch is of one of two groups, and none passes the greatest length.
+fn are_of_two(batch: &[Heard]) -> bool
+    ensures { IsTrue result → All (Belongs 2) batch.now }
+{
+    batch.iter().all(|heard| heard.group < 2
+        && heard.reception.elements().len() <= LONGEST as usize)
+}
+
+/// A batch of two groups: both receptions in group 1, and the second one in group 0 too.
+fn two_groups(alloc: Global) -> Result<Vec<Heard>, AllocError> {
+    let mut batch = Vec::new(alloc);
+    for reception in two_receptions(alloc)? {
+        batch.push(Heard {
+            group: 1,
+            reception,
+        })?;
+    }
+    if let Some(reception) = two_receptions(alloc)?.pop() {
+        batch.push(Heard {
+            group: 0,
+            reception,
+        })?;
+    }
+    Ok(batch)
+}
+
+#[test]
+fn groups_of_a_batch(rt: HostRuntime) -> Result<(), Fail> {
+    let list = two_receptions(rt.alloc())?;
+    let batch = two_groups(rt.alloc())?;
+    assert!(rt; are_short(&list) && are_of_two(&batch));
+    let whole = one_by_one(&list);
+    for workers in [1, 2, 3, 64] {
+        let sheets = pool_groups(&rt, rt.alloc(), &batch, 2, workers, &Open)?;
+        assert_eq!(rt; sheets.len(), 2);
+        assert_eq!(rt; sheets.first().map(|sheet| sheet.at(6)), Some(Seen::None));
+        assert_eq!(rt;
+            sheets.first().map(|sheet| sheet.at(7)),
+            Some(Seen::One(106))
+        );
+        assert_eq!(rt; sheets.last(), Some(&whole), "{workers} workers");
+    }
+    let gate = Meeting {
+        entered: AtomicU32::new(0),
+        met: AtomicU32::new(0),
+    };
+    let sheets = pool_groups(&rt, rt.alloc(), &batch, 2, 2, &gate)?;
+    assert_eq!(rt; sheets.len(), 2);
+    assert_eq!(rt; gate.met.load(Ordering::SeqCst), 2);
     Ok(())
 }

@@ -1,4 +1,4 @@
-use Rattle.std.proofs.Common.{ℕ, ◌≡◌, ◌+◌, arith, length, subst, sym, rules, List}
+use Rattle.std.proofs.Common.{ℕ, ◌≡◌, ◌+◌, arith, length, subst, sym, List}
 use Rattle.slot_evidence.specs.declared.places.Seen.{Seen}
 use Rattle.slot_evidence.specs.Facts.{union}
 use Rattle.slot_evidence.specs.Sheet.{IsEnds}

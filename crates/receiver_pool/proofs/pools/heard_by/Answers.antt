@@ -1,4 +1,4 @@
-use Rattle.std.proofs.Common.{arith, [], length, sym}
+use Rattle.std.proofs.Common.{arith, []}
 use Rattle.std.proofs.lemmas.List.{get_or_read}
 use Rattle.receiver_pool.proofs.Parts.{one_more}
 use Rattle.receiver_pool.proofs.pools.heard_by.Goals as goal
