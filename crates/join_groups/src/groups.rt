@@ -72,7 +72,10 @@ impl Groups {
             → Says line read.now → (refusal ≡ Refusal.TooManyGroups) × BringsTooMany said line)) }
     {
         match read {
-            Line::Reception { group, elements } => self.meet(*group, &shown_by(elements.elements())),
+            Line::Reception { group, elements } => self.meet(
+                *group,
+                &shown_by(elements.elements()),
+            ),
             Line::Evidence { group, sheet } => self.meet(*group, sheet),
             _ => Ok(()),
         }
