@@ -187,19 +187,15 @@ fn and(mut acts: Acts, act: Act) -> Acts {
 
 #[test]
 fn calls_for_the_ship_are_answered(rt: HostRuntime) -> Result<(), Fail> {
-    let place = casualty(OWN)?;
+    let position = casualty(OWN)?.position;
     let unknown = HourMinute::unknown();
     let ask = to_one(OTHER, COAST, Kind::AskPosition)?;
-    let told = to_one(COAST, OTHER, Kind::Position(place.position, unknown))?;
+    let told = to_one(COAST, OTHER, Kind::Position(position, unknown))?;
     let test = to_one(OWN, COAST, Kind::Test { reply: false })?;
     let question = proposal(OTHER, COAST, 109, 126, End::Ask)?;
     let refusal = proposal(COAST, OTHER, 104, 100, End::Reply)?;
     let rows = [
-        (
-            0,
-            ShipWhat::Position(place.position, unknown),
-            Ok(nothing()),
-        ),
+        (0, ShipWhat::Position(position, unknown), Ok(nothing())),
         (1_000, ShipWhat::Heard(ask), Ok(sent(told))),
         (1_500, ShipWhat::Heard(test), Ok(nothing())),
         (2_000, ShipWhat::Heard(question), Ok(single(Act::Held(1)))),
