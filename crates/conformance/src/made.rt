@@ -1,6 +1,6 @@
 use crate::receptions::words_of;
 use dsc_cmd::{Source, SureSink, SureSource, run};
-use slot_join::Open;
+use receiver_pool::Open;
 use std::test::Fail;
 
 // Words, what is written, and the status.
