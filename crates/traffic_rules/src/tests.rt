@@ -26,18 +26,21 @@ fn individual(to: u32, from: u32, second: u8, end: End) -> Result<Call, Fail> {
     })
 }
 
-fn relay(ask: bool) -> Result<Call, Fail> {
-    let casualty = Casualty {
+fn casualty() -> Result<Casualty, Fail> {
+    Ok(Casualty {
         mmsi: mmsi(338_040_079)?,
         nature: Nature::new(106).ok_or("nature")?,
         position: Position::unknown(),
         time: HourMinute::unknown(),
         comm: Comm::new(100).ok_or("communication")?,
-    };
+    })
+}
+
+fn relay(ask: bool) -> Result<Call, Fail> {
     Ok(Call::Relay {
         to: To::All,
         from: mmsi(SHIP)?,
-        casualty,
+        casualty: casualty()?,
         ask,
     })
 }
@@ -111,9 +114,7 @@ fn questions_are_held_once(rt: HostRuntime) -> Result<(), Fail> {
 fn relays_are_told_and_held(rt: HostRuntime) -> Result<(), Fail> {
     let own = mmsi(OWN)?;
     let call = relay(true)?;
-    let Call::Relay { casualty, .. } = call else {
-        return Ok(());
-    };
+    let casualty = casualty()?;
     let distress = single(Act::Distress(casualty));
     let mut held = HeldCalls::empty();
     assert_eq!(rt;
