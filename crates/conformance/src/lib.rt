@@ -26,3 +26,5 @@ mod sheets;
 mod signals;
 #[cfg(test)]
 mod streams;
+#[cfg(test)]
+mod workers;

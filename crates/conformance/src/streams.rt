@@ -1,9 +1,8 @@
 use crate::receptions::{WHOLE, line, words_of};
 use dsc_cmd::{ByteSink, ByteSource, Failed, Source, SureSink, SureSource, run};
 use dsc_symbols::worked::ALERT_SLOTS;
-use receiver_pool::{Gate, Open};
+use receiver_pool::Open;
 use std::alloc::{AllocError, Global};
-use std::sync::atomic::{AtomicU32, Ordering};
 use std::test::Fail;
 use std::thread::Threads;
 
@@ -118,32 +117,5 @@ fn a_source_that_never_ends(rt: HostRuntime) -> Result<(), Fail> {
     assert_eq!(rt; sink.bytes(), want.as_slice());
     // All lines and bytes that the limits allow, and one piece of reading more.
     assert!(rt; source.given <= 4096 * 4201 + 4096);
-    Ok(())
-}
-
-// A gate that counts who enters.
-#[derive(Drop)]
-struct Counted {
-    entered: AtomicU32,
-}
-
-impl Gate for Counted {
-    fn enter(&self, _worker: u32) {
-        self.entered.fetch_add(1, Ordering::SeqCst);
-    }
-}
-
-#[test]
-fn no_gate_is_entered_without_workers(rt: HostRuntime) -> Result<(), Fail> {
-    let alloc = rt.alloc();
-    let words = words_of(alloc, "dsc join")?;
-    let gate = Counted {
-        entered: AtomicU32::new(0),
-    };
-    let mut source = SureSource::new(line(alloc, &ALERT_SLOTS, &WHOLE)?, 4096);
-    let mut sink = SureSink::new(alloc, 4096, 4096)?;
-    let status = run(&rt, alloc, &words, &mut source, &mut sink, &gate);
-    assert_eq!(rt; status.number(), 0);
-    assert_eq!(rt; gate.entered.load(Ordering::SeqCst), 0);
     Ok(())
 }

@@ -1,10 +1,11 @@
 -- What `make` writes is what an empty input ends with.
-use Rattle.std.proofs.Common.{◌≡◌, ◌⊎◌, inl, inr, ℕ, Bool, List, [], ◌∷◌, ◌++◌, Option, Some, refl, sym, subst}
+use Rattle.std.proofs.Common.{◌≡◌, ◌⊎◌, inl, inr, ℕ, Bool, List, [], ◌∷◌, ◌++◌, Option, Some, None, refl, sym, subst, append-nil}
+use Rattle.dsc_streams.specs.Streams.{Gains}
 use Rattle.line_engine.specs.Lines.{Lines, lines_of}
 use Rattle.line_engine.specs.Meaning.{Meaning}
 use Rattle.line_engine.specs.Faults.{IsFaultless}
 use Rattle.line_engine.specs.Output.{IsWhole, Asks}
-use Rattle.line_engine.specs.Endings.{IsFinished, IsRest, TellsWhole, CutsOff}
+use Rattle.line_engine.specs.Endings.{IsFinished, IsRest, TellsWhole, CutsOff, TellsFront}
 use Rattle.dsc_words.specs.declared.plans.Plan.TheVariants.{Join, Evidence, Encode, Sentences, Replay, Make}
 use Rattle.generated_join.specs.Summary.{IsMade}
 use Rattle.dsc_cmd.specs.Plans.{made_meaning, WritesSummary, CutsOffSummary}
@@ -54,6 +55,20 @@ made_cut n before after w = record {
   writes = w.writes;
 }
 
+-- nothing was written
+gains_none : (written : Option (List ℕ)) → Gains written written []
+gains_none (Some bytes) = sym (append-nil bytes)
+gains_none None = tt
+
+pub made_want : (n : ℕ) (written : Option (List ℕ)) → TellsFront (made_meaning n) (Some []) (Some []) written written
+made_want n written = record {
+  taken = [];
+  lost = refl;
+  text = [];
+  so_far = λ rest is. record { first = []; later = lines_of rest; list = refl; faultless = faultless (made_meaning n); gives = refl };
+  writes = record { front = []; back = []; text_is = refl; appended = gains_none written };
+}
+
 -- ---- other plans make nothing
 
 pub join_is_not_make : {m n : ℕ} → Join m ≡ Make n → ⊥
@@ -73,23 +88,24 @@ replay_is_not_make e = cc
 
 -- ---- `make` ends with no other status
 
-pub no_fault : (status : ℕ) → IsFinished status ⊎ (status ≡ 5) → (status ≡ 3) ⊎ (status ≡ 7) → ⊥
+abbrev pub IsMadeStatus : ℕ → Type 0
+IsMadeStatus status = IsFinished status ⊎ (status ≡ 5) ⊎ (status ≡ 6)
+
+pub no_fault : (status : ℕ) → IsMadeStatus status → (status ≡ 3) ⊎ (status ≡ 7) → ⊥
 no_fault status (inl (inl a)) (inl b) = absurd (cc)
 no_fault status (inl (inl a)) (inr b) = absurd (cc)
 no_fault status (inl (inr a)) (inl b) = absurd (cc)
 no_fault status (inl (inr a)) (inr b) = absurd (cc)
-no_fault status (inr a) (inl b) = absurd (cc)
-no_fault status (inr a) (inr b) = absurd (cc)
+no_fault status (inr (inl a)) (inl b) = absurd (cc)
+no_fault status (inr (inl a)) (inr b) = absurd (cc)
+no_fault status (inr (inr a)) (inl b) = absurd (cc)
+no_fault status (inr (inr a)) (inr b) = absurd (cc)
 
-pub no_read_fault : (status : ℕ) → IsFinished status ⊎ (status ≡ 5) → status ≡ 4 → ⊥
+pub no_read_fault : (status : ℕ) → IsMadeStatus status → status ≡ 4 → ⊥
 no_read_fault status (inl (inl a)) b = absurd (cc)
 no_read_fault status (inl (inr a)) b = absurd (cc)
-no_read_fault status (inr a) b = absurd (cc)
-
-pub no_want : (status : ℕ) → IsFinished status ⊎ (status ≡ 5) → status ≡ 6 → ⊥
-no_want status (inl (inl a)) b = absurd (cc)
-no_want status (inl (inr a)) b = absurd (cc)
-no_want status (inr a) b = absurd (cc)
+no_read_fault status (inr (inl a)) b = absurd (cc)
+no_read_fault status (inr (inr a)) b = absurd (cc)
 
 pub no_cut : (status : ℕ) → IsFinished status → status ≡ 5 → ⊥
 no_cut status (inl a) b = absurd (cc)

@@ -1,15 +1,19 @@
-ghost use Rattle.std.specs.Prelude.{◌≡◌, ◌⊎◌, ◌≤◌, List, if◌then◌else◌};
+ghost use Rattle.std.specs.Prelude.{◌≡◌, ◌≢◌, ◌⊎◌, ◌≤◌, List, if◌then◌else◌};
 ghost use Rattle.std.specs.List.{list_all};
 ghost use Rattle.dsc_streams.specs.Streams.{Rises, Told};
 ghost use Rattle.line_engine.specs.Endings.{IsFinished};
 ghost use Rattle.dsc_files.specs.JoinLine.{JoinLine};
 ghost use Rattle.join_groups.specs.Output.{is_reported};
+ghost use Rattle.generated_join.specs.Generator.{generated};
 ghost use Rattle.generated_join.specs.Summary.{IsSummary};
 ghost use Rattle.dsc_cmd.specs.Plans.{WritesSummary, CutsOffSummary};
 
 use crate::running::write_flushed;
 use dsc_streams::{Failed, Sink, Status};
 use generated_join::{Summary, summary_of};
+use receiver_pool::Gate;
+use std::alloc::{AllocError, Global};
+use std::thread::Threads;
 
 /// The status of a join with this summary: 0 where a call was reported of every group, and else 1.
 fn status_of(summary: &Summary) -> Status
@@ -23,10 +27,10 @@ fn status_of(summary: &Summary) -> Status
     }
 }
 
-/// Joins so many generated groups, at most 1,000, and writes the summary. It ends with status 0 where a call was reported of every
-/// group, with 1 where not, or with that of a write fault.
-pub(crate) fn make<K: Sink>(groups: u16, sink: &mut K) -> Status
-    requires { groups ≤ 1000 }
+/// Writes the summary of so many generated groups. It ends with status 0 where a call was reported of every group, with 1 where not, or
+/// with that of a write fault.
+fn tell_summary<K: Sink>(groups: u16, summary: &Summary, sink: &mut K) -> Status
+    requires { IsSummary (generated groups) summary.now }
     ensures which { IsFinished result ⊎ (result ≡ 5) }
     ensures done { IsFinished result → WritesSummary groups (K.written sink.old) (K.written sink.new) (K.flushed sink.new) result }
     ensures sound { IsFinished result → K.faults sink.new ≡ K.faults sink.old }
@@ -34,9 +38,32 @@ pub(crate) fn make<K: Sink>(groups: u16, sink: &mut K) -> Status
     ensures cause { result ≡ 5 → Rises (K.faults sink.old) (K.faults sink.new) }
     ensures told { Told (K.written sink.old) (K.written sink.new) }
 {
-    let summary = summary_of(groups);
     match write_flushed(sink, &summary.text()) {
-        Ok(()) => status_of(&summary),
+        Ok(()) => status_of(summary),
         Err(Failed) => Status::new(5),
+    }
+}
+
+/// Has one worker join so many generated groups, at most 1,000, and writes the summary. It ends with status 0 where a call was reported of
+/// every group, with 1 where not, with that of a write fault, or with 6, having written nothing, where there was no memory.
+pub(crate) fn make<R: Threads + Sync, K: Sink, G: Gate>(
+    rt: &R,
+    alloc: Global,
+    groups: u16,
+    sink: &mut K,
+    gate: &G,
+) -> Status
+    requires { groups ≤ 1000 }
+    ensures which { IsFinished result ⊎ (result ≡ 5) ⊎ (result ≡ 6) }
+    ensures done { IsFinished result → WritesSummary groups (K.written sink.old) (K.written sink.new) (K.flushed sink.new) result }
+    ensures sound { result ≢ 5 → K.faults sink.new ≡ K.faults sink.old }
+    ensures cut { result ≡ 5 → CutsOffSummary groups (K.written sink.old) (K.written sink.new) }
+    ensures cause { result ≡ 5 → Rises (K.faults sink.old) (K.faults sink.new) }
+    ensures unwritten { result ≡ 6 → sink.new ≡ sink.old }
+    ensures told { Told (K.written sink.old) (K.written sink.new) }
+{
+    match summary_of(rt, alloc, groups, gate) {
+        Ok(summary) => tell_summary(groups, &summary, sink),
+        Err(AllocError) => Status::new(6),
     }
 }

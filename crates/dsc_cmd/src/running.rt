@@ -11,7 +11,7 @@ use crate::making::make;
 use dsc_streams::{Failed, Sink, Source, Status, write_all};
 use dsc_words::{Plan, PlanError, one_plan, plan_of};
 use encode_calls::{Encode, LongDots, ShortDots};
-use join_groups::{Answers, Ends, TellGroups};
+use join_groups::{Answers, Ends, tell_groups};
 use line_engine::{MOST_TAKEN, drive};
 use receiver_pool::Gate;
 use sentence_files::Sentences;
@@ -73,16 +73,32 @@ fn execute<R: Threads + Sync, S: Source, K: Sink, G: Gate>(
     ensures write_sound { result ≢ 5 → K.faults sink.new ≡ K.faults sink.old }
     ensures told { Told (S.left source.old) (S.left source.new) × Told (K.written sink.old) (K.written sink.new) }
     ensures range { IsFinished result ⊎ IsOfFault result ⊎ (result ≡ 4) ⊎ (result ≡ 5) ⊎ (result ≡ 6) }
-    ensures unread { (n : ℕ) → plan ≡ makes n → (source.new ≡ source.old) × (IsFinished result ⊎ (result ≡ 5)) }
+    ensures unread { (n : ℕ) → plan ≡ makes n → (source.new ≡ source.old) × (IsFinished result ⊎ (result ≡ 5) ⊎ (result ≡ 6)) }
 {
     match plan {
-        Plan::Join { .. } => drive(alloc, TellGroups::new(alloc, Answers), source, sink),
-        Plan::Evidence { .. } => drive(alloc, TellGroups::new(alloc, Ends), source, sink),
+        Plan::Join { workers } => tell_groups(
+            rt,
+            alloc,
+            Answers,
+            source,
+            sink,
+            u32::from(workers),
+            gate,
+        ),
+        Plan::Evidence { workers } => tell_groups(
+            rt,
+            alloc,
+            Ends,
+            source,
+            sink,
+            u32::from(workers),
+            gate,
+        ),
         Plan::Encode { long: false } => drive(alloc, Encode::new(alloc, ShortDots), source, sink),
         Plan::Encode { long: true } => drive(alloc, Encode::new(alloc, LongDots), source, sink),
         Plan::Sentences => drive(alloc, Sentences::new(alloc), source, sink),
         Plan::Replay { workers } => replay(rt, alloc, source, sink, u32::from(workers), gate),
-        Plan::Make { groups } => make(groups, sink),
+        Plan::Make { groups } => make(rt, alloc, groups, sink, gate),
     }
 }
 
@@ -98,7 +114,7 @@ fn execute<R: Threads + Sync, S: Source, K: Sink, G: Gate>(
 /// | `replay [--workers N]` | for each event line of a traffic file what the station does, or why it refuses the event |
 /// | `make N` | the summary of the join of N generated groups, of four receptions each; nothing is read |
 ///
-/// Of workers N is 1 to 64 and changes nothing yet; of groups it is 1 to 1,000. D is 20 or 200, and 20 where it isn't given.
+/// Of workers N is 1 to 64, and 1 where it isn't given; it changes no answer. Of groups N is 1 to 1,000. D is 20 or 200, and 20 where it isn't given.
 ///
 /// | Status | What it says |
 /// |---|---|

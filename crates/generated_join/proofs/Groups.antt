@@ -1,16 +1,14 @@
 -- Which groups the generated lines name, and their facts: those of their own lines.
-use Rattle.std.proofs.Common.{◌≡◌, ℕ, ◌+◌, Bool, true, false, ◌&&◌, ◌||◌, ◌==◌, List, [], ◌∷◌, flat_map, map, refl, sym, ap, ap₂, subst, ◌∙◌, arith}
+use Rattle.std.proofs.Common.{◌≡◌, ℕ, ◌+◌, Bool, true, false, ◌&&◌, ◌||◌, ◌==◌, List, [], ◌∷◌, ◌++◌, flat_map, map, refl, sym, ap, ap₂, subst, ◌∙◌, arith}
 use Rattle.std.specs.List.{AllByRecursion, range_with_len}
 use Rattle.std.proofs.lemmas.List.Folds.{list_any-append}
 use Rattle.std.proofs.lemmas.List.FromFn.{map-range_with_len_more}
-use Rattle.slot_evidence.specs.declared.places.Seen.{Seen}
-use Rattle.slot_evidence.specs.Facts.{Facts, no_facts, facts_of, union}
-use Rattle.slot_evidence.specs.Sheet.{IsEnds, IsMeet}
+use Rattle.slot_evidence.specs.Facts.{Facts, facts_of, facts_of_all}
 use Rattle.slot_join.specs.Answer.{IsAnswer}
 use Rattle.ten_unit.specs.declared.character.Element.{Element}
-use Rattle.dsc_files.specs.JoinLine.{JoinLine, reception}
+use Rattle.dsc_files.specs.JoinLine.{reception}
 use Rattle.join_groups.specs.Groups.{names, is_named, is_among, facts_of_line, group_facts, AreGroups}
-use Rattle.join_groups.proofs.Naming.{same_facts, unnamed_facts, facts_push}
+use Rattle.join_groups.proofs.Naming.{same_facts, unnamed_facts}
 use Rattle.generated_join.specs.Generator.{heard, generated, lines_of_group}
 use Rattle.generated_join.specs.Summary.{Answered}
 use Rattle.generated_join.proofs.Ranges.{rising_range}
@@ -84,30 +82,23 @@ each_here n (one ∷ all) within each =
       each_here n all (λ k h. within k (or_right (one.group == k) (is_among (map (λ one. one.group) all) k) h)) each.1,
     )
 
--- ---- the facts of one group, line by line
+-- ---- the facts of one group's receptions
 
--- no line gives no facts
-pub no_lines : (k : ℕ) → no_facts ≡ group_facts [] k
-unfolding group_facts
-no_lines k = same_facts no_facts (group_facts [] k) (λ p v. refl)
+-- what the first receivers of a group hear
+abbrev pub first_heard : ℕ → ℕ → List (List Element)
+first_heard k n = map (heard k) (range_with_len 0 n)
 
--- a reception of the group gives its own facts
-pub own_facts : (k : ℕ) (e : List Element) → facts_of e ≡ facts_of_line k (reception k e)
-own_facts k e = same_facts (facts_of e) (facts_of_line k (reception k e)) (λ p v. sym (ap (λ (b : Bool). b && facts_of e p v) (same_number k)))
+-- one receiver more
+pub heard_more : (k n : ℕ) → first_heard k n ++ heard k n ∷ [] ≡ first_heard k (n + 1)
+heard_more k n = sym (map-range_with_len_more (heard k) 0 n n (omega arith))
 
--- the lines of the first receivers of a group
-abbrev pub first_lines : ℕ → ℕ → List JoinLine
-first_lines k n = map (λ j. reception k (heard k j)) (range_with_len 0 n)
+-- receptions of a group show what their lines give of it
+shown_by_lines : (k : ℕ) (receivers : List ℕ) (p v : ℕ) → facts_of_all (map (heard k) receivers) p v ≡ group_facts (map (λ j. reception k (heard k j)) receivers) k p v
+unfolding facts_of_all group_facts
+shown_by_lines k [] p v = refl
+shown_by_lines k (j ∷ receivers) p v =
+    ap₂ (λ (a b : Bool). a || b) (sym (ap (λ (b : Bool). b && facts_of (heard k j) p v) (same_number k))) (shown_by_lines k receivers p v)
 
-facts_more : (k n : ℕ) → union (group_facts (first_lines k n) k) (facts_of (heard k n)) ≡ group_facts (first_lines k (n + 1)) k
-facts_more k n =
-    ap (λ (G : Facts). union (group_facts (first_lines k n) k) G) (own_facts k (heard k n))
-    ∙ sym (facts_push (first_lines k n) (reception k (heard k n)) k)
-    ∙ ap (λ (said : List JoinLine). group_facts said k) (sym (map-range_with_len_more (λ j. reception k (heard k j)) 0 n n (omega arith)))
-
--- one receiver more was joined
-pub met_more : (k n : ℕ) (e : List Element) (old shown new : List Seen) → e ≡ heard k n → IsEnds (group_facts (first_lines k n) k) old → IsEnds (facts_of e) shown
-    → IsMeet old shown new → IsEnds (group_facts (first_lines k (n + 1)) k) new
-met_more k n e old shown new same ends showed meet =
-    subst (λ (F : Facts). IsEnds F new) (facts_more k n)
-    (meet (group_facts (first_lines k n) k) (facts_of (heard k n)) ends (subst (λ (h : List Element). IsEnds (facts_of h) shown) same showed))
+pub all_shown : (k : ℕ) → facts_of_all (first_heard k 4) ≡ group_facts (lines_of_group k) k
+unfolding lines_of_group
+all_shown k = same_facts (facts_of_all (first_heard k 4)) (group_facts (lines_of_group k) k) (λ p v. shown_by_lines k (range_with_len 0 4) p v)

@@ -1,6 +1,7 @@
 pub mod Naming
 pub mod Rising
+pub mod Holding
 pub mod Keeping
 pub mod TellingLemmas
-pub mod Taking
+pub mod LinesTaken
 pub mod TextLaws

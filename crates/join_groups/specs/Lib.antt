@@ -1,4 +1,5 @@
 pub mod Groups
+pub mod Holds
 pub mod Output
 pub mod Meanings
 pub mod Laws

@@ -3,47 +3,58 @@ ghost use Rattle.line_engine.specs.Lines.{Lines};
 ghost use Rattle.line_engine.specs.Commands.{IsTakenBehind, IsRefusedBehind, KeepsText, StandsBelow};
 ghost use Rattle.line_engine.specs.Endings.{IsFinished};
 ghost use Rattle.dsc_files.specs.JoinLine.{JoinLine};
+ghost use Rattle.receiver_pool.specs.Joining.{JoinsBatches};
 ghost use Rattle.join_groups.specs.Groups.{AreLines};
 ghost use Rattle.join_groups.specs.Meanings.{groups_meaning};
 ghost use Rattle.join_groups.specs.inside.Kept.{StandsFor};
 
 use crate::groups::Groups;
+use crate::taking::take_line;
 use crate::telling::{Teller, tell_all};
 use dsc_files::one_line;
 use dsc_streams::Status;
 use line_engine::{Command, Refusal};
+use receiver_pool::{Heard, Workers};
+use slot_evidence::Sheet;
 use std::alloc::{AllocError, Global};
 
-/// The command that tells of each group once its lines are all known: `join` by answers, `evidence` by ends.
+/// The command that tells of each group once its lines are all known: `join` by answers, `evidence` by ends. Workers join its receptions.
 #[derive(Drop)]
-pub struct TellGroups<T: Teller> {
+pub struct TellGroups<J, T: Teller> {
+    alloc: Global,
+    workers: Workers<J>,
     groups: Groups,
     teller: T,
 }
 
-impl<T: Teller> TellGroups<T> {
+impl<J: Drop + Fn(&[Heard], usize) -> Result<Vec<Sheet>, AllocError>, T: Teller> TellGroups<J, T> {
     /// The command before its first line.
-    pub fn new(alloc: Global, teller: T) -> TellGroups<T>
-        ensures { StandsFor result.groups.sheets.entries [] [] }
+    pub fn new(alloc: Global, workers: Workers<J>, teller: T) -> TellGroups<J, T>
+        ensures groups { StandsFor result.groups [] [] }
+        ensures workers { result.workers ≡ workers }
     {
         TellGroups {
+            alloc,
+            workers,
             groups: Groups::new(alloc),
             teller,
         }
     }
 }
 
-impl<T: Teller> Command for TellGroups<T> {
+impl<J: Drop + Fn(&[Heard], usize) -> Result<Vec<Sheet>, AllocError>, T: Teller> Command
+    for TellGroups<J, T> {
     ghost meaning = { groups_meaning T.tells };
 
-    ghost stands_for = { λ command lines text. StandsFor command.groups.sheets.entries lines text };
+    ghost stands_for = { λ command lines text. JoinsBatches (J.pre command.workers.join) (J.post command.workers.join) × StandsFor command.groups lines text };
 
     fn take(&mut self, line: &[u8], _out: &mut Vec<u8>) -> Result<(), Refusal> {
         one_line();
-        self.groups.take(line)
+        take_line(&mut self.groups, &self.workers, self.alloc, line)
     }
 
     fn finish(&mut self, out: &mut Vec<u8>) -> Result<Status, AllocError> {
+        self.groups.close_batch(&self.workers)?;
         if tell_all::<T>(&self.groups, out)? {
             Ok(Status::new(0))
         } else {
@@ -51,5 +62,5 @@ impl<T: Teller> Command for TellGroups<T> {
         }
     }
 
-    ghost gives = { λ command lines text stands. stands.text_is };
+    ghost gives = { λ command lines text stands. stands.1.text_is };
 }

@@ -1,118 +1,162 @@
-ghost use Rattle.std.specs.Prelude.{◌≡◌, ◌⊎◌, ℕ, ◌==◌, ◌++◌, ◌∷◌, ◌≤◌, length, [], List, None, IfErr, OnOk};
-ghost use Rattle.std.specs.Ordering.{nat_cmp, is_eq};
-ghost use Rattle.std.specs.Map.{lookup};
-ghost use Rattle.slot_evidence.specs.Facts.{facts_of};
+ghost use Rattle.std.specs.Prelude.{◌≡◌, ◌⊎◌, ℕ, ◌<◌, ◌≤◌, Bool, false, length, [], Some, IfOk, IfErr, OnOk};
+ghost use Rattle.slot_evidence.specs.Facts.{Facts, facts_of, no_facts};
 ghost use Rattle.slot_evidence.specs.Sheet.{IsEnds};
-ghost use Rattle.dsc_files.specs.JoinLine.{JoinLine, IsLine};
-ghost use Rattle.dsc_files.specs.Lines.{Says};
-ghost use Rattle.join_groups.specs.Groups.{facts_of_line, names};
-ghost use Rattle.join_groups.specs.Meanings.{BringsTooMany};
-ghost use Rattle.join_groups.specs.inside.Kept.{Keeps, IsRefused, IsShort};
+ghost use Rattle.receiver_pool.specs.Joining.{JoinsBatches};
+ghost use Rattle.join_groups.specs.Holds.{Holds, HoldsSome, IsFull, named_with, facts_with, facts_without, number_in};
 
-use dsc_files::{FileKind, Line, LineFault, line_of};
-use line_engine::{LONGEST_LINE, Refusal};
+use line_engine::Refusal;
 use phasing::LONGEST;
-use slot_evidence::{Sheet, read_sheet};
-use std::alloc::Global;
+use receiver_pool::{Heard, Workers, meet_at, take_at};
+use slot_evidence::{Reception, Sheet};
+use std::alloc::{AllocError, Global};
 use std::collections::BTreeMap;
-use ten_unit::Element;
-
-/// The sheet of what a receiver heard, at most 1,000,000 elements: it is empty where no origin is found.
-pub fn shown_by(heard: &[Element]) -> Sheet
-    requires { length heard.now ≤ LONGEST }
-    ensures { IsEnds (facts_of heard.now) result }
-{
-    match read_sheet(heard) {
-        Some(sheet) => sheet,
-        None => Sheet::empty(),
-    }
-}
 
 /// An input names at most this many groups.
 pub const MOST_GROUPS: usize = 1024;
 
-/// The groups that lines named, each with the sheet of all its facts, by rising number.
+/// A batch holds at most this many receptions.
+pub const MOST_IN_BATCH: usize = 256;
+
+/// The groups that lines named: each has a number, by first appearance, and a sheet with that number. Receptions wait in a batch until
+/// several workers join it into the sheets; a single worker joins each at once.
 #[derive(Drop)]
 pub struct Groups {
-    alloc: Global,
-    pub(crate) sheets: BTreeMap<u32, Sheet>,
+    pub(crate) numbers: BTreeMap<u32, usize>,
+    pub(crate) sheets: Vec<Sheet>,
+    pub(crate) batch: Vec<Heard>,
 }
 
 impl Groups {
     /// No groups.
     pub fn new(alloc: Global) -> Groups
-        ensures { Keeps result.sheets.entries [] }
+        ensures { Holds result (λ k. false) (λ k. no_facts) }
     {
         Groups {
-            alloc,
-            sheets: BTreeMap::new(alloc),
+            numbers: BTreeMap::new(alloc),
+            sheets: Vec::new(alloc),
+            batch: Vec::new(alloc),
         }
     }
 
-    /// Takes a line of receptions or evidence. A line that is ill-formed, or that brings a group too many, leaves the groups as they were.
-    pub fn take(&mut self, text: &[u8]) -> Result<(), Refusal>
-        requires { length text.now ≤ LONGEST_LINE }
-        ensures ok { OnOk result ((said : List JoinLine) → Keeps self.old.sheets.entries said
-            → (line : JoinLine) × (IsLine line text.now × (BringsTooMany said line → ⊥) × Keeps self.new.sheets.entries (said ++ line ∷ []))) }
-        ensures err { IfErr result (λ refusal. (said : List JoinLine) → Keeps self.old.sheets.entries said → IsRefused said text.now refusal) }
+    /// The number of a group, which is given one where it has none.
+    fn number_of(&mut self, group: u32) -> Result<usize, Refusal>
+        ensures ok { IfOk result (λ n. (named : ℕ → Bool) (F : ℕ → Facts) → Holds self.old named F
+            → (IsFull named group → ⊥) × Holds self.new (named_with group named) F × (number_in self.new group ≡ Some n)) }
+        ensures err { IfErr result (λ refusal. (refusal ≡ Refusal.Memory) ⊎ ((named : ℕ → Bool) (F : ℕ → Facts) → Holds self.old named F
+            → (refusal ≡ Refusal.TooManyGroups) × IsFull named group)) }
     {
-        match line_of(self.alloc, FileKind::Join, text) {
-            Ok(line) => self.take_read(&line),
-            Err(LineFault::Column(n)) => Err(Refusal::Column(n)),
-            Err(LineFault::NoMemory) => Err(Refusal::Memory),
+        match self.numbers.get(&group) {
+            Some(number) => Ok(*number),
+            None => self.begin(group),
         }
     }
 
-    /// Takes a line that was read.
-    fn take_read(&mut self, read: &Line) -> Result<(), Refusal>
-        requires { IsShort read.now }
-        ensures ok { OnOk result ((said : List JoinLine) (line : JoinLine) → Keeps self.old.sheets.entries said → Says line read.now
-            → (BringsTooMany said line → ⊥) × Keeps self.new.sheets.entries (said ++ line ∷ [])) }
-        ensures err { IfErr result (λ refusal. (refusal ≡ Refusal.Memory) ⊎ ((said : List JoinLine) (line : JoinLine) → Keeps self.old.sheets.entries said
-            → Says line read.now → (refusal ≡ Refusal.TooManyGroups) × BringsTooMany said line)) }
+    /// Gives the next number to a group that has none, with the sheet of no facts.
+    fn begin(&mut self, group: u32) -> Result<usize, Refusal>
+        requires { number_in self.old group ≡ None }
+        ensures ok { IfOk result (λ n. (named : ℕ → Bool) (F : ℕ → Facts) → Holds self.old named F
+            → (IsFull named group → ⊥) × Holds self.new (named_with group named) F × (number_in self.new group ≡ Some n)) }
+        ensures err { IfErr result (λ refusal. (refusal ≡ Refusal.Memory) ⊎ ((named : ℕ → Bool) (F : ℕ → Facts) → Holds self.old named F
+            → (refusal ≡ Refusal.TooManyGroups) × IsFull named group)) }
     {
-        match read {
-            Line::Reception { group, elements } => self.meet(
-                *group,
-                &shown_by(elements.elements()),
-            ),
-            Line::Evidence { group, sheet } => self.meet(*group, sheet),
-            _ => Ok(()),
-        }
-    }
-
-    /// Takes in what a line showed of its group.
-    fn meet(&mut self, group: u32, shown: &Sheet) -> Result<(), Refusal>
-        ensures ok { OnOk result ((said : List JoinLine) (line : JoinLine) → Keeps self.old.sheets.entries said
-            → ((k : ℕ) → names k line ≡ (group == k)) → IsEnds (facts_of_line group line) shown.now
-            → (BringsTooMany said line → ⊥) × Keeps self.new.sheets.entries (said ++ line ∷ [])) }
-        ensures err { IfErr result (λ refusal. (refusal ≡ Refusal.Memory) ⊎ ((said : List JoinLine) (line : JoinLine) → Keeps self.old.sheets.entries said
-            → ((k : ℕ) → names k line ≡ (group == k)) → (refusal ≡ Refusal.TooManyGroups) × BringsTooMany said line)) }
-    {
-        match self.sheets.get_mut(&group) {
-            Some(sheet) => {
-                sheet.meet(shown);
-                Ok(())
-            }
-            None => self.begin(group, shown),
-        }
-    }
-
-    /// Begins a group that no line named before.
-    fn begin(&mut self, group: u32, shown: &Sheet) -> Result<(), Refusal>
-        requires { lookup (λ n. is_eq (nat_cmp group n)) self.old.sheets.entries ≡ None }
-        ensures ok { OnOk result ((said : List JoinLine) (line : JoinLine) → Keeps self.old.sheets.entries said
-            → ((k : ℕ) → names k line ≡ (group == k)) → IsEnds (facts_of_line group line) shown.now
-            → (BringsTooMany said line → ⊥) × Keeps self.new.sheets.entries (said ++ line ∷ [])) }
-        ensures err { IfErr result (λ refusal. (refusal ≡ Refusal.Memory) ⊎ ((said : List JoinLine) (line : JoinLine) → Keeps self.old.sheets.entries said
-            → ((k : ℕ) → names k line ≡ (group == k)) → (refusal ≡ Refusal.TooManyGroups) × BringsTooMany said line)) }
-    {
-        if self.sheets.len() >= MOST_GROUPS {
+        if self.numbers.len() >= MOST_GROUPS {
             return Err(Refusal::TooManyGroups);
         }
-        match self.sheets.insert(group, *shown) {
-            Ok(_) => Ok(()),
+        let number = self.sheets.len();
+        self.sheets.push(Sheet::empty())?;
+        match self.numbers.insert(group, number) {
+            Ok(_) => Ok(number),
             Err(_) => Err(Refusal::Memory),
+        }
+    }
+
+    /// Takes in what was shown of a group. A group too many leaves all as it was.
+    pub fn meet(&mut self, group: u32, shown: &Sheet) -> Result<(), Refusal>
+        requires { HoldsSome self.old }
+        ensures ok { OnOk result ((named : ℕ → Bool) (F : ℕ → Facts) (G : Facts) → Holds self.old named F → IsEnds G shown.now
+            → (IsFull named group → ⊥) × Holds self.new (named_with group named) (facts_with group G F)) }
+        ensures err { IfErr result (λ refusal. (refusal ≡ Refusal.Memory) ⊎ ((named : ℕ → Bool) (F : ℕ → Facts) → Holds self.old named F
+            → (refusal ≡ Refusal.TooManyGroups) × IsFull named group)) }
+    {
+        let number = self.number_of(group)?;
+        meet_at(&mut self.sheets, number, shown);
+        Ok(())
+    }
+
+    /// Takes in what a receiver heard of a group, at most 1,000,000 elements: at once where one worker works alone, and else in a batch,
+    /// which is joined when it is full. A group too many leaves all as it was.
+    pub fn hear<J: Drop + Fn(&[Heard], usize) -> Result<Vec<Sheet>, AllocError>>(
+        &mut self,
+        workers: &Workers<J>,
+        group: u32,
+        heard: Reception,
+    ) -> Result<(), Refusal>
+        requires short { length heard ≤ LONGEST }
+        requires ready { HoldsSome self.old }
+        requires joins { JoinsBatches (J.pre workers.now.join) (J.post workers.now.join) }
+        ensures ok { OnOk result ((named : ℕ → Bool) (F : ℕ → Facts) → Holds self.old named F
+            → (IsFull named group → ⊥) × Holds self.new (named_with group named) (facts_with group (facts_of heard) F)) }
+        ensures err { IfErr result (λ refusal. (refusal ≡ Refusal.Memory) ⊎ ((named : ℕ → Bool) (F : ℕ → Facts) → Holds self.old named F
+            → (refusal ≡ Refusal.TooManyGroups) × IsFull named group)) }
+    {
+        if let Some(shown) = workers.read_alone(&heard) {
+            return self.meet(group, &shown);
+        }
+        match self.number_of(group) {
+            Ok(number) => {
+                self.put(number, heard)?;
+                if self.batch.len() >= MOST_IN_BATCH {
+                    self.close_batch(workers)?;
+                }
+                Ok(())
+            }
+            Err(refusal) => Err(refusal),
+        }
+    }
+
+    /// Puts a reception of the group with this number into the batch.
+    fn put(&mut self, number: usize, heard: Reception) -> Result<(), AllocError>
+        requires { length heard ≤ LONGEST }
+        ensures { OnOk result ((named : ℕ → Bool) (F : ℕ → Facts) (group : ℕ) → Holds self.old named F → number_in self.old group ≡ Some number
+            → Holds self.new named (facts_with group (facts_of heard) F)) }
+    {
+        self.batch.push(Heard {
+            group: number,
+            reception: heard,
+        })?;
+        Ok(())
+    }
+
+    /// Ends the batch: the workers join its receptions into the sheets of their groups.
+    pub fn close_batch<J: Drop + Fn(&[Heard], usize) -> Result<Vec<Sheet>, AllocError>>(
+        &mut self,
+        workers: &Workers<J>,
+    ) -> Result<(), AllocError>
+        requires ready { HoldsSome self.old }
+        requires joins { JoinsBatches (J.pre workers.now.join) (J.post workers.now.join) }
+        ensures holds { OnOk result ((named : ℕ → Bool) (F : ℕ → Facts) → Holds self.old named F → Holds self.new named F) }
+        ensures empty { OnOk result (self.new.batch.items ≡ []) }
+    {
+        if !self.batch.is_empty() {
+            workers.join_into(&mut self.sheets, &self.batch)?;
+            self.batch.clear();
+        }
+        Ok(())
+    }
+
+    /// The sheet of a group, whose facts then begin anew. It is that of no facts where the group isn't known. The batch has ended.
+    pub fn take_out(&mut self, group: u32) -> Sheet
+        requires ready { HoldsSome self.old }
+        requires ended { self.old.batch.items ≡ [] }
+        ensures sheet { (named : ℕ → Bool) (F : ℕ → Facts) → Holds self.old named F → IsEnds (F group) result }
+        ensures anew { (named : ℕ → Bool) (F : ℕ → Facts) → Holds self.old named F → Holds self.new named (facts_without group F) }
+    {
+        match self.numbers.get(&group) {
+            Some(number) => {
+                let number = *number;
+                take_at(&mut self.sheets, number)
+            }
+            None => Sheet::empty(),
         }
     }
 }

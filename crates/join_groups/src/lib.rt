@@ -2,11 +2,14 @@
 #![tactic(auto)]
 
 mod commands;
+mod driving;
 mod groups;
 mod laws;
+mod taking;
 mod telling;
 
 pub use commands::TellGroups;
-pub use groups::{Groups, MOST_GROUPS, shown_by};
+pub use driving::tell_groups;
+pub use groups::{Groups, MOST_GROUPS, MOST_IN_BATCH};
 pub use laws::{evidence_stands_for_lines, texts_forget_order};
 pub use telling::{Answers, Ends, Teller, is_reported};

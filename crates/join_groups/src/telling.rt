@@ -1,9 +1,10 @@
-ghost use Rattle.std.specs.Prelude.{◌≡◌, ℕ, ◌++◌, List, IfOk, if◌then◌else◌};
+ghost use Rattle.std.specs.Prelude.{◌≡◌, ℕ, ◌++◌, List, [], IfOk, if◌then◌else◌};
 ghost use Rattle.slot_evidence.specs.Facts.{Facts};
 ghost use Rattle.slot_evidence.specs.Sheet.{IsEnds};
 ghost use Rattle.dsc_files.specs.JoinLine.{JoinLine};
 ghost use Rattle.join_groups.specs.Output as output;
 ghost use Rattle.join_groups.specs.Output.{Telling, TellsAnswer, TellsEvidence, IsGroupsText};
+ghost use Rattle.join_groups.specs.Holds.{HoldsSome};
 ghost use Rattle.join_groups.specs.inside.Kept.{Keeps};
 
 use crate::groups::Groups;
@@ -61,14 +62,15 @@ impl Teller for Ends {
     }
 }
 
-/// Tells of each group by rising number, and answers whether all is well with all of them.
+/// Tells of each group by rising number, and answers whether all is well with all of them. No reception waits any more.
 pub(crate) fn tell_all<T: Teller>(groups: &Groups, out: &mut Vec<u8>) -> Result<bool, AllocError>
-    ensures { IfOk result (λ is_well. (said : List JoinLine) → Keeps groups.now.sheets.entries said
+    requires { HoldsSome groups.now }
+    ensures { IfOk result (λ is_well. (said : List JoinLine) → Keeps groups.now said → groups.now.batch.items ≡ []
         → (text : List ℕ) × ((out.new.items ≡ out.old.items ++ text) × IsGroupsText T.tells said text (if is_well then 0 else 1))) }
 {
     let mut is_well = true;
-    for (group, sheet) in groups.sheets.iter() {
-        is_well &= T::tell(*group, sheet, out)?;
+    for (group, number) in groups.numbers.iter() {
+        is_well &= T::tell(*group, &groups.sheets[*number], out)?;
     }
     Ok(is_well)
 }

@@ -1,5 +1,5 @@
 -- The facts of the receptions whose turn it is.
-use Rattle.std.proofs.Common.{◌≡◌, ℕ, zero, suc, ◌+◌, ◌%◌, ◌<◌, ◌≤◌, ◌==◌, Bool, true, false, ◌&&◌, ◌||◌, nat_le, List, [], ◌∷◌, ◌++◌, length, set, take, drop, slice_index_or, refl, arith, ap, sym, ◌∙◌, subst, inl, inr, add-one}
+use Rattle.std.proofs.Common.{◌≡◌, ℕ, zero, suc, ◌+◌, ◌%◌, ◌<◌, ◌≤◌, ◌==◌, Bool, true, false, not, ◌&&◌, ◌||◌, nat_le, List, [], ◌∷◌, ◌++◌, length, set, take, drop, slice_index_or, refl, arith, ap, sym, ◌∙◌, subst, inl, inr, add-one}
 use Rattle.std.specs.List.{list_any}
 use Rattle.std.proofs.lemmas.Bool.{cases_eq, cases_lt, eq-eqb, ne_eqb, lt-ltb, le-ltb, le-leb, lt-leb}
 use Rattle.std.proofs.lemmas.List.{take_all, drop_all, append-nil, length-set, length-append, get_or_push, get_or_append_left, get_or-set_same, get_or-set_other}
@@ -178,24 +178,48 @@ pub not_mine : (mine : Bool) (h : Heard) (F : ℕ → Facts) (sheets : List (Lis
 not_mine mine h F sheets n is are =
     same_sheets _ _ sheets n (λ k p v. sym (ap (λ (b : Bool). F k p v || (b && (h.group == k && facts_of h.reception p v))) is ∙ or_false (F k p v))) are
 
-pub mine_met : (mine : Bool) (h : Heard) (F : ℕ → Facts) (old new : List (List Seen)) (shown met : List Seen) (n : ℕ) → mine ≡ true → h.group < length old → new ≡ set old h.group met
-    → ((F G : Facts) → IsEnds F (slice_index_or old h.group []) → IsEnds G shown → IsEnds (union F G) met) → IsEnds (facts_of h.reception) shown → AreSheets F old n
-    → AreSheets (λ k. union (F k) (λ p v. mine && (h.group == k && facts_of h.reception p v))) new n
-mine_met mine h F old new shown met n is inside changed meets ends are = record {
-  count = ap length changed ∙ length-set old h.group met ∙ are.count;
-  each = λ k below. elim (cases_eq k h.group) [
+-- the sheet with one number is met, and the others stay
+pub met_at : (number : ℕ) (F : ℕ → Facts) (G : Facts) (old new : List (List Seen)) (shown met : List Seen) (n : ℕ) → number < length old → new ≡ set old number met
+    → ((F G : Facts) → IsEnds F (slice_index_or old number []) → IsEnds G shown → IsEnds (union F G) met) → IsEnds G shown → AreSheets F old n
+    → AreSheets (λ k. union (F k) (λ p v. number == k && G p v)) new n
+met_at number F G old new shown met n inside changed meets ends are = record {
+  count = ap length changed ∙ length-set old number met ∙ are.count;
+  each = λ k below. elim (cases_eq k number) [
     | inl here ↦
-        subst (λ (s : List Seen). IsEnds (union (F k) (λ p v. mine && (h.group == k && facts_of h.reception p v))) s)
-        (sym (ap (λ (s : List (List Seen)). slice_index_or s k []) changed ∙ ap (λ (j : ℕ). slice_index_or (set old h.group met) j []) here ∙ get_or-set_same old h.group met [] inside))
+        subst (λ (s : List Seen). IsEnds (union (F k) (λ p v. number == k && G p v)) s)
+        (sym (ap (λ (s : List (List Seen)). slice_index_or s k []) changed ∙ ap (λ (j : ℕ). slice_index_or (set old number met) j []) here ∙ get_or-set_same old number met [] inside))
         (IsEnds-same _ _ met
-        (λ p v. ap (λ (b : Bool). F k p v || b) (sym (ap (λ (b : Bool). b && (h.group == k && facts_of h.reception p v)) is ∙ ap (λ (b : Bool). b && facts_of h.reception p v) (eq-eqb h.group k (sym here)))))
-        (meets (F k) (facts_of h.reception) (subst (λ (j : ℕ). IsEnds (F k) (slice_index_or old j [])) here (are.each k below)) ends))
+        (λ p v. ap (λ (b : Bool). F k p v || (b && G p v)) (sym (eq-eqb number k (sym here))))
+        (meets (F k) G (subst (λ (j : ℕ). IsEnds (F k) (slice_index_or old j [])) here (are.each k below)) ends))
     | inr apart ↦
-        subst (λ (s : List Seen). IsEnds (union (F k) (λ p v. mine && (h.group == k && facts_of h.reception p v))) s)
-        (sym (ap (λ (s : List (List Seen)). slice_index_or s k []) changed ∙ get_or-set_other old h.group k met [] apart))
+        subst (λ (s : List Seen). IsEnds (union (F k) (λ p v. number == k && G p v)) s)
+        (sym (ap (λ (s : List (List Seen)). slice_index_or s k []) changed ∙ get_or-set_other old number k met [] apart))
         (IsEnds-same _ _ _
-        (λ p v. sym (ap (λ (b : Bool). F k p v || (mine && (b && facts_of h.reception p v))) (ne_eqb h.group k (λ e. apart (sym e))) ∙ ap (λ (b : Bool). F k p v || b) (right_false mine _ refl) ∙ or_false (F k p v)))
+        (λ p v. sym (ap (λ (b : Bool). F k p v || (b && G p v)) (ne_eqb number k (λ e. apart (sym e))) ∙ or_false (F k p v)))
         (are.each k below))
+  ];
+}
+
+pub mine_met : (mine : Bool) (h : Heard) (F : ℕ → Facts) (sheets : List (List Seen)) (n : ℕ) → mine ≡ true
+    → AreSheets (λ k. union (F k) (λ p v. h.group == k && facts_of h.reception p v)) sheets n
+    → AreSheets (λ k. union (F k) (λ p v. mine && (h.group == k && facts_of h.reception p v))) sheets n
+mine_met mine h F sheets n is are =
+    same_sheets _ _ sheets n (λ k p v. ap (λ (b : Bool). F k p v || (b && (h.group == k && facts_of h.reception p v))) (sym is)) are
+
+-- the sheet with one number is taken out
+pub taken_at : (number : ℕ) (F : ℕ → Facts) (old new : List (List Seen)) (blank : List Seen) (n : ℕ) → number < length old → new ≡ set old number blank → IsEnds no_facts blank → AreSheets F old n
+    → AreSheets (λ k p v. not (number == k) && F k p v) new n
+taken_at number F old new blank n inside changed none are = record {
+  count = ap length changed ∙ length-set old number blank ∙ are.count;
+  each = λ k below. elim (cases_eq k number) [
+    | inl here ↦
+        subst (λ (s : List Seen). IsEnds (λ p v. not (number == k) && F k p v) s)
+        (sym (ap (λ (s : List (List Seen)). slice_index_or s k []) changed ∙ ap (λ (j : ℕ). slice_index_or (set old number blank) j []) here ∙ get_or-set_same old number blank [] inside))
+        (IsEnds-same no_facts _ blank (λ p v. ap (λ (b : Bool). not b && F k p v) (sym (eq-eqb number k (sym here)))) none)
+    | inr apart ↦
+        subst (λ (s : List Seen). IsEnds (λ p v. not (number == k) && F k p v) s)
+        (sym (ap (λ (s : List (List Seen)). slice_index_or s k []) changed ∙ get_or-set_other old number k blank [] apart))
+        (IsEnds-same (F k) _ _ (λ p v. ap (λ (b : Bool). not b && F k p v) (sym (ne_eqb number k (λ e. apart (sym e))))) (are.each k below))
   ];
 }
 

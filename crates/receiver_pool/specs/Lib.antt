@@ -6,4 +6,5 @@ pub mod Seats
 pub mod Facts
 pub mod Events
 pub mod Groups
+pub mod Joining
 pub mod inside

@@ -1,7 +1,8 @@
 //! Receptions of many groups joined by several workers, with one fork for them all.
-ghost use Rattle.std.specs.Prelude.{◌≡◌, ℕ, ◌+◌, ◌<◌, ◌≤◌, ◌&&◌, ◌==◌, All, IfOk, length};
+ghost use Rattle.std.specs.Prelude.{◌≡◌, ℕ, ◌+◌, ◌<◌, ◌≤◌, ◌&&◌, ◌==◌, not, All, IfOk, length};
 ghost use Rattle.std.specs.Thread.{IsSync};
 ghost use Rattle.slot_evidence.specs.Facts.{Facts, no_facts, facts_of, union};
+ghost use Rattle.slot_evidence.specs.Sheet.{IsEnds};
 ghost use Rattle.receiver_pool.specs.Groups.{facts_of_group, AreSheets, Belongs};
 ghost use Rattle.receiver_pool.specs.inside.Turns.{is_turn, group_part};
 
@@ -22,6 +23,26 @@ fn empty_sheets(alloc: Global, groups: usize) -> Result<Vec<Sheet>, AllocError>
     Ok(sheets)
 }
 
+/// Takes what was shown of a group into the sheet with its number.
+pub fn meet_at(sheets: &mut [Sheet], number: usize, shown: &Sheet)
+    requires { number < length sheets.old }
+    ensures { (F : ℕ → Facts) (G : Facts) (n : ℕ) → AreSheets F sheets.old n → IsEnds G shown.now
+        → AreSheets (λ k. union (F k) (λ p v. number == k && G p v)) sheets.new n }
+{
+    sheets[number].meet(shown);
+}
+
+/// Takes out the sheet with this number, and leaves that of no facts in its place.
+pub fn take_at(sheets: &mut [Sheet], number: usize) -> Sheet
+    requires { number < length sheets.old }
+    ensures taken { (F : ℕ → Facts) (n : ℕ) → AreSheets F sheets.old n → IsEnds (F number) result }
+    ensures left { (F : ℕ → Facts) (n : ℕ) → AreSheets F sheets.old n → AreSheets (λ k p v. not (number == k) && F k p v) sheets.new n }
+{
+    let sheet = sheets[number];
+    sheets[number] = Sheet::empty();
+    sheet
+}
+
 /// Takes a reception into its group's sheet where it is one's turn.
 fn take_heard(sheets: &mut [Sheet], heard: &Heard, mine: bool)
     requires { Belongs (length sheets.old) heard.now }
@@ -29,8 +50,7 @@ fn take_heard(sheets: &mut [Sheet], heard: &Heard, mine: bool)
         → AreSheets (λ k. union (F k) (λ p v. mine && (heard.now.group == k && facts_of heard.now.reception p v))) sheets.new n }
 {
     if mine {
-        let shown = shown_by(&heard.reception);
-        sheets[heard.group].meet(&shown);
+        meet_at(sheets, heard.group, &shown_by(&heard.reception));
     }
 }
 
@@ -55,7 +75,7 @@ fn shown_to(
 }
 
 /// Meets sheets one by one.
-fn meet_each(ours: &mut [Sheet], theirs: &[Sheet])
+pub(crate) fn meet_each(ours: &mut [Sheet], theirs: &[Sheet])
     requires { length ours.old ≡ length theirs.now }
     ensures { (F G : ℕ → Facts) (n : ℕ) → AreSheets F ours.old n → AreSheets G theirs.now n → AreSheets (λ k. union (F k) (G k)) ours.new n }
 {

@@ -13,15 +13,17 @@ mod posting;
 mod seats;
 mod steps;
 mod words;
+mod workers;
 
 pub use allowed::{AllFacts, Allowed, all_facts_may_be_posted};
-pub use batches::pool_groups;
+pub use batches::{meet_at, pool_groups, take_at};
 pub use board::Board;
 pub use gate::{Gate, Open};
 pub use heard::Heard;
 pub use laws::{one_core, seats_are_at_rest};
 pub use pools::pool;
 pub use seats::{Seat, WHOLE};
+pub use workers::Workers;
 
 #[cfg(test)]
 mod tests;

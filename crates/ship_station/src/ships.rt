@@ -65,10 +65,12 @@ impl Ship {
         }
     }
 
-    /// Does what is due at an event (ITU-R M.541, distress alert attempts and the reception of distress calls). The acts are
-    /// at most 32. Refused, in this order: an event before the last accepted one (`TimeBack`); a delay where 16 are held
-    /// (`Full`); an alert where one is on (`AlertActive`) or no delay is held (`NeedsDelay`); a cancel where no alert is on
-    /// (`NoAlert`); a tick where an alert is on and no delay is held (`NeedsDelay`).
+    /// Does what is due at an event (ITU-R M.541, distress alert attempts, the reception of distress calls, and the repetition and
+    /// acknowledgement of calls). The acts are at most 32. Refused, in this order: an event before the last accepted one
+    /// (`TimeBack`); a delay where 16 are held (`Full`); an alert where one is on (`AlertActive`) or no delay is held
+    /// (`NeedsDelay`); a cancel where no alert is on (`NoAlert`); a tick where an alert is on and no delay is held (`NeedsDelay`);
+    /// a call that the operator may not send (`NotSendable`); an answer to a number under which no call that was got is held
+    /// (`NoSuchCall`); a sent or heard call that must be held where no number is free (`Full`).
     pub fn step(&mut self, event: &ShipEvent) -> Result<Acts, StationRefusal>
         ensures answer { (who : Identities) (h : History What) → Stands self.old who h → listed result ≡ answer_to (ship_rules who) h event.now.at event.now.what }
         ensures stands { (who : Identities) (h : History What) → Stands self.old who h → Stands self.new who (continued (ship_rules who) h event.now.at event.now.what) }

@@ -5,13 +5,9 @@ use Rattle.traffic_lines.specs.declared.lines.TrafficLine.{TrafficLine}
 use Rattle.dsc_files.specs.JoinLine.{JoinLine}
 use Rattle.dsc_files.specs.PointLine.{joined, traffic}
 use Rattle.join_groups.specs.Groups.{names, is_named, facts_of_line, group_facts}
-use Rattle.join_groups.proofs.Naming.{same_facts, unnamed_line, unnamed_facts}
+use Rattle.join_groups.proofs.Naming.{same_facts, unnamed_line}
 use Rattle.traffic_replay.specs.Said.{Said}
 use Rattle.traffic_replay.specs.HeardGroups.{of_receivers, hears, since_heard, facts_since_heard}
-
-or_parts : (x y : Bool) → (x || y) ≡ false → (x ≡ false) × (y ≡ false)
-or_parts true y h = absurd cc
-or_parts false y h = (refl, h)
 
 or_swap : (x y : Bool) → (x || y) ≡ (y || x)
 or_swap true true = refl
@@ -29,8 +25,9 @@ named_more said line k = refl
 pub named_of_others : (said : Said) (line : JoinLine) (k : ℕ) → names k line ≡ false → is_named (of_receivers (joined line ∷ said)) k ≡ is_named (of_receivers said) k
 named_of_others said line k h = named_more said line k ∙ ap (λ (b : Bool). b || is_named (of_receivers said) k) h
 
-pub named_by_line : (said : Said) (line : JoinLine) (k : ℕ) → names k line ≡ true → is_named (of_receivers (joined line ∷ said)) k ≡ true
-named_by_line said line k h = named_more said line k ∙ ap (λ (b : Bool). b || is_named (of_receivers said) k) h
+-- the line's group is named with those that were
+pub named_push : (said : Said) (line : JoinLine) (k : ℕ) → is_named (of_receivers (joined line ∷ said)) k ≡ (is_named (of_receivers said) k || names k line)
+named_push said line k = named_more said line k ∙ or_swap (names k line) (is_named (of_receivers said) k)
 
 facts_more : (said : Said) (line : JoinLine) (k : ℕ) → facts_since_heard k (joined line ∷ said) ≡ union (facts_of_line k line) (facts_since_heard k said)
 unfolding facts_since_heard group_facts
@@ -47,28 +44,6 @@ facts_of_others said line k h =
     facts_more said line k
     ∙ same_facts (union (facts_of_line k line) (facts_since_heard k said)) (facts_since_heard k said) (λ p v. ap (λ (b : Bool). b || facts_since_heard k said p v) (unnamed_line line k p v h))
 
--- a group that no line named is named by none since it was heard
-since_unnamed : (said : Said) (k : ℕ) → is_named (of_receivers said) k ≡ false → is_named (of_receivers (since_heard k said)) k ≡ false
-unfolding is_named
-since_unnamed [] k h = h
-since_unnamed (joined line ∷ said) k h =
-    let parts = or_parts (names k line) (is_named (of_receivers said) k) h in
-    ap (λ (b : Bool). b || is_named (of_receivers (since_heard k said)) k) parts.0 ∙ since_unnamed said k parts.1
-since_unnamed (traffic line ∷ said) k h = by_test (hears k (traffic line)) (since_unnamed said k h)
-  where
-    by_test : (b : Bool) → is_named (of_receivers (since_heard k said)) k ≡ false → is_named (of_receivers (cond b [] (traffic line ∷ since_heard k said))) k ≡ false
-    by_test true rest = refl
-    by_test false rest = rest
-
-pub unnamed_has_none : (said : Said) (k : ℕ) → is_named (of_receivers said) k ≡ false → facts_since_heard k said ≡ no_facts
-unfolding facts_since_heard
-unnamed_has_none said k h =
-    same_facts (facts_since_heard k said) no_facts (λ p v. unnamed_facts (of_receivers (since_heard k said)) k p v (since_unnamed said k h))
-
--- the first line of a group gives all its facts
-pub facts_of_first : (said : Said) (line : JoinLine) (k : ℕ) → is_named (of_receivers said) k ≡ false → facts_since_heard k (joined line ∷ said) ≡ facts_of_line k line
-facts_of_first said line k h = facts_push said line k ∙ ap (λ (F : Facts). union F (facts_of_line k line)) (unnamed_has_none said k h)
-
 -- a station's line that doesn't hear the group changes nothing of it
 pub facts_unheard : (said : Said) (line : TrafficLine) (k : ℕ) → hears k (traffic line) ≡ false → facts_since_heard k (traffic line ∷ said) ≡ facts_since_heard k said
 unfolding facts_since_heard
@@ -80,3 +55,8 @@ unfolding facts_since_heard group_facts
 facts_heard said line k h =
     ap (λ (b : Bool). group_facts (of_receivers (cond b [] (traffic line ∷ since_heard k said))) k) h
     ∙ same_facts (group_facts [] k) no_facts (λ p v. refl)
+
+-- before the first line there are none
+pub facts_of_none : (k : ℕ) → no_facts ≡ facts_since_heard k []
+unfolding facts_since_heard group_facts
+facts_of_none k = same_facts no_facts (group_facts [] k) (λ p v. refl)

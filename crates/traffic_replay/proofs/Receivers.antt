@@ -13,6 +13,7 @@ use Rattle.dsc_files.specs.declared.lines.Line.TheVariants as got
 use Rattle.dsc_files.specs.JoinLine.{JoinLine, nothing, reception, evidence}
 use Rattle.dsc_files.specs.PointLine.{PointLine, joined, traffic}
 use Rattle.dsc_files.specs.Lines.{Says, SaysTraffic, SaysAtPoint}
+use Rattle.join_groups.specs.Groups.{facts_of_line}
 use Rattle.join_groups.specs.Meanings.{BringsTooMany}
 use Rattle.join_groups.proofs.Keeping.{says_reception, says_evidence}
 use Rattle.traffic_replay.specs.declared.command.Replay.{Replay}
@@ -23,10 +24,10 @@ use Rattle.traffic_replay.proofs.GroupKeeping.{keeps_nothing}
 use Rattle.traffic_replay.proofs.Told.{carry_joined}
 
 -- what a line of receivers shows
-pub record Shows (says : PointLine) (group : ℕ) (shown : List Seen) : Type 0 where
+pub record Shows (says : PointLine) (group : ℕ) (G : Facts) : Type 0 where
   pub line : JoinLine
   pub is_joined : says ≡ joined line
-  pub is_shown : IsShown line group shown
+  pub is_shown : IsShown line group G
 
 no_station : (line : TrafficLine) (group : ℕ) (e : List Element) → SaysTraffic line (got.Reception group e) → ⊥
 no_station (Ship mmsi) group e h = cc
@@ -65,26 +66,28 @@ body_of_evidence nothing group sheet h earlier = absurd (apart_too h)
 body_of_evidence (reception g f) group sheet h earlier = refl
 body_of_evidence (evidence g pairs) group sheet h earlier = refl
 
-pub reception_shows : (says : PointLine) (read : Line) (group : ℕ) (e : List Element) (shown : List Seen) → read ≡ got.Reception group e → SaysAtPoint says read → IsEnds (facts_of e) shown → Shows says group shown
-reception_shows (traffic line) read group e shown is h ends = absurd (no_station line group e (subst (SaysTraffic line) is h))
-reception_shows (joined line) read group e shown is h ends =
+pub reception_shows : (says : PointLine) (read : Line) (group : ℕ) (e : List Element) → read ≡ got.Reception group e → SaysAtPoint says read → Shows says group (facts_of e)
+reception_shows (traffic line) read group e is h = absurd (no_station line group e (subst (SaysTraffic line) is h))
+reception_shows (joined line) read group e is h =
     let said : Says line (got.Reception group e) = subst (Says line) is h in
     let parts = says_reception line group e said in
-    record {
-      line = line;
-      is_joined = refl;
-      is_shown = record { named = parts.0; ends = subst (λ (F : Facts). IsEnds F shown) (sym parts.1) ends; point = body_of_reception line group e said };
-    }
+    record { line = line; is_joined = refl; is_shown = record { named = parts.0; facts = parts.1; point = body_of_reception line group e said } }
 
-pub evidence_shows : (says : PointLine) (read : Line) (group : ℕ) (sheet : List Seen) → read ≡ got.Evidence group sheet → SaysAtPoint says read → Shows says group sheet
+-- what a line of evidence shows, and that its sheet keeps the ends of it
+pub record Tells (says : PointLine) (group : ℕ) (sheet : List Seen) : Type 0 where
+  pub facts : Facts
+  pub shows : Shows says group facts
+  pub ends : IsEnds facts sheet
+
+pub evidence_shows : (says : PointLine) (read : Line) (group : ℕ) (sheet : List Seen) → read ≡ got.Evidence group sheet → SaysAtPoint says read → Tells says group sheet
 evidence_shows (traffic line) read group sheet is h = absurd (no_station_too line group sheet (subst (SaysTraffic line) is h))
 evidence_shows (joined line) read group sheet is h =
     let said : Says line (got.Evidence group sheet) = subst (Says line) is h in
     let parts = says_evidence line group sheet said in
     record {
-      line = line;
-      is_joined = refl;
-      is_shown = record { named = parts.0; ends = parts.1; point = body_of_evidence line group sheet said };
+      facts = facts_of_line group line;
+      shows = record { line = line; is_joined = refl; is_shown = record { named = parts.0; facts = refl; point = body_of_evidence line group sheet said } };
+      ends = parts.1;
     }
 
 same_line : {a b : JoinLine} → joined a ≡ joined b → a ≡ b
@@ -114,7 +117,7 @@ nothing_taken replay said (joined nothing) read text is keeps h = (
     groups = keeps.groups;
     counted = keeps.counted;
     most = keeps.most;
-    heard = keeps_nothing said replay.heard.sheets.entries keeps.heard;
+    heard = keeps_nothing replay.heard said keeps.heard;
     kind = keeps.kind;
     told = carry_joined (kind_of said) replay.station (IsBeforeEvents replay.point) (IsBeforeEvents replay.point) nothing said text replay.is_well (λ early. early) keeps.told;
   },

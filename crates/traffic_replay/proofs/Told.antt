@@ -1,5 +1,5 @@
 -- what was told so far, line by line
-use Rattle.std.proofs.Common.{◌≡◌, ℕ, Bool, true, false, ◌&&◌, List, [], ◌∷◌, ◌++◌, length, Result, Ok, Err, refl, sym, ◌∙◌, ap, subst, append_assoc}
+use Rattle.std.proofs.Common.{◌≡◌, ℕ, Bool, true, ◌&&◌, List, [], ◌∷◌, ◌++◌, length, refl, sym, ◌∙◌, ap, subst, append_assoc}
 use Rattle.call_values.specs.declared.choices.Band.{Band}
 use Rattle.area_rules.specs.Histories.{History}
 use Rattle.area_rules.specs.Rules.{Rules}
@@ -17,12 +17,12 @@ use Rattle.traffic_lines.specs.declared.lines.Point.TheVariants as point
 use Rattle.traffic_lines.specs.declared.lines.TrafficLine.TheVariants as line
 use Rattle.traffic_lines.specs.Lines.{MayStand}
 use Rattle.dsc_files.specs.JoinLine.{JoinLine}
-use Rattle.dsc_files.specs.PointLine.{PointLine, joined, traffic}
+use Rattle.dsc_files.specs.PointLine.{joined, traffic}
 use Rattle.traffic_replay.specs.declared.stations.Station.{Station}
 use Rattle.traffic_replay.specs.declared.stations.Station.TheVariants as at
-use Rattle.traffic_replay.specs.Said.{Said, Kind, ship, coast, kind_of, identities_of, station_of, among_events, behind_base}
-use Rattle.traffic_replay.specs.Happenings.{Taking, taking_ship, taking_coast, Happening, AreHappenings}
-use Rattle.traffic_replay.specs.Output.{history_of, text_of, all_accepted, written_behind, is_accepted_behind}
+use Rattle.traffic_replay.specs.Said.{Said, Kind, ship, coast, identities_of, station_of, among_events, behind_base}
+use Rattle.traffic_replay.specs.Happenings.{Taking, taking_ship, taking_coast, AreHappenings}
+use Rattle.traffic_replay.specs.Output.{history_of, text_of, all_accepted, written_behind}
 use Rattle.traffic_replay.specs.inside.Happens.{Happens}
 use Rattle.traffic_replay.specs.inside.Progress.{IsBeforeEvents, IsAmongGroups, IsBehindGroups, IsPointOf, TellsSoFar, IsTold, point_at, point_behind_base, IsEventAt}
 

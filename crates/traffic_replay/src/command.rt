@@ -5,6 +5,10 @@ ghost use Rattle.dsc_files.specs.JoinLine.{JoinLine};
 ghost use Rattle.dsc_files.specs.Lines.{SaysAtPoint};
 ghost use Rattle.traffic_lines.specs.declared.lines.Point.TheVariants as At;
 ghost use Rattle.traffic_lines.specs.declared.lines.TrafficLine.TheVariants as station;
+ghost use Rattle.slot_evidence.specs.Facts.{Facts, facts_of};
+ghost use Rattle.slot_evidence.specs.Sheet.{IsEnds};
+ghost use Rattle.receiver_pool.specs.Joining.{JoinsBatches};
+ghost use Rattle.join_groups.specs.Holds.{HoldsSome};
 ghost use Rattle.join_groups.specs.Meanings.{BringsTooMany};
 ghost use Rattle.traffic_replay.specs.Said.{Said};
 ghost use Rattle.traffic_replay.specs.HeardGroups.{of_receivers};
@@ -12,19 +16,21 @@ ghost use Rattle.traffic_replay.specs.Meaning.{replay_meaning};
 ghost use Rattle.traffic_replay.specs.inside.Progress.{Keeps, StandsFor, IsAmongGroups, IsEventAt, IsReady, IsShown, BringsGroup};
 ghost use Rattle.traffic_replay.specs.inside.Gives.{gives_text};
 
-use crate::heard::{HeardGroups, shown_by};
 use crate::stations::Station;
 use crate::steps::{happen_at_coast, happen_at_ship};
 use call_values::{Band, Mmsi};
 use coast_station::Coast;
 use dsc_files::{EventLine, FileKind, Line, LineFault, Point, Status, line_of, one_point_line};
+use join_groups::Groups;
 use line_engine::{Command, Refusal};
+use phasing::LONGEST;
+use receiver_pool::{Heard, Workers};
 use ship_station::Ship;
-use slot_evidence::Sheet;
+use slot_evidence::{Reception, Sheet};
 use std::alloc::{AllocError, Global};
 
-/// The replay of a traffic file: the station that its lines name goes through the events that they give it, and writes what it
-/// does at each.
+/// What a replay of a traffic file has come to: the station that its lines name went through the events that they gave it, and wrote
+/// what it did at each.
 #[derive(Drop)]
 pub struct Replay {
     alloc: Global,
@@ -35,7 +41,7 @@ pub struct Replay {
     pub(crate) base: u64,
     pub(crate) groups: Vec<Mmsi>,
     pub(crate) station: Station,
-    pub(crate) heard: HeardGroups,
+    pub(crate) heard: Groups,
     /// No event was refused, and each heard group was reported.
     pub(crate) is_well: bool,
 }
@@ -53,38 +59,44 @@ impl Replay {
             base: 0,
             groups: Vec::new(alloc),
             station: Station::Ship(Ship::new(nobody, &[])),
-            heard: HeardGroups::new(alloc),
+            heard: Groups::new(alloc),
             is_well: true,
         }
     }
 
     /// Takes a line that was read.
-    fn take_read(&mut self, read: &Line, out: &mut Vec<u8>) -> Result<(), Refusal>
-        requires { IsReady self.old read.now }
-        ensures ok { OnOk result ((said : Said) (says : PointLine) (text : List ℕ) → Keeps self.old said (text ++ out.old.items) → SaysAtPoint says read.now
+    fn take_read<J: Drop + Fn(&[Heard], usize) -> Result<Vec<Sheet>, AllocError>>(
+        &mut self,
+        workers: &Workers<J>,
+        read: Line,
+        out: &mut Vec<u8>,
+    ) -> Result<(), Refusal>
+        requires ready { IsReady self.old read }
+        requires joins { JoinsBatches (J.pre workers.now.join) (J.post workers.now.join) }
+        ensures ok { OnOk result ((said : Said) (says : PointLine) (text : List ℕ) → Keeps self.old said (text ++ out.old.items) → SaysAtPoint says read
             → (BringsGroup said says → ⊥) × Keeps self.new (says ∷ said) (text ++ out.new.items)) }
         ensures err { IfErr result (λ refusal. (refusal ≡ Refusal.Memory) ⊎ ((said : Said) (says : PointLine) (text : List ℕ)
-            → Keeps self.old said (text ++ out.old.items) → SaysAtPoint says read.now → (refusal ≡ Refusal.TooManyGroups) × BringsGroup said says)) }
+            → Keeps self.old said (text ++ out.old.items) → SaysAtPoint says read → (refusal ≡ Refusal.TooManyGroups) × BringsGroup said says)) }
         ensures unsaid { IfErr result (λ refusal. KeepsText refusal out.old.items out.new.items) }
     {
         match read {
             Line::Ship(mmsi) => {
-                self.name_ship(*mmsi);
+                self.name_ship(mmsi);
                 Ok(())
             }
             Line::Coast(mmsi, band) => {
-                self.name_coast(*mmsi, *band);
+                self.name_coast(mmsi, band);
                 Ok(())
             }
             Line::Base(second) => {
-                self.name_base(*second);
+                self.name_base(second);
                 Ok(())
             }
-            Line::Group(mmsi) => self.name_group(*mmsi),
-            Line::Reception { group, elements } => self.meet(*group, &shown_by(elements)),
-            Line::Evidence { group, sheet } => self.meet(*group, sheet),
+            Line::Group(mmsi) => self.name_group(mmsi),
+            Line::Reception { group, elements } => self.hear(workers, group, elements),
+            Line::Evidence { group, sheet } => self.meet(group, &sheet),
             Line::Event { at, what } => {
-                self.happen(*at, what, out)?;
+                self.happen(workers, at, &what, out)?;
                 Ok(())
             }
             Line::Nothing | Line::Call { .. } | Line::Sentence => Ok(()),
@@ -139,10 +151,11 @@ impl Replay {
 
     /// Takes in what a line showed of its group.
     fn meet(&mut self, group: u32, shown: &Sheet) -> Result<(), Refusal>
-        ensures ok { OnOk result ((said : Said) (line : JoinLine) (text : List ℕ) → Keeps self.old said text → IsShown line group shown.now
+        requires { HoldsSome self.old.heard }
+        ensures ok { OnOk result ((said : Said) (line : JoinLine) (G : Facts) (text : List ℕ) → Keeps self.old said text → IsShown line group G → IsEnds G shown.now
             → (BringsTooMany (of_receivers said) line → ⊥) × Keeps self.new (joined line ∷ said) text) }
-        ensures err { IfErr result (λ refusal. (refusal ≡ Refusal.Memory) ⊎ ((said : Said) (line : JoinLine) (text : List ℕ) → Keeps self.old said text
-            → IsShown line group shown.now → (refusal ≡ Refusal.TooManyGroups) × BringsTooMany (of_receivers said) line)) }
+        ensures err { IfErr result (λ refusal. (refusal ≡ Refusal.Memory) ⊎ ((said : Said) (line : JoinLine) (G : Facts) (text : List ℕ) → Keeps self.old said text
+            → IsShown line group G → (refusal ≡ Refusal.TooManyGroups) × BringsTooMany (of_receivers said) line)) }
     {
         match self.heard.meet(group, shown) {
             Ok(()) => {
@@ -153,8 +166,40 @@ impl Replay {
         }
     }
 
+    /// Takes in what a receiver heard of its group.
+    fn hear<J: Drop + Fn(&[Heard], usize) -> Result<Vec<Sheet>, AllocError>>(
+        &mut self,
+        workers: &Workers<J>,
+        group: u32,
+        heard: Reception,
+    ) -> Result<(), Refusal>
+        requires short { length heard ≤ LONGEST }
+        requires ready { HoldsSome self.old.heard }
+        requires joins { JoinsBatches (J.pre workers.now.join) (J.post workers.now.join) }
+        ensures ok { OnOk result ((said : Said) (line : JoinLine) (text : List ℕ) → Keeps self.old said text → IsShown line group (facts_of heard)
+            → (BringsTooMany (of_receivers said) line → ⊥) × Keeps self.new (joined line ∷ said) text) }
+        ensures err { IfErr result (λ refusal. (refusal ≡ Refusal.Memory) ⊎ ((said : Said) (line : JoinLine) (G : Facts) (text : List ℕ) → Keeps self.old said text
+            → IsShown line group G → (refusal ≡ Refusal.TooManyGroups) × BringsTooMany (of_receivers said) line)) }
+    {
+        match self.heard.hear(workers, group, heard) {
+            Ok(()) => {
+                self.point = self.station.among_events();
+                Ok(())
+            }
+            Err(refusal) => Err(refusal),
+        }
+    }
+
     /// Goes through what happens at a moment, and appends what is written of it.
-    fn happen(&mut self, at: u32, what: &EventLine, out: &mut Vec<u8>) -> Result<(), AllocError>
+    fn happen<J: Drop + Fn(&[Heard], usize) -> Result<Vec<Sheet>, AllocError>>(
+        &mut self,
+        workers: &Workers<J>,
+        at: u32,
+        what: &EventLine,
+        out: &mut Vec<u8>,
+    ) -> Result<(), AllocError>
+        requires heard { HoldsSome self.old.heard }
+        requires joins { JoinsBatches (J.pre workers.now.join) (J.post workers.now.join) }
         requires within { self.old.base ≤ 9999999999 }
         requires event { IsEventAt self.old.station what.now }
         ensures { OnOk result ((said : Said) (text : List ℕ) → Keeps self.old said (text ++ out.old.items)
@@ -164,38 +209,62 @@ impl Replay {
         match &mut self.station {
             Station::Ship(ship) => {
                 let heard = &mut self.heard;
-                self.is_well &= happen_at_ship(ship, heard, self.base, at, what, out)?;
+                self.is_well &= happen_at_ship(ship, heard, workers, self.base, at, what, out)?;
                 Ok(())
             }
             Station::Coast(coast) => {
-                self.is_well &= happen_at_coast(coast, &mut self.heard, at, what, out)?;
+                self.is_well &= happen_at_coast(coast, &mut self.heard, workers, at, what, out)?;
                 Ok(())
             }
         }
     }
 }
 
-impl Command for Replay {
+/// The command that replays a traffic file. Workers join the receptions of its groups.
+#[derive(Drop)]
+pub struct Replaying<J> {
+    workers: Workers<J>,
+    replay: Replay,
+}
+
+impl<J: Drop + Fn(&[Heard], usize) -> Result<Vec<Sheet>, AllocError>> Replaying<J> {
+    /// The command before its first line.
+    pub fn new(alloc: Global, workers: Workers<J>) -> Replaying<J>
+        ensures replay { StandsFor result.replay [] [] }
+        ensures workers { result.workers ≡ workers }
+    {
+        Replaying {
+            workers,
+            replay: Replay::new(alloc),
+        }
+    }
+}
+
+impl<J: Drop + Fn(&[Heard], usize) -> Result<Vec<Sheet>, AllocError>> Command for Replaying<J> {
     ghost meaning = { replay_meaning };
 
-    ghost stands_for = { StandsFor };
+    ghost stands_for = { λ command lines text. JoinsBatches (J.pre command.workers.join) (J.post command.workers.join) × StandsFor command.replay lines text };
 
     fn take(&mut self, line: &[u8], out: &mut Vec<u8>) -> Result<(), Refusal> {
         one_point_line();
-        match line_of(self.alloc, FileKind::Traffic(self.point), line) {
-            Ok(read) => self.take_read(&read, out),
+        match line_of(
+            self.replay.alloc,
+            FileKind::Traffic(self.replay.point),
+            line,
+        ) {
+            Ok(read) => self.replay.take_read(&self.workers, read, out),
             Err(LineFault::Column(n)) => Err(Refusal::Column(n)),
             Err(LineFault::NoMemory) => Err(Refusal::Memory),
         }
     }
 
     fn finish(&mut self, _out: &mut Vec<u8>) -> Result<Status, AllocError> {
-        if self.is_well {
+        if self.replay.is_well {
             Ok(Status::new(0))
         } else {
             Ok(Status::new(1))
         }
     }
 
-    ghost gives = { gives_text };
+    ghost gives = { λ command lines text stands. gives_text command.replay lines text stands.1 };
 }

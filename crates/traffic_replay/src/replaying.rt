@@ -1,14 +1,16 @@
-ghost use Rattle.std.specs.Prelude.{◌≡◌, ◌≢◌, ◌≤◌, ◌⊎◌};
+ghost use Rattle.std.specs.Prelude.{◌≡◌, ◌≢◌, ◌≤◌, ◌⊎◌, All, IfOk};
 ghost use Rattle.dsc_streams.specs.Streams.{Rises, Told};
 ghost use Rattle.line_engine.specs.Meaning.{IsQuiet};
 ghost use Rattle.line_engine.specs.Endings.{IsFinished, IsOfFault, TakesAtMost, TellsWhole, TellsFault, TellsSoFar, CutsOff, TellsFront};
+ghost use Rattle.receiver_pool.specs.Groups.{facts_of_group, AreSheets, Belongs};
 ghost use Rattle.traffic_replay.specs.Meaning.{replay_meaning};
 
-use crate::command::Replay;
+use crate::command::Replaying;
 use dsc_streams::{Sink, Source, Status};
 use line_engine::{MOST_TAKEN, drive};
-use receiver_pool::Gate;
-use std::alloc::Global;
+use receiver_pool::{Gate, Heard, Workers, pool_groups};
+use slot_evidence::Sheet;
+use std::alloc::{AllocError, Global};
 use std::thread::Threads;
 
 /// Replays a traffic file: the ship that it names goes through its events in order, and what it does at each, or the refusal
@@ -24,12 +26,12 @@ use std::thread::Threads;
 /// | 6 | there was no memory: a front of what the lines so far gave may have been written |
 /// | 7 | a limit was passed, 4,096 lines, 4,200 bytes in one or 1,024 groups, and the line of this first fault was written behind what the lines before it gave |
 pub fn replay<R: Threads + Sync, S: Source, K: Sink, G: Gate>(
-    _rt: &R,
+    rt: &R,
     alloc: Global,
     source: &mut S,
     sink: &mut K,
     workers: u32,
-    _gate: &G,
+    gate: &G,
 ) -> Status
     requires { (1 ≤ workers) × (workers ≤ 64) }
 
@@ -58,6 +60,13 @@ pub fn replay<R: Threads + Sync, S: Source, K: Sink, G: Gate>(
     ensures completes { (Rises (S.faults source.old) (S.faults source.new) → ⊥) → (Rises (K.faults sink.old) (K.faults sink.new) → ⊥)
         → IsFinished result ⊎ IsOfFault result ⊎ (result ≡ 6) }
 {
-    let _ = workers;
-    drive(alloc, Replay::new(alloc), source, sink)
+    if workers == 1 {
+        gate.enter(0);
+    }
+    let join = |batch: &[Heard], groups: usize| -> Result<Vec<Sheet>, AllocError>
+        requires { (1 ≤ workers) × (workers ≤ 64) × All (Belongs groups) batch.now }
+        ensures { IfOk result (λ v. AreSheets (facts_of_group batch.now) v.items groups) }
+    { pool_groups(rt, alloc, batch, groups, workers, gate) };
+    let command = Replaying::new(alloc, Workers::new(workers, join));
+    drive(alloc, command, source, sink)
 }

@@ -11,13 +11,15 @@ ghost use Rattle.coast_station.specs.Stands.{Stands as CoastStands};
 ghost use Rattle.traffic_lines.specs.declared.lines.TrafficLine.TheVariants as line;
 ghost use Rattle.traffic_lines.specs.Lines.{IsShipEvent, IsCoastEvent};
 ghost use Rattle.dsc_files.specs.PointLine.{traffic};
+ghost use Rattle.receiver_pool.specs.Joining.{JoinsBatches};
+ghost use Rattle.join_groups.specs.Holds.{HoldsSome};
 ghost use Rattle.traffic_replay.specs.Said.{Said, base_of};
 ghost use Rattle.traffic_replay.specs.Happenings.{taking_ship, taking_coast};
 ghost use Rattle.traffic_replay.specs.Output.{act_line, refusal_line, unreported_line, answer_lines};
 ghost use Rattle.traffic_replay.specs.inside.Happens.{Happens};
 ghost use Rattle.traffic_replay.specs.inside.Kept.{KeepsGroups};
 
-use crate::heard::HeardGroups;
+use crate::heard::hear;
 use crate::outcomes::{Unreported, coast_event, heard_call, ship_event};
 use act_texts::{put_act, put_refused};
 use area_rules::{Act, Acts, StationRefusal};
@@ -25,7 +27,10 @@ use coast_station::{Coast, CoastEvent, CoastWhat};
 use dsc_files::EventLine;
 use dsc_texts::put_answer_line;
 use itoa::Buffer;
+use join_groups::Groups;
+use receiver_pool::{Heard, Workers};
 use ship_station::{Ship, ShipEvent, ShipWhat};
+use slot_evidence::Sheet;
 use std::alloc::AllocError;
 
 /// Appends the line of an act.
@@ -138,23 +143,27 @@ fn step_coast(
 
 /// Goes through what happens at an event line of a ship's file: appends what is written of it, and tells whether an event
 /// was accepted.
-pub(crate) fn happen_at_ship(
+pub(crate) fn happen_at_ship<J: Drop + Fn(&[Heard], usize) -> Result<Vec<Sheet>, AllocError>>(
     ship: &mut Ship,
-    groups: &mut HeardGroups,
+    groups: &mut Groups,
+    workers: &Workers<J>,
     base: u64,
     at: u32,
     what: &EventLine,
     out: &mut Vec<u8>,
 ) -> Result<bool, AllocError>
     requires within { base ≤ 9999999999 }
+    requires heard { HoldsSome groups.old }
+    requires joins { JoinsBatches (J.pre workers.now.join) (J.post workers.now.join) }
     requires event { IsShipEvent what.now }
-    ensures kept { OnOk result ((said : Said) → KeepsGroups groups.old.sheets.entries said → KeepsGroups groups.new.sheets.entries (traffic (line.Event at what.now) ∷ said)) }
-    ensures happens { IfOk result (λ accepted. (said : Said) (who : Identities) (h : History AtShip) → KeepsGroups groups.old.sheets.entries said → base ≡ base_of said
+    ensures kept { OnOk result ((said : Said) → KeepsGroups groups.old said → KeepsGroups groups.new (traffic (line.Event at what.now) ∷ said)) }
+    ensures happens { IfOk result (λ accepted. (said : Said) (who : Identities) (h : History AtShip) → KeepsGroups groups.old said → base ≡ base_of said
         → ShipStands ship.old who h
         → Happens (ship_rules who) taking_ship (ShipStands ship.new who) h said at what.now out.old.items out.new.items accepted) }
 {
     if let EventLine::Heard(group) = *what {
-        let accepted = match heard_call(group, &groups.hear(group)) {
+        let answer = hear(groups, workers, group)?;
+        let accepted = match heard_call(group, &answer) {
             Ok(call) => step_ship(ship, at, ShipWhat::Heard(call), out)?,
             Err(unreported) => append_unreported(out, at, &unreported)?,
         };
@@ -170,21 +179,25 @@ pub(crate) fn happen_at_ship(
 }
 
 /// The same at an event line of a coast station's file.
-pub(crate) fn happen_at_coast(
+pub(crate) fn happen_at_coast<J: Drop + Fn(&[Heard], usize) -> Result<Vec<Sheet>, AllocError>>(
     coast: &mut Coast,
-    groups: &mut HeardGroups,
+    groups: &mut Groups,
+    workers: &Workers<J>,
     at: u32,
     what: &EventLine,
     out: &mut Vec<u8>,
 ) -> Result<bool, AllocError>
-    requires { IsCoastEvent what.now }
-    ensures kept { OnOk result ((said : Said) → KeepsGroups groups.old.sheets.entries said → KeepsGroups groups.new.sheets.entries (traffic (line.Event at what.now) ∷ said)) }
-    ensures happens { IfOk result (λ accepted. (said : Said) (who : Station) (h : History AtCoast) → KeepsGroups groups.old.sheets.entries said
+    requires heard { HoldsSome groups.old }
+    requires joins { JoinsBatches (J.pre workers.now.join) (J.post workers.now.join) }
+    requires event { IsCoastEvent what.now }
+    ensures kept { OnOk result ((said : Said) → KeepsGroups groups.old said → KeepsGroups groups.new (traffic (line.Event at what.now) ∷ said)) }
+    ensures happens { IfOk result (λ accepted. (said : Said) (who : Station) (h : History AtCoast) → KeepsGroups groups.old said
         → CoastStands coast.old who h
         → Happens (coast_rules who) taking_coast (CoastStands coast.new who) h said at what.now out.old.items out.new.items accepted) }
 {
     if let EventLine::Heard(group) = *what {
-        let accepted = match heard_call(group, &groups.hear(group)) {
+        let answer = hear(groups, workers, group)?;
+        let accepted = match heard_call(group, &answer) {
             Ok(call) => step_coast(coast, at, CoastWhat::Heard(call), out)?,
             Err(unreported) => append_unreported(out, at, &unreported)?,
         };

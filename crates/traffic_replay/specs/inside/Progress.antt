@@ -1,8 +1,7 @@
 -- What a replay has come to.
 use Rattle.std.specs.Prelude.{◌≡◌, ℕ, ◌≤◌, ◌<◌, ◌==◌, Bool, List, [], ◌∷◌, length}
 use Rattle.ten_unit.specs.declared.character.Element.{Element}
-use Rattle.slot_evidence.specs.declared.places.Seen.{Seen}
-use Rattle.slot_evidence.specs.Sheet.{IsEnds}
+use Rattle.slot_evidence.specs.Facts.{Facts}
 use Rattle.phasing.specs.declared.reception.TheConstants.{LONGEST}
 use Rattle.line_engine.specs.Lines.{Lines}
 use Rattle.traffic_lines.specs.declared.lines.Point.{Point}
@@ -21,6 +20,7 @@ use Rattle.dsc_files.specs.PointLine.{PointLine, joined}
 use Rattle.dsc_files.specs.declared.lines.Line.{Line}
 use Rattle.dsc_files.specs.declared.lines.Line.TheVariants as got
 use Rattle.join_groups.specs.Groups.{facts_of_line, names}
+use Rattle.join_groups.specs.Holds.{HoldsSome}
 use Rattle.join_groups.specs.Meanings.{BringsTooMany}
 use Rattle.traffic_replay.specs.declared.command.Replay.{Replay}
 use Rattle.traffic_replay.specs.declared.stations.Station.{Station}
@@ -87,7 +87,7 @@ pub record Keeps (replay : Replay) (said : Said) (text : List ℕ) : Type 0 wher
   pub groups : replay.groups.items ≡ groups_of said
   pub counted : IsBehindGroups replay.point replay.groups.items
   pub most : length replay.groups.items ≤ 16
-  pub heard : KeepsGroups replay.heard.sheets.entries said
+  pub heard : KeepsGroups replay.heard said
   pub kind : IsPointOf replay.point (kind_of said)
   pub told : IsTold (kind_of said) replay.station (IsBeforeEvents replay.point) said text replay.is_well
 
@@ -115,6 +115,7 @@ IsEventAt (station.Coast s) what = IsCoastEvent what
 -- what was read of a line may stand where the replay is
 pub record IsReady (replay : Replay) (read : Line) : Type 0 where
   pub within : replay.base ≤ 9999999999
+  pub heard : HoldsSome replay.heard
   pub most : length replay.groups.items ≤ 16
   pub ship : (mmsi : ℕ) → read ≡ got.Ship mmsi → replay.point ≡ point.Station
   pub base : (second : ℕ) → read ≡ got.Base second → (replay.point ≡ point.Base) × (second ≤ 9999999999)
@@ -123,10 +124,10 @@ pub record IsReady (replay : Replay) (read : Line) : Type 0 where
   pub event : (at : ℕ) (what : EventLine) → read ≡ got.Event at what → IsEventAt replay.station what
   pub short : (group : ℕ) (e : List Element) → read ≡ got.Reception group e → length e ≤ LONGEST
 
--- a line of receivers showed this of its group
-pub record IsShown (line : JoinLine) (group : ℕ) (shown : List Seen) : Type 0 where
+-- a line of receivers gives these facts of its group
+pub record IsShown (line : JoinLine) (group : ℕ) (G : Facts) : Type 0 where
   pub named : (k : ℕ) → names k line ≡ (group == k)
-  pub ends : IsEnds (facts_of_line group line) shown
+  pub facts : facts_of_line group line ≡ G
   pub point : (earlier : Said) → point_of (joined line ∷ earlier) ≡ among_events (kind_of earlier)
 
 -- behind what was said this brings a group too many

@@ -1,14 +1,14 @@
-use Rattle.std.proofs.Common.{◌∙◌, inl, inr, sym, ap, subst, refl}
+use Rattle.std.proofs.Common.{◌∙◌, [], Some, inl, inr, sym, ap, subst, refl}
 use Rattle.dsc_words.specs.declared.plans.Plan.{Plan}
 use Rattle.dsc_words.specs.declared.plans.Plan.TheVariants.{Encode, Sentences, Replay}
-use Rattle.line_engine.specs.Endings.{TellsWhole, CutsOff}
-use Rattle.dsc_cmd.specs.Plans.{meaning_of, input_of, IsQuietPlan}
-use Rattle.dsc_cmd.proofs.MadeEndings.{made_whole, made_cut, no_fault, no_read_fault, no_want, join_is_not_make, evidence_is_not_make, encode_is_not_make, sentences_is_not_make, replay_is_not_make}
+use Rattle.line_engine.specs.Endings.{TellsWhole, CutsOff, TellsFront}
+use Rattle.dsc_cmd.specs.Plans.{made_meaning, meaning_of, input_of, IsQuietPlan}
+use Rattle.dsc_cmd.proofs.MadeEndings.{made_whole, made_cut, no_fault, no_read_fault, made_want, join_is_not_make, evidence_is_not_make, encode_is_not_make, sentences_is_not_make, replay_is_not_make}
 use Rattle.dsc_cmd.proofs.running.execute.Goals as goal
 
 pub returns-in-Encode-true-clause-unwritten : goal.returns-in-Encode-true-clause-unwritten
 returns-in-Encode-true-clause-unwritten g c = λ quiet.
-    c.drive-in-Encode-true.ensures.quiet (subst IsQuietPlan (c.in-Encode-true.is ∙ ap (λ long. Encode long) c.in-Encode-true.long-test) quiet)
+    c.drive.ensures.quiet (subst IsQuietPlan (c.in-Encode-true.is ∙ ap (λ long. Encode long) c.in-Encode-true.long-test) quiet)
 
 pub returns-in-Encode-false-clause-unwritten : goal.returns-in-Encode-false-clause-unwritten
 returns-in-Encode-false-clause-unwritten g c = λ quiet.
@@ -43,27 +43,31 @@ returns-in-Make-clause-cut g c = λ cut.
     (made_cut c.in-Make.groups _ _ (c.make.ensures.cut cut))
 
 pub returns-in-Make-clause-memory : goal.returns-in-Make-clause-memory
-returns-in-Make-clause-memory g c = λ memory. absurd (no_want c.make.result c.make.ensures.which memory)
+returns-in-Make-clause-memory g c = λ memory.
+    subst (λ (plan : Plan). TellsFront (meaning_of plan) (input_of plan (g.S.Source.left c.args.source.now)) (input_of plan (g.S.Source.left c.args.source.now))
+    (g.K.Sink.written c.args.sink.now) (g.K.Sink.written c.make.new.sink)) (sym c.in-Make.is)
+    (subst (λ sink. TellsFront (made_meaning c.in-Make.groups) (Some []) (Some []) (g.K.Sink.written c.args.sink.now) (g.K.Sink.written sink)) (sym (c.make.ensures.unwritten memory))
+    (made_want c.in-Make.groups (g.K.Sink.written c.args.sink.now)))
 
 pub returns-in-Make-clause-unwritten : goal.returns-in-Make-clause-unwritten
 returns-in-Make-clause-unwritten g c = λ quiet halt. elim halt [
   | inl stopped ↦ absurd (no_read_fault c.make.result c.make.ensures.which stopped)
-  | inr memory ↦ absurd (no_want c.make.result c.make.ensures.which memory)
+  | inr memory ↦ c.make.ensures.unwritten memory
 ]
 
 pub returns-in-Make-clause-read_cause : goal.returns-in-Make-clause-read_cause
 returns-in-Make-clause-read_cause g c = λ stopped. absurd (no_read_fault c.make.result c.make.ensures.which stopped)
 
 pub returns-in-Make-clause-write_sound : goal.returns-in-Make-clause-write_sound
-returns-in-Make-clause-write_sound g c = λ sound. elim c.make.ensures.which [
-  | inl finished ↦ c.make.ensures.sound finished
-  | inr cut ↦ absurd (sound cut)
-]
+returns-in-Make-clause-write_sound g c = c.make.ensures.sound
 
 pub returns-in-Make-clause-range : goal.returns-in-Make-clause-range
 returns-in-Make-clause-range g c = elim c.make.ensures.which [
   | inl finished ↦ inl finished
-  | inr cut ↦ inr (inr (inr (inl cut)))
+  | inr other ↦ elim other [
+    | inl cut ↦ inr (inr (inr (inl cut)))
+    | inr memory ↦ inr (inr (inr (inr memory)))
+  ]
 ]
 
 pub returns-in-Make-clause-unread : goal.returns-in-Make-clause-unread

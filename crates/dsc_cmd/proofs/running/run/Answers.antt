@@ -47,13 +47,7 @@ returns-in-Ok-clause-made g c = λ n planned finished.
 pub returns-in-Ok-clause-unread_made : goal.returns-in-Ok-clause-unread_made
 returns-in-Ok-clause-unread_made g c = λ n planned.
     let same = c.one_plan.ensures _ c.in-Ok.plan (Make n) c.in-Ok.ensures.planned planned in
-    let unread = c.execute.ensures.unread n same in (
-      unread.0,
-      elim unread.1 [
-        | inl finished ↦ inl finished
-        | inr cut ↦ inr (inl cut)
-      ],
-    )
+    c.execute.ensures.unread n same
 
 pub returns-in-Err-Refused-clause-unread_made : goal.returns-in-Err-Refused-clause-unread_made
 returns-in-Err-Refused-clause-unread_made g c = λ n planned.

@@ -1,31 +1,28 @@
-use Rattle.std.proofs.Common.{◌≡◌, true, sym, subst, ◌∙◌, Option, Some, List, inl, inr, rules}
+use Rattle.std.proofs.Common.{◌<◌, ℕ, List, length, sym, subst}
 use Rattle.slot_evidence.specs.declared.places.Seen.{Seen}
-use Rattle.join_groups.specs.Groups.{names}
-use Rattle.join_groups.specs.inside.Kept.{Kept}
-use Rattle.join_groups.proofs.Rising.{found}
-use Rattle.join_groups.proofs.Keeping.{eq_one, keeps_with, kept_met, known_brings_none, map_ok, map_err}
+use Rattle.slot_evidence.specs.Facts.{Facts}
+use Rattle.receiver_pool.specs.Groups.{AreSheets}
+use Rattle.join_groups.specs.Holds.{HoldsIn, named_with, facts_with, number_in}
+use Rattle.join_groups.proofs.Holding.{held_some, holds_met, lent_whole}
 use Rattle.join_groups.proofs.groups.Groups.meet.Goals as goal
 
-pub returns-in-Some-clause-ok : goal.returns-in-Some-clause-ok
-returns-in-Some-clause-ok c = λ said line keeps named ends.
-    let entries = c.args.self.now.sheets.entries in
-    let sheet = c.meet.new.self in
-    let here : names c.args.group line ≡ true = named c.args.group ∙ eq_one c.args.group in
-    let known : found entries c.args.group ≡ Some c.in-Some.sheet.now = sym c.in-Some.ensures.value in
-    let kept : Kept said c.args.group (Some c.in-Some.sheet.now) = subst (λ (o : Option (List Seen)). Kept said c.args.group o) known (keeps c.args.group) in
-    let written = (c.get_mut.follows.holds sheet).3 (search rules) in (
-      known_brings_none said line c.args.group named kept.0,
-      keeps_with said line entries (c.get_mut.follows.lender sheet).entries c.args.group sheet named written.0 keeps
-          (kept_met said line c.args.group c.in-Some.sheet.now c.args.shown.now sheet here kept ends c.meet.ensures),
+pub meet_at-requires : goal.meet_at-requires
+meet_at-requires c =
+    let new = c.number_of.new.self in
+    let known = c.in_ok-number.ensures.ok c.requires.named c.requires.facts c.requires.holds in
+    subst (λ (s : List (List Seen)). c.in_ok-number.number < length s) (sym c.deref_mut.ensures.value)
+    (held_some (number_in new) new.sheets.items new.batch.items (named_with c.args.group c.requires.named) c.requires.facts c.args.group c.in_ok-number.number known.2 known.1).1
+
+pub returns-clause-ok : goal.returns-clause-ok
+returns-clause-ok c = λ named F G holds shown.
+    let new = c.number_of.new.self in
+    let n = c.in_ok-number.number in
+    let known = c.in_ok-number.ensures.ok named F holds in
+    let met : (C : ℕ → Facts) (m : ℕ) → AreSheets C new.sheets.items m → AreSheets _ c.meet_at.new.sheets m =
+    λ C m are. c.meet_at.ensures C G m (subst (λ (s : List (List Seen)). AreSheets C s m) (sym c.deref_mut.ensures.value) are) shown in
+    let count = (met known.1.closed (length new.sheets.items) known.1.are_sheets).count in (
+      known.0,
+      subst (λ (s : List (List Seen)). HoldsIn (number_in new) s new.batch.items (named_with c.args.group named) (facts_with c.args.group G F))
+          (sym (lent_whole (List Seen) new.sheets.items c.meet_at.new.sheets new.sheets.len new.sheets.ok.0 count))
+          (holds_met (number_in new) new.sheets.items new.batch.items (named_with c.args.group named) F c.args.group n known.2 known.1 G c.meet_at.new.sheets met),
     )
-
-pub returns-in-None-clause-ok : goal.returns-in-None-clause-ok
-returns-in-None-clause-ok c = map_ok c.begin.result (λ ok. λ said line keeps. ok said line (rw (c.get_mut.follows.holds-at-none) keeps)) c.begin.ensures.ok
-
-pub returns-in-None-clause-err : goal.returns-in-None-clause-err
-returns-in-None-clause-err c = map_err c.begin.result
-    (λ refusal err. elim err [
-      | inl memory ↦ inl memory
-      | inr full ↦ inr (λ said line keeps. full said line (rw (c.get_mut.follows.holds-at-none) keeps))
-    ])
-    c.begin.ensures.err

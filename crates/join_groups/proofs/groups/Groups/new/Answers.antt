@@ -1,8 +1,8 @@
-use Rattle.std.proofs.Common.{[], refl, sym, subst}
-use Rattle.join_groups.specs.Groups.{is_named}
-use Rattle.join_groups.specs.inside.Kept.{Keeps}
+use Rattle.std.proofs.Common.{ℕ, List, ap}
+use Rattle.join_groups.proofs.Rising.{found}
+use Rattle.join_groups.proofs.Holding.{holds_nothing}
 use Rattle.join_groups.proofs.groups.Groups.new.Goals as goal
 
 pub returns : goal.returns
-unfolding is_named
-returns c = subst (λ entries. Keeps entries []) (sym c.new.ensures.empty) (λ k. refl)
+returns c =
+    holds_nothing (found c.new.result.entries) c.new-2.result.items c.new-3.result.items (λ k. ap (λ (es : List (ℕ × ℕ)). found es k) c.new.ensures.empty) c.new-2.ensures.items c.new-3.ensures.items

@@ -7,7 +7,7 @@ use Rattle.traffic_replay.proofs.Told.{at_events, events_of, events_behind, no_m
 use Rattle.traffic_replay.proofs.command.Replay.happen.Goals as goal
 
 pub returns-in_ok-self-in-Ship : goal.returns-in_ok-self-in-Ship
-returns-in_ok-self-in-Ship c = λ said text keeps.
+returns-in_ok-self-in-Ship g c = λ said text keeps.
     let old = c.args.self.now in
     let kind = kind_of said in
     let early = IsBeforeEvents old.point in
@@ -31,7 +31,7 @@ returns-in_ok-self-in-Ship c = λ said text keeps.
     }
 
 pub returns-in_ok-self-in-Coast : goal.returns-in_ok-self-in-Coast
-returns-in_ok-self-in-Coast c = λ said text keeps.
+returns-in_ok-self-in-Coast g c = λ said text keeps.
     let old = c.args.self.now in
     let kind = kind_of said in
     let early = IsBeforeEvents old.point in

@@ -1,0 +1,179 @@
+//! Workers: they meet in the gate, and change no answer.
+
+use crate::receptions::{DX_AND_PLACE_7, REPORTED, Row, WHOLE, joined, line, words_of};
+use dsc_cmd::{SureSink, SureSource, run};
+use dsc_symbols::worked::ALERT_SLOTS;
+use receiver_pool::Gate;
+use std::alloc::{AllocError, Global};
+use std::sync::atomic::{AtomicU32, Ordering};
+use std::test::Fail;
+use std::thread::{Threads, yield_now};
+
+// A gate that counts who enters, and in which each waits, for at most 100,000,000 turns, until so many have entered.
+#[derive(Drop)]
+struct Meeting {
+    awaited: u32,
+    entered: AtomicU32,
+    met: AtomicU32,
+}
+
+impl Gate for Meeting {
+    fn enter(&self, _worker: u32) {
+        self.entered.fetch_add(1, Ordering::SeqCst);
+        for turn in 0..100_000_000u32 {
+            if self.entered.load(Ordering::SeqCst) >= self.awaited {
+                self.met.fetch_add(1, Ordering::SeqCst);
+                return;
+            }
+            if turn % 64 == 0 {
+                yield_now();
+            }
+        }
+    }
+}
+
+// What a run wrote whose workers wait for so many in the gate; how many entered it, and how many of them met.
+fn met<R: Threads + Sync>(
+    rt: &R,
+    alloc: Global,
+    words: &str,
+    input: Vec<u8>,
+    awaited: u32,
+) -> Result<(Vec<u8>, u32, u32), AllocError> {
+    let words = words_of(alloc, words)?;
+    let gate = Meeting {
+        awaited,
+        entered: AtomicU32::new(0),
+        met: AtomicU32::new(0),
+    };
+    let mut source = SureSource::new(input, 4096);
+    let mut sink = SureSink::new(alloc, 4096, 4096)?;
+    let _status = run(rt, alloc, &words, &mut source, &mut sink, &gate);
+    Ok((
+        sink.bytes().to_vec(alloc)?,
+        gate.entered.load(Ordering::SeqCst),
+        gate.met.load(Ordering::SeqCst),
+    ))
+}
+
+// Two receptions of one alert, neither of which tells it alone.
+fn two_damaged(alloc: Global) -> Result<Vec<u8>, AllocError> {
+    let mut late = Row {
+        lost: DX_AND_PLACE_7,
+        ..WHOLE
+    };
+    let mut input = line(alloc, &ALERT_SLOTS, &late)?;
+    late.lost = &[
+        16, 17, 18, 19, 20, 21, 22, 23, 24, 25, 27, 28, 29, 30, 31, 32, 33, 34, 35, 36, 37, 38, 39,
+        40, 41, 42, 43, 44, 45, 46, 47, 48, 49, 50, 51,
+    ];
+    input.extend_from_slice(&line(alloc, &ALERT_SLOTS, &late)?)?;
+    Ok(input)
+}
+
+#[test]
+fn one_worker_enters_the_gate_once(rt: HostRuntime) -> Result<(), Fail> {
+    let alloc = rt.alloc();
+    let (written, entered, _met) = met(&rt, alloc, "dsc join", two_damaged(alloc)?, 1)?;
+    assert_eq!(rt; written.as_slice(), REPORTED.as_bytes());
+    assert_eq!(rt; entered, 1);
+    Ok(())
+}
+
+#[test]
+fn two_workers_meet_in_the_gate(rt: HostRuntime) -> Result<(), Fail> {
+    let alloc = rt.alloc();
+    for words in ["dsc join --workers 2", "dsc evidence --workers 2"] {
+        let (_written, entered, met) = met(&rt, alloc, words, two_damaged(alloc)?, 2)?;
+        assert_eq!(rt; entered, 2, "{words}");
+        assert_eq!(rt; met, 2, "{words}");
+    }
+    Ok(())
+}
+
+#[test]
+fn workers_of_a_replay_meet_where_a_group_is_heard(rt: HostRuntime) -> Result<(), Fail> {
+    let alloc = rt.alloc();
+    let mut input = Vec::from_slice(alloc, b"station ship 338158137\nbase 0\n")?;
+    input.extend_from_slice(&line(alloc, &ALERT_SLOTS, &WHOLE)?)?;
+    input.extend_from_slice(b"7 heard g0\n")?;
+    let (written, entered, met) = met(&rt, alloc, "dsc replay --workers 2", input, 2)?;
+    let want = b"7 distress casualty=338040079 nature=106 pos=1423108312 time=2019 then=100\n";
+    assert_eq!(rt; written.as_slice(), want.as_slice());
+    assert_eq!(rt; entered, 2);
+    assert_eq!(rt; met, 2);
+    Ok(())
+}
+
+// 512 lines are two batches.
+#[test]
+fn full_batches(rt: HostRuntime) -> Result<(), Fail> {
+    let alloc = rt.alloc();
+    let lines = two_damaged(alloc)?;
+    let mut input = Vec::new(alloc);
+    for _ in 0..256 {
+        input.extend_from_slice(&lines)?;
+    }
+    let (written, status) = joined(&rt, alloc, "dsc join --workers 3", input)?;
+    assert_eq!(rt; written.as_slice(), REPORTED.as_bytes());
+    assert_eq!(rt; status, 0);
+    Ok(())
+}
+
+// The two receptions stand at both sides of the end of a batch.
+#[test]
+fn the_end_of_a_batch_parts_no_group(rt: HostRuntime) -> Result<(), Fail> {
+    let alloc = rt.alloc();
+    for words in ["dsc join", "dsc join --workers 2"] {
+        let mut input = Vec::new(alloc);
+        for _ in 0..255 {
+            input.extend_from_slice(b"r\n")?;
+        }
+        input.extend_from_slice(&two_damaged(alloc)?)?;
+        let (written, status) = joined(&rt, alloc, words, input)?;
+        assert_eq!(rt; written.as_slice(), REPORTED.as_bytes(), "{words}");
+        assert_eq!(rt; status, 0);
+    }
+    Ok(())
+}
+
+// Receptions of three groups and evidence of one of them, in turn.
+fn mixed(alloc: Global) -> Result<Vec<u8>, AllocError> {
+    let lines = two_damaged(alloc)?;
+    let mut input = Vec::new(alloc);
+    for turn in 0..200u32 {
+        for (index, text) in lines.split(|byte| *byte == b'\n').enumerate() {
+            if index < 2 && (turn % 3 != 1 || index == 0) {
+                input.extend_from_slice(b"r g")?;
+                input.push(b'0' + (turn % 3) as u8)?;
+                input.extend_from_slice(text.get(1..).unwrap_or(b""))?;
+                input.push(b'\n')?;
+            }
+        }
+    }
+    input.extend_from_slice(b"e g2 8:22\n")?;
+    Ok(input)
+}
+
+#[test]
+fn workers_change_no_answer(rt: HostRuntime) -> Result<(), Fail> {
+    let alloc = rt.alloc();
+    for (alone, together) in [
+        (
+            "dsc join",
+            ["dsc join --workers 2", "dsc join --workers 64"],
+        ),
+        (
+            "dsc evidence",
+            ["dsc evidence --workers 3", "dsc evidence --workers=64"],
+        ),
+    ] {
+        let (want, status) = joined(&rt, alloc, alone, mixed(alloc)?)?;
+        for words in together {
+            let (written, code) = joined(&rt, alloc, words, mixed(alloc)?)?;
+            assert_eq!(rt; written.as_slice(), want.as_slice(), "{words}");
+            assert_eq!(rt; code, status);
+        }
+    }
+    Ok(())
+}

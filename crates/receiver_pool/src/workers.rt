@@ -1,0 +1,54 @@
+//! Those who join receptions.
+ghost use Rattle.std.specs.Prelude.{◌≡◌, ◌≤◌, ℕ, All, IfSome, OnOk, length};
+ghost use Rattle.slot_evidence.specs.Facts.{Facts, facts_of, union};
+ghost use Rattle.slot_evidence.specs.Sheet.{IsEnds};
+ghost use Rattle.receiver_pool.specs.Groups.{facts_of_group, AreSheets, Belongs};
+ghost use Rattle.receiver_pool.specs.Joining.{JoinsBatches};
+
+use crate::batches::meet_each;
+use crate::heard::Heard;
+use phasing::LONGEST;
+use slot_evidence::{Reception, Sheet, shown_by};
+use std::alloc::AllocError;
+
+/// Those who join receptions: one worker, who joins each at once, or several, who join batches by this function, as `pool_groups` does.
+#[derive(Drop)]
+pub struct Workers<J> {
+    are_several: bool,
+    pub join: J,
+}
+
+impl<J: Drop + Fn(&[Heard], usize) -> Result<Vec<Sheet>, AllocError>> Workers<J> {
+    /// So many workers.
+    pub fn new(workers: u32, join: J) -> Workers<J>
+        ensures { result.join ≡ join }
+    {
+        Workers {
+            are_several: workers > 1,
+            join,
+        }
+    }
+
+    /// What a reception shows, where one worker works alone. Several wait for a batch.
+    pub fn read_alone(&self, heard: &Reception) -> Option<Sheet>
+        requires { length heard.now ≤ LONGEST }
+        ensures { IfSome result (λ sheet. IsEnds (facts_of heard.now) sheet) }
+    {
+        if self.are_several {
+            None
+        } else {
+            Some(shown_by(heard))
+        }
+    }
+
+    /// Joins a batch of receptions into the sheets of their groups. The error is want of memory.
+    pub fn join_into(&self, sheets: &mut [Sheet], batch: &[Heard]) -> Result<(), AllocError>
+        requires joins { JoinsBatches (J.pre self.now.join) (J.post self.now.join) }
+        requires belong { All (Belongs (length sheets.old)) batch.now }
+        ensures { OnOk result ((F : ℕ → Facts) (n : ℕ) → AreSheets F sheets.old n → AreSheets (λ k. union (F k) (facts_of_group batch.now k)) sheets.new n) }
+    {
+        let shown = (self.join)(batch, sheets.len())?;
+        meet_each(sheets, &shown);
+        Ok(())
+    }
+}
