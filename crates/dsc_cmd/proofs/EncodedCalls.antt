@@ -1,5 +1,5 @@
 -- `join` gives back what `encode` wrote.
-use Rattle.std.proofs.Common.{◌≡◌, ℕ, suc, ◌<◌, ◌^◌, ◌==◌, Bool, true, false, ◌&&◌, ◌||◌, List, [], ◌∷◌, ◌++◌, refl, sym, ap, subst, ◌∙◌, inl, inr, arith, append_assoc, append-nil}
+use Rattle.std.proofs.Common.{◌≡◌, ℕ, ◌<◌, ◌^◌, ◌==◌, Bool, true, false, ◌||◌, List, [], ◌∷◌, ◌++◌, refl, sym, ap, subst, ◌∙◌, inl, inr, arith, append_assoc, append-nil}
 use Rattle.std.specs.Prelude.{codes, decimal}
 use Rattle.std.specs.List.{list_any, AllByRecursion}
 use Rattle.std.proofs.lemmas.Bool.{or_cases, and_parts, and_from}
@@ -12,7 +12,7 @@ use Rattle.call_grammar.specs.Spelling.{spell, end_of, end_symbol}
 use Rattle.ten_unit.specs.declared.character.Element.{Element}
 use Rattle.time_diversity.specs.OnAir.{on_air}
 use Rattle.phasing.specs.Sent.{sent}
-use Rattle.slot_evidence.specs.Facts.{Facts, Symbols, facts_of}
+use Rattle.slot_evidence.specs.Facts.{Symbols, facts_of}
 use Rattle.slot_evidence.specs.Alike.{AreAlike, IsBetween}
 use Rattle.slot_join.specs.declared.joined.Joined.{Joined}
 use Rattle.slot_join.specs.declared.joined.Joined.TheVariants.{Reported}
@@ -22,14 +22,14 @@ use Rattle.slot_join.specs.Answer.{IsAnswer}
 use Rattle.slot_join.specs.Intact.{IsExpandedBy}
 use Rattle.expansion.specs.declared.values.Sets.{Sets}
 use Rattle.dsc_texts.specs.Texts.{IsWholeOrAbsent}
-use Rattle.dsc_files.specs.JoinLine.{JoinLine, nothing, reception, evidence, IsLine, body_text}
+use Rattle.dsc_files.specs.JoinLine.{JoinLine, nothing, reception, evidence, body_text}
 use Rattle.dsc_files.specs.Lines.{facts_of_pairs}
 use Rattle.join_groups.specs.Groups.{names, is_named, facts_of_line, group_facts}
-use Rattle.join_groups.specs.Output.{Told, TellsAnswer, answer_line, is_reported, IsJoinText}
+use Rattle.join_groups.specs.Output.{TellsAnswer, answer_line, is_reported, IsJoinText}
 use Rattle.encode_calls.specs.Transmissions.{end_named, tail_of, transmitted}
 use Rattle.encode_calls.specs.Encoding.{encoded_line}
 use Rattle.dsc_cmd.specs.Encoded.{IsHeardWhole, IsOfEncoded, TellsCall}
-use Rattle.dsc_cmd.proofs.SentGroups.{AlikeLaw, Found, found}
+use Rattle.dsc_cmd.proofs.SentGroups.{AlikeLaw, found}
 
 -- ---- the line
 

@@ -139,6 +139,10 @@ impl Groups {
     {
         if !self.batch.is_empty() {
             workers.join_into(&mut self.sheets, &self.batch)?;
+
+            // The list moves behind the first batch's receptions. So their memory serves the next batches: at the heap's end it would go
+            // back to the system, and come anew page by page, at each of them.
+            self.batch.reserve_exact(MOST_IN_BATCH)?;
             self.batch.clear();
         }
         Ok(())

@@ -1,6 +1,6 @@
 use Rattle.std.proofs.Common.{◌∙◌, [], Some, inl, inr, sym, ap, subst, refl}
 use Rattle.dsc_words.specs.declared.plans.Plan.{Plan}
-use Rattle.dsc_words.specs.declared.plans.Plan.TheVariants.{Encode, Sentences, Replay}
+use Rattle.dsc_words.specs.declared.plans.Plan.TheVariants.{Encode}
 use Rattle.line_engine.specs.Endings.{TellsWhole, CutsOff, TellsFront}
 use Rattle.dsc_cmd.specs.Plans.{made_meaning, meaning_of, input_of, IsQuietPlan}
 use Rattle.dsc_cmd.proofs.MadeEndings.{made_whole, made_cut, no_fault, no_read_fault, made_want, join_is_not_make, evidence_is_not_make, encode_is_not_make, sentences_is_not_make, replay_is_not_make}

@@ -1,4 +1,4 @@
-use Rattle.std.proofs.Common.{Err, inl, inr, ap, sym, subst}
+use Rattle.std.proofs.Common.{Err, inl, ap, sym, subst}
 use Rattle.dsc_words.specs.declared.plans.PlanError.{PlanError}
 use Rattle.dsc_words.specs.declared.plans.Plan.{Plan}
 use Rattle.dsc_words.specs.declared.plans.Plan.TheVariants.{Join, Make}

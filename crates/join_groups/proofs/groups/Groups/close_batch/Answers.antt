@@ -7,8 +7,8 @@ use Rattle.join_groups.specs.Holds.{HoldsIn, number_in}
 use Rattle.join_groups.proofs.Holding.{holds_closed, lent_whole}
 use Rattle.join_groups.proofs.groups.Groups.close_batch.Goals as goal
 
-pub returns-in_ok-join_into-clause-holds : goal.returns-in_ok-join_into-clause-holds
-returns-in_ok-join_into-clause-holds g c = λ named F holds.
+pub returns-in_ok-reserve_exact-clause-holds : goal.returns-in_ok-reserve_exact-clause-holds
+returns-in_ok-reserve_exact-clause-holds g c = λ named F holds.
     let old = c.args.self.now in
     let joined : (C : ℕ → Facts) (m : ℕ) → AreSheets C old.sheets.items m → AreSheets (λ k. union (C k) (facts_of_group old.batch.items k)) c.join_into.new.sheets m =
     λ C m are.
