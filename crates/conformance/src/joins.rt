@@ -1,4 +1,4 @@
-use crate::receptions::{DX_AND_PLACE_7, REPORTED, Row, WHOLE, joined, line};
+use crate::receptions::{DX_AND_PLACE_7, REPORTED, Row, WHOLE, joined, line, two_damaged};
 use dsc_symbols::worked::ALERT_SLOTS;
 use std::test::Fail;
 use time_diversity::on_air;
@@ -121,16 +121,7 @@ fn receptions_of_one_alert(rt: HostRuntime) -> Result<(), Fail> {
 #[test]
 fn two_receptions_of_one_alert(rt: HostRuntime) -> Result<(), Fail> {
     let alloc = rt.alloc();
-    let mut late = Row {
-        lost: DX_AND_PLACE_7,
-        ..WHOLE
-    };
-    let mut input = line(alloc, &ALERT_SLOTS, &late)?;
-    late.lost = &[
-        16, 17, 18, 19, 20, 21, 22, 23, 24, 25, 27, 28, 29, 30, 31, 32, 33, 34, 35, 36, 37, 38, 39,
-        40, 41, 42, 43, 44, 45, 46, 47, 48, 49, 50, 51,
-    ];
-    input.extend_from_slice(&line(alloc, &ALERT_SLOTS, &late)?)?;
+    let input = two_damaged(alloc)?;
     let (written, status) = joined(&rt, alloc, "dsc join", input)?;
     assert_eq!(rt; written.as_slice(), REPORTED.as_bytes());
     assert_eq!(rt; status, 0);

@@ -1,6 +1,7 @@
 //! Receptions as lines, and runs over them: what the tests of joins share.
 
 use dsc_cmd::{SureSink, SureSource, run};
+use dsc_symbols::worked::ALERT_SLOTS;
 use receiver_pool::Open;
 use std::alloc::{AllocError, Global};
 use std::thread::Threads;
@@ -78,6 +79,21 @@ pub(crate) fn line(alloc: Global, slots: &[u8], row: &Row) -> Result<Vec<u8>, Al
     }
     text.push(b'\n')?;
     Ok(text)
+}
+
+// Two receptions of one alert, neither of which tells it alone.
+pub(crate) fn two_damaged(alloc: Global) -> Result<Vec<u8>, AllocError> {
+    let mut late = Row {
+        lost: DX_AND_PLACE_7,
+        ..WHOLE
+    };
+    let mut input = line(alloc, &ALERT_SLOTS, &late)?;
+    late.lost = &[
+        16, 17, 18, 19, 20, 21, 22, 23, 24, 25, 27, 28, 29, 30, 31, 32, 33, 34, 35, 36, 37, 38, 39,
+        40, 41, 42, 43, 44, 45, 46, 47, 48, 49, 50, 51,
+    ];
+    input.extend_from_slice(&line(alloc, &ALERT_SLOTS, &late)?)?;
+    Ok(input)
 }
 
 // The words of a command line, parted by blanks.

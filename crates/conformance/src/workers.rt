@@ -1,6 +1,6 @@
 //! Workers: they meet in the gate, and change no answer.
 
-use crate::receptions::{DX_AND_PLACE_7, REPORTED, Row, WHOLE, joined, line, words_of};
+use crate::receptions::{REPORTED, WHOLE, joined, line, two_damaged, words_of};
 use dsc_cmd::{SureSink, SureSource, run};
 use dsc_symbols::worked::ALERT_SLOTS;
 use receiver_pool::Gate;
@@ -54,21 +54,6 @@ fn met<R: Threads + Sync>(
         gate.entered.load(Ordering::SeqCst),
         gate.met.load(Ordering::SeqCst),
     ))
-}
-
-// Two receptions of one alert, neither of which tells it alone.
-fn two_damaged(alloc: Global) -> Result<Vec<u8>, AllocError> {
-    let mut late = Row {
-        lost: DX_AND_PLACE_7,
-        ..WHOLE
-    };
-    let mut input = line(alloc, &ALERT_SLOTS, &late)?;
-    late.lost = &[
-        16, 17, 18, 19, 20, 21, 22, 23, 24, 25, 27, 28, 29, 30, 31, 32, 33, 34, 35, 36, 37, 38, 39,
-        40, 41, 42, 43, 44, 45, 46, 47, 48, 49, 50, 51,
-    ];
-    input.extend_from_slice(&line(alloc, &ALERT_SLOTS, &late)?)?;
-    Ok(input)
 }
 
 #[test]
