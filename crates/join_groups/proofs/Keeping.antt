@@ -160,3 +160,7 @@ map_ok (Err e) f h = tt
 pub map_err : {X E : Type 0} {P Q : E → Type 0} (r : Result X E) → ((e : E) → P e → Q e) → IfErr r P → IfErr r Q
 map_err (Ok x) f h = tt
 map_err (Err e) f h = f e h
+
+pub map_both : {X E : Type 0} {P Q R : Type 0} (r : Result X E) → (P → Q → R) → OnOk r P → OnOk r Q → OnOk r R
+map_both (Ok x) f p q = f p q
+map_both (Err e) f p q = tt

@@ -1,11 +1,12 @@
 -- A command over groups stands for the lines that it took.
-use Rattle.std.proofs.Common.{◌≡◌, ℕ, List, [], ◌∷◌, ◌++◌, refl, ap, subst, ◌∙◌}
+use Rattle.std.proofs.Common.{◌≡◌, ◌<◌, ℕ, List, length, [], ◌∷◌, ◌++◌, refl, ap, subst, ◌∙◌}
 use Rattle.line_engine.specs.declared.command.Refusal.{Refusal}
 use Rattle.line_engine.specs.declared.command.Refusal.TheVariants.{Column, TooManyGroups, Memory}
 use Rattle.line_engine.specs.Lines.{Lines}
 use Rattle.line_engine.specs.Commands.{IsTakenBehind, IsRefusedBehind}
 use Rattle.dsc_files.specs.JoinLine.{JoinLine, IsLine}
 use Rattle.join_groups.specs.declared.groups.Groups.{Groups}
+use Rattle.join_groups.specs.declared.groups.TheConstants.{MOST_IN_BATCH}
 use Rattle.join_groups.specs.Groups.{AreLines}
 use Rattle.join_groups.specs.Output.{Telling}
 use Rattle.join_groups.specs.Meanings.{BringsTooMany, groups_meaning}
@@ -35,13 +36,15 @@ same_said one (s ∷ a) (t ∷ b) (l ∷ lines) x y =
 abbrev pub Took : Groups → Groups → List ℕ → Type 0
 Took old new text = (said : List JoinLine) → Keeps old said → (line : JoinLine) × (IsLine line text × (BringsTooMany said line → ⊥) × Keeps new (said ++ line ∷ []))
 
-pub stands_after : (old new : Groups) (text : List ℕ) (lines : Lines) (told : List ℕ) → Took old new text → StandsFor old lines told → StandsFor new (lines ++ text ∷ []) told
-stands_after old new text lines told took stands =
+pub stands_after : (old new : Groups) (text : List ℕ) (lines : Lines) (told : List ℕ) → Took old new text → (length old.batch.items < MOST_IN_BATCH → length new.batch.items < MOST_IN_BATCH)
+    → StandsFor old lines told → StandsFor new (lines ++ text ∷ []) told
+stands_after old new text lines told took few stands =
     let line = took stands.said stands.keeps in record {
       text_is = stands.text_is;
       said = stands.said ++ line.0 ∷ [];
       are_lines = lines_push stands.said lines line.0 text stands.are_lines line.1.0;
       keeps = line.1.2;
+      few = few stands.few;
     }
 
 pub taken_behind : OneLine → (tells : Telling) (old new : Groups) (text : List ℕ) (lines : Lines) (told : List ℕ) → Took old new text → StandsFor old lines told

@@ -1,4 +1,4 @@
-ghost use Rattle.std.specs.Prelude.{◌≡◌, ◌⊎◌, ℕ, ◌<◌, ◌≤◌, Bool, false, length, [], Some, IfOk, IfErr, OnOk};
+ghost use Rattle.std.specs.Prelude.{◌≡◌, ◌⊎◌, ℕ, ◌+◌, ◌<◌, ◌≤◌, Bool, false, length, [], Some, IfOk, IfErr, OnOk};
 ghost use Rattle.slot_evidence.specs.Facts.{Facts, facts_of, no_facts};
 ghost use Rattle.slot_evidence.specs.Sheet.{IsEnds};
 ghost use Rattle.receiver_pool.specs.Joining.{JoinsBatches};
@@ -29,7 +29,8 @@ pub struct Groups {
 impl Groups {
     /// No groups.
     pub fn new(alloc: Global) -> Groups
-        ensures { Holds result (λ k. false) (λ k. no_facts) }
+        ensures holds { Holds result (λ k. false) (λ k. no_facts) }
+        ensures empty { result.batch.items ≡ [] }
     {
         Groups {
             numbers: BTreeMap::new(alloc),
@@ -44,6 +45,7 @@ impl Groups {
             → (IsFull named group → ⊥) × Holds self.new (named_with group named) F × (number_in self.new group ≡ Some n)) }
         ensures err { IfErr result (λ refusal. (refusal ≡ Refusal.Memory) ⊎ ((named : ℕ → Bool) (F : ℕ → Facts) → Holds self.old named F
             → (refusal ≡ Refusal.TooManyGroups) × IsFull named group)) }
+        ensures batch { self.new.batch ≡ self.old.batch }
     {
         match self.numbers.get(&group) {
             Some(number) => Ok(*number),
@@ -58,6 +60,7 @@ impl Groups {
             → (IsFull named group → ⊥) × Holds self.new (named_with group named) F × (number_in self.new group ≡ Some n)) }
         ensures err { IfErr result (λ refusal. (refusal ≡ Refusal.Memory) ⊎ ((named : ℕ → Bool) (F : ℕ → Facts) → Holds self.old named F
             → (refusal ≡ Refusal.TooManyGroups) × IsFull named group)) }
+        ensures batch { self.new.batch ≡ self.old.batch }
     {
         if self.numbers.len() >= MOST_GROUPS {
             return Err(Refusal::TooManyGroups);
@@ -77,6 +80,7 @@ impl Groups {
             → (IsFull named group → ⊥) × Holds self.new (named_with group named) (facts_with group G F)) }
         ensures err { IfErr result (λ refusal. (refusal ≡ Refusal.Memory) ⊎ ((named : ℕ → Bool) (F : ℕ → Facts) → Holds self.old named F
             → (refusal ≡ Refusal.TooManyGroups) × IsFull named group)) }
+        ensures batch { self.new.batch ≡ self.old.batch }
     {
         let number = self.number_of(group)?;
         meet_at(&mut self.sheets, number, shown);
@@ -98,6 +102,9 @@ impl Groups {
             → (IsFull named group → ⊥) × Holds self.new (named_with group named) (facts_with group (facts_of heard) F)) }
         ensures err { IfErr result (λ refusal. (refusal ≡ Refusal.Memory) ⊎ ((named : ℕ → Bool) (F : ℕ → Facts) → Holds self.old named F
             → (refusal ≡ Refusal.TooManyGroups) × IsFull named group)) }
+
+        // The open batch stays below its bound.
+        ensures few { OnOk result (length self.old.batch.items < MOST_IN_BATCH → length self.new.batch.items < MOST_IN_BATCH) }
     {
         if let Some(shown) = workers.read_alone(&heard) {
             return self.meet(group, &shown);
@@ -117,8 +124,9 @@ impl Groups {
     /// Puts a reception of the group with this number into the batch.
     fn put(&mut self, number: usize, heard: Reception) -> Result<(), AllocError>
         requires { length heard ≤ LONGEST }
-        ensures { OnOk result ((named : ℕ → Bool) (F : ℕ → Facts) (group : ℕ) → Holds self.old named F → number_in self.old group ≡ Some number
+        ensures holds { OnOk result ((named : ℕ → Bool) (F : ℕ → Facts) (group : ℕ) → Holds self.old named F → number_in self.old group ≡ Some number
             → Holds self.new named (facts_with group (facts_of heard) F)) }
+        ensures more { OnOk result (length self.new.batch.items ≡ length self.old.batch.items + 1) }
     {
         self.batch.push(Heard {
             group: number,
@@ -154,6 +162,7 @@ impl Groups {
         requires ended { self.old.batch.items ≡ [] }
         ensures sheet { (named : ℕ → Bool) (F : ℕ → Facts) → Holds self.old named F → IsEnds (F group) result }
         ensures anew { (named : ℕ → Bool) (F : ℕ → Facts) → Holds self.old named F → Holds self.new named (facts_without group F) }
+        ensures batch { self.new.batch ≡ self.old.batch }
     {
         match self.numbers.get(&group) {
             Some(number) => {

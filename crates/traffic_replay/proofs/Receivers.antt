@@ -118,6 +118,7 @@ nothing_taken replay said (joined nothing) read text is keeps h = (
     counted = keeps.counted;
     most = keeps.most;
     heard = keeps_nothing replay.heard said keeps.heard;
+    few = keeps.few;
     kind = keeps.kind;
     told = carry_joined (kind_of said) replay.station (IsBeforeEvents replay.point) (IsBeforeEvents replay.point) nothing said text replay.is_well (λ early. early) keeps.told;
   },

@@ -1,5 +1,5 @@
 //! Heard groups: what receivers showed of a group since it was last heard.
-ghost use Rattle.std.specs.Prelude.{ℕ, ◌∷◌, IfOk, OnOk};
+ghost use Rattle.std.specs.Prelude.{◌≡◌, ℕ, [], ◌∷◌, IfOk, OnOk};
 ghost use Rattle.slot_join.specs.Answer.{IsAnswer};
 ghost use Rattle.receiver_pool.specs.Joining.{JoinsBatches};
 ghost use Rattle.dsc_files.specs.PointLine.{traffic};
@@ -27,6 +27,7 @@ pub(crate) fn hear<J: Drop + Fn(&[Heard], usize) -> Result<Vec<Sheet>, AllocErro
     ensures answer { IfOk result (λ answer. (said : Said) → KeepsGroups groups.old said → IsAnswer (facts_since_heard group said) answer) }
     ensures anew { OnOk result ((said : Said) (at : ℕ) → KeepsGroups groups.old said
         → KeepsGroups groups.new (traffic (station.Event at (event.Heard group)) ∷ said)) }
+    ensures ended { OnOk result (groups.new.batch.items ≡ []) }
 {
     groups.close_batch(workers)?;
     Ok(report(&groups.take_out(group)))

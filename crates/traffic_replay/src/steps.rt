@@ -1,4 +1,4 @@
-ghost use Rattle.std.specs.Prelude.{◌≡◌, ◌≤◌, ◌∷◌, ◌++◌, ℕ, false, is_ok, OnOk, IfOk};
+ghost use Rattle.std.specs.Prelude.{◌≡◌, ◌<◌, ◌≤◌, ◌∷◌, ◌++◌, ℕ, false, is_ok, length, OnOk, IfOk};
 ghost use Rattle.std.specs.List.{flat_map};
 ghost use Rattle.area_rules.specs.Histories.{History};
 ghost use Rattle.area_rules.specs.Rules.{listed, answer_to, continued};
@@ -27,7 +27,7 @@ use coast_station::{Coast, CoastEvent, CoastWhat};
 use dsc_files::EventLine;
 use dsc_texts::put_answer_line;
 use itoa::Buffer;
-use join_groups::Groups;
+use join_groups::{Groups, MOST_IN_BATCH};
 use receiver_pool::{Heard, Workers};
 use ship_station::{Ship, ShipEvent, ShipWhat};
 use slot_evidence::Sheet;
@@ -157,6 +157,7 @@ pub(crate) fn happen_at_ship<J: Drop + Fn(&[Heard], usize) -> Result<Vec<Sheet>,
     requires joins { JoinsBatches (J.pre workers.now.join) (J.post workers.now.join) }
     requires event { IsShipEvent what.now }
     ensures kept { OnOk result ((said : Said) → KeepsGroups groups.old said → KeepsGroups groups.new (traffic (line.Event at what.now) ∷ said)) }
+    ensures few { OnOk result (length groups.old.batch.items < MOST_IN_BATCH → length groups.new.batch.items < MOST_IN_BATCH) }
     ensures happens { IfOk result (λ accepted. (said : Said) (who : Identities) (h : History AtShip) → KeepsGroups groups.old said → base ≡ base_of said
         → ShipStands ship.old who h
         → Happens (ship_rules who) taking_ship (ShipStands ship.new who) h said at what.now out.old.items out.new.items accepted) }
@@ -191,6 +192,7 @@ pub(crate) fn happen_at_coast<J: Drop + Fn(&[Heard], usize) -> Result<Vec<Sheet>
     requires joins { JoinsBatches (J.pre workers.now.join) (J.post workers.now.join) }
     requires event { IsCoastEvent what.now }
     ensures kept { OnOk result ((said : Said) → KeepsGroups groups.old said → KeepsGroups groups.new (traffic (line.Event at what.now) ∷ said)) }
+    ensures few { OnOk result (length groups.old.batch.items < MOST_IN_BATCH → length groups.new.batch.items < MOST_IN_BATCH) }
     ensures happens { IfOk result (λ accepted. (said : Said) (who : Station) (h : History AtCoast) → KeepsGroups groups.old said
         → CoastStands coast.old who h
         → Happens (coast_rules who) taking_coast (CoastStands coast.new who) h said at what.now out.old.items out.new.items accepted) }

@@ -1,5 +1,5 @@
 -- What is kept of the groups that lines named.
-use Rattle.std.specs.Prelude.{◌≡◌, ℕ, ◌≤◌, List, [], length}
+use Rattle.std.specs.Prelude.{◌≡◌, ℕ, ◌<◌, ◌≤◌, List, [], length}
 use Rattle.ten_unit.specs.declared.character.Element.{Element}
 use Rattle.line_grammar.specs.Columns.{IsColumn}
 use Rattle.line_engine.specs.declared.command.Refusal.{Refusal}
@@ -10,6 +10,7 @@ use Rattle.dsc_files.specs.declared.lines.Line.TheVariants as got
 use Rattle.phasing.specs.declared.reception.TheConstants.{LONGEST}
 use Rattle.line_engine.specs.Lines.{Lines}
 use Rattle.join_groups.specs.declared.groups.Groups.{Groups}
+use Rattle.join_groups.specs.declared.groups.TheConstants.{MOST_IN_BATCH}
 use Rattle.join_groups.specs.Groups.{AreLines, is_named, group_facts}
 use Rattle.join_groups.specs.Holds.{Holds}
 use Rattle.join_groups.specs.Meanings.{BringsTooMany}
@@ -24,12 +25,13 @@ IsRefused said text (Column n) = IsColumn IsLine text n
 IsRefused said text TooManyGroups = (line : JoinLine) × (IsLine line text × BringsTooMany said line)
 IsRefused said text Memory = Unit {0}
 
--- what a command over groups stands for: these lines, and no text before their end
+-- what a command over groups stands for: these lines, and no text before their end; its batch isn't full
 pub record StandsFor (groups : Groups) (lines : Lines) (text : List ℕ) : Type 0 where
   pub text_is : text ≡ []
   pub said : List JoinLine
   pub are_lines : AreLines said lines
   pub keeps : Keeps groups said
+  pub few : length groups.batch.items < MOST_IN_BATCH
 
 -- what was read of a line has no more elements than a reception may have
 abbrev pub IsShort : Line → Type 0

@@ -20,6 +20,7 @@ use Rattle.dsc_files.specs.PointLine.{PointLine, joined}
 use Rattle.dsc_files.specs.declared.lines.Line.{Line}
 use Rattle.dsc_files.specs.declared.lines.Line.TheVariants as got
 use Rattle.join_groups.specs.Groups.{facts_of_line, names}
+use Rattle.join_groups.specs.declared.groups.TheConstants.{MOST_IN_BATCH}
 use Rattle.join_groups.specs.Holds.{HoldsSome}
 use Rattle.join_groups.specs.Meanings.{BringsTooMany}
 use Rattle.traffic_replay.specs.declared.command.Replay.{Replay}
@@ -88,6 +89,7 @@ pub record Keeps (replay : Replay) (said : Said) (text : List ℕ) : Type 0 wher
   pub counted : IsBehindGroups replay.point replay.groups.items
   pub most : length replay.groups.items ≤ 16
   pub heard : KeepsGroups replay.heard said
+  pub few : length replay.heard.batch.items < MOST_IN_BATCH
   pub kind : IsPointOf replay.point (kind_of said)
   pub told : IsTold (kind_of said) replay.station (IsBeforeEvents replay.point) said text replay.is_well
 

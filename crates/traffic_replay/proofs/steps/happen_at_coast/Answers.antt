@@ -42,6 +42,7 @@ returns g c =
     let did = c.in_ok-accepted-in-Some.ensures in
     record {
       kept = λ said keeps. silent c.args.groups.now said (Event c.args.at c.args.what.now) (hears_none c.args.at c.args.what.now c.in_default.not-Heard) keeps;
+      few = λ few. few;
       happens = λ said who h keeps stands.
           plain_happens (coast_rules who) taking_coast (Stands c.step_coast-in-Some.new.coast who) h said c.args.at c.args.what.now c.args.out.now.items c.step_coast-in-Some.new.out.items
           c.in_ok-accepted-in-Some.accepted c.in-Some.event c.in_default.not-Heard (sym (c.coast_event.ensures (base_of said) c.args.at) ∙ c.in-Some.is)

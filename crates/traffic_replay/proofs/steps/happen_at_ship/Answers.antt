@@ -41,6 +41,7 @@ returns g c =
     let did = c.in_ok-accepted-in-Some.ensures in
     record {
       kept = λ said keeps. silent c.args.groups.now said (Event c.args.at c.args.what.now) (hears_none c.args.at c.args.what.now c.in_default.not-Heard) keeps;
+      few = λ few. few;
       happens = λ said who h keeps based stands.
           plain_happens (ship_rules who) taking_ship (Stands c.step_ship-in-Some.new.ship who) h said c.args.at c.args.what.now c.args.out.now.items c.step_ship-in-Some.new.out.items
           c.in_ok-accepted-in-Some.accepted c.in-Some.event c.in_default.not-Heard (ap (λ (b : ℕ). ship_event b c.args.at c.args.what.now) (sym based) ∙ sym c.ship_event.ensures ∙ c.in-Some.is)

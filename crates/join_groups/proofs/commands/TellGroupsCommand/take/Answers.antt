@@ -1,15 +1,16 @@
 use Rattle.std.proofs.Common.{◌++◌}
-use Rattle.join_groups.proofs.Keeping.{map_ok, map_err}
+use Rattle.join_groups.proofs.Keeping.{map_ok, map_both, map_err}
 use Rattle.join_groups.proofs.LinesTaken.{stands_after, taken_behind, refused_behind}
 use Rattle.join_groups.proofs.commands.TellGroupsCommand.take.Goals as goal
 
 pub returns-clause-stands : goal.returns-clause-stands
-returns-clause-stands g c = map_ok c.take_line.result
-    (λ took. λ lines written stands. (
+returns-clause-stands g c = map_both c.take_line.result
+    (λ took few. λ lines written stands. (
       stands.0,
-      stands_after c.args.self.now.groups c.take_line.new.groups c.args.line.now lines (written ++ c.args._out.now.items) took stands.1,
+      stands_after c.args.self.now.groups c.take_line.new.groups c.args.line.now lines (written ++ c.args._out.now.items) took few stands.1,
     ))
     c.take_line.ensures.ok
+    c.take_line.ensures.few
 
 pub returns-clause-taken : goal.returns-clause-taken
 returns-clause-taken g c = map_ok c.take_line.result

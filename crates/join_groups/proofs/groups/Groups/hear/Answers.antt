@@ -13,7 +13,7 @@ close_batch-requires-clause-ready g c =
     record {
       named = named_with c.args.group ready.named;
       facts = facts_with c.args.group (facts_of c.args.heard) ready.facts;
-      holds = c.in_ok-put-in-Ok.ensures (named_with c.args.group ready.named) ready.facts c.args.group known.1 known.2;
+      holds = c.in_ok-put-in-Ok.ensures.holds (named_with c.args.group ready.named) ready.facts c.args.group known.1 known.2;
     }
 
 pub returns-in_ok-close_batch-in-Ok-clause-ok : goal.returns-in_ok-close_batch-in-Ok-clause-ok
@@ -21,10 +21,10 @@ returns-in_ok-close_batch-in-Ok-clause-ok g c = λ named F holds.
     let known = c.in-Ok.ensures.ok named F holds in (
       known.0,
       c.in_ok-close_batch-in-Ok.ensures.holds (named_with c.args.group named) (facts_with c.args.group (facts_of c.args.heard) F)
-          (c.in_ok-put-in-Ok.ensures (named_with c.args.group named) F c.args.group known.1 known.2),
+          (c.in_ok-put-in-Ok.ensures.holds (named_with c.args.group named) F c.args.group known.1 known.2),
     )
 
 pub returns-else-len-ge-MOST_IN_BATCH-clause-ok : goal.returns-else-len-ge-MOST_IN_BATCH-clause-ok
 returns-else-len-ge-MOST_IN_BATCH-clause-ok g c = λ named F holds.
     let known = c.in-Ok.ensures.ok named F holds in
-    (known.0, c.in_ok-put-in-Ok.ensures (named_with c.args.group named) F c.args.group known.1 known.2)
+    (known.0, c.in_ok-put-in-Ok.ensures.holds (named_with c.args.group named) F c.args.group known.1 known.2)

@@ -24,6 +24,7 @@ returns-in_ok-self-in-Ship g c = λ said text keeps.
       counted = subst (λ (p : Point). IsBehindGroups p old.groups.items) here (events_behind kind old.groups.items);
       most = keeps.most;
       heard = did.kept said keeps.heard;
+      few = did.few keeps.few;
       kind = subst (λ (p : Point). IsPointOf p kind) here (events_of kind);
       told = more_at_ship kind c.in-Ship.ship c.happen_at_ship.new.ship early (IsBeforeEvents c.among_events-self.result) said text out c.happen_at_ship.new.out.items
           old.is_well c.in_ok-self-in-Ship.field-0 c.args.at c.args.what.now (λ b. no_more_early kind (subst IsBeforeEvents (sym here) b)) told
@@ -48,6 +49,7 @@ returns-in_ok-self-in-Coast g c = λ said text keeps.
       counted = subst (λ (p : Point). IsBehindGroups p old.groups.items) here (events_behind kind old.groups.items);
       most = keeps.most;
       heard = did.kept said keeps.heard;
+      few = did.few keeps.few;
       kind = subst (λ (p : Point). IsPointOf p kind) here (events_of kind);
       told = more_at_coast kind c.in-Coast.coast c.happen_at_coast.new.coast early (IsBeforeEvents c.among_events-self.result) said text out c.happen_at_coast.new.out.items
           old.is_well c.in_ok-self-in-Coast.field-0 c.args.at c.args.what.now (λ b. no_more_early kind (subst IsBeforeEvents (sym here) b)) told

@@ -27,6 +27,7 @@ returns-in-Ok-clause-ok g c = λ said line text keeps shown.
         counted = subst (λ (p : Point). IsBehindGroups p old.groups.items) here (events_behind kind old.groups.items);
         most = keeps.most;
         heard = keeps_line c.hear.new.self said line c.args.group (facts_of c.args.heard) shown.named shown.facts taken.1;
+        few = c.in-Ok.ensures.few keeps.few;
         kind = subst (λ (p : Point). IsPointOf p kind) here (events_of kind);
         told = carry_joined kind old.station early (IsBeforeEvents c.among_events-self.result) line said text old.is_well (λ b. absurd (no_more_early kind (subst IsBeforeEvents (sym here) b))) keeps.told;
       },

@@ -1,5 +1,6 @@
-use Rattle.std.proofs.Common.{◌∙◌, sym, subst, inl, inr}
+use Rattle.std.proofs.Common.{◌<◌, ◌∙◌, ℕ, length, ap, sym, subst, inl, inr}
 use Rattle.traffic_lines.specs.declared.lines.Point.{Point}
+use Rattle.join_groups.specs.declared.groups.TheConstants.{MOST_IN_BATCH}
 use Rattle.join_groups.specs.Groups.{is_named}
 use Rattle.join_groups.proofs.Keeping.{brings_full, full_brings}
 use Rattle.traffic_replay.specs.Said.{kind_of}
@@ -26,6 +27,7 @@ returns-in-Ok-clause-ok c = λ said line G text keeps shown ends.
         counted = subst (λ (p : Point). IsBehindGroups p old.groups.items) here (events_behind kind old.groups.items);
         most = keeps.most;
         heard = keeps_line c.meet.new.self said line c.args.group G shown.named shown.facts taken.1;
+        few = subst (λ (n : ℕ). n < MOST_IN_BATCH) (sym (ap (λ b. length b.items) c.meet.ensures.batch)) keeps.few;
         kind = subst (λ (p : Point). IsPointOf p kind) here (events_of kind);
         told = carry_joined kind old.station early (IsBeforeEvents c.among_events-self.result) line said text old.is_well (λ b. absurd (no_more_early kind (subst IsBeforeEvents (sym here) b))) keeps.told;
       },

@@ -23,6 +23,7 @@ returns c = λ said text keeps.
       counted = subst (λ (p : Point). IsBehindGroups p old.groups.items) here (base_behind kind old.groups.items none);
       most = keeps.most;
       heard = silent old.heard said (Base c.args.second) (λ k. refl) keeps.heard;
+      few = keeps.few;
       kind = subst (λ (p : Point). IsPointOf p kind) here (base_of_kind kind);
       told = carry_base kind old.station (IsBeforeEvents old.point) (IsBeforeEvents c.behind_base-self.result) c.args.second said text old.is_well (λ _. early) keeps.told;
     }

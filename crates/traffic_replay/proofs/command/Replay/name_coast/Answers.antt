@@ -22,6 +22,7 @@ returns c = λ said text keeps.
       counted = subst (λ (p : Point). IsBehindGroups p old.groups.items) c.requires keeps.counted;
       most = keeps.most;
       heard = silent old.heard said (Coast c.args.mmsi c.args.band) (λ k. refl) keeps.heard;
+      few = keeps.few;
       kind = tt;
       told = record {
         happened = [];

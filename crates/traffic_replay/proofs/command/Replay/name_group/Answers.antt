@@ -37,6 +37,7 @@ returns-clause-ok c = λ said text keeps.
       counted = counted;
       most = omega (arith, more, c.requires.few);
       heard = silent old.heard said (Group c.args.mmsi) (λ k. refl) keeps.heard;
+      few = keeps.few;
       kind = only;
       told = subst (λ (k : Kind). IsTold k (at.Ship c.new.result) (IsBeforeEvents (point.Groups c.len.result)) (traffic (Group c.args.mmsi) ∷ said) (text) old.is_well) (sym only) (record {
         happened = [];

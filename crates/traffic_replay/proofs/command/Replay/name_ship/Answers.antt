@@ -23,6 +23,7 @@ returns c = λ said text keeps.
       counted = subst (λ (p : Point). IsBehindGroups p old.groups.items) c.requires.first keeps.counted;
       most = keeps.most;
       heard = silent old.heard said (Ship c.args.mmsi) (λ k. refl) keeps.heard;
+      few = keeps.few;
       kind = tt;
       told = record {
         happened = [];

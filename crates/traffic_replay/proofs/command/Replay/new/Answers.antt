@@ -1,4 +1,4 @@
-use Rattle.std.proofs.Common.{[], refl, arith, rules}
+use Rattle.std.proofs.Common.{[], length, refl, ap, arith, rules}
 use Rattle.traffic_replay.proofs.GroupKeeping.{none_kept}
 use Rattle.traffic_replay.proofs.command.Replay.new.Goals as goal
 
@@ -14,7 +14,8 @@ returns c = record {
     groups = c.new-2.ensures.items;
     counted = c.new-2.ensures.items;
     most = search rules;
-    heard = none_kept c.new-4.result c.new-4.ensures;
+    heard = none_kept c.new-4.result c.new-4.ensures.holds;
+    few = omega (arith, ap length c.new-4.ensures.empty);
     kind = tt;
     told = search rules;
   };
