@@ -1,6 +1,7 @@
 use super::*;
 use area_rules::{Act, StationRefusal};
-use call_values::{Call, Casualty, Comm, Fix, HourMinute, Mmsi, Nature, Position};
+use call_values::{Call, Casualty, Comm, HourMinute, Mmsi, Nature, Position};
+use call_values::worked::PLACE;
 use dsc_texts::read_bare_call;
 use std::test::Fail;
 
@@ -12,17 +13,10 @@ const RELAY: &str =
 
 /// A ship in distress at 42° 31' N 83° 12' W at 20:19, disabled and adrift, which wants F3E or G3E.
 fn adrift() -> Result<Casualty, Fail> {
-    let fix = Fix {
-        quadrant: 1,
-        lat_deg: 42,
-        lat_min: 31,
-        lon_deg: 83,
-        lon_min: 12,
-    };
     Ok(Casualty {
         mmsi: ship(338_040_079)?,
         nature: Nature::new(106).ok_or("nature")?,
-        position: Position::new(fix).ok_or("position")?,
+        position: Position::new(PLACE).ok_or("position")?,
         time: HourMinute::new(20, 19).ok_or("time")?,
         comm: Comm::new(100).ok_or("communication")?,
     })

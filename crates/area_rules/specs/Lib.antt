@@ -1,5 +1,4 @@
 pub mod Moments
-pub mod Senders
 pub mod Inside
 pub mod Addressing
 pub mod Answering

@@ -9,7 +9,6 @@ mod areas;
 mod held;
 mod moments;
 mod refusals;
-mod senders;
 
 pub use acts::{Act, Acts, put, single};
 pub use addressing::{for_coast, for_ship};
@@ -18,7 +17,6 @@ pub use areas::contains;
 pub use held::{Held, HeldCalls, Holding, Side};
 pub use moments::has_passed;
 pub use refusals::{StationRefusal, time_back};
-pub use senders::sender;
 
 #[cfg(test)]
 mod tests;

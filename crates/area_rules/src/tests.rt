@@ -107,7 +107,7 @@ fn senders(rt: HostRuntime) -> Result<(), Fail> {
         (test_request()?, 338_040_079),
     ];
     for (call, want) in rows {
-        assert_eq!(rt; sender(&call).number(), want, "{call:?}");
+        assert_eq!(rt; call.sender().number(), want, "{call:?}");
     }
     Ok(())
 }

@@ -1,23 +1,23 @@
-pub mod IdentityParts
-pub mod SymbolParts
-pub mod TimeParts
-pub mod PositionParts
-pub mod CasualtyParts
-pub mod CodedParts
-pub mod AreaParts
-pub mod FieldParts
-pub mod MessageParts
-pub mod FormParts
-pub mod FormLists
-pub mod ToForms
-pub mod FromForms
-pub mod CallParts
-pub mod Steps
-pub mod Lengths
-pub mod Fronts
-pub mod Readings
-pub mod Endings
-pub mod ReadBack
-pub mod Characters
-pub mod Ends
-pub mod LastSymbols
+mod IdentityParts
+mod SymbolParts
+mod TimeParts
+mod PositionParts
+mod CasualtyParts
+mod CodedParts
+mod AreaParts
+mod FieldParts
+mod MessageParts
+mod FormParts
+mod FormLists
+mod ToForms
+mod FromForms
+mod CallParts
+mod Steps
+mod Lengths
+mod Fronts
+mod Readings
+mod Endings
+mod ReadBack
+mod Characters
+mod Ends
+mod LastSymbols

@@ -22,7 +22,7 @@ use Rattle.call_values.specs.declared.parts.Message.TheVariants.{Fields, At}
 use Rattle.call_values.specs.declared.parts.Kind.{Kind}
 use Rattle.call_values.specs.declared.parts.Kind.TheVariants.{Test, AskPosition, Position}
 use Rattle.call_values.specs.Areas.{Rectangle}
-pub use Rattle.call_values.specs.Ends.{end_symbol}
+pub use Rattle.call_values.specs.Ends.{end_symbol, end_named}
 use Rattle.call_values.specs.Views.{address_of, body_of}
 unfoldable pub use Rattle.symbol_reader.specs.Digits.{ten_digits, eight_digits, six_digits}
 unfoldable pub use Rattle.symbol_reader.specs.Checks.{check_of}

@@ -1,5 +1,5 @@
 -- A call by whom it is for and by what it says: ITU-R M.493, composition of the calls.
-use Rattle.std.specs.Prelude.{true, false}
+use Rattle.std.specs.Prelude.{ℕ, true, false}
 use Rattle.call_values.specs.declared.calls.Call.{Call}
 use Rattle.call_values.specs.declared.calls.Call.TheVariants.{Alert, Ack, Relay, RelayAck, AllShips, AreaCall, GroupCall, Individual, Service}
 use Rattle.call_values.specs.declared.bodies.Body.{Body}
@@ -32,6 +32,17 @@ body_of (AreaCall area category from first second f1 f2) = body.Request category
 body_of (GroupCall group category from first second f1 f2) = body.Request category from first second (Fields f1 f2)
 body_of (Individual to category from first second message end) = body.Request category from first second message
 body_of (Service to category from kind) = body.Service category from kind
+
+-- the station that says this; of a distress alert it is the casualty
+abbrev pub sender_in : Body → ℕ
+sender_in (body.Alert casualty) = casualty.mmsi
+sender_in (body.Distress from acknowledges casualty) = from
+sender_in (body.Request category from first second message) = from
+sender_in (body.Service category from kind) = from
+
+-- the station that sent a call
+abbrev pub sender_of : Call → ℕ
+sender_of call = sender_in (body_of call)
 
 -- each part of what a call says is in its range
 abbrev pub IsBody : Body → Type 0

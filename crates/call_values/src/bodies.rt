@@ -1,4 +1,5 @@
-ghost use Rattle.call_values.specs.Views.{IsBody};
+ghost use Rattle.std.specs.Prelude.{◌≡◌};
+ghost use Rattle.call_values.specs.Views.{IsBody, sender_in};
 
 use crate::{Casualty, Category, First, Kind, Message, Mmsi, Second};
 
@@ -30,6 +31,17 @@ pub enum Body {
 }
 
 impl Body {
+    /// The station that says this (ITU-R M.493, self-identification). Of a distress alert this is the casualty.
+    pub fn sender(&self) -> Mmsi
+        ensures { result ≡ sender_in self.now }
+    {
+        match *self {
+            Body::Alert(casualty) => casualty.mmsi,
+            Body::Distress { from, .. } | Body::Request { from, .. } | Body::Service { from, .. } =>
+                from,
+        }
+    }
+
     /// The law that all of its parts are in their ranges. It does nothing.
     pub fn lawful(&self)
         ensures { IsBody self.now }

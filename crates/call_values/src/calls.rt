@@ -1,6 +1,6 @@
 ghost use Rattle.std.specs.Prelude.{◌≡◌};
 ghost use Rattle.call_values.specs.Calls.{IsCasualty, IsCall};
-ghost use Rattle.call_values.specs.Views.{address_of, body_of};
+ghost use Rattle.call_values.specs.Views.{address_of, body_of, sender_of};
 
 use crate::{
     Area, Body, Category, Comm, End, Field, First, HourMinute, Kind, Message, Mmsi, Nature,
@@ -192,6 +192,13 @@ impl Call {
                 kind,
             },
         }
+    }
+
+    /// The station that sent the call (ITU-R M.493, self-identification). Of a distress alert this is the casualty.
+    pub fn sender(&self) -> Mmsi
+        ensures { result ≡ sender_of self.now }
+    {
+        self.body().sender()
     }
 
     /// The law that every call's parts are in their ranges. It does nothing.

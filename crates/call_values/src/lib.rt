@@ -14,6 +14,7 @@ mod natures;
 mod parts;
 mod places;
 mod telecommands;
+pub mod worked;
 
 pub use areas::Area;
 pub use bodies::Body;

@@ -14,7 +14,7 @@ use Rattle.area_rules.specs.declared.acts.Act.{Act}
 use Rattle.area_rules.specs.declared.acts.Act.TheVariants as act
 use Rattle.area_rules.specs.Histories.{Entry, History, does, since}
 use Rattle.area_rules.specs.Rules.{Legal, Follows}
-use Rattle.area_rules.proofs.Steps.{legal_before}
+use Rattle.area_rules.proofs.PublicLaws.{legal_before}
 use Rattle.traffic_rules.specs.Hearing.{heard_due}
 use Rattle.traffic_rules.specs.Repeating.{repeats}
 use Rattle.coast_station.specs.declared.events.CoastWhat.{CoastWhat}

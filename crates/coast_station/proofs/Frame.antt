@@ -7,7 +7,7 @@ use Rattle.area_rules.specs.declared.refusals.StationRefusal.{StationRefusal}
 use Rattle.area_rules.specs.Histories.{History, last_moment}
 use Rattle.area_rules.specs.Moments.{time_back}
 use Rattle.area_rules.specs.Rules.{Rules, listed, refusal_or, answer_to, continued, Legal}
-use Rattle.area_rules.proofs.Steps.{in_time, entry_at, refused_on_time, continued_refused, continued_accepted, legal_continued, refusal_of, acts_of}
+use Rattle.area_rules.proofs.PublicLaws.{in_time, entry_at, refused_on_time, continued_refused, continued_accepted, legal_continued, refusal_of, acts_of}
 
 pub on_ok : {A E P Q : Type 0} (r : Result A E) → (P → Q) → OnOk r P → OnOk r Q
 on_ok (Ok x) f h = f h

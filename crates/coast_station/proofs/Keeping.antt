@@ -20,7 +20,7 @@ use Rattle.area_rules.specs.Rules.{listed, refusal_or, continued, Legal}
 use Rattle.traffic_rules.specs.Hearing.{heard_due}
 use Rattle.traffic_rules.specs.Repeating.{repeats}
 use Rattle.traffic_rules.specs.Sending.{send_refusal, send_due, refused_full}
-use Rattle.traffic_rules.proofs.HeldRules.{AreQuiet, after_nothing, after_hearing_nothing, after_send, after_answer, after_ticking, after_heard}
+use Rattle.traffic_rules.proofs.PublicLaws.{AreQuiet, after_nothing, after_hearing_nothing, after_send, after_answer, after_ticking, after_heard}
 use Rattle.coast_station.specs.declared.events.CoastWhat.{CoastWhat}
 use Rattle.coast_station.specs.declared.events.CoastWhat.TheVariants.{Accept, Tick, Relay, Send, Answer, Heard}
 use Rattle.coast_station.specs.declared.casualties.OpenCasualty.{OpenCasualty}

@@ -1,13 +1,13 @@
-pub mod Births
-pub mod Identities
-pub mod Listed
-pub mod Changes
-pub mod Silence
-pub mod Frame
-pub mod Among
-pub mod Origins
-pub mod Behind
-pub mod Acknowledgements
-pub mod Places
-pub mod Keeping
-pub mod Traffic
+mod Births
+mod Identities
+mod Listed
+mod Changes
+mod Silence
+mod Frame
+mod Among
+mod Origins
+mod Behind
+mod Acknowledgements
+mod Places
+mod Keeping
+mod Traffic

@@ -21,7 +21,7 @@ use Rattle.traffic_rules.specs.Sending.{asks, acknowledges, held_under_least, se
 use Rattle.traffic_rules.specs.Answering.{reply_to, reply_due_to, answer_due}
 use Rattle.traffic_rules.specs.Hearing.{is_question, is_got, distress_told, question_due, answered_number, answered_or_shown, due_at_once, heard_due}
 use Rattle.traffic_rules.specs.Repeating.{repeated, repeats}
-use Rattle.traffic_rules.proofs.HeldRules.{AreQuiet, repeats_begin}
+use Rattle.traffic_rules.proofs.PublicLaws.{AreQuiet, repeats_begin}
 use Rattle.coast_station.specs.declared.events.CoastWhat.{CoastWhat}
 use Rattle.coast_station.specs.declared.events.CoastWhat.TheVariants.{Accept, Tick, Relay, Send, Answer, Heard}
 use Rattle.coast_station.specs.declared.casualties.OpenCasualty.{OpenCasualty}

@@ -12,7 +12,7 @@ use Rattle.area_rules.specs.Addressing.{is_for_coast}
 use Rattle.area_rules.specs.Histories.{History}
 use Rattle.area_rules.specs.Holding.{Places}
 use Rattle.area_rules.specs.Rules.{Rules}
-use Rattle.area_rules.specs.Senders.{sender_of}
+use Rattle.call_values.specs.Views.{sender_of}
 use Rattle.traffic_rules.specs.Answering.{answer_refusal, answer_due}
 use Rattle.traffic_rules.specs.Hearing.{heard_refusal, heard_due}
 use Rattle.traffic_rules.specs.HeldTold.{all_held}

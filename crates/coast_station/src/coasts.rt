@@ -11,7 +11,7 @@ ghost use Rattle.coast_station.specs.inside.Afterwards.{answer_by, afterwards};
 
 use crate::casualties::{Casualties, OpenCasualty, acknowledgement};
 use crate::events::{CoastEvent, CoastWhat};
-use area_rules::{Act, Acts, HeldCalls, StationRefusal, for_coast, sender, single, time_back};
+use area_rules::{Act, Acts, HeldCalls, StationRefusal, for_coast, single, time_back};
 use arrayvec::ArrayVec;
 use call_values::{Band, Call, Casualty, CoastDelay, Mmsi, To};
 use traffic_rules::{answer, hear, repeat, send};
@@ -224,7 +224,7 @@ fn is_due_at_once(band: Band, accepted: &OpenCasualty, at: u64) -> bool
 fn is_for(own: Mmsi, call: &Call) -> bool
     ensures { result ≡ rules.is_for own call.now }
 {
-    sender(call).number() != own.number() && for_coast(call, own)
+    call.sender().number() != own.number() && for_coast(call, own)
 }
 
 /// A relay of the alert of a ship (ITU-R M.493, distress relay).

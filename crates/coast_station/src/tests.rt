@@ -2,8 +2,9 @@ use super::*;
 use area_rules::{Act, Acts, StationRefusal, put, single};
 use arrayvec::ArrayVec;
 use call_values::{
-    Call, Casualty, Category, CoastDelay, Comm, Fix, HourMinute, Kind, Mmsi, Nature, Position, To,
+    Call, Casualty, Category, CoastDelay, Comm, HourMinute, Kind, Mmsi, Nature, Position, To,
 };
+use call_values::worked::PLACE;
 use std::test::Fail;
 
 const COAST: u32 = 2_241_022;
@@ -20,17 +21,10 @@ fn mmsi(number: u32) -> Result<Mmsi, Fail> {
 
 /// A ship in distress at 42° 31' N 83° 12' W, disabled and adrift, which wants F3E or G3E.
 fn casualty(number: u32, hour: u8, minute: u8) -> Result<Casualty, Fail> {
-    let fix = Fix {
-        quadrant: 1,
-        lat_deg: 42,
-        lat_min: 31,
-        lon_deg: 83,
-        lon_min: 12,
-    };
     Ok(Casualty {
         mmsi: mmsi(number)?,
         nature: Nature::new(106).ok_or("nature")?,
-        position: Position::new(fix).ok_or("position")?,
+        position: Position::new(PLACE).ok_or("position")?,
         time: HourMinute::new(hour, minute).ok_or("time")?,
         comm: Comm::new(100).ok_or("communication")?,
     })

@@ -1,1 +1,1 @@
-pub mod Characters
+mod Characters

@@ -1,5 +1,6 @@
 use call_grammar::{ReadRefusal, read, spell};
-use call_values::{Call, Casualty, Comm, Fix, HourMinute, Mmsi, Nature, Position};
+use call_values::{Call, Casualty, Comm, HourMinute, Mmsi, Nature, Position};
+use call_values::worked::PLACE;
 use dsc_symbols::worked::{ALERT, ALERT_SLOTS};
 use phasing::transmission;
 use std::test::Fail;
@@ -7,17 +8,10 @@ use ten_unit::Element;
 use time_diversity::on_air;
 
 fn alert() -> Option<Call> {
-    let fix = Fix {
-        quadrant: 1,
-        lat_deg: 42,
-        lat_min: 31,
-        lon_deg: 83,
-        lon_min: 12,
-    };
     Some(Call::Alert(Casualty {
         mmsi: Mmsi::new(338_040_079)?,
         nature: Nature::new(106)?,
-        position: Position::new(fix)?,
+        position: Position::new(PLACE)?,
         time: HourMinute::new(20, 19)?,
         comm: Comm::new(100)?,
     }))

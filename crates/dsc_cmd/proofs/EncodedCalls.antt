@@ -8,7 +8,7 @@ use Rattle.call_values.specs.declared.calls.Call.TheVariants as form
 use Rattle.call_values.specs.declared.choices.End.TheVariants as end
 use Rattle.call_values.specs.declared.parts.Kind.TheVariants as kind
 use Rattle.call_values.specs.Calls.{IsCall}
-use Rattle.call_grammar.specs.Spelling.{spell, end_of, end_symbol}
+use Rattle.call_grammar.specs.Spelling.{spell, end_of, end_symbol, end_named}
 use Rattle.ten_unit.specs.declared.character.Element.{Element}
 use Rattle.time_diversity.specs.OnAir.{on_air}
 use Rattle.phasing.specs.Sent.{sent}
@@ -26,7 +26,7 @@ use Rattle.dsc_files.specs.JoinLine.{JoinLine, nothing, reception, evidence, bod
 use Rattle.dsc_files.specs.Lines.{facts_of_pairs}
 use Rattle.join_groups.specs.Groups.{names, is_named, facts_of_line, group_facts}
 use Rattle.join_groups.specs.Output.{TellsAnswer, answer_line, is_reported, IsJoinText}
-use Rattle.encode_calls.specs.Transmissions.{end_named, tail_of, transmitted}
+use Rattle.encode_calls.specs.Transmissions.{tail_of, transmitted}
 use Rattle.encode_calls.specs.Encoding.{encoded_line}
 use Rattle.dsc_cmd.specs.Encoded.{IsHeardWhole, IsOfEncoded, TellsCall}
 use Rattle.dsc_cmd.proofs.SentGroups.{AlikeLaw, found}

@@ -1,4 +1,4 @@
-pub mod Behind
-pub mod SentGroups
-pub mod EncodedCalls
-pub mod MadeEndings
+mod Behind
+mod SentGroups
+mod EncodedCalls
+mod MadeEndings

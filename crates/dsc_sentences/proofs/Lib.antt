@@ -1,9 +1,9 @@
-pub mod Letters
-pub mod DscFieldLaws
-pub mod DscAnswers
-pub mod Places
-pub mod DseSets
-pub mod DseLaws
-pub mod DseAnswers
-pub mod DseAccepted
-pub mod Told
+mod Letters
+mod DscFieldLaws
+mod DscAnswers
+mod Places
+mod DseSets
+mod DseLaws
+mod DseAnswers
+mod DseAccepted
+mod Told

@@ -2,14 +2,11 @@
 use Rattle.std.specs.Prelude.{ℕ, zero, suc, ◌+◌, ◌*◌, ◌/◌, ◌%◌, ◌==◌, Bool, if◌then◌else◌, List, [], ◌∷◌, ◌++◌, Option, Some, None}
 use Rattle.dsc_symbols.specs.declared.categories.TheConstants as categories
 use Rattle.dsc_symbols.specs.declared.telecommands.TheConstants as telecommands
-use Rattle.dsc_symbols.specs.declared.ends.TheConstants as ends
 use Rattle.dsc_symbols.specs.declared.messages.TheConstants.{NO_INFORMATION}
 use Rattle.call_values.specs.declared.places.Fix.{Fix}
 use Rattle.call_values.specs.declared.calls.Call.{Call}
 use Rattle.call_values.specs.declared.bodies.Body.{Body}
 use Rattle.call_values.specs.declared.bodies.Body.TheVariants.{Alert, Distress, Request, Service}
-use Rattle.call_values.specs.declared.choices.End.{End}
-use Rattle.call_values.specs.declared.choices.End.TheVariants as end
 use Rattle.call_values.specs.declared.fields.FieldKind.{FieldKind}
 use Rattle.call_values.specs.declared.fields.FieldKind.TheVariants.{Absent, Hundreds, Hf, Vhf, Tens}
 use Rattle.call_values.specs.declared.parts.To.{To}
@@ -18,8 +15,8 @@ use Rattle.call_values.specs.declared.parts.Message.{Message}
 use Rattle.call_values.specs.declared.parts.Message.TheVariants.{Fields, At}
 use Rattle.call_values.specs.declared.parts.Kind.{Kind}
 use Rattle.call_values.specs.declared.parts.Kind.TheVariants.{Test, AskPosition, Position}
-use Rattle.call_values.specs.Views.{address_of, body_of}
-use Rattle.call_grammar.specs.Spelling.{position_digits, area_digits, category_symbol, distress_telecommand, format_of, end_of}
+use Rattle.call_values.specs.Views.{address_of, body_of, sender_of}
+use Rattle.call_grammar.specs.Spelling.{position_digits, area_digits, category_symbol, distress_telecommand, format_of, end_of, end_named}
 use Rattle.dsc_sentences.specs.declared.dsc.DscFields.{DscFields}
 
 -- the last so many decimal digits of a number
@@ -34,13 +31,6 @@ last_two symbol = symbol % 100
 -- nine digits and a 0
 abbrev pub identity_digits : ℕ → List ℕ
 identity_digits mmsi = decimals 10 (10 * mmsi)
-
--- the sender: of an alert it is the casualty
-abbrev pub sender_of : Body → ℕ
-sender_of (Alert casualty) = casualty.mmsi
-sender_of (Distress from acknowledges casualty) = from
-sender_of (Request category from first second message) = from
-sender_of (Service category from kind) = from
 
 -- the area that a call is for, else its sender
 abbrev pub address_digits : To → ℕ → List ℕ
@@ -142,15 +132,11 @@ nature_of (Distress from acknowledges casualty) = Some (last_two casualty.nature
 nature_of (Request category from first second message) = None
 nature_of (Service category from kind) = None
 
--- the end of sequence with this symbol
-abbrev pub end_named : ℕ → End
-end_named symbol = if symbol == ends.ACKNOWLEDGE_RQ then end.Ask else if symbol == ends.ACKNOWLEDGE_BQ then end.Reply else end.Plain
-
 -- the record of a call, one row a field
 unfoldable pub of_call : Call → Bool → DscFields
 of_call call expanded = record {
   format = last_two (format_of call);
-  address = address_digits (address_of call) (sender_of (body_of call));
+  address = address_digits (address_of call) (sender_of call);
   category = Some (last_two (category_of (body_of call)));
   first = Some (last_two (first_of (body_of call)));
   second = Some (last_two (second_of (body_of call)));

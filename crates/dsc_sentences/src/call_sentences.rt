@@ -1,7 +1,7 @@
 ghost use Rattle.std.specs.Prelude.{◌≡◌};
 ghost use Rattle.dsc_sentences.specs.CallSentences.{sentences_of};
 
-use crate::calls::{of_call, sender_of};
+use crate::calls::of_call;
 use crate::dse_printing::print_dse;
 use crate::expansions::of_expansion;
 use crate::printing::print;
@@ -21,7 +21,7 @@ pub fn put_sentences(call: &Call, expansion: &Option<Expansion>) -> ArrayVec<u8,
         None => append(&mut out, print(&of_call(call, false)).as_slice()),
         Some(expansion) => {
             append(&mut out, print(&of_call(call, true)).as_slice());
-            let sentence = of_expansion(sender_of(&call.body()), expansion);
+            let sentence = of_expansion(call.sender(), expansion);
             append(&mut out, print_dse(&sentence).as_slice());
         }
     }

@@ -24,7 +24,7 @@ pub fn of_call(c: &Call, expanded: bool) -> DscSentence
     DscSentence {
         fields: DscFields {
             format: format_of(c),
-            address: address_of(&c.address(), &sender_of(&body)),
+            address: address_of(&c.address(), &body.sender()),
             category: Some(category_of(&body)),
             first: Some(first_of(&body)),
             second: Some(second_of(&body)),
@@ -51,15 +51,7 @@ fn format_of(call: &Call) -> u8
     ensures value { result ≡ rows.last_two (sequence.format_of call.now) }
     ensures range { is_among dsc.formats result ≡ true }
 {
-    match call {
-        Call::Alert(_) => last_two(formats::DISTRESS),
-        _ => match call.address() {
-            To::All => last_two(formats::ALL_SHIPS),
-            To::Area(_) => last_two(formats::AREA),
-            To::Group(_) => last_two(formats::GROUP),
-            To::One(_) => last_two(formats::INDIVIDUAL),
-        },
-    }
+    last_two(call_grammar::format_of(call))
 }
 
 /// Nine digits and a 0.
@@ -68,17 +60,6 @@ pub fn identity_digits(mmsi: &Mmsi) -> [u8; 10]
     ensures digits { IsDigits 10 result }
 {
     ten_digits(10 * u64::from(mmsi.number()))
-}
-
-/// The sender of a call that says so.
-pub fn sender_of(body: &Body) -> Mmsi
-    ensures { result ≡ rows.sender_of body.now }
-{
-    match body {
-        Body::Alert(casualty) => casualty.mmsi,
-        Body::Distress { from, .. } | Body::Request { from, .. } | Body::Service { from, .. } =>
-            *from,
-    }
 }
 
 /// The digits of the area that a call is for, else of its sender.

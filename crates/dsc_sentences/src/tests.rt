@@ -1,8 +1,9 @@
 use super::*;
 use call_values::{
-    Area, Call, Casualty, Category, Comm, End, Field, First, Fix, HourMinute, Kind, Message, Mmsi,
+    Area, Call, Casualty, Category, Comm, End, Field, First, HourMinute, Kind, Message, Mmsi,
     Nature, Position, Second, To,
 };
+use call_values::worked::PLACE;
 use expansion::{Expansion, Part};
 use std::test::Fail;
 
@@ -32,13 +33,7 @@ const TRAFFIC: [&[u8]; 9] = [
 ];
 
 fn position() -> Option<Position> {
-    Position::new(Fix {
-        quadrant: 1,
-        lat_deg: 42,
-        lat_min: 31,
-        lon_deg: 83,
-        lon_min: 12,
-    })
+    Position::new(PLACE)
 }
 
 fn casualty() -> Option<Casualty> {

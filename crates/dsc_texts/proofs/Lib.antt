@@ -1,5 +1,6 @@
-pub mod SymbolTexts
-pub mod FieldTexts
+pub mod PublicLaws
+mod SymbolTexts
+mod FieldTexts
 mod CallSections
 mod CallTexts
 mod ExpansionTexts

@@ -1,9 +1,9 @@
-pub mod Refusals
-pub mod LongWords
-pub mod Turns
-pub mod OptionTurns
-pub mod OptionWords
-pub mod LoneWords
-pub mod NumberWords
-pub mod CommandWords
-pub mod PlanWords
+mod Refusals
+mod LongWords
+mod Turns
+mod OptionTurns
+mod OptionWords
+mod LoneWords
+mod NumberWords
+mod CommandWords
+mod PlanWords

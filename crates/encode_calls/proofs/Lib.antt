@@ -1,4 +1,4 @@
-pub mod SignTable
-pub mod Bodies
-pub mod Encoded
-pub mod Sayings
+mod SignTable
+mod Bodies
+mod Encoded
+mod Sayings

@@ -1,20 +1,13 @@
 -- What is sent of a call: ITU-R M.493, call sequence, time diversity and dot pattern; that an expansion follows with the call's own end of sequence is this project's profile.
 use Rattle.std.specs.Prelude.{ℕ, ◌==◌, Bool, if◌then◌else◌, List, [], ◌++◌}
 use Rattle.ten_unit.specs.declared.character.Element.{Element}
-use Rattle.dsc_symbols.specs.declared.ends.TheConstants.{ACKNOWLEDGE_RQ, ACKNOWLEDGE_BQ}
-use Rattle.call_values.specs.declared.choices.End.{End}
-use Rattle.call_values.specs.declared.choices.End.TheVariants as end
 use Rattle.call_values.specs.declared.calls.Call.{Call}
-use Rattle.call_grammar.specs.Spelling.{end_of, spell}
+use Rattle.call_grammar.specs.Spelling.{end_of, end_named, spell}
 use Rattle.expansion.specs.Spelling.{spell as expanded}
 use Rattle.slot_join.specs.declared.joined.Extra.{Extra}
 use Rattle.slot_join.specs.declared.joined.Extra.TheVariants.{Absent, Whole, Broken}
 use Rattle.time_diversity.specs.OnAir.{on_air}
 use Rattle.phasing.specs.Sent.{sent}
-
--- the end of sequence that has this symbol
-abbrev pub end_named : ℕ → End
-end_named symbol = if symbol == ACKNOWLEDGE_RQ then end.Ask else (if symbol == ACKNOWLEDGE_BQ then end.Reply else end.Plain)
 
 -- what is sent behind a call's list: nothing, or an expansion's list with the call's own end of sequence
 abbrev pub tail_of : Call → Extra → List ℕ

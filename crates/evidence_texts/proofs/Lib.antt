@@ -1,1 +1,1 @@
-pub mod EvidenceTexts
+mod EvidenceTexts

@@ -1,7 +1,7 @@
-pub mod DigitParts
-pub mod SetGoods
-pub mod SetParts
-pub mod Lengths
-pub mod WholeLists
-pub mod OneList
-pub mod CheckedLists
+mod DigitParts
+mod SetGoods
+mod SetParts
+mod Lengths
+mod WholeLists
+mod OneList
+mod CheckedLists

@@ -8,7 +8,7 @@ use Rattle.slot_join.specs.Answer.{IsAnswer}
 use Rattle.ten_unit.specs.declared.character.Element.{Element}
 use Rattle.dsc_files.specs.JoinLine.{reception}
 use Rattle.join_groups.specs.Groups.{names, is_named, is_among, facts_of_line, group_facts, AreGroups}
-use Rattle.join_groups.proofs.Naming.{same_facts, unnamed_facts}
+use Rattle.join_groups.proofs.PublicLaws.{same_facts, unnamed_facts}
 use Rattle.generated_join.specs.Generator.{heard, generated, lines_of_group}
 use Rattle.generated_join.specs.Summary.{Answered}
 use Rattle.generated_join.proofs.Ranges.{rising_range}

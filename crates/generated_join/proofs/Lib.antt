@@ -1,5 +1,5 @@
-pub mod Ranges
-pub mod Groups
-pub mod Counting
-pub mod LineTexts
-pub mod JoinTexts
+mod Ranges
+mod Groups
+mod Counting
+mod LineTexts
+mod JoinTexts

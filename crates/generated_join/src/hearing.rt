@@ -1,10 +1,9 @@
-ghost use Rattle.std.specs.Prelude.{◌≡◌, ◌+◌, ◌*◌, ◌<◌, ◌≤◌, ◌++◌, All, length};
-ghost use Rattle.arrayvec.specs.ArrayVec.{array_vec_len};
+ghost use Rattle.std.specs.Prelude.{◌≡◌, ◌+◌, ◌*◌, ◌<◌, ◌≤◌, All, IfOk, length};
 ghost use Rattle.generated_join.specs.Generator as generator;
 ghost use Rattle.generated_join.specs.Generator.{heard_of, slot_heard};
 
-use arrayvec::ArrayVec;
 use phasing::transmission;
+use std::alloc::{AllocError, Global};
 use ten_unit::{Element, word};
 use time_diversity::{dx_slot, rx_slot};
 
@@ -41,27 +40,26 @@ fn slot_elements(group: u16, receiver: u16, slot: u16, symbol: u8) -> [Element; 
     }
 }
 
-/// Appends the ten elements of a slot.
-fn append(elements: &mut ArrayVec<Element, 1600>, heard: &[Element; 10])
-    requires { array_vec_len elements.old + 10 ≤ 1600 }
-    ensures items { elements.new.items ≡ elements.old.items ++ heard.now }
-    ensures length { array_vec_len elements.new ≡ array_vec_len elements.old + 10 }
-{
-    let _fits = elements.try_extend_from_slice(heard);
-}
-
 /// What this receiver hears of the group's alert, of which the slots show these symbols, at most 140: the dot pattern of 20
 /// elements, and the slots one after another (ITU-R M.493, dot pattern and time diversity).
-pub(crate) fn heard(group: u16, receiver: u16, slots: &[u8]) -> ArrayVec<Element, 1600>
+pub(crate) fn heard(
+    alloc: Global,
+    group: u16,
+    receiver: u16,
+    slots: &[u8],
+) -> Result<Vec<Element>, AllocError>
     requires receiver { receiver < RECEPTIONS }
     requires length { length slots.now ≤ 140 }
     requires symbols { All (λ v. v < 128) slots.now }
-    ensures { result.items ≡ heard_of group receiver slots.now }
+    ensures items { IfOk result (λ v. v.items ≡ heard_of group receiver slots.now) }
+    ensures length { IfOk result (λ v. length v.items ≡ 20 + 10 * length slots.now) }
 {
-    let mut elements = transmission(&[], false);
+    let mut elements = Vec::with_capacity(alloc, 20 + 10 * slots.len())?;
+    elements.extend_from_slice(&transmission(&[], false))?;
     for slot in 0..slots.len() as u16 {
         let symbol = slots[slot as usize];
-        append(&mut elements, &slot_elements(group, receiver, slot, symbol));
+        let shown = slot_elements(group, receiver, slot, symbol);
+        elements.extend_from_slice(&shown)?;
     }
-    elements
+    Ok(elements)
 }

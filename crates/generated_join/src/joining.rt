@@ -30,7 +30,7 @@ fn answer_to<R: Threads + Sync, G: Gate>(
     let slots = slots_of(&alert(group), &Extra::Absent);
     let mut receptions = Vec::new(alloc);
     for receiver in 0..RECEPTIONS {
-        let elements = Vec::from_slice(alloc, &heard(group, receiver, &slots))?;
+        let elements = heard(alloc, group, receiver, &slots)?;
         receptions.push(Reception::from(elements))?;
     }
     let sheet = pool(rt, alloc, &receptions, 1, gate)?;

@@ -1,7 +1,8 @@
-pub mod Naming
-pub mod Rising
-pub mod Holding
-pub mod Keeping
-pub mod TellingLemmas
-pub mod LinesTaken
-pub mod TextLaws
+pub mod PublicLaws
+mod Naming
+mod Rising
+mod Holding
+mod Keeping
+mod TellingLemmas
+mod LinesTaken
+mod TextLaws

@@ -1,9 +1,9 @@
-pub mod Cutting
-pub mod Faultless
-pub mod Going
-pub mod Writing
-pub mod Rooms
-pub mod Pieces
-pub mod Told
-pub mod FirstFaults
-pub mod Outputs
+mod Cutting
+mod Faultless
+mod Going
+mod Writing
+mod Rooms
+mod Pieces
+mod Told
+mod FirstFaults
+mod Outputs

@@ -2,7 +2,7 @@
 use Rattle.std.proofs.Common.{◌≡◌, ℕ, zero, suc, ◌+◌, ◌*◌, ◌<◌, ◌≤◌, true, List, [], ◌++◌, length, Option, Result, Ok, Err, IsErrAnd, refl, sym, ◌∙◌, ap, subst, arith, append-nil, length-append}
 use Rattle.std.proofs.lemmas.List.{nil_from_length}
 use Rattle.dsc_streams.specs.Streams.{Loses, IsEnded}
-use Rattle.dsc_streams.proofs.Runs.{Loses-none, Loses-more}
+use Rattle.dsc_streams.proofs.PublicLaws.{Loses-none, Loses-more}
 use Rattle.line_engine.specs.declared.halts.Halt.{Halt}
 use Rattle.line_engine.specs.declared.halts.Halt.TheVariants as halt
 use Rattle.line_engine.specs.Lines.{Lines, lines_of}

@@ -9,7 +9,7 @@ use Rattle.std.proofs.lemmas.List.{length-take-le, length-drop, get_or-take, get
 use Rattle.ten_unit.specs.declared.character.Element.{Element}
 use Rattle.ten_unit.specs.declared.character.Element.TheVariants.{Y, B, Lost}
 use Rattle.ten_unit.specs.Word.{element, information, count_of_b, elements_eq, is_word, word_of}
-use Rattle.ten_unit.proofs.Reading.{elements_same, elements_own}
+use Rattle.ten_unit.proofs.PublicLaws.{elements_same, elements_own}
 use Rattle.phasing.specs.Origin.{dx_right, rx_right, is_enough, is_phased}
 use Rattle.phasing.specs.Slot.{shows}
 

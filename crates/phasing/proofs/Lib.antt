@@ -1,5 +1,5 @@
-pub mod Slots
-pub mod Leads
+mod Slots
+mod Leads
 mod BitTests
 mod Bits
 mod Blocks

@@ -6,7 +6,7 @@ use Rattle.ten_unit.specs.declared.character.Element.{Element}
 use Rattle.ten_unit.specs.declared.character.Element.TheVariants.{Y, B, Lost}
 use Rattle.ten_unit.specs.inside.Marks.{IsMarks}
 use Rattle.ten_unit.specs.Word.{element_eq, word_of}
-use Rattle.ten_unit.proofs.Reading.{elements_same}
+use Rattle.ten_unit.proofs.PublicLaws.{elements_same}
 use Rattle.phasing.specs.inside.Places.{element_at, is_at}
 use Rattle.phasing.specs.Slot.{shows}
 use Rattle.phasing.proofs.Kept.{IsWordAt, word-sent, length-word, word_at, shown, get_or-part}

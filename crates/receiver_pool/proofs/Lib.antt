@@ -1,10 +1,10 @@
-pub mod Listed
-pub mod Folds
-pub mod OnePlace
-pub mod StepKinds
-pub mod Changes
-pub mod Loads
-pub mod Rests
-pub mod Core
-pub mod Unions
-pub mod Parts
+mod Listed
+mod Folds
+mod OnePlace
+mod StepKinds
+mod Changes
+mod Loads
+mod Rests
+mod Core
+mod Unions
+mod Parts

@@ -8,7 +8,7 @@ use Rattle.ten_unit.specs.declared.character.Element.{Element}
 use Rattle.slot_evidence.specs.Facts.{Facts, no_facts, facts_of, facts_of_all, union}
 use Rattle.slot_evidence.specs.declared.places.Seen.{Seen}
 use Rattle.slot_evidence.specs.Sheet.{IsEnds, IsMeet}
-use Rattle.slot_evidence.proofs.Ends.{IsEnds-same}
+use Rattle.slot_evidence.proofs.PublicLaws.{IsEnds-same}
 use Rattle.receiver_pool.specs.declared.heard.Heard.{Heard}
 use Rattle.receiver_pool.specs.Groups.{facts_of_group, AreSheets}
 use Rattle.receiver_pool.specs.inside.Turns.{is_turn, taken, nth, part, nobody, nth_of, group_part}

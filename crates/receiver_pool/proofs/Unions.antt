@@ -7,8 +7,7 @@ use Rattle.slot_evidence.specs.declared.places.Seen.TheVariants as seen
 use Rattle.slot_evidence.specs.Facts.{Symbols, Facts, no_facts, union}
 use Rattle.slot_evidence.specs.Seen.{ShowsNone, IsSeen, IsLawful}
 use Rattle.slot_evidence.specs.Sheet.{IsSheet, IsEnds, seen_at}
-use Rattle.slot_evidence.proofs.Edges.{order_met, edges_met, seen_edges, edges_seen}
-use Rattle.slot_evidence.proofs.Sets.{or_none-seen}
+use Rattle.slot_evidence.proofs.PublicLaws.{order_met, edges_met, seen_edges, edges_seen, or_none-seen}
 use Rattle.receiver_pool.specs.Views.{Reach, united, reach_of, kept_of, Place, blank, View, place_at, fresh, given_sheet}
 use Rattle.receiver_pool.specs.Steps.{admitted, joined}
 use Rattle.receiver_pool.specs.Seats.{IsResting, IsSeated}

@@ -1,2 +1,2 @@
-pub mod Told
-pub mod Sayings
+mod Told
+mod Sayings

@@ -10,9 +10,9 @@ use Rattle.area_rules.specs.Histories.{Entry, History, does, NoneIs, last_told, 
 use Rattle.area_rules.specs.Holding.{Places}
 use Rattle.area_rules.specs.Moments.{has_passed}
 use Rattle.area_rules.specs.Rules.{Legal}
-use Rattle.area_rules.proofs.Steps.{legal_before}
+use Rattle.area_rules.proofs.PublicLaws.{legal_before}
 use Rattle.traffic_rules.specs.Hearing.{Place, heard_due}
-use Rattle.traffic_rules.proofs.Acts.{none_sent, none_replied, none_heard}
+use Rattle.traffic_rules.proofs.PublicLaws.{none_sent, none_replied, none_heard}
 use Rattle.ship_station.specs.declared.events.ShipWhat.{ShipWhat}
 use Rattle.ship_station.specs.declared.events.ShipWhat.TheVariants.{Position, Delay, Alert, Cancel, Tick, Send, Answer, Heard}
 use Rattle.ship_station.specs.declared.alerts.OwnAlert.{OwnAlert}

@@ -5,7 +5,7 @@ use Rattle.call_values.specs.declared.places.Fix.{Fix}
 use Rattle.std.specs.Prelude.{Option, List}
 use Rattle.area_rules.specs.Addressing.{is_for_ship}
 use Rattle.area_rules.specs.Histories.{History}
-use Rattle.area_rules.specs.Senders.{sender_of}
+use Rattle.call_values.specs.Views.{sender_of}
 use Rattle.traffic_rules.specs.Hearing.{heard_refusal}
 use Rattle.ship_station.specs.declared.events.ShipWhat.{ShipWhat}
 use Rattle.ship_station.specs.declared.events.ShipWhat.TheVariants.{Heard}

@@ -1,7 +1,7 @@
-pub mod Steps
-pub mod Traffic
-pub mod Delays
-pub mod Keeping
-pub mod Hearing
-pub mod Endings
-pub mod Attempts
+mod Steps
+mod Traffic
+mod Delays
+mod Keeping
+mod Hearing
+mod Endings
+mod Attempts

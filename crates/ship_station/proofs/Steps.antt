@@ -8,9 +8,9 @@ use Rattle.area_rules.specs.declared.refusals.StationRefusal.TheVariants.{AlertA
 use Rattle.area_rules.specs.Histories.{Entry, History, last_moment}
 use Rattle.area_rules.specs.Rules.{listed, refusal_or, answer_to, continued, Legal}
 use Rattle.area_rules.specs.Moments.{time_back}
-use Rattle.area_rules.proofs.Steps.{in_time, refused_on_time, answer_accepted, continued_accepted, continued_refused, legal_continued, refusal_of, acts_of}
+use Rattle.area_rules.proofs.PublicLaws.{in_time, refused_on_time, answer_accepted, continued_accepted, continued_refused, legal_continued, refusal_of, acts_of}
 use Rattle.traffic_rules.specs.Occurrences.{other}
-use Rattle.traffic_rules.proofs.HeldRules.{AreQuiet, after_nothing}
+use Rattle.traffic_rules.proofs.PublicLaws.{AreQuiet, after_nothing}
 use Rattle.ship_station.specs.declared.events.ShipWhat.{ShipWhat}
 use Rattle.ship_station.specs.declared.events.ShipWhat.TheVariants.{Alert}
 use Rattle.ship_station.specs.declared.ships.Ship.{Ship}

@@ -13,8 +13,7 @@ use Rattle.area_rules.specs.Moments.{has_passed}
 use Rattle.traffic_rules.specs.HeldTold.{holds, frees}
 use Rattle.traffic_rules.specs.Repeating.{repeats}
 use Rattle.traffic_rules.specs.Hearing.{Place, heard_due}
-use Rattle.traffic_rules.proofs.Acts.{Misses, none_heard, none_repeated}
-use Rattle.traffic_rules.proofs.HeldRules.{AreQuiet}
+use Rattle.traffic_rules.proofs.PublicLaws.{Misses, none_heard, none_repeated, AreQuiet}
 use Rattle.ship_station.specs.declared.alerts.OwnAlert.{OwnAlert}
 use Rattle.call_values.specs.declared.places.Fix.{Fix}
 use Rattle.area_rules.specs.Histories.{History}

@@ -12,7 +12,7 @@ use Rattle.area_rules.specs.Histories.{History}
 use Rattle.area_rules.specs.Holding.{Places}
 use Rattle.area_rules.specs.Moments.{has_passed}
 use Rattle.area_rules.specs.Rules.{Rules}
-use Rattle.area_rules.specs.Senders.{sender_of}
+use Rattle.call_values.specs.Views.{sender_of}
 use Rattle.traffic_rules.specs.HeldTold.{all_held}
 use Rattle.traffic_rules.specs.Sending.{send_refusal, send_due}
 use Rattle.traffic_rules.specs.Answering.{answer_refusal, answer_due}

@@ -1,7 +1,7 @@
 ghost use Rattle.std.specs.Prelude.{◌≡◌, ◌≤◌, ◌==◌, ◌&&◌, not, [], ◌∷◌, length, drop, is_some, if◌then◌else◌, OnOk, OnErr};
 ghost use Rattle.std.specs.List.{list_any};
 ghost use Rattle.area_rules.specs.Addressing.{is_for_ship};
-ghost use Rattle.area_rules.specs.Senders.{sender_of};
+ghost use Rattle.call_values.specs.Views.{sender_of};
 ghost use Rattle.traffic_rules.specs.Hearing.{heard_refusal, heard_due};
 ghost use Rattle.traffic_rules.specs.inside.After.{after_hearing};
 ghost use Rattle.ship_station.specs.Past.{is_attempt};
@@ -17,7 +17,7 @@ use crate::alerts::OwnAlert;
 use crate::events::{ShipEvent, ShipWhat};
 use crate::groups::Groups;
 use area_rules::{
-    Act, Acts, HeldCalls, StationRefusal, for_ship, has_passed, sender, single, time_back,
+    Act, Acts, HeldCalls, StationRefusal, for_ship, has_passed, single, time_back,
 };
 use arrayvec::ArrayVec;
 use call_values::{AlertDelay, Call, Casualty, Comm, HourMinute, Mmsi, Nature, Position};
@@ -243,7 +243,7 @@ impl Ship {
     fn is_for_this(&self, call: &Call) -> bool
         ensures { result ≡ (not (sender_of call.now == self.now.own) && is_for_ship call.now self.now.own self.now.groups self.now.position) }
     {
-        sender(call).number() != self.own.number()
+        call.sender().number() != self.own.number()
             && for_ship(call, self.own, self.groups.list(), &self.position)
     }
 

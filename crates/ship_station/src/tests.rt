@@ -2,9 +2,10 @@ use super::*;
 use area_rules::{Act, Acts, StationRefusal, put, single};
 use arrayvec::ArrayVec;
 use call_values::{
-    AlertDelay, Area, Call, Casualty, Category, Comm, End, Field, First, Fix, HourMinute, Kind,
+    AlertDelay, Area, Call, Casualty, Category, Comm, End, Field, First, HourMinute, Kind,
     Message, Mmsi, Nature, Position, Second, To,
 };
+use call_values::worked::PLACE;
 use std::test::Fail;
 
 const OWN: u32 = 338_040_079;
@@ -15,17 +16,10 @@ const COAST: u32 = 2_241_022;
 
 /// A ship in distress at 42° 31' N 83° 12' W at 20:19, disabled and adrift, which wants F3E or G3E.
 fn casualty(mmsi: u32) -> Result<Casualty, Fail> {
-    let fix = Fix {
-        quadrant: 1,
-        lat_deg: 42,
-        lat_min: 31,
-        lon_deg: 83,
-        lon_min: 12,
-    };
     Ok(Casualty {
         mmsi: Mmsi::new(mmsi).ok_or("identity")?,
         nature: Nature::new(106).ok_or("nature")?,
-        position: Position::new(fix).ok_or("position")?,
+        position: Position::new(PLACE).ok_or("position")?,
         time: HourMinute::new(20, 19).ok_or("time")?,
         comm: Comm::new(100).ok_or("communication")?,
     })

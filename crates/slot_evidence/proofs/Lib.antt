@@ -1,7 +1,8 @@
-pub mod Edges
-pub mod Ends
-pub mod Kept
-pub mod Read
-pub mod Sets
-pub mod Window
-pub mod Alike
+pub mod PublicLaws
+mod Edges
+mod Ends
+mod Kept
+mod Read
+mod Sets
+mod Window
+mod Alike

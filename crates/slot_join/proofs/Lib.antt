@@ -1,15 +1,15 @@
-pub mod ShownLists
-pub mod Stops
-pub mod OneAnswer
-pub mod IntactCalls
-pub mod Heads
-pub mod LateCalls
-pub mod WholeCalls
-pub mod OneCalls
-pub mod OneWay
-pub mod CallOrMissing
-pub mod AnswerOfEnds
-pub mod Copies
-pub mod Followers
-pub mod ShownCalls
-pub mod Tails
+mod ShownLists
+mod Stops
+mod OneAnswer
+mod IntactCalls
+mod Heads
+mod LateCalls
+mod WholeCalls
+mod OneCalls
+mod OneWay
+mod CallOrMissing
+mod AnswerOfEnds
+mod Copies
+mod Followers
+mod ShownCalls
+mod Tails

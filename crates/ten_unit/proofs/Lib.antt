@@ -1,5 +1,6 @@
-pub mod Bits
-pub mod Numbers
-pub mod Reading
-pub mod Rows
-pub mod Turned
+pub mod PublicLaws
+mod Bits
+mod Numbers
+mod Reading
+mod Rows
+mod Turned

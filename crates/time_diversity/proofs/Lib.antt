@@ -1,1 +1,1 @@
-pub mod Shows
+mod Shows

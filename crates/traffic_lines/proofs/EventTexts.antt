@@ -8,8 +8,7 @@ use Rattle.call_values.specs.Places.{IsPosition}
 use Rattle.dsc_symbols.specs.Telecommands.{IsComm}
 use Rattle.dsc_texts.specs.CallGrammar.{address, identity, labelled, nature, comm, position as position_token}
 use Rattle.dsc_texts.specs.CallParts.{address_text, position_text}
-use Rattle.dsc_texts.proofs.FieldTexts.{address_told, position_told}
-use Rattle.dsc_texts.proofs.SymbolTexts.{Told, comm_told, identity_told, nature_told}
+use Rattle.dsc_texts.proofs.PublicLaws.{address_told, position_told, Told, comm_told, identity_told, nature_told}
 use Rattle.line_grammar.specs.Shapes.{digits}
 use Rattle.line_grammar.specs.Tokens.{Token, free_number}
 use Rattle.line_grammar.specs.Grammar.{Grammar, finish, either, Parts, none, part, first, second, Spells}

@@ -1,7 +1,7 @@
-pub mod Tokens
-pub mod Languages
-pub mod Steps
-pub mod EventTexts
-pub mod CallEvents
-pub mod LineTexts
-pub mod OneLine
+mod Tokens
+mod Languages
+mod Steps
+mod EventTexts
+mod CallEvents
+mod LineTexts
+mod OneLine

@@ -5,7 +5,7 @@ use Rattle.call_values.specs.declared.choices.Band.{Band}
 use Rattle.call_values.specs.declared.choices.Band.TheVariants.{Mf, Hf, Vhf}
 use Rattle.call_values.specs.Identity.{IsMmsi}
 use Rattle.dsc_texts.specs.CallGrammar.{identity}
-use Rattle.dsc_texts.proofs.SymbolTexts.{identity_told}
+use Rattle.dsc_texts.proofs.PublicLaws.{identity_told}
 use Rattle.line_grammar.specs.Columns.{IsColumn}
 use Rattle.line_grammar.specs.Grammar.{anything, word, either, Parts, none, part, first, second, Spells}
 use Rattle.line_grammar.specs.Shapes.{digits}

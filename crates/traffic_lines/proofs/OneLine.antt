@@ -14,7 +14,7 @@ use Rattle.dsc_symbols.specs.Telecommands.{IsComm}
 use Rattle.dsc_texts.specs.CallGrammar.{address}
 use Rattle.dsc_texts.specs.CallParts.{address_text}
 use Rattle.dsc_texts.specs.Texts.{IsWholeOrAbsent, reported_text}
-use Rattle.dsc_texts.proofs.FieldTexts.{address_told, position_told}
+use Rattle.dsc_texts.proofs.PublicLaws.{address_told, position_told}
 use Rattle.slot_join.specs.declared.joined.Extra.{Extra}
 use Rattle.slot_join.specs.declared.joined.Extra.TheVariants.{Absent}
 use Rattle.line_grammar.specs.Grammar.{field, Parts, part, Spells}

@@ -2,7 +2,7 @@
 use Rattle.std.proofs.Common.{◌≡◌, ℕ, ◌<◌, ◌≤◌, ◌^◌, true, List, ◌++◌, Result, Ok, decimal, sym, ◌∙◌, ap, subst, refl, arith}
 use Rattle.std.proofs.lemmas.Bool.{le-leb}
 use Rattle.dsc_texts.specs.CallGrammar.{address, identity, nature, comm, position}
-use Rattle.dsc_texts.proofs.SymbolTexts.{Told}
+use Rattle.dsc_texts.proofs.PublicLaws.{Told}
 use Rattle.line_grammar.specs.Tokens.{Token, free_number, value_after}
 use Rattle.line_grammar.specs.inside.Reading.{fits, read_token}
 use Rattle.line_grammar.specs.inside.Soundness.{is_some_token}

@@ -1,7 +1,8 @@
 use crate::{EventLine, Point, TrafficLine, read_traffic};
 use call_values::{
-    AlertDelay, Area, Band, Call, Category, CoastDelay, Comm, Fix, Kind, Mmsi, Nature, Position, To,
+    AlertDelay, Area, Band, Call, Category, CoastDelay, Comm, Kind, Mmsi, Nature, Position, To,
 };
+use call_values::worked::PLACE;
 use std::test::Fail;
 
 // Points, lines that aren't of these points, and the column at which each is ill-formed.
@@ -318,14 +319,7 @@ fn events_are_read(rt: HostRuntime) {
 #[test]
 fn positions_are_read(rt: HostRuntime) {
     let unknown = EventLine::Position(Position::unknown());
-    let fix = Fix {
-        quadrant: 1,
-        lat_deg: 42,
-        lat_min: 31,
-        lon_deg: 83,
-        lon_min: 12,
-    };
-    let known = EventLine::Position(Position::new(fix).expect(&rt, "a position"));
+    let known = EventLine::Position(Position::new(PLACE).expect(&rt, "a position"));
     assert!(rt; is_read(b"0 position 9999999999", 0, &unknown));
     assert!(rt; is_read(b"0 position 1423108312", 0, &known));
 }

@@ -5,7 +5,7 @@ use Rattle.traffic_lines.specs.declared.lines.TrafficLine.{TrafficLine}
 use Rattle.dsc_files.specs.JoinLine.{JoinLine}
 use Rattle.dsc_files.specs.PointLine.{joined, traffic}
 use Rattle.join_groups.specs.Groups.{names, is_named, facts_of_line, group_facts}
-use Rattle.join_groups.proofs.Naming.{same_facts, unnamed_line}
+use Rattle.join_groups.proofs.PublicLaws.{same_facts, unnamed_line}
 use Rattle.traffic_replay.specs.Said.{Said}
 use Rattle.traffic_replay.specs.HeardGroups.{of_receivers, hears, since_heard, facts_since_heard}
 

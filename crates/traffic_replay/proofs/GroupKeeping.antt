@@ -9,8 +9,7 @@ use Rattle.dsc_files.specs.PointLine.{joined, traffic}
 use Rattle.join_groups.specs.declared.groups.Groups.{Groups}
 use Rattle.join_groups.specs.Groups.{names, is_named, facts_of_line}
 use Rattle.join_groups.specs.Holds.{Holds, number_in, named_with, facts_with, facts_without}
-use Rattle.join_groups.proofs.Holding.{holds_same}
-use Rattle.join_groups.proofs.Keeping.{line_of_one}
+use Rattle.join_groups.proofs.PublicLaws.{holds_same, line_of_one}
 use Rattle.traffic_replay.specs.Said.{Said}
 use Rattle.traffic_replay.specs.HeardGroups.{of_receivers, hears, facts_since_heard}
 use Rattle.traffic_replay.specs.inside.Kept.{KeepsGroups}

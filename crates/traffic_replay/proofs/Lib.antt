@@ -1,7 +1,7 @@
-pub mod GroupFacts
-pub mod GroupKeeping
-pub mod Told
-pub mod Happened
-pub mod Beginnings
-pub mod Unique
-pub mod Receivers
+mod GroupFacts
+mod GroupKeeping
+mod Told
+mod Happened
+mod Beginnings
+mod Unique
+mod Receivers

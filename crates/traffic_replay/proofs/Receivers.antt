@@ -15,7 +15,7 @@ use Rattle.dsc_files.specs.PointLine.{PointLine, joined, traffic}
 use Rattle.dsc_files.specs.Lines.{Says, SaysTraffic, SaysAtPoint}
 use Rattle.join_groups.specs.Groups.{facts_of_line}
 use Rattle.join_groups.specs.Meanings.{BringsTooMany}
-use Rattle.join_groups.proofs.Keeping.{says_reception, says_evidence}
+use Rattle.join_groups.proofs.PublicLaws.{says_reception, says_evidence}
 use Rattle.traffic_replay.specs.declared.command.Replay.{Replay}
 use Rattle.traffic_replay.specs.Said.{Said, kind_of, among_events, point_of}
 use Rattle.traffic_replay.specs.HeardGroups.{of_receivers}

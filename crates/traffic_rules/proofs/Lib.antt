@@ -1,7 +1,8 @@
-pub mod Lists
-pub mod Places
-pub mod HeldAfter
-pub mod HeldLists
-pub mod HeldRules
-pub mod Acts
-pub mod Twice
+pub mod PublicLaws
+mod Lists
+mod Places
+mod HeldAfter
+mod HeldLists
+mod HeldRules
+mod Acts
+mod Twice

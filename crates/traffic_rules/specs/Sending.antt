@@ -10,7 +10,7 @@ use Rattle.area_rules.specs.declared.acts.Act.TheVariants.{Send, Held}
 use Rattle.area_rules.specs.declared.refusals.StationRefusal.{StationRefusal}
 use Rattle.area_rules.specs.declared.refusals.StationRefusal.TheVariants.{NotSendable, Full}
 use Rattle.area_rules.specs.Holding.{Places, first_free}
-use Rattle.area_rules.specs.Senders.{sender_of}
+use Rattle.call_values.specs.Views.{sender_of}
 
 -- a call asks for an acknowledgement
 abbrev pub asks : Call → Bool

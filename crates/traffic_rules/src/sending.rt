@@ -3,7 +3,7 @@ ghost use Rattle.area_rules.specs.Rules.{listed, refusal_or};
 ghost use Rattle.traffic_rules.specs.Sending as sending;
 ghost use Rattle.traffic_rules.specs.inside.After.{after_sending};
 
-use area_rules::{Act, Acts, HeldCalls, Side, StationRefusal, put, sender, single};
+use area_rules::{Act, Acts, HeldCalls, Side, StationRefusal, put, single};
 use call_grammar::end_of;
 use call_values::{Call, Kind, Mmsi};
 use dsc_symbols::ends;
@@ -64,5 +64,5 @@ fn is_by_rule(call: &Call) -> bool
 fn is_sendable(own: Mmsi, call: &Call) -> bool
     ensures { result ≡ sending.is_sendable own call.now }
 {
-    !is_by_rule(call) && sender(call).number() == own.number() && !acknowledges(call)
+    !is_by_rule(call) && call.sender().number() == own.number() && !acknowledges(call)
 }

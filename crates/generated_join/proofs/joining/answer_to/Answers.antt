@@ -21,9 +21,8 @@ loop-receiver-preserved g c =
     let was = c.loop-receiver.invariant in
     let symbols = c.deref.ensures.0 ∙ c.slots_of-slots.ensures.slots ∙ ap (λ (call : Call). on_air (list_on_air call Absent)) c.alert.ensures
     ∙ ap (λ (l : List ℕ). on_air l) (append-nil (spell (alert_of k))) in
-    let whole : c.from.result ≡ c.deref-in-loop-receiver.result.now = c.from.ensures ∙ c.in_ok-elements.ensures.items in
-    let same : c.from.result ≡ heard k n = whole ∙ c.deref-in-loop-receiver.ensures.0 ∙ c.heard.ensures ∙ ap (λ (l : List ℕ). heard_of k n l) symbols in
-    let short : length c.from.result ≤ LONGEST = omega (arith, ap length whole, c.deref-in-loop-receiver.ensures.1) in
+    let same : c.from.result ≡ heard k n = c.from.ensures ∙ c.in_ok-elements.ensures.items ∙ ap (λ (l : List ℕ). heard_of k n l) symbols in
+    let short : length c.from.result ≤ LONGEST = omega (arith, ap length c.from.ensures, c.in_ok-elements.ensures.length) in
     record {
       are = c.in_ok-push.ensures.items ∙ ap (λ (l : List (List Element)). l ++ c.from.result ∷ []) was.are ∙ ap (λ (e : List Element). first_heard k n ++ e ∷ []) same ∙ heard_more k n;
       short = subst (λ (l : List (List Element)). All (λ (e : List Element). length e ≤ LONGEST) l) (sym c.in_ok-push.ensures.items)

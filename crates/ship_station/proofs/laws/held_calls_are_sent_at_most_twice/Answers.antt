@@ -1,4 +1,4 @@
-use Rattle.traffic_rules.proofs.Twice.{at_most_twice}
+use Rattle.traffic_rules.proofs.PublicLaws.{at_most_twice}
 use Rattle.ship_station.specs.Events.{ship_occurs}
 use Rattle.ship_station.proofs.laws.held_calls_are_sent_at_most_twice.Goals as goal
 

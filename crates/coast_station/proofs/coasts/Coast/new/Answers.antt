@@ -1,5 +1,5 @@
 use Rattle.std.proofs.Common.{refl, sym, ◌∙◌}
-use Rattle.traffic_rules.proofs.HeldLists.{nothing_held}
+use Rattle.traffic_rules.proofs.PublicLaws.{nothing_held}
 use Rattle.coast_station.specs.Events.{coast_occurs}
 use Rattle.coast_station.proofs.coasts.Coast.new.Goals as goal
 

@@ -1,11 +1,10 @@
 use Rattle.std.proofs.Common.{◌≡◌, ℕ, false, None, refl, sym, ◌∙◌, ap}
 use Rattle.area_rules.specs.Histories.{Entry}
 use Rattle.area_rules.specs.Holding.{Places}
-use Rattle.area_rules.proofs.Steps.{acts_of}
+use Rattle.area_rules.proofs.PublicLaws.{acts_of}
 use Rattle.traffic_rules.specs.Answering.{answer_refusal, answer_due}
 use Rattle.traffic_rules.specs.inside.After.{after_answering}
-use Rattle.traffic_rules.proofs.Acts.{none_replied}
-use Rattle.traffic_rules.proofs.HeldRules.{after_answer}
+use Rattle.traffic_rules.proofs.PublicLaws.{none_replied, after_answer}
 use Rattle.ship_station.specs.declared.events.ShipWhat.{ShipWhat}
 use Rattle.ship_station.specs.declared.events.ShipWhat.TheVariants.{Answer}
 use Rattle.ship_station.specs.Events.{ship_occurs}

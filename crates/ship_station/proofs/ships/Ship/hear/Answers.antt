@@ -12,8 +12,7 @@ use Rattle.area_rules.specs.Holding.{Places}
 use Rattle.area_rules.specs.Rules.{listed, refusal_or}
 use Rattle.traffic_rules.specs.Hearing.{Place, heard_refusal, heard_due}
 use Rattle.traffic_rules.specs.inside.After.{after_hearing}
-use Rattle.traffic_rules.proofs.Acts.{none_heard}
-use Rattle.traffic_rules.proofs.HeldRules.{AreQuiet, after_heard, after_hearing_nothing}
+use Rattle.traffic_rules.proofs.PublicLaws.{none_heard, AreQuiet, after_heard, after_hearing_nothing}
 use Rattle.ship_station.specs.declared.events.ShipWhat.{ShipWhat}
 use Rattle.ship_station.specs.declared.events.ShipWhat.TheVariants.{Heard}
 use Rattle.ship_station.specs.declared.alerts.OwnAlert.{OwnAlert}

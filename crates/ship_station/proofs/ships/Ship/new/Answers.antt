@@ -1,5 +1,5 @@
 use Rattle.std.proofs.Common.{refl, sym, ◌∙◌}
-use Rattle.traffic_rules.proofs.HeldLists.{nothing_held}
+use Rattle.traffic_rules.proofs.PublicLaws.{nothing_held}
 use Rattle.ship_station.specs.Events.{ship_occurs}
 use Rattle.ship_station.proofs.ships.Ship.new.Goals as goal
 

@@ -2,7 +2,7 @@ use Rattle.std.proofs.Common.{◌∙◌, sym, subst, inl, inr}
 use Rattle.slot_evidence.specs.Facts.{facts_of}
 use Rattle.traffic_lines.specs.declared.lines.Point.{Point}
 use Rattle.join_groups.specs.Groups.{is_named}
-use Rattle.join_groups.proofs.Keeping.{brings_full, full_brings}
+use Rattle.join_groups.proofs.PublicLaws.{brings_full, full_brings}
 use Rattle.traffic_replay.specs.Said.{kind_of}
 use Rattle.traffic_replay.specs.HeardGroups.{of_receivers, facts_since_heard}
 use Rattle.traffic_replay.specs.inside.Progress.{IsBeforeEvents, IsBehindGroups, IsPointOf}

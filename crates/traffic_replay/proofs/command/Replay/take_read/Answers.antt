@@ -1,6 +1,6 @@
 use Rattle.std.proofs.Common.{◌++◌, inl, inr}
 use Rattle.slot_evidence.specs.Facts.{facts_of}
-use Rattle.join_groups.proofs.Keeping.{map_ok, map_err}
+use Rattle.join_groups.proofs.PublicLaws.{map_ok, map_err}
 use Rattle.traffic_replay.proofs.Receivers.{Shows, Tells, reception_shows, evidence_shows, taken_line, nothing_taken, reads_nothing}
 use Rattle.traffic_replay.proofs.command.Replay.take_read.Goals as goal
 

@@ -3,7 +3,7 @@ use Rattle.line_engine.specs.declared.command.Refusal.{Refusal}
 use Rattle.line_engine.specs.Commands.{IsRefusedBehind}
 use Rattle.traffic_lines.specs.declared.lines.Point.{Point}
 use Rattle.dsc_files.specs.PointLine.{IsPointLine}
-use Rattle.join_groups.proofs.Keeping.{map_ok, map_err}
+use Rattle.join_groups.proofs.PublicLaws.{map_ok, map_err}
 use Rattle.traffic_replay.specs.Meaning.{replay_meaning}
 use Rattle.traffic_replay.proofs.Unique.{taken_behind, refused_behind}
 use Rattle.traffic_replay.proofs.command.ReplayingCommand.take.Goals as goal
