@@ -8,3 +8,4 @@ pub mod Rests
 pub mod Core
 pub mod Unions
 pub mod Parts
+pub mod Entries
