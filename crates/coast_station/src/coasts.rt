@@ -21,10 +21,10 @@ use traffic_rules::{answer, hear, repeat, send};
 pub struct Coast {
     own: Mmsi,
     band: Band,
-    /// The moment of the last accepted event.
-    last: u64,
     casualties: Casualties,
     held: HeldCalls,
+    /// The moment of the last accepted event.
+    last: u64,
 }
 
 impl Coast {
@@ -36,9 +36,9 @@ impl Coast {
         Coast {
             own,
             band,
-            last: 0,
             casualties: Casualties::none(),
             held: HeldCalls::empty(),
+            last: 0,
         }
     }
 
@@ -52,11 +52,13 @@ impl Coast {
         ensures stands { (who : Station) (h : History What) → Stands self.old who h → Stands self.new who (continued (coast_rules who) h event.now.at event.now.what) }
         ensures unchanged { OnErr result (self.new ≡ self.old) }
     {
-        event.what.lawful();
-        if let Some(refusal) = time_back(self.last, event.at) {
-            return Err(refusal);
+        match time_back(self.last, event.at) {
+            Some(refusal) => Err(refusal),
+            None => {
+                event.what.lawful();
+                self.handle(event.at, &event.what)
+            }
         }
-        self.handle(event.at, &event.what)
     }
 
     /// Does what is due at an event that isn't before the last accepted one.

@@ -33,18 +33,18 @@ impl CoastWhat {
         ensures { IsCoastWhat self.now }
     {
         match self {
+            CoastWhat::Tick | CoastWhat::Answer(_, _) => {}
+            CoastWhat::Send(call) | CoastWhat::Heard(call) => call.lawful(),
             CoastWhat::Accept(mmsi, delay) => {
                 let _ = mmsi.number();
                 if let Some(delay) = delay {
                     let _ = delay.number();
                 }
             }
-            CoastWhat::Tick | CoastWhat::Answer(_, _) => {}
             CoastWhat::Relay(mmsi, to, _) => {
                 let _ = mmsi.number();
                 to.lawful();
             }
-            CoastWhat::Send(call) | CoastWhat::Heard(call) => call.lawful(),
         }
     }
 }

@@ -19,6 +19,22 @@ fn mmsi(number: u32) -> Result<Mmsi, Fail> {
     Ok(Mmsi::new(number).ok_or("identity")?)
 }
 
+/// An event at a moment, and what the station does at it.
+type Row = (u64, CoastWhat, Result<Acts, StationRefusal>);
+
+/// A station in this band goes through events in order, and does at each what its row says.
+fn follow<const N: usize>(
+    rt: HostRuntime,
+    band: Band,
+    rows: [Row; N],
+) -> Result<(), Fail> {
+    let mut coast = Coast::new(mmsi(COAST)?, band);
+    for (at, what, want) in rows {
+        assert_eq!(rt; coast.step(&CoastEvent { at, what }), want, "at {at}");
+    }
+    Ok(())
+}
+
 /// A ship in distress at 42° 31' N 83° 12' W, disabled and adrift, which wants F3E or G3E.
 fn casualty(number: u32, hour: u8, minute: u8) -> Result<Casualty, Fail> {
     Ok(Casualty {
@@ -89,11 +105,7 @@ fn on_mf_an_alert_waits_for_its_acknowledgement(rt: HostRuntime) -> Result<(), F
         (70_000, heard(third), Ok(distress(third))),
         (130_000, accept(SHIP, 60_000)?, Ok(acknowledged(third)?)),
     ];
-    let mut coast = Coast::new(mmsi(COAST)?, Band::Mf);
-    for (at, what, want) in rows {
-        assert_eq!(rt; coast.step(&CoastEvent { at, what }), want, "at {at}");
-    }
-    Ok(())
+    follow(rt, Band::Mf, rows)
 }
 
 #[test]
@@ -109,11 +121,7 @@ fn on_vhf_an_alert_is_acknowledged_at_once(rt: HostRuntime) -> Result<(), Fail> 
         (59_999, CoastWhat::Tick, Ok(nothing())),
         (60_000, CoastWhat::Tick, Ok(nothing())),
     ];
-    let mut coast = Coast::new(mmsi(COAST)?, Band::Vhf);
-    for (at, what, want) in rows {
-        assert_eq!(rt; coast.step(&CoastEvent { at, what }), want, "at {at}");
-    }
-    Ok(())
+    follow(rt, Band::Vhf, rows)
 }
 
 #[test]
@@ -157,11 +165,7 @@ fn a_casualty_is_told_on_and_closed(rt: HostRuntime) -> Result<(), Fail> {
             Err(StationRefusal::NoCasualty(alert.mmsi)),
         ),
     ];
-    let mut coast = Coast::new(own, Band::Mf);
-    for (at, what, want) in rows {
-        assert_eq!(rt; coast.step(&CoastEvent { at, what }), want, "at {at}");
-    }
-    Ok(())
+    follow(rt, Band::Mf, rows)
 }
 
 #[test]
@@ -231,11 +235,7 @@ fn a_relay_waits_for_its_acknowledgement(rt: HostRuntime) -> Result<(), Fail> {
         (600_002, CoastWhat::Tick, Ok(single(Act::GaveUp(1)))),
         (4, CoastWhat::Tick, Err(back)),
     ];
-    let mut coast = Coast::new(own, Band::Hf);
-    for (at, what, want) in rows {
-        assert_eq!(rt; coast.step(&CoastEvent { at, what }), want, "at {at}");
-    }
-    Ok(())
+    follow(rt, Band::Hf, rows)
 }
 
 #[test]

@@ -3,34 +3,10 @@
 use crate::receptions::{REPORTED, WHOLE, joined, line, two_damaged, words_of};
 use dsc_cmd::{SureSink, SureSource, run};
 use dsc_symbols::worked::ALERT_SLOTS;
-use receiver_pool::Gate;
+use receiver_pool::Meeting;
 use std::alloc::{AllocError, Global};
-use std::sync::atomic::{AtomicU32, Ordering};
 use std::test::Fail;
-use std::thread::{Threads, yield_now};
-
-// A gate that counts who enters, and in which each waits, for at most 100,000,000 turns, until so many have entered.
-#[derive(Drop)]
-struct Meeting {
-    awaited: u32,
-    entered: AtomicU32,
-    met: AtomicU32,
-}
-
-impl Gate for Meeting {
-    fn enter(&self, _worker: u32) {
-        self.entered.fetch_add(1, Ordering::SeqCst);
-        for turn in 0..100_000_000u32 {
-            if self.entered.load(Ordering::SeqCst) >= self.awaited {
-                self.met.fetch_add(1, Ordering::SeqCst);
-                return;
-            }
-            if turn % 64 == 0 {
-                yield_now();
-            }
-        }
-    }
-}
+use std::thread::Threads;
 
 // What a run wrote whose workers wait for so many in the gate; how many entered it, and how many of them met.
 fn met<R: Threads + Sync>(
@@ -41,18 +17,14 @@ fn met<R: Threads + Sync>(
     awaited: u32,
 ) -> Result<(Vec<u8>, u32, u32), AllocError> {
     let words = words_of(alloc, words)?;
-    let gate = Meeting {
-        awaited,
-        entered: AtomicU32::new(0),
-        met: AtomicU32::new(0),
-    };
+    let gate = Meeting::of(awaited);
     let mut source = SureSource::new(input, 4096);
     let mut sink = SureSink::new(alloc, 4096, 4096)?;
     let _status = run(rt, alloc, &words, &mut source, &mut sink, &gate);
     Ok((
         sink.bytes().to_vec(alloc)?,
-        gate.entered.load(Ordering::SeqCst),
-        gate.met.load(Ordering::SeqCst),
+        gate.entered(),
+        gate.met(),
     ))
 }
 

@@ -14,8 +14,7 @@ use crate::telling::{Teller, tell_all};
 use dsc_files::one_line;
 use dsc_streams::Status;
 use line_engine::{Command, Refusal};
-use receiver_pool::{Heard, Workers};
-use slot_evidence::Sheet;
+use receiver_pool::{Heard, Shown, Workers};
 use std::alloc::{AllocError, Global};
 
 /// The command that tells of each group once its lines are all known: `join` by answers, `evidence` by ends. Workers join its receptions.
@@ -27,7 +26,7 @@ pub struct TellGroups<J, T: Teller> {
     teller: T,
 }
 
-impl<J: Drop + Fn(&[Heard], usize) -> Result<Vec<Sheet>, AllocError>, T: Teller> TellGroups<J, T> {
+impl<J: Drop + Fn(&[Heard]) -> Result<Vec<Shown>, AllocError>, T: Teller> TellGroups<J, T> {
     /// The command before its first line.
     pub fn new(alloc: Global, workers: Workers<J>, teller: T) -> TellGroups<J, T>
         ensures groups { StandsFor result.groups [] [] }
@@ -42,7 +41,7 @@ impl<J: Drop + Fn(&[Heard], usize) -> Result<Vec<Sheet>, AllocError>, T: Teller>
     }
 }
 
-impl<J: Drop + Fn(&[Heard], usize) -> Result<Vec<Sheet>, AllocError>, T: Teller> Command
+impl<J: Drop + Fn(&[Heard]) -> Result<Vec<Shown>, AllocError>, T: Teller> Command
     for TellGroups<J, T> {
     ghost meaning = { groups_meaning T.tells };
 

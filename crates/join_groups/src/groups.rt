@@ -1,4 +1,4 @@
-ghost use Rattle.std.specs.Prelude.{◌≡◌, ◌⊎◌, ℕ, ◌+◌, ◌<◌, ◌≤◌, Bool, false, length, [], Some, IfOk, IfErr, OnOk};
+ghost use Rattle.std.specs.Prelude.{◌≡◌, ◌⊎◌, ℕ, ◌+◌, ◌<◌, ◌≤◌, Bool, false, nat_le, length, [], Some, IfOk, IfErr, OnOk};
 ghost use Rattle.slot_evidence.specs.Facts.{Facts, facts_of, no_facts};
 ghost use Rattle.slot_evidence.specs.Sheet.{IsEnds};
 ghost use Rattle.receiver_pool.specs.Joining.{JoinsBatches};
@@ -6,7 +6,7 @@ ghost use Rattle.join_groups.specs.Holds.{Holds, HoldsSome, IsFull, named_with, 
 
 use line_engine::Refusal;
 use phasing::LONGEST;
-use receiver_pool::{Heard, Workers, meet_at, take_at};
+use receiver_pool::{Heard, Shown, Workers, meet_at, take_at};
 use slot_evidence::{Reception, Sheet};
 use std::alloc::{AllocError, Global};
 use std::collections::BTreeMap;
@@ -89,7 +89,7 @@ impl Groups {
 
     /// Takes in what a receiver heard of a group, at most 1,000,000 elements: at once where one worker works alone, and else in a batch,
     /// which is joined when it is full. A group too many leaves all as it was.
-    pub fn hear<J: Drop + Fn(&[Heard], usize) -> Result<Vec<Sheet>, AllocError>>(
+    pub fn hear<J: Drop + Fn(&[Heard]) -> Result<Vec<Shown>, AllocError>>(
         &mut self,
         workers: &Workers<J>,
         group: u32,
@@ -112,13 +112,20 @@ impl Groups {
         match self.number_of(group) {
             Ok(number) => {
                 self.put(number, heard)?;
-                if self.batch.len() >= MOST_IN_BATCH {
+                if self.is_full() {
                     self.close_batch(workers)?;
                 }
                 Ok(())
             }
             Err(refusal) => Err(refusal),
         }
+    }
+
+    /// Whether the batch holds as many receptions as it may.
+    fn is_full(&self) -> bool
+        ensures { result ≡ nat_le MOST_IN_BATCH (length self.now.batch.items) }
+    {
+        self.batch.len() >= MOST_IN_BATCH
     }
 
     /// Puts a reception of the group with this number into the batch.
@@ -136,7 +143,7 @@ impl Groups {
     }
 
     /// Ends the batch: the workers join its receptions into the sheets of their groups.
-    pub fn close_batch<J: Drop + Fn(&[Heard], usize) -> Result<Vec<Sheet>, AllocError>>(
+    pub fn close_batch<J: Drop + Fn(&[Heard]) -> Result<Vec<Shown>, AllocError>>(
         &mut self,
         workers: &Workers<J>,
     ) -> Result<(), AllocError>

@@ -10,12 +10,11 @@ ghost use Rattle.join_groups.specs.inside.Kept.{Keeps, IsRefused, IsShort};
 use crate::groups::{Groups, MOST_IN_BATCH};
 use dsc_files::{FileKind, Line, LineFault, line_of};
 use line_engine::{LONGEST_LINE, Refusal};
-use receiver_pool::{Heard, Workers};
-use slot_evidence::Sheet;
+use receiver_pool::{Heard, Shown, Workers};
 use std::alloc::{AllocError, Global};
 
 /// Takes a line of receptions or evidence. A line that is ill-formed, or that brings a group too many, leaves the groups as they were.
-pub(crate) fn take_line<J: Drop + Fn(&[Heard], usize) -> Result<Vec<Sheet>, AllocError>>(
+pub(crate) fn take_line<J: Drop + Fn(&[Heard]) -> Result<Vec<Shown>, AllocError>>(
     groups: &mut Groups,
     workers: &Workers<J>,
     alloc: Global,
@@ -37,7 +36,7 @@ pub(crate) fn take_line<J: Drop + Fn(&[Heard], usize) -> Result<Vec<Sheet>, Allo
 }
 
 /// Takes a line that was read.
-fn take_read<J: Drop + Fn(&[Heard], usize) -> Result<Vec<Sheet>, AllocError>>(
+fn take_read<J: Drop + Fn(&[Heard]) -> Result<Vec<Shown>, AllocError>>(
     groups: &mut Groups,
     workers: &Workers<J>,
     read: Line,

@@ -1,13 +1,13 @@
 -- The facts of the receptions whose turn it is.
-use Rattle.std.proofs.Common.{◌≡◌, ℕ, zero, suc, ◌+◌, ◌%◌, ◌<◌, ◌≤◌, ◌==◌, Bool, true, false, not, ◌&&◌, ◌||◌, nat_le, List, [], ◌∷◌, ◌++◌, length, set, take, drop, slice_index_or, refl, arith, ap, sym, ◌∙◌, subst, inl, inr, add-one}
+use Rattle.std.proofs.Common.{◌≡◌, ℕ, zero, suc, ◌+◌, ◌%◌, ◌<◌, ◌≤◌, ◌==◌, Bool, true, false, not, ◌&&◌, ◌||◌, nat_le, List, [], length, set, take, slice_index_or, refl, arith, ap, sym, ◌∙◌, subst, inl, inr, add-one}
 use Rattle.std.specs.List.{list_any}
 use Rattle.std.proofs.lemmas.Bool.{cases_eq, cases_lt, eq-eqb, ne_eqb, lt-ltb, le-ltb, le-leb, lt-leb}
-use Rattle.std.proofs.lemmas.List.{take_all, drop_all, append-nil, length-set, length-append, get_or_push, get_or_append_left, get_or-set_same, get_or-set_other}
+use Rattle.std.proofs.lemmas.List.{take_all, length-set, get_or-set_same, get_or-set_other}
 use Rattle.std.proofs.lemmas.List.Folds.{list_any_more}
 use Rattle.ten_unit.specs.declared.character.Element.{Element}
 use Rattle.slot_evidence.specs.Facts.{Facts, no_facts, facts_of, facts_of_all, union}
 use Rattle.slot_evidence.specs.declared.places.Seen.{Seen}
-use Rattle.slot_evidence.specs.Sheet.{IsEnds, IsMeet}
+use Rattle.slot_evidence.specs.Sheet.{IsEnds}
 use Rattle.slot_evidence.proofs.PublicLaws.{IsEnds-same}
 use Rattle.receiver_pool.specs.declared.heard.Heard.{Heard}
 use Rattle.receiver_pool.specs.Groups.{facts_of_group, AreSheets}
@@ -149,35 +149,6 @@ all_by_one workers list sheet some_there ends = IsEnds-same _ _ sheet (λ p v. p
 pub same_sheets : (F G : ℕ → Facts) (sheets : List (List Seen)) (n : ℕ) → ((k p v : ℕ) → F k p v ≡ G k p v) → AreSheets F sheets n → AreSheets G sheets n
 same_sheets F G sheets n same are = record { count = are.count; each = λ k below. IsEnds-same (F k) (G k) _ (same k) (are.each k below) }
 
-pub groups_joined : (workers low middle high : ℕ) (batch : List Heard) (sheets : List (List Seen)) (n : ℕ) → low ≤ middle → middle ≤ high
-    → AreSheets (λ k. union (group_part (is_turn workers low middle) batch (length batch) k) (group_part (is_turn workers middle high) batch (length batch) k)) sheets n
-    → AreSheets (group_part (is_turn workers low high) batch (length batch)) sheets n
-groups_joined workers low middle high batch sheets n left right are =
-    same_sheets _ _ sheets n (λ k p v. sym (part_halves workers low middle high (nth_of batch k) (length batch) p v left right)) are
-
-pub all_groups : (workers : ℕ) (batch : List Heard) (sheets : List (List Seen)) (n : ℕ) → 0 < workers → AreSheets (group_part (is_turn workers 0 workers) batch (length batch)) sheets n → AreSheets (facts_of_group batch) sheets n
-all_groups workers batch sheets n some_there are = same_sheets _ _ sheets n (λ k p v. groups_all workers batch k p v some_there) are
-
-pub no_groups : (takes : ℕ → Bool) (batch : List Heard) (sheets : List (List Seen)) (n : ℕ) → AreSheets (λ k. no_facts) sheets n → AreSheets (group_part takes batch 0) sheets n
-no_groups takes batch sheets n are = same_sheets _ _ sheets n (λ k p v. refl) are
-
-pub one_more_heard : (workers worker index : ℕ) (batch : List Heard) (h : Heard) (sheets : List (List Seen)) (n : ℕ) → h ≡ slice_index_or batch index nobody
-    → AreSheets (λ k. union (group_part (is_turn workers worker (worker + 1)) batch index k) (λ p v. ((index % workers) == worker) && (h.group == k && facts_of h.reception p v))) sheets n
-    → AreSheets (group_part (is_turn workers worker (worker + 1)) batch (index + 1)) sheets n
-one_more_heard workers worker index batch h sheets n is are =
-    subst (λ (m : ℕ). AreSheets (group_part (is_turn workers worker (worker + 1)) batch m) sheets n) (sym (add-one index))
-    (same_sheets _ _ sheets n
-    (λ k p v.
-    ap (λ (b : Bool). group_part (is_turn workers worker (worker + 1)) batch index k p v || (b && (h.group == k && facts_of h.reception p v))) (one_turn workers worker index)
-    ∙ ap (λ (x : Heard). group_part (is_turn workers worker (worker + 1)) batch index k p v || (is_turn workers worker (worker + 1) index && (x.group == k && facts_of x.reception p v))) is)
-    are)
-
--- a turn that isn't one's own, and one's own
-pub not_mine : (mine : Bool) (h : Heard) (F : ℕ → Facts) (sheets : List (List Seen)) (n : ℕ) → mine ≡ false → AreSheets F sheets n
-    → AreSheets (λ k. union (F k) (λ p v. mine && (h.group == k && facts_of h.reception p v))) sheets n
-not_mine mine h F sheets n is are =
-    same_sheets _ _ sheets n (λ k p v. sym (ap (λ (b : Bool). F k p v || (b && (h.group == k && facts_of h.reception p v))) is ∙ or_false (F k p v))) are
-
 -- the sheet with one number is met, and the others stay
 pub met_at : (number : ℕ) (F : ℕ → Facts) (G : Facts) (old new : List (List Seen)) (shown met : List Seen) (n : ℕ) → number < length old → new ≡ set old number met
     → ((F G : Facts) → IsEnds F (slice_index_or old number []) → IsEnds G shown → IsEnds (union F G) met) → IsEnds G shown → AreSheets F old n
@@ -200,12 +171,6 @@ met_at number F G old new shown met n inside changed meets ends are = record {
   ];
 }
 
-pub mine_met : (mine : Bool) (h : Heard) (F : ℕ → Facts) (sheets : List (List Seen)) (n : ℕ) → mine ≡ true
-    → AreSheets (λ k. union (F k) (λ p v. h.group == k && facts_of h.reception p v)) sheets n
-    → AreSheets (λ k. union (F k) (λ p v. mine && (h.group == k && facts_of h.reception p v))) sheets n
-mine_met mine h F sheets n is are =
-    same_sheets _ _ sheets n (λ k p v. ap (λ (b : Bool). F k p v || (b && (h.group == k && facts_of h.reception p v))) (sym is)) are
-
 -- the sheet with one number is taken out
 pub taken_at : (number : ℕ) (F : ℕ → Facts) (old new : List (List Seen)) (blank : List Seen) (n : ℕ) → number < length old → new ≡ set old number blank → IsEnds no_facts blank → AreSheets F old n
     → AreSheets (λ k p v. not (number == k) && F k p v) new n
@@ -222,42 +187,3 @@ taken_at number F old new blank n inside changed none are = record {
         (IsEnds-same (F k) _ _ (λ p v. ap (λ (b : Bool). not b && F k p v) (sym (ne_eqb number k (λ e. apart (sym e))))) (are.each k below))
   ];
 }
-
-pub sheets_pushed : (sheets : List (List Seen)) (x : List Seen) (n : ℕ) → AreSheets (λ k. no_facts) sheets n → IsEnds no_facts x → AreSheets (λ k. no_facts) (sheets ++ x ∷ []) (n + 1)
-sheets_pushed sheets x n are ends = record {
-  count = length-append sheets (x ∷ []) ∙ ap (λ (k : ℕ). k + 1) are.count;
-  each = λ k below. elim (cases_eq k n) [
-    | inl last ↦ subst (IsEnds no_facts) (sym (get_or_push sheets x [] k (are.count ∙ sym last))) ends
-    | inr apart ↦ subst (IsEnds no_facts) (sym (get_or_append_left sheets (x ∷ []) [] k (omega (arith, are.count)))) (are.each k (omega arith))
-  ];
-}
-
-pub met_further : (start theirs old new : List (List Seen)) (met : List Seen) (k : ℕ) → k < length old → new ≡ set old k met → IsMeet (slice_index_or old k []) (slice_index_or theirs k []) met → slice_index_or old k [] ≡ slice_index_or start k []
-    → ((j : ℕ) → j < k → IsMeet (slice_index_or start j []) (slice_index_or theirs j []) (slice_index_or old j []))
-    → (j : ℕ) → j < k + 1 → IsMeet (slice_index_or start j []) (slice_index_or theirs j []) (slice_index_or new j [])
-met_further start theirs old new met k inside changed meets same below j under =
-    elim (cases_eq j k) [
-      | inl here ↦
-          subst (λ (i : ℕ). IsMeet (slice_index_or start i []) (slice_index_or theirs i []) (slice_index_or new i [])) (sym here)
-          (subst (λ (s : List Seen). IsMeet (slice_index_or start k []) (slice_index_or theirs k []) s) (sym (ap (λ (s : List (List Seen)). slice_index_or s k []) changed ∙ get_or-set_same old k met [] inside))
-          (subst (λ (s : List Seen). IsMeet s (slice_index_or theirs k []) met) same meets))
-      | inr apart ↦
-          subst (λ (s : List Seen). IsMeet (slice_index_or start j []) (slice_index_or theirs j []) s) (sym (ap (λ (s : List (List Seen)). slice_index_or s j []) changed ∙ get_or-set_other old k j met [] apart)) (below j (omega arith))
-    ]
-
-pub rest_stays : (start old new : List (List Seen)) (met : List Seen) (k : ℕ) → new ≡ set old k met → ((j : ℕ) → k ≤ j → slice_index_or old j [] ≡ slice_index_or start j []) → (j : ℕ) → k + 1 ≤ j → slice_index_or new j [] ≡ slice_index_or start j []
-rest_stays start old new met k changed above j over = ap (λ (s : List (List Seen)). slice_index_or s j []) changed ∙ get_or-set_other old k j met [] (λ e. omega arith) ∙ above j (omega arith)
-
-pub all_met : (F G : ℕ → Facts) (start theirs new : List (List Seen)) (n : ℕ) → length new ≡ length start → length start ≡ length theirs → ((j : ℕ) → j < length theirs → IsMeet (slice_index_or start j []) (slice_index_or theirs j []) (slice_index_or new j []))
-    → AreSheets F start n → AreSheets G theirs n → AreSheets (λ k. union (F k) (G k)) new n
-all_met F G start theirs new n count same met f g = record {
-  count = count ∙ f.count;
-  each = λ k below. met k (omega (arith, g.count)) (F k) (G k) (f.each k below) (g.each k below);
-}
-
--- a row that was lent whole
-pub lent_whole : (X : Type 0) (items new : List X) (len : ℕ) → len ≡ length items → length new ≡ length items → take len (new ++ drop (length new) items) ≡ new
-lent_whole X items new len is same =
-    ap (λ (rest : List X). take len (new ++ rest)) (drop_all (length new) items (omega arith))
-    ∙ ap (take len) (append-nil new)
-    ∙ take_all len new (omega arith)

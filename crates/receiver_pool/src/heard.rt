@@ -1,10 +1,17 @@
-//! What a batch holds.
+//! What a batch holds, and what it showed.
 
-use slot_evidence::Reception;
+use slot_evidence::{Reception, Sheet};
 
-/// A reception, with the number of its group among the groups of its batch.
+/// A reception, with the number of its group.
 #[derive(Debug, Drop)]
 pub struct Heard {
     pub group: usize,
     pub reception: Reception,
+}
+
+/// What a reception showed, with the number of its group.
+#[derive(Clone, Copy, Debug, PartialEq, Eq)]
+pub struct Shown {
+    pub group: usize,
+    pub sheet: Sheet,
 }

@@ -1,17 +1,16 @@
 ghost use Rattle.std.specs.Prelude.{◌≡◌, ◌≤◌, ◌⊎◌, All, IsTrue, length};
 ghost use Rattle.slot_evidence.specs.Allowed.{OnlyAllowed};
-ghost use Rattle.receiver_pool.specs.Groups.{Belongs};
+ghost use Rattle.receiver_pool.specs.Groups.{IsShort};
 ghost use Rattle.receiver_pool.specs.inside.Worked.{two_facts};
 
-use crate::{Allowed, Board, Gate, Heard, Open, Seat, WHOLE, pool, pool_groups};
+use crate::{Allowed, Board, Heard, Meeting, Open, Seat, Shown, WHOLE, pool, pool_groups};
 use dsc_symbols::worked::ALERT_SLOTS;
 use phasing::LONGEST;
 use slot_evidence::{Reception, Seen, Sheet, shown_by};
 use std::alloc::{AllocError, Global};
 use std::process::Abort;
-use std::sync::atomic::{AtomicU32, Ordering};
 use std::test::Fail;
-use std::thread::{Threads, join, yield_now};
+use std::thread::{Threads, join};
 use ten_unit::{Element, word};
 
 /// The two facts of the worked row: place 8 showed 14, and it showed 22.
@@ -159,39 +158,14 @@ fn one_by_one(list: &[Reception]) -> Sheet
     sheet
 }
 
-/// A gate in which two workers wait until both have entered, for at most so many turns. It counts who entered, and who saw the other.
-#[derive(Drop)]
-struct Meeting {
-    entered: AtomicU32,
-    met: AtomicU32,
-}
-
-impl Gate for Meeting {
-    fn enter(&self, _worker: u32) {
-        self.entered.fetch_add(1, Ordering::SeqCst);
-        for turn in 0..100_000_000u32 {
-            if self.entered.load(Ordering::SeqCst) > 1 {
-                self.met.fetch_add(1, Ordering::SeqCst);
-                return;
-            }
-            if turn % 64 == 0 {
-                yield_now();
-            }
-        }
-    }
-}
-
 #[test]
 fn two_workers_meet_in_the_gate(rt: HostRuntime) -> Result<(), Fail> {
     let list = two_receptions(rt.alloc())?;
     assert!(rt; are_short(&list));
-    let gate = Meeting {
-        entered: AtomicU32::new(0),
-        met: AtomicU32::new(0),
-    };
+    let gate = Meeting::of(2);
     let sheet = pool(&rt, rt.alloc(), &list, 2, &gate)?;
-    assert_eq!(rt; gate.entered.load(Ordering::SeqCst), 2);
-    assert_eq!(rt; gate.met.load(Ordering::SeqCst), 2);
+    assert_eq!(rt; gate.entered(), 2);
+    assert_eq!(rt; gate.met(), 2);
     assert_eq!(rt; sheet.at(7), Seen::One(106));
     assert_eq!(rt; sheet, one_by_one(&list));
     Ok(())
@@ -213,12 +187,11 @@ fn any_number_of_workers(rt: HostRuntime) -> Result<(), Fail> {
     Ok(())
 }
 
-/// Whether each reception of a batch is of one of two groups, and none passes the greatest length.
-fn are_of_two(batch: &[Heard]) -> bool
-    ensures { IsTrue result → All (Belongs 2) batch.now }
+/// Whether no reception of a batch passes the greatest length.
+fn are_all_short(batch: &[Heard]) -> bool
+    ensures { IsTrue result → All IsShort batch.now }
 {
-    batch.iter().all(|heard| heard.group < 2
-        && heard.reception.elements().len() <= LONGEST as usize)
+    batch.iter().all(|heard| heard.reception.elements().len() <= LONGEST as usize)
 }
 
 /// A batch of two groups: both receptions in group 1, and the second one in group 0 too.
@@ -239,28 +212,34 @@ fn two_groups(alloc: Global) -> Result<Vec<Heard>, AllocError> {
     Ok(batch)
 }
 
+/// The sheet of a group, joined of all entries that are of it.
+fn sheet_of_group(entries: &[Shown], group: usize) -> Sheet {
+    let mut sheet = Sheet::empty();
+    for entry in entries {
+        if entry.group == group {
+            sheet.meet(&entry.sheet);
+        }
+    }
+    sheet
+}
+
 #[test]
 fn groups_of_a_batch(rt: HostRuntime) -> Result<(), Fail> {
     let list = two_receptions(rt.alloc())?;
     let batch = two_groups(rt.alloc())?;
-    assert!(rt; are_short(&list) && are_of_two(&batch));
+    assert!(rt; are_short(&list) && are_all_short(&batch));
     let whole = one_by_one(&list);
     for workers in [1, 2, 3, 64] {
-        let sheets = pool_groups(&rt, rt.alloc(), &batch, 2, workers, &Open)?;
-        assert_eq!(rt; sheets.len(), 2);
-        assert_eq!(rt; sheets.first().map(|sheet| sheet.at(6)), Some(Seen::None));
-        assert_eq!(rt;
-            sheets.first().map(|sheet| sheet.at(7)),
-            Some(Seen::One(106))
-        );
-        assert_eq!(rt; sheets.last(), Some(&whole), "{workers} workers");
+        let entries = pool_groups(&rt, rt.alloc(), &batch, workers, &Open)?;
+        assert_eq!(rt; entries.len(), 3);
+        let second = sheet_of_group(&entries, 0);
+        assert_eq!(rt; second.at(6), Seen::None);
+        assert_eq!(rt; second.at(7), Seen::One(106));
+        assert_eq!(rt; sheet_of_group(&entries, 1), whole, "{workers} workers");
     }
-    let gate = Meeting {
-        entered: AtomicU32::new(0),
-        met: AtomicU32::new(0),
-    };
-    let sheets = pool_groups(&rt, rt.alloc(), &batch, 2, 2, &gate)?;
-    assert_eq!(rt; sheets.len(), 2);
-    assert_eq!(rt; gate.met.load(Ordering::SeqCst), 2);
+    let gate = Meeting::of(2);
+    let entries = pool_groups(&rt, rt.alloc(), &batch, 2, &gate)?;
+    assert_eq!(rt; entries.len(), 3);
+    assert_eq!(rt; gate.met(), 2);
     Ok(())
 }

@@ -2,23 +2,23 @@
 ghost use Rattle.std.specs.Prelude.{◌≡◌, ◌≤◌, ℕ, All, IfSome, OnOk, length};
 ghost use Rattle.slot_evidence.specs.Facts.{Facts, facts_of, union};
 ghost use Rattle.slot_evidence.specs.Sheet.{IsEnds};
-ghost use Rattle.receiver_pool.specs.Groups.{facts_of_group, AreSheets, Belongs};
+ghost use Rattle.receiver_pool.specs.Groups.{facts_of_group, AreSheets, AreShown, Belongs, IsOneOf};
 ghost use Rattle.receiver_pool.specs.Joining.{JoinsBatches};
 
-use crate::batches::meet_each;
-use crate::heard::Heard;
+use crate::batches::meet_at;
+use crate::heard::{Heard, Shown};
 use phasing::LONGEST;
 use slot_evidence::{Reception, Sheet, shown_by};
 use std::alloc::AllocError;
 
-/// Those who join receptions: one worker, who joins each at once, or several, who join batches by this function, as `pool_groups` does.
+/// Those who join receptions: one worker, who joins each at once, or several, who read batches by this function, as `pool_groups` does.
 #[derive(Drop)]
 pub struct Workers<J> {
     are_several: bool,
     pub join: J,
 }
 
-impl<J: Drop + Fn(&[Heard], usize) -> Result<Vec<Sheet>, AllocError>> Workers<J> {
+impl<J: Drop + Fn(&[Heard]) -> Result<Vec<Shown>, AllocError>> Workers<J> {
     /// So many workers.
     pub fn new(workers: u32, join: J) -> Workers<J>
         ensures { result.join ≡ join }
@@ -47,8 +47,18 @@ impl<J: Drop + Fn(&[Heard], usize) -> Result<Vec<Sheet>, AllocError>> Workers<J>
         requires belong { All (Belongs (length sheets.old)) batch.now }
         ensures { OnOk result ((F : ℕ → Facts) (n : ℕ) → AreSheets F sheets.old n → AreSheets (λ k. union (F k) (facts_of_group batch.now k)) sheets.new n) }
     {
-        let shown = (self.join)(batch, sheets.len())?;
-        meet_each(sheets, &shown);
+        let entries = (self.join)(batch)?;
+        meet_entries(sheets, &entries);
         Ok(())
+    }
+}
+
+/// Takes what was shown of groups into their sheets.
+fn meet_entries(sheets: &mut [Sheet], entries: &[Shown])
+    requires { All (IsOneOf (length sheets.old)) entries.now }
+    ensures { (F G : ℕ → Facts) (n : ℕ) → AreSheets F sheets.old n → AreShown G entries.now → AreSheets (λ k. union (F k) (G k)) sheets.new n }
+{
+    for entry in entries {
+        meet_at(sheets, entry.group, &entry.sheet);
     }
 }

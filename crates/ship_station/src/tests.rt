@@ -29,6 +29,21 @@ fn ship(mmsi: u32) -> Result<Ship, Fail> {
     Ok(Ship::new(Mmsi::new(mmsi).ok_or("identity")?, &[]))
 }
 
+/// An event at a moment, and what the ship does at it.
+type Row = (u64, ShipWhat, Result<Acts, StationRefusal>);
+
+/// The ship goes through events in order, and does at each what its row says.
+fn follow<const N: usize>(
+    rt: HostRuntime,
+    mut ship: Ship,
+    rows: [Row; N],
+) -> Result<(), Fail> {
+    for (at, what, want) in rows {
+        assert_eq!(rt; ship.step(&ShipEvent { at, what }), want, "at {at}");
+    }
+    Ok(())
+}
+
 fn delay(milliseconds: u32) -> Result<ShipWhat, Fail> {
     Ok(ShipWhat::Delay(AlertDelay::new(milliseconds).ok_or("delay")?))
 }
@@ -63,11 +78,7 @@ fn an_alert_until_its_acknowledgement(rt: HostRuntime) -> Result<(), Fail> {
         (222_000, acknowledged(own)?, Ok(nothing())),
         (430_000, ShipWhat::Tick, Ok(nothing())),
     ];
-    let mut ship = ship(OWN)?;
-    for (at, what, want) in rows {
-        assert_eq!(rt; ship.step(&ShipEvent { at, what }), want, "at {at}");
-    }
-    Ok(())
+    follow(rt, ship(OWN)?, rows)
 }
 
 #[test]
@@ -97,11 +108,7 @@ fn refusals_leave_the_ship(rt: HostRuntime) -> Result<(), Fail> {
         (210_006, ShipWhat::Tick, Ok(nothing())),
         (210_006, ShipWhat::Cancel, Err(StationRefusal::NoAlert)),
     ];
-    let mut ship = ship(OWN)?;
-    for (at, what, want) in rows {
-        assert_eq!(rt; ship.step(&ShipEvent { at, what }), want, "at {at}");
-    }
-    Ok(())
+    follow(rt, ship(OWN)?, rows)
 }
 
 #[test]
@@ -206,11 +213,7 @@ fn calls_for_the_ship_are_answered(rt: HostRuntime) -> Result<(), Fail> {
             Err(StationRefusal::NoSuchCall(1)),
         ),
     ];
-    let mut ship = ship(OTHER)?;
-    for (at, what, want) in rows {
-        assert_eq!(rt; ship.step(&ShipEvent { at, what }), want, "at {at}");
-    }
-    Ok(())
+    follow(rt, ship(OTHER)?, rows)
 }
 
 #[test]
@@ -244,11 +247,7 @@ fn sent_calls_are_repeated_once(rt: HostRuntime) -> Result<(), Fail> {
         ),
         (900_003, ShipWhat::Tick, Ok(nothing())),
     ];
-    let mut ship = ship(OWN)?;
-    for (at, what, want) in rows {
-        assert_eq!(rt; ship.step(&ShipEvent { at, what }), want, "at {at}");
-    }
-    Ok(())
+    follow(rt, ship(OWN)?, rows)
 }
 
 #[test]
@@ -288,8 +287,5 @@ fn a_full_ship_refuses_a_relay_in_whole(rt: HostRuntime) -> Result<(), Fail> {
         ),
         (6, relay(To::Area(south), false)?, Ok(nothing())),
     ];
-    for (at, what, want) in rows {
-        assert_eq!(rt; ship.step(&ShipEvent { at, what }), want, "at {at}");
-    }
-    Ok(())
+    follow(rt, ship, rows)
 }

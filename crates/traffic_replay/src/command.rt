@@ -24,7 +24,7 @@ use dsc_files::{EventLine, FileKind, Line, LineFault, Point, Status, line_of, on
 use join_groups::Groups;
 use line_engine::{Command, Refusal};
 use phasing::LONGEST;
-use receiver_pool::{Heard, Workers};
+use receiver_pool::{Heard, Shown, Workers};
 use ship_station::Ship;
 use slot_evidence::{Reception, Sheet};
 use std::alloc::{AllocError, Global};
@@ -65,7 +65,7 @@ impl Replay {
     }
 
     /// Takes a line that was read.
-    fn take_read<J: Drop + Fn(&[Heard], usize) -> Result<Vec<Sheet>, AllocError>>(
+    fn take_read<J: Drop + Fn(&[Heard]) -> Result<Vec<Shown>, AllocError>>(
         &mut self,
         workers: &Workers<J>,
         read: Line,
@@ -167,7 +167,7 @@ impl Replay {
     }
 
     /// Takes in what a receiver heard of its group.
-    fn hear<J: Drop + Fn(&[Heard], usize) -> Result<Vec<Sheet>, AllocError>>(
+    fn hear<J: Drop + Fn(&[Heard]) -> Result<Vec<Shown>, AllocError>>(
         &mut self,
         workers: &Workers<J>,
         group: u32,
@@ -191,7 +191,7 @@ impl Replay {
     }
 
     /// Goes through what happens at a moment, and appends what is written of it.
-    fn happen<J: Drop + Fn(&[Heard], usize) -> Result<Vec<Sheet>, AllocError>>(
+    fn happen<J: Drop + Fn(&[Heard]) -> Result<Vec<Shown>, AllocError>>(
         &mut self,
         workers: &Workers<J>,
         at: u32,
@@ -227,7 +227,7 @@ pub struct Replaying<J> {
     replay: Replay,
 }
 
-impl<J: Drop + Fn(&[Heard], usize) -> Result<Vec<Sheet>, AllocError>> Replaying<J> {
+impl<J: Drop + Fn(&[Heard]) -> Result<Vec<Shown>, AllocError>> Replaying<J> {
     /// The command before its first line.
     pub fn new(alloc: Global, workers: Workers<J>) -> Replaying<J>
         ensures replay { StandsFor result.replay [] [] }
@@ -240,7 +240,7 @@ impl<J: Drop + Fn(&[Heard], usize) -> Result<Vec<Sheet>, AllocError>> Replaying<
     }
 }
 
-impl<J: Drop + Fn(&[Heard], usize) -> Result<Vec<Sheet>, AllocError>> Command for Replaying<J> {
+impl<J: Drop + Fn(&[Heard]) -> Result<Vec<Shown>, AllocError>> Command for Replaying<J> {
     ghost meaning = { replay_meaning };
 
     ghost stands_for = { λ command lines text. JoinsBatches (J.pre command.workers.join) (J.post command.workers.join) × StandsFor command.replay lines text };

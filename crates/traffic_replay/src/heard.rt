@@ -11,13 +11,12 @@ ghost use Rattle.traffic_replay.specs.HeardGroups.{facts_since_heard};
 ghost use Rattle.traffic_replay.specs.inside.Kept.{KeepsGroups};
 
 use join_groups::Groups;
-use receiver_pool::{Heard, Workers};
-use slot_evidence::Sheet;
+use receiver_pool::{Heard, Shown, Workers};
 use slot_join::{Joined, report};
 use std::alloc::AllocError;
 
 /// The answer to what was shown of a group since it was last heard. The open batch ends first, and the group's facts then begin anew.
-pub(crate) fn hear<J: Drop + Fn(&[Heard], usize) -> Result<Vec<Sheet>, AllocError>>(
+pub(crate) fn hear<J: Drop + Fn(&[Heard]) -> Result<Vec<Shown>, AllocError>>(
     groups: &mut Groups,
     workers: &Workers<J>,
     group: u32,

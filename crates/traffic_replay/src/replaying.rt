@@ -2,14 +2,13 @@ ghost use Rattle.std.specs.Prelude.{◌≡◌, ◌≢◌, ◌≤◌, ◌⊎◌, 
 ghost use Rattle.dsc_streams.specs.Streams.{Rises, Told};
 ghost use Rattle.line_engine.specs.Meaning.{IsQuiet};
 ghost use Rattle.line_engine.specs.Endings.{IsFinished, IsOfFault, TakesAtMost, TellsWhole, TellsFault, TellsSoFar, CutsOff, TellsFront};
-ghost use Rattle.receiver_pool.specs.Groups.{facts_of_group, AreSheets, Belongs};
+ghost use Rattle.receiver_pool.specs.Groups.{facts_of_group, IsShort, Shows};
 ghost use Rattle.traffic_replay.specs.Meaning.{replay_meaning};
 
 use crate::command::Replaying;
 use dsc_streams::{Sink, Source, Status};
 use line_engine::{MOST_TAKEN, drive};
-use receiver_pool::{Gate, Heard, Workers, pool_groups};
-use slot_evidence::Sheet;
+use receiver_pool::{Gate, Heard, Shown, Workers, pool_groups};
 use std::alloc::{AllocError, Global};
 use std::thread::Threads;
 
@@ -63,10 +62,10 @@ pub fn replay<R: Threads + Sync, S: Source, K: Sink, G: Gate>(
     if workers == 1 {
         gate.enter(0);
     }
-    let join = |batch: &[Heard], groups: usize| -> Result<Vec<Sheet>, AllocError>
-        requires { (1 ≤ workers) × (workers ≤ 64) × All (Belongs groups) batch.now }
-        ensures { IfOk result (λ v. AreSheets (facts_of_group batch.now) v.items groups) }
-    { pool_groups(rt, alloc, batch, groups, workers, gate) };
+    let join = |batch: &[Heard]| -> Result<Vec<Shown>, AllocError>
+        requires { (1 ≤ workers) × (workers ≤ 64) × All IsShort batch.now }
+        ensures { IfOk result (λ v. Shows (facts_of_group batch.now) batch.now v.items) }
+    { pool_groups(rt, alloc, batch, workers, gate) };
     let command = Replaying::new(alloc, Workers::new(workers, join));
     drive(alloc, command, source, sink)
 }

@@ -28,9 +28,8 @@ use dsc_files::EventLine;
 use dsc_texts::put_answer_line;
 use itoa::Buffer;
 use join_groups::{Groups, MOST_IN_BATCH};
-use receiver_pool::{Heard, Workers};
+use receiver_pool::{Heard, Shown, Workers};
 use ship_station::{Ship, ShipEvent, ShipWhat};
-use slot_evidence::Sheet;
 use std::alloc::AllocError;
 
 /// Appends the line of an act.
@@ -143,7 +142,7 @@ fn step_coast(
 
 /// Goes through what happens at an event line of a ship's file: appends what is written of it, and tells whether an event
 /// was accepted.
-pub(crate) fn happen_at_ship<J: Drop + Fn(&[Heard], usize) -> Result<Vec<Sheet>, AllocError>>(
+pub(crate) fn happen_at_ship<J: Drop + Fn(&[Heard]) -> Result<Vec<Shown>, AllocError>>(
     ship: &mut Ship,
     groups: &mut Groups,
     workers: &Workers<J>,
@@ -180,7 +179,7 @@ pub(crate) fn happen_at_ship<J: Drop + Fn(&[Heard], usize) -> Result<Vec<Sheet>,
 }
 
 /// The same at an event line of a coast station's file.
-pub(crate) fn happen_at_coast<J: Drop + Fn(&[Heard], usize) -> Result<Vec<Sheet>, AllocError>>(
+pub(crate) fn happen_at_coast<J: Drop + Fn(&[Heard]) -> Result<Vec<Shown>, AllocError>>(
     coast: &mut Coast,
     groups: &mut Groups,
     workers: &Workers<J>,

@@ -24,7 +24,7 @@ returns-in_ok-close_batch-in-Ok-clause-ok g c = λ named F holds.
           (c.in_ok-put-in-Ok.ensures.holds (named_with c.args.group named) F c.args.group known.1 known.2),
     )
 
-pub returns-else-len-ge-MOST_IN_BATCH-clause-ok : goal.returns-else-len-ge-MOST_IN_BATCH-clause-ok
-returns-else-len-ge-MOST_IN_BATCH-clause-ok g c = λ named F holds.
+pub returns-else-is_full-clause-ok : goal.returns-else-is_full-clause-ok
+returns-else-is_full-clause-ok g c = λ named F holds.
     let known = c.in-Ok.ensures.ok named F holds in
     (known.0, c.in_ok-put-in-Ok.ensures.holds (named_with c.args.group named) F c.args.group known.1 known.2)
