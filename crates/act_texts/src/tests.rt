@@ -1,7 +1,7 @@
 use super::*;
 use area_rules::{Act, StationRefusal};
-use call_values::{Call, Casualty, Comm, HourMinute, Mmsi, Nature, Position};
 use call_values::worked::PLACE;
+use call_values::{Call, Casualty, Comm, HourMinute, Mmsi, Nature, Position};
 use dsc_texts::read_bare_call;
 use std::test::Fail;
 

@@ -2,9 +2,7 @@
 
 -- an event that isn't before the last one is refused for its own reasons alone
 pub use Rattle.area_rules.proofs.Steps.{in_time, refused_on_time}
-
 -- a refused event has a refusal and leaves the history; an accepted one has its acts and is the newest entry
 pub use Rattle.area_rules.proofs.Steps.{refusal_of, acts_of, entry_at, answer_accepted, continued_refused, continued_accepted}
-
 -- what a legal history is continued by, and what was before it, is legal
 pub use Rattle.area_rules.proofs.Steps.{legal_continued, legal_before}

@@ -17,8 +17,8 @@ pub use laws::{
     one_check_place, one_end_place, one_list, open_is_not_done, read_back,
 };
 pub use reading::read;
-pub use spelling::{format_of, 
-    area_digits, category_symbol, end_of, end_symbol, own_end, position_digits, spell,
+pub use spelling::{
+    area_digits, category_symbol, end_of, end_symbol, format_of, own_end, position_digits, spell,
 };
 pub use symbol_reader::ReadRefusal;
 pub use walking::{Step, Walk};

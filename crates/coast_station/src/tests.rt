@@ -1,10 +1,10 @@
 use super::*;
 use area_rules::{Act, Acts, StationRefusal, put, single};
 use arrayvec::ArrayVec;
+use call_values::worked::PLACE;
 use call_values::{
     Call, Casualty, Category, CoastDelay, Comm, HourMinute, Kind, Mmsi, Nature, Position, To,
 };
-use call_values::worked::PLACE;
 use std::test::Fail;
 
 const COAST: u32 = 2_241_022;
@@ -23,11 +23,7 @@ fn mmsi(number: u32) -> Result<Mmsi, Fail> {
 type Row = (u64, CoastWhat, Result<Acts, StationRefusal>);
 
 /// A station in this band goes through events in order, and does at each what its row says.
-fn follow<const N: usize>(
-    rt: HostRuntime,
-    band: Band,
-    rows: [Row; N],
-) -> Result<(), Fail> {
+fn follow<const N: usize>(rt: HostRuntime, band: Band, rows: [Row; N]) -> Result<(), Fail> {
     let mut coast = Coast::new(mmsi(COAST)?, band);
     for (at, what, want) in rows {
         assert_eq!(rt; coast.step(&CoastEvent { at, what }), want, "at {at}");

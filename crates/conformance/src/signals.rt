@@ -1,6 +1,6 @@
 use call_grammar::{ReadRefusal, read, spell};
-use call_values::{Call, Casualty, Comm, HourMinute, Mmsi, Nature, Position};
 use call_values::worked::PLACE;
+use call_values::{Call, Casualty, Comm, HourMinute, Mmsi, Nature, Position};
 use dsc_symbols::worked::{ALERT, ALERT_SLOTS};
 use phasing::transmission;
 use std::test::Fail;

@@ -21,11 +21,7 @@ fn met<R: Threads + Sync>(
     let mut source = SureSource::new(input, 4096);
     let mut sink = SureSink::new(alloc, 4096, 4096)?;
     let _status = run(rt, alloc, &words, &mut source, &mut sink, &gate);
-    Ok((
-        sink.bytes().to_vec(alloc)?,
-        gate.entered(),
-        gate.met(),
-    ))
+    Ok((sink.bytes().to_vec(alloc)?, gate.entered(), gate.met()))
 }
 
 #[test]

@@ -1,9 +1,9 @@
 use super::*;
+use call_values::worked::PLACE;
 use call_values::{
     Area, Call, Casualty, Category, Comm, End, Field, First, HourMinute, Kind, Message, Mmsi,
     Nature, Position, Second, To,
 };
-use call_values::worked::PLACE;
 use expansion::{Expansion, Part};
 use std::test::Fail;
 

@@ -2,7 +2,6 @@
 
 -- a token whose texts are those of the values in a range, one text for each value
 pub use Rattle.dsc_texts.proofs.SymbolTexts.{Told}
-
 -- such are the texts of identities, natures of distress, communications, positions and addresses
 pub use Rattle.dsc_texts.proofs.SymbolTexts.{identity_told, nature_told, comm_told}
 pub use Rattle.dsc_texts.proofs.FieldTexts.{position_told, address_told}

@@ -2,19 +2,14 @@
 
 -- sets of the same facts are equal
 pub use Rattle.join_groups.proofs.Naming.{same_facts}
-
 -- a line, and lines, give no facts of a group that they don't name; a line of one group gives facts of this group alone
 pub use Rattle.join_groups.proofs.Naming.{unnamed_line, unnamed_facts}
 pub use Rattle.join_groups.proofs.Keeping.{line_of_one}
-
 -- what is held of groups is held of the same groups and facts
 pub use Rattle.join_groups.proofs.Holding.{holds_same}
-
 -- groups are full exactly where a line brings one too many
 pub use Rattle.join_groups.proofs.Keeping.{full_brings, brings_full}
-
 -- what a line says, once it is read
 pub use Rattle.join_groups.proofs.Keeping.{says_reception, says_evidence}
-
 -- what holds of an answer where another thing does
 pub use Rattle.join_groups.proofs.Keeping.{map_ok, map_err}

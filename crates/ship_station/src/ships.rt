@@ -16,9 +16,7 @@ ghost use Rattle.ship_station.specs.inside.Handling.{AnswersEvent, GoesOn};
 use crate::alerts::OwnAlert;
 use crate::events::{ShipEvent, ShipWhat};
 use crate::groups::Groups;
-use area_rules::{
-    Act, Acts, HeldCalls, StationRefusal, for_ship, has_passed, single, time_back,
-};
+use area_rules::{Act, Acts, HeldCalls, StationRefusal, for_ship, has_passed, single, time_back};
 use arrayvec::ArrayVec;
 use call_values::{AlertDelay, Call, Casualty, Comm, HourMinute, Mmsi, Nature, Position};
 use traffic_rules::{answer, hear, repeat, send};

@@ -1,11 +1,11 @@
 use super::*;
 use area_rules::{Act, Acts, StationRefusal, put, single};
 use arrayvec::ArrayVec;
-use call_values::{
-    AlertDelay, Area, Call, Casualty, Category, Comm, End, Field, First, HourMinute, Kind,
-    Message, Mmsi, Nature, Position, Second, To,
-};
 use call_values::worked::PLACE;
+use call_values::{
+    AlertDelay, Area, Call, Casualty, Category, Comm, End, Field, First, HourMinute, Kind, Message,
+    Mmsi, Nature, Position, Second, To,
+};
 use std::test::Fail;
 
 const OWN: u32 = 338_040_079;
@@ -33,11 +33,7 @@ fn ship(mmsi: u32) -> Result<Ship, Fail> {
 type Row = (u64, ShipWhat, Result<Acts, StationRefusal>);
 
 /// The ship goes through events in order, and does at each what its row says.
-fn follow<const N: usize>(
-    rt: HostRuntime,
-    mut ship: Ship,
-    rows: [Row; N],
-) -> Result<(), Fail> {
+fn follow<const N: usize>(rt: HostRuntime, mut ship: Ship, rows: [Row; N]) -> Result<(), Fail> {
     for (at, what, want) in rows {
         assert_eq!(rt; ship.step(&ShipEvent { at, what }), want, "at {at}");
     }

@@ -2,12 +2,9 @@
 
 -- the same facts have the same sheets
 pub use Rattle.slot_evidence.proofs.Ends.{IsEnds-same}
-
 -- what is kept of a set of symbols says where its edges are, and the other way round; so do two sets together
 pub use Rattle.slot_evidence.proofs.Edges.{seen_edges, edges_seen, edges_met, order_met}
-
 -- a set of symbols and one that shows none are seen as the first
 pub use Rattle.slot_evidence.proofs.Sets.{or_none-seen}
-
 -- what the numbers of a place say: one symbol, or two that differ
 pub use Rattle.slot_evidence.proofs.Kept.{one_or_differ}

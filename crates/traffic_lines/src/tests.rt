@@ -1,8 +1,8 @@
 use crate::{EventLine, Point, TrafficLine, read_traffic};
+use call_values::worked::PLACE;
 use call_values::{
     AlertDelay, Area, Band, Call, Category, CoastDelay, Comm, Kind, Mmsi, Nature, Position, To,
 };
-use call_values::worked::PLACE;
 use std::test::Fail;
 
 // Points, lines that aren't of these points, and the column at which each is ill-formed.

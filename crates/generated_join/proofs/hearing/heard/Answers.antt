@@ -10,8 +10,8 @@ pub loop-slot-init : goal.loop-slot-init
 unfolding sent
 loop-slot-init c =
     let items = c.in_ok-extend_from_slice.ensures.items
-        ∙ ap (λ (l : List Element). l ++ c.deref.result.now) c.in_ok-elements.ensures.items
-        ∙ c.deref.ensures.value in
+    ∙ ap (λ (l : List Element). l ++ c.deref.result.now) c.in_ok-elements.ensures.items
+    ∙ c.deref.ensures.value in
     record { heard = items ∙ c.transmission.ensures.sent; long = ap length items ∙ c.transmission.ensures.length }
 
 pub loop-slot-preserved : goal.loop-slot-preserved
