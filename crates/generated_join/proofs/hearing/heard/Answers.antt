@@ -11,7 +11,7 @@ unfolding sent
 loop-slot-init c =
     let items = c.in_ok-extend_from_slice.ensures.items
     ∙ ap (λ (l : List Element). l ++ c.deref.result.now) c.in_ok-elements.ensures.items
-    ∙ c.deref.ensures.value in
+    ∙ c.deref.ensures.0 in
     record { heard = items ∙ c.transmission.ensures.sent; long = ap length items ∙ c.transmission.ensures.length }
 
 pub loop-slot-preserved : goal.loop-slot-preserved
@@ -20,7 +20,7 @@ loop-slot-preserved c =
     let n = c.loop-slot.slot in
     let before = flat_map f (range_with_len 0 n) in
     let shown = c.slot_elements-shown.result in
-    let items = c.in_ok-extend_from_slice-in-loop-slot.ensures.items in
+    let items = c.in_ok-extend_from_slice-2.ensures.items in
     record {
       heard = items ∙ ap (λ (l : List Element). l ++ shown) c.loop-slot.invariant.heard
           ∙ append_assoc (dots 20) before shown
