@@ -3,7 +3,7 @@ ghost use Rattle.slot_evidence.specs.Allowed.{OnlyAllowed};
 ghost use Rattle.receiver_pool.specs.Groups.{IsShort};
 ghost use Rattle.receiver_pool.specs.inside.Worked.{two_facts};
 
-use crate::{Allowed, Board, Heard, Meeting, Open, Seat, Shown, WHOLE, pool, pool_groups};
+use crate::{Allowed, Board, Gate, Heard, Meeting, Open, Seat, Shown, WHOLE, pool, pool_groups};
 use dsc_symbols::worked::ALERT_SLOTS;
 use phasing::LONGEST;
 use slot_evidence::{Reception, Seen, Sheet, shown_by};

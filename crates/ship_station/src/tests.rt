@@ -6,6 +6,7 @@ use call_values::{
     AlertDelay, Area, Call, Casualty, Category, Comm, End, Field, First, HourMinute, Kind, Message,
     Mmsi, Nature, Position, Second, To,
 };
+use std::process::Abort;
 use std::test::Fail;
 
 const OWN: u32 = 338_040_079;
@@ -33,7 +34,7 @@ fn ship(mmsi: u32) -> Result<Ship, Fail> {
 type Row = (u64, ShipWhat, Result<Acts, StationRefusal>);
 
 /// The ship goes through events in order, and does at each what its row says.
-fn follow<const N: usize>(rt: HostRuntime, mut ship: Ship, rows: [Row; N]) -> Result<(), Fail> {
+fn follow<const N: usize>(rt: &impl Abort, mut ship: Ship, rows: [Row; N]) -> Result<(), Fail> {
     for (at, what, want) in rows {
         assert_eq!(rt; ship.step(&ShipEvent { at, what }), want, "at {at}");
     }
@@ -74,7 +75,7 @@ fn an_alert_until_its_acknowledgement(rt: HostRuntime) -> Result<(), Fail> {
         (222_000, acknowledged(own)?, Ok(nothing())),
         (430_000, ShipWhat::Tick, Ok(nothing())),
     ];
-    follow(rt, ship(OWN)?, rows)
+    follow(&rt, ship(OWN)?, rows)
 }
 
 #[test]
@@ -104,7 +105,7 @@ fn refusals_leave_the_ship(rt: HostRuntime) -> Result<(), Fail> {
         (210_006, ShipWhat::Tick, Ok(nothing())),
         (210_006, ShipWhat::Cancel, Err(StationRefusal::NoAlert)),
     ];
-    follow(rt, ship(OWN)?, rows)
+    follow(&rt, ship(OWN)?, rows)
 }
 
 #[test]
@@ -209,7 +210,7 @@ fn calls_for_the_ship_are_answered(rt: HostRuntime) -> Result<(), Fail> {
             Err(StationRefusal::NoSuchCall(1)),
         ),
     ];
-    follow(rt, ship(OTHER)?, rows)
+    follow(&rt, ship(OTHER)?, rows)
 }
 
 #[test]
@@ -243,7 +244,7 @@ fn sent_calls_are_repeated_once(rt: HostRuntime) -> Result<(), Fail> {
         ),
         (900_003, ShipWhat::Tick, Ok(nothing())),
     ];
-    follow(rt, ship(OWN)?, rows)
+    follow(&rt, ship(OWN)?, rows)
 }
 
 #[test]
@@ -283,5 +284,5 @@ fn a_full_ship_refuses_a_relay_in_whole(rt: HostRuntime) -> Result<(), Fail> {
         ),
         (6, relay(To::Area(south), false)?, Ok(nothing())),
     ];
-    follow(rt, ship, rows)
+    follow(&rt, ship, rows)
 }
