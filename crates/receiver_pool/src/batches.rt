@@ -60,7 +60,7 @@ fn shown_to(
     requires short { All IsShort batch.now }
     ensures { IfOk result (λ v. Shows (group_part (is_turn workers worker (worker + 1)) batch.now (length batch.now)) batch.now v.items) }
 {
-    let mut entries = Vec::new(alloc);
+    let mut entries = Vec::with_capacity(alloc, batch.len() / workers as usize + 1)?;
     for (index, heard) in batch.iter().enumerate() {
         let mine = index % workers as usize == worker as usize;
         take_heard(&mut entries, heard, mine)?;
