@@ -24,10 +24,11 @@ fn mmsi(number: u32) -> Result<Mmsi, Fail> {
 type Row = (u64, CoastWhat, Result<Acts, StationRefusal>);
 
 /// A station in this band goes through events in order, and does at each what its row says.
-fn follow<const N: usize>(rt: &impl Abort, band: Band, rows: [Row; N]) -> Result<(), Fail> {
+fn follow(rt: &impl Abort, band: Band, rows: &[Row]) -> Result<(), Fail> {
     let mut coast = Coast::new(mmsi(COAST)?, band);
-    for (at, what, want) in rows {
-        assert_eq!(rt; coast.step(&CoastEvent { at, what }), want, "at {at}");
+    for row in rows {
+        let (at, what) = (row.0, row.1);
+        assert_eq!(rt; coast.step(&CoastEvent { at, what }), row.2, "at {at}");
     }
     Ok(())
 }
@@ -102,7 +103,7 @@ fn on_mf_an_alert_waits_for_its_acknowledgement(rt: HostRuntime) -> Result<(), F
         (70_000, heard(third), Ok(distress(third))),
         (130_000, accept(SHIP, 60_000)?, Ok(acknowledged(third)?)),
     ];
-    follow(&rt, Band::Mf, rows)
+    follow(&rt, Band::Mf, &rows)
 }
 
 #[test]
@@ -118,7 +119,7 @@ fn on_vhf_an_alert_is_acknowledged_at_once(rt: HostRuntime) -> Result<(), Fail> 
         (59_999, CoastWhat::Tick, Ok(nothing())),
         (60_000, CoastWhat::Tick, Ok(nothing())),
     ];
-    follow(&rt, Band::Vhf, rows)
+    follow(&rt, Band::Vhf, &rows)
 }
 
 #[test]
@@ -162,7 +163,7 @@ fn a_casualty_is_told_on_and_closed(rt: HostRuntime) -> Result<(), Fail> {
             Err(StationRefusal::NoCasualty(alert.mmsi)),
         ),
     ];
-    follow(&rt, Band::Mf, rows)
+    follow(&rt, Band::Mf, &rows)
 }
 
 #[test]
@@ -232,7 +233,7 @@ fn a_relay_waits_for_its_acknowledgement(rt: HostRuntime) -> Result<(), Fail> {
         (600_002, CoastWhat::Tick, Ok(single(Act::GaveUp(1)))),
         (4, CoastWhat::Tick, Err(back)),
     ];
-    follow(&rt, Band::Hf, rows)
+    follow(&rt, Band::Hf, &rows)
 }
 
 #[test]

@@ -34,9 +34,10 @@ fn ship(mmsi: u32) -> Result<Ship, Fail> {
 type Row = (u64, ShipWhat, Result<Acts, StationRefusal>);
 
 /// The ship goes through events in order, and does at each what its row says.
-fn follow<const N: usize>(rt: &impl Abort, mut ship: Ship, rows: [Row; N]) -> Result<(), Fail> {
-    for (at, what, want) in rows {
-        assert_eq!(rt; ship.step(&ShipEvent { at, what }), want, "at {at}");
+fn follow(rt: &impl Abort, mut ship: Ship, rows: &[Row]) -> Result<(), Fail> {
+    for row in rows {
+        let (at, what) = (row.0, row.1);
+        assert_eq!(rt; ship.step(&ShipEvent { at, what }), row.2, "at {at}");
     }
     Ok(())
 }
@@ -75,7 +76,7 @@ fn an_alert_until_its_acknowledgement(rt: HostRuntime) -> Result<(), Fail> {
         (222_000, acknowledged(own)?, Ok(nothing())),
         (430_000, ShipWhat::Tick, Ok(nothing())),
     ];
-    follow(&rt, ship(OWN)?, rows)
+    follow(&rt, ship(OWN)?, &rows)
 }
 
 #[test]
@@ -105,7 +106,7 @@ fn refusals_leave_the_ship(rt: HostRuntime) -> Result<(), Fail> {
         (210_006, ShipWhat::Tick, Ok(nothing())),
         (210_006, ShipWhat::Cancel, Err(StationRefusal::NoAlert)),
     ];
-    follow(&rt, ship(OWN)?, rows)
+    follow(&rt, ship(OWN)?, &rows)
 }
 
 #[test]
@@ -210,7 +211,7 @@ fn calls_for_the_ship_are_answered(rt: HostRuntime) -> Result<(), Fail> {
             Err(StationRefusal::NoSuchCall(1)),
         ),
     ];
-    follow(&rt, ship(OTHER)?, rows)
+    follow(&rt, ship(OTHER)?, &rows)
 }
 
 #[test]
@@ -244,7 +245,7 @@ fn sent_calls_are_repeated_once(rt: HostRuntime) -> Result<(), Fail> {
         ),
         (900_003, ShipWhat::Tick, Ok(nothing())),
     ];
-    follow(&rt, ship(OWN)?, rows)
+    follow(&rt, ship(OWN)?, &rows)
 }
 
 #[test]
@@ -284,5 +285,5 @@ fn a_full_ship_refuses_a_relay_in_whole(rt: HostRuntime) -> Result<(), Fail> {
         ),
         (6, relay(To::Area(south), false)?, Ok(nothing())),
     ];
-    follow(&rt, ship, rows)
+    follow(&rt, ship, &rows)
 }
