@@ -9,3 +9,4 @@ mod Core
 mod Unions
 mod Parts
 mod Entries
+mod Quarters

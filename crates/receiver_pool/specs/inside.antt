@@ -1,4 +1,5 @@
 pub mod May
+pub mod Quarters
 pub mod Tells
 pub mod Through
 pub mod Turns

@@ -1,12 +1,13 @@
 //! What a batch holds, and what it showed.
 
-use slot_evidence::{Reception, Sheet};
+use crate::dense::DenseReception;
+use slot_evidence::Sheet;
 
 /// A reception, with the number of its group.
 #[derive(Debug, Drop)]
 pub struct Heard {
     pub group: usize,
-    pub reception: Reception,
+    pub reception: DenseReception,
 }
 
 /// What a reception showed, with the number of its group.
