@@ -119,17 +119,19 @@ blocks_hold e blocks block last k n were made pads all =
     ∙ ap (λ (l : List Element). take n e ++ l) pads
     ∙ take-append-drop n e
 
-four_flat : (a b c d : List Element) → flat_map (λ quarter. quarter) (a ∷ b ∷ c ∷ d ∷ []) ≡ a ++ b ++ c ++ d
-four_flat a b c d =
-    ap (λ (l : List Element). a ++ (b ++ (c ++ l))) (append-nil d) ∙ sym (append_assoc (a ++ b) c d ∙ append_assoc a b (c ++ d))
+four_behind : (e a b c d : List Element) → e ++ a ++ b ++ c ++ d ≡ e ++ (a ++ b ++ c ++ d)
+four_behind e a b c d =
+    ap (λ (l : List Element). l ++ c ++ d) (append_assoc e a b)
+    ∙ ap (λ (l : List Element). l ++ d) (append_assoc e (a ++ b) c)
+    ∙ append_assoc e (a ++ b ++ c) d
 
 -- the elements of one block more
 pub more_elements : (blocks : List (List ℕ)) (block : List ℕ) (k : ℕ) (e a b c d : List Element) → k < length blocks → get_or blocks k [] ≡ block
     → e ≡ flat_map elements_of (take k blocks) → a ≡ quarter 0 block → b ≡ quarter 2 block → c ≡ quarter 4 block → d ≡ quarter 6 block
-    → e ++ flat_map (λ quarter. quarter) (a ∷ b ∷ c ∷ d ∷ []) ≡ flat_map elements_of (take (k + 1) blocks)
+    → e ++ a ++ b ++ c ++ d ≡ flat_map elements_of (take (k + 1) blocks)
 unfolding elements_of
 more_elements blocks block k e a b c d inside is were one two three four =
-    ap (λ (l : List Element). e ++ l) (four_flat a b c d)
+    four_behind e a b c d
     ∙ ap (λ (l : List Element). l ++ (a ++ b ++ c ++ d)) were
     ∙ ap (λ (l : List Element). flat_map elements_of (take k blocks) ++ l) (same_four a b c d _ _ _ _ one two three four ∙ sym (append-nil (elements_of block)))
     ∙ sym (flat_map-append elements_of (take k blocks) (block ∷ []))

@@ -109,13 +109,10 @@ impl DenseReception {
     {
         let mut elements = Vec::with_capacity(alloc, self.blocks.len().saturating_mul(256))?;
         for block in &self.blocks {
-            let quarters = [
-                quarter(block, 0),
-                quarter(block, 2),
-                quarter(block, 4),
-                quarter(block, 6),
-            ];
-            elements.extend_from_slice(quarters.as_flattened())?;
+            elements.extend_from_slice(&quarter(block, 0))?;
+            elements.extend_from_slice(&quarter(block, 2))?;
+            elements.extend_from_slice(&quarter(block, 4))?;
+            elements.extend_from_slice(&quarter(block, 6))?;
         }
         elements.truncate(self.length);
         Ok(Reception::from(elements))

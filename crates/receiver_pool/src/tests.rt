@@ -249,23 +249,6 @@ fn dense_receptions_keep_each_element(rt: HostRuntime) -> Result<(), Fail> {
 }
 
 #[test]
-fn receptions_without_an_origin_make_no_entry(rt: HostRuntime) -> Result<(), Fail> {
-    let mut batch = Vec::new(rt.alloc());
-    let nothing = Reception::new(rt.alloc());
-    for group in [0, 1, 0] {
-        batch.push(heard(rt.alloc(), group, &nothing)?)?;
-    }
-    assert!(rt; are_all_short(&batch));
-    for workers in [1, 2, 64] {
-        assert_eq!(rt;
-            pool_groups(&rt, rt.alloc(), &batch, workers, &Open)?.len(),
-            0
-        );
-    }
-    Ok(())
-}
-
-#[test]
 fn groups_of_a_batch(rt: HostRuntime) -> Result<(), Fail> {
     let list = two_receptions(rt.alloc())?;
     let batch = two_groups(rt.alloc())?;

@@ -12,12 +12,15 @@ loop-block-init c = record {
 }
 
 pub loop-block-preserved : goal.loop-block-preserved
-loop-block-preserved c = record {
-  made = c.in_ok-extend_from_slice.ensures.items
-      ∙ ap (λ (l : List Element). c.loop-block.elements.items ++ l) c.as_flattened.ensures.value
-      ∙ more_elements c.deref-block-items.result.now _ c.loop-block.block-index _ _ _ _ _ (omega arith) refl c.loop-block.invariant.made
-      c.quarter.ensures c.quarter-in-loop-block.ensures c.quarter-in-loop-block-2.ensures c.quarter-in-loop-block-3.ensures;
-}
+loop-block-preserved c =
+    let first = c.in_ok-extend_from_slice.ensures.items in
+    let second = c.in_ok-extend_from_slice-2.ensures.items ∙ ap (λ (l : List Element). l ++ c.quarter-in-loop-block.result) first in
+    let third = c.in_ok-extend_from_slice-3.ensures.items ∙ ap (λ (l : List Element). l ++ c.quarter-in-loop-block-2.result) second in
+    let fourth = c.in_ok-extend_from_slice-4.ensures.items ∙ ap (λ (l : List Element). l ++ c.quarter-in-loop-block-3.result) third in
+    record {
+      made = fourth ∙ more_elements c.deref-block-items.result.now _ c.loop-block.block-index _ _ _ _ _ (omega arith) refl c.loop-block.invariant.made
+          c.quarter.ensures c.quarter-in-loop-block.ensures c.quarter-in-loop-block-2.ensures c.quarter-in-loop-block-3.ensures;
+    }
 
 pub returns : goal.returns
 returns c =
