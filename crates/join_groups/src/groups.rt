@@ -6,7 +6,7 @@ ghost use Rattle.join_groups.specs.Holds.{Holds, HoldsSome, IsFull, named_with, 
 
 use line_engine::Refusal;
 use phasing::LONGEST;
-use receiver_pool::{DenseReception, Heard, Shown, Workers, meet_at, take_at};
+use receiver_pool::{Heard, Shown, Workers, meet_at, take_at};
 use slot_evidence::{Reception, Sheet};
 use std::alloc::{AllocError, Global};
 use std::collections::BTreeMap;
@@ -93,20 +93,20 @@ impl Groups {
         &mut self,
         workers: &Workers<J>,
         group: u32,
-        heard: &Reception,
+        heard: Reception,
     ) -> Result<(), Refusal>
-        requires short { length heard.now ≤ LONGEST }
+        requires short { length heard ≤ LONGEST }
         requires ready { HoldsSome self.old }
         requires joins { JoinsBatches (J.pre workers.now.join) (J.post workers.now.join) }
         ensures ok { OnOk result ((named : ℕ → Bool) (F : ℕ → Facts) → Holds self.old named F
-            → (IsFull named group → ⊥) × Holds self.new (named_with group named) (facts_with group (facts_of heard.now) F)) }
+            → (IsFull named group → ⊥) × Holds self.new (named_with group named) (facts_with group (facts_of heard) F)) }
         ensures err { IfErr result (λ refusal. (refusal ≡ Refusal.Memory) ⊎ ((named : ℕ → Bool) (F : ℕ → Facts) → Holds self.old named F
             → (refusal ≡ Refusal.TooManyGroups) × IsFull named group)) }
 
         // The open batch stays below its bound.
         ensures few { OnOk result (length self.old.batch.items < MOST_IN_BATCH → length self.new.batch.items < MOST_IN_BATCH) }
     {
-        if let Some(shown) = workers.read_alone(heard) {
+        if let Some(shown) = workers.read_alone(&heard) {
             return self.meet(group, &shown);
         }
         match self.number_of(group) {
@@ -129,17 +129,15 @@ impl Groups {
     }
 
     /// Puts a reception of the group with this number into the batch.
-    fn put(&mut self, number: usize, heard: &Reception) -> Result<(), AllocError>
-        requires { length heard.now ≤ LONGEST }
+    fn put(&mut self, number: usize, heard: Reception) -> Result<(), AllocError>
+        requires { length heard ≤ LONGEST }
         ensures holds { OnOk result ((named : ℕ → Bool) (F : ℕ → Facts) (group : ℕ) → Holds self.old named F → number_in self.old group ≡ Some number
-            → Holds self.new named (facts_with group (facts_of heard.now) F)) }
+            → Holds self.new named (facts_with group (facts_of heard) F)) }
         ensures more { OnOk result (length self.new.batch.items ≡ length self.old.batch.items + 1) }
     {
-        let alloc = *self.batch.allocator();
-        let reception = DenseReception::of(alloc, heard.elements())?;
         self.batch.push(Heard {
             group: number,
-            reception,
+            reception: heard,
         })?;
         Ok(())
     }

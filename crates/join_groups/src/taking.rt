@@ -51,7 +51,7 @@ fn take_read<J: Drop + Fn(&[Heard]) -> Result<Vec<Shown>, AllocError>>(
     ensures few { OnOk result (length groups.old.batch.items < MOST_IN_BATCH → length groups.new.batch.items < MOST_IN_BATCH) }
 {
     match read {
-        Line::Reception { group, elements } => groups.hear(workers, group, &elements),
+        Line::Reception { group, elements } => groups.hear(workers, group, elements),
         Line::Evidence { group, sheet } => groups.meet(group, &sheet),
         _ => Ok(()),
     }

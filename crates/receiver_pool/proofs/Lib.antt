@@ -9,4 +9,3 @@ mod Core
 mod Unions
 mod Parts
 mod Entries
-mod Quarters

@@ -1,5 +1,4 @@
 pub mod May
-pub mod Quarters
 pub mod Tells
 pub mod Through
 pub mod Turns

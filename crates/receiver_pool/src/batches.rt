@@ -34,22 +34,16 @@ pub fn take_at(sheets: &mut [Sheet], number: usize) -> Sheet
 }
 
 /// Reads a reception where it is one's turn: what it shows is one entry more.
-fn take_heard(
-    alloc: Global,
-    entries: &mut Vec<Shown>,
-    heard: &Heard,
-    mine: bool,
-) -> Result<(), AllocError>
+fn take_heard(entries: &mut Vec<Shown>, heard: &Heard, mine: bool) -> Result<(), AllocError>
     requires { length heard.now.reception ≤ LONGEST }
     ensures facts { OnOk result ((F : ℕ → Facts) → AreShown F entries.old.items
         → AreShown (λ k. union (F k) (λ p v. mine && (heard.now.group == k && facts_of heard.now.reception p v))) entries.new.items) }
     ensures groups { OnOk result ((n : ℕ) → heard.now.group < n → All (IsOneOf n) entries.old.items → All (IsOneOf n) entries.new.items) }
 {
     if mine {
-        let reception = heard.reception.reception(alloc)?;
         entries.push(Shown {
             group: heard.group,
-            sheet: shown_by(&reception),
+            sheet: shown_by(&heard.reception),
         })?;
     }
     Ok(())
@@ -69,7 +63,7 @@ fn shown_to(
     let mut entries = Vec::with_capacity(alloc, batch.len() / workers as usize + 1)?;
     for (index, heard) in batch.iter().enumerate() {
         let mine = index % workers as usize == worker as usize;
-        take_heard(alloc, &mut entries, heard, mine)?;
+        take_heard(&mut entries, heard, mine)?;
     }
     Ok(entries)
 }

@@ -1,13 +1,12 @@
 //! What a batch holds, and what it showed.
 
-use crate::dense::DenseReception;
-use slot_evidence::Sheet;
+use slot_evidence::{Reception, Sheet};
 
 /// A reception, with the number of its group.
 #[derive(Debug, Drop)]
 pub struct Heard {
     pub group: usize,
-    pub reception: DenseReception,
+    pub reception: Reception,
 }
 
 /// What a reception showed, with the number of its group.

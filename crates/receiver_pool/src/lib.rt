@@ -4,7 +4,6 @@
 mod allowed;
 mod batches;
 mod board;
-mod dense;
 mod gate;
 mod heard;
 mod laws;
@@ -20,7 +19,6 @@ mod workers;
 pub use allowed::{AllFacts, Allowed, all_facts_may_be_posted};
 pub use batches::{meet_at, pool_groups, take_at};
 pub use board::Board;
-pub use dense::DenseReception;
 pub use gate::{Gate, Open};
 pub use heard::{Heard, Shown};
 pub use laws::{one_core, seats_are_at_rest};

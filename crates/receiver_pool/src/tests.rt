@@ -3,10 +3,7 @@ ghost use Rattle.slot_evidence.specs.Allowed.{OnlyAllowed};
 ghost use Rattle.receiver_pool.specs.Groups.{IsShort};
 ghost use Rattle.receiver_pool.specs.inside.Worked.{two_facts};
 
-use crate::{
-    Allowed, Board, DenseReception, Gate, Heard, Meeting, Open, Seat, Shown, WHOLE, pool,
-    pool_groups,
-};
+use crate::{Allowed, Board, Gate, Heard, Meeting, Open, Seat, Shown, WHOLE, pool, pool_groups};
 use dsc_symbols::worked::ALERT_SLOTS;
 use phasing::LONGEST;
 use slot_evidence::{Reception, Seen, Sheet, shown_by};
@@ -194,27 +191,23 @@ fn any_number_of_workers(rt: HostRuntime) -> Result<(), Fail> {
 fn are_all_short(batch: &[Heard]) -> bool
     ensures { IsTrue result → All IsShort batch.now }
 {
-    batch
-        .iter()
-        .all(|heard| heard.reception.has_at_most(LONGEST))
-}
-
-/// A reception of a group, as it waits in a batch.
-fn heard(alloc: Global, group: usize, reception: &Reception) -> Result<Heard, AllocError> {
-    Ok(Heard {
-        group,
-        reception: DenseReception::of(alloc, reception.elements())?,
-    })
+    batch.iter().all(|heard| heard.reception.elements().len() <= LONGEST as usize)
 }
 
 /// A batch of two groups: both receptions in group 1, and the second one in group 0 too.
 fn two_groups(alloc: Global) -> Result<Vec<Heard>, AllocError> {
     let mut batch = Vec::new(alloc);
     for reception in two_receptions(alloc)? {
-        batch.push(heard(alloc, 1, &reception)?)?;
+        batch.push(Heard {
+            group: 1,
+            reception,
+        })?;
     }
     if let Some(reception) = two_receptions(alloc)?.pop() {
-        batch.push(heard(alloc, 0, &reception)?)?;
+        batch.push(Heard {
+            group: 0,
+            reception,
+        })?;
     }
     Ok(batch)
 }
@@ -228,24 +221,6 @@ fn sheet_of_group(entries: &[Shown], group: usize) -> Sheet {
         }
     }
     sheet
-}
-
-#[test]
-fn dense_receptions_keep_each_element(rt: HostRuntime) -> Result<(), Fail> {
-    let three = [Element::Y, Element::B, Element::Lost];
-    for length in [0, 1, 63, 255, 256, 257, 511, 512, 4198usize] {
-        let mut elements = Vec::new(rt.alloc());
-        for i in 0..length {
-            elements.push(three[(i / 3 + i / 64 + i) % 3])?;
-        }
-        let dense = DenseReception::of(rt.alloc(), &elements)?;
-        let reception = dense.reception(rt.alloc())?;
-        assert!(rt;
-            reception.elements() == elements.as_slice(),
-            "{length} elements"
-        );
-    }
-    Ok(())
 }
 
 #[test]

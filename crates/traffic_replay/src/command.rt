@@ -93,7 +93,7 @@ impl Replay {
                 Ok(())
             }
             Line::Group(mmsi) => self.name_group(mmsi),
-            Line::Reception { group, elements } => self.hear(workers, group, &elements),
+            Line::Reception { group, elements } => self.hear(workers, group, elements),
             Line::Evidence { group, sheet } => self.meet(group, &sheet),
             Line::Event { at, what } => {
                 self.happen(workers, at, &what, out)?;
@@ -171,12 +171,12 @@ impl Replay {
         &mut self,
         workers: &Workers<J>,
         group: u32,
-        heard: &Reception,
+        heard: Reception,
     ) -> Result<(), Refusal>
-        requires short { length heard.now ≤ LONGEST }
+        requires short { length heard ≤ LONGEST }
         requires ready { HoldsSome self.old.heard }
         requires joins { JoinsBatches (J.pre workers.now.join) (J.post workers.now.join) }
-        ensures ok { OnOk result ((said : Said) (line : JoinLine) (text : List ℕ) → Keeps self.old said text → IsShown line group (facts_of heard.now)
+        ensures ok { OnOk result ((said : Said) (line : JoinLine) (text : List ℕ) → Keeps self.old said text → IsShown line group (facts_of heard)
             → (BringsTooMany (of_receivers said) line → ⊥) × Keeps self.new (joined line ∷ said) text) }
         ensures err { IfErr result (λ refusal. (refusal ≡ Refusal.Memory) ⊎ ((said : Said) (line : JoinLine) (G : Facts) (text : List ℕ) → Keeps self.old said text
             → IsShown line group G → (refusal ≡ Refusal.TooManyGroups) × BringsTooMany (of_receivers said) line)) }
