@@ -7,6 +7,3 @@ mod refusals;
 
 pub use acts::put_act;
 pub use refusals::put_refused;
-
-#[cfg(test)]
-mod tests;

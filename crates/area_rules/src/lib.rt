@@ -17,6 +17,3 @@ pub use areas::contains;
 pub use held::{Held, HeldCalls, Holding, Side};
 pub use moments::has_passed;
 pub use refusals::{StationRefusal, time_back};
-
-#[cfg(test)]
-mod tests;

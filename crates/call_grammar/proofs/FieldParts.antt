@@ -60,7 +60,7 @@ letter_same : (x : ℕ) (t : Bool) → t ≡ true → Allows (if t then Exactly 
 letter_same x true e h = h
 letter_same x false e h = absurd (cc)
 
--- where a field is told to be of three characters
+-- where a field is told to have three characters
 short_at : (initial b c : ℕ) (absent vhf hf : Bool) → Allows letter.Field initial → (initial / 10 ≡ 4 → ⊥)
     → (initial == 126) ≡ absent → (initial == 90) ≡ vhf → (initial / 10 == 3) ≡ hf
     → Allows (if absent then Exactly 126 else UpTo 99) b → Allows (if absent then Exactly 126 else UpTo 99) c

@@ -28,7 +28,7 @@ use Rattle.call_grammar.specs.inside.Forms.{format_symbol, category_or_distress,
 use Rattle.call_grammar.proofs.CodedParts.{blanks_list}
 use Rattle.call_grammar.proofs.FormLists.{distress-list, relay-list, letter-list, request-list, service-list}
 
--- a word is of the value that it is told to be, behind a list
+-- a word spells the value that it is told to spell, behind a list
 moved : (before : List ℕ → List ℕ) (v u : Call) (w l : List ℕ) → v ≡ u → w ≡ l → CheckedCharacters u (before l) → CheckedCharacters v (before w)
 moved before v u w l value list p = subst (λ x. CheckedCharacters x (before w)) (sym value) (subst (λ x. CheckedCharacters u (before x)) (sym list) p)
 

@@ -22,6 +22,3 @@ pub use spelling::{
 };
 pub use symbol_reader::ReadRefusal;
 pub use walking::{Step, Walk};
-
-#[cfg(test)]
-mod tests;

@@ -28,6 +28,3 @@ pub use natures::Nature;
 pub use parts::{Kind, Message, To};
 pub use places::{Fix, Position};
 pub use telecommands::{Comm, First, Second};
-
-#[cfg(test)]
-mod tests;

@@ -30,7 +30,7 @@ ends mmsi (Send call times) = is_ack_of mmsi call
 ends mmsi (CasualtyClosed closed) = closed == mmsi
 ends mmsi _ = false
 
--- an alert, where it is of this identity
+-- an alert, where this identity sent it
 abbrev pub where_of : (mmsi : ℕ) → Option Casualty → Option Casualty
 where_of mmsi None = None
 where_of mmsi (Some casualty) = if casualty.mmsi == mmsi then Some casualty else None

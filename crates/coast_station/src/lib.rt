@@ -14,6 +14,3 @@ pub use laws::{
     acknowledgements_go_back_to_accepted_alerts, an_alert_is_heard_between_acknowledgements,
     an_identity_is_acknowledged_once, casualties_are_born,
 };
-
-#[cfg(test)]
-mod tests;

@@ -17,7 +17,7 @@ pub record IsHeardWhole (long : Bool) (k : ℕ) (call : Call) (extra : Extra) : 
   pub line_is : encoded_line long k (call, extra) ≡ line ++ 10 ∷ []
   pub says : IsLine (reception k (transmitted long call extra)) line
 
--- some line names the group, and each that does is of a reception that heard the call's whole transmission, with what follows it
+-- some line names the group, and each that does holds a reception that heard the call's whole transmission, with what follows it
 pub record IsOfEncoded (said : List JoinLine) (k : ℕ) (long : Bool) (call : Call) (extra : Extra) : Type 0 where
   pub named : is_named said k ≡ true
   pub each : AllByRecursion (λ line. names k line ≡ true → line ≡ reception k (transmitted long call extra)) said

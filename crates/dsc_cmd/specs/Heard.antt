@@ -30,7 +30,7 @@ AreBehind k [] receptions = receptions ≡ []
 AreBehind k (line ∷ said) receptions =
     (here : List (List Element)) × (rest : List (List Element)) × (receptions ≡ here ++ rest) × AreBehindLine k line here × AreBehind k said rest
 
--- lines name the group, and all the receptions behind its lines are of this call and what follows it: truly phased, and in each character
+-- lines name the group, and all the receptions behind its lines heard this call and what follows it: truly phased, and in each character
 -- wrong in one sense alone
 pub record IsOfCall (said : List JoinLine) (k : ℕ) (call : Call) (tail : List ℕ) (receptions : List (List Element)) : Type 0 where
   pub lawful : IsCall call

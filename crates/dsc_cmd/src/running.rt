@@ -140,7 +140,7 @@ pub fn run<R: Threads + Sync, S: Source, K: Sink, G: Gate>(
     ensures answered { (plan : Planned) → IsPlan (map string_bytes words.now) plan → IsFinished result
         → TellsWhole (meaning_of plan) (input_of plan (S.left source.old)) (input_of plan (S.left source.new)) (K.written sink.old) (K.written sink.new) (K.flushed sink.new) result }
 
-    // Where all receptions of a group are of one call, truly phased and wrong in one sense alone: this call, or a place of it no copy of which
+    // Where all receptions of a group heard one call, truly phased and wrong in one sense alone: this call, or a place of it no copy of which
     // came intact; and the call, where each of its places came intact at some receiver.
     ensures sent { (n : ℕ) → IsPlan (map string_bytes words.now) (joins n) → IsFinished result
         → ReportsSent (S.left source.old) (S.left source.new) (K.written sink.old) (K.written sink.new) (K.flushed sink.new) result }

@@ -1,8 +1,8 @@
--- columns of lines whose first byte tells that they are of one kind among others
+-- columns of lines whose first byte tells their kind
 use Rattle.std.proofs.Common.{ℕ, suc, zero, ◌≤◌, List, ◌∷◌, ◌++◌, take, arith}
 use Rattle.line_grammar.specs.Columns.{Begins, IsColumn}
 
--- lines of which those that begin with this byte are of this kind
+-- lines of which those that begin with this byte have this kind
 pub record AreAt (b : ℕ) {K L : Type 0} (IsK : K → List ℕ → Type 0) (IsL : L → List ℕ → Type 0) : Type 0 where
   pub says : K → L
   pub embeds : (w : K) (text : List ℕ) → IsK w text → IsL (says w) text

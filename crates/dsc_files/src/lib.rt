@@ -20,6 +20,3 @@ pub use laws::{one_line, one_point_line, written_calls_are_read};
 pub use lines::{FileKind, Line, LineFault};
 pub use reading::line_of;
 pub use traffic_lines::{EventLine, Point};
-
-#[cfg(test)]
-mod tests;

@@ -30,6 +30,3 @@ pub use printing::print;
 pub use reading::read;
 pub use sentence_frame::SentenceRefusal;
 pub use verdicts::{Verdict, put_verdict, verdict_on};
-
-#[cfg(test)]
-mod tests;

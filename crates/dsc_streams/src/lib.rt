@@ -16,6 +16,3 @@ pub use std::alloc::AllocError as NoMemory;
 pub use streams::{Failed, Sink, Source};
 pub use sure::{SureSink, SureSource};
 pub use whole::write_all;
-
-#[cfg(test)]
-mod tests;

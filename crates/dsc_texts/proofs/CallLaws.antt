@@ -75,7 +75,7 @@ texts = record {
   text_is = λ w h. text_is w.0 w.1 h.0 h.1;
 }
 
--- two texts are of two calls or of two expansions
+-- two texts belong to two calls or to two expansions
 pub one_call : (a b : Call) (x y : Extra) → IsCall a → IsCall b → IsWholeOrAbsent x → IsWholeOrAbsent y → reported_text a x ≡ reported_text b y → (a ≡ b) × (x ≡ y)
 one_call a b x y h k m n e =
     let same = one_value texts (a, x) (b, y) (h, m) (k, n) e in

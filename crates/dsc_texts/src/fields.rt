@@ -457,6 +457,3 @@ pub fn read_address(bytes: &[u8]) -> Result<(To, &[u8]), usize>
         Err(left) => Err(left),
     }
 }
-
-#[cfg(test)]
-mod tests;

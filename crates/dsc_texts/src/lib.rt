@@ -25,6 +25,3 @@ pub use laws::{
 pub use pieces::append_digits;
 pub use reading::{read_bare_call, read_call};
 pub use values::append_ship_in_distress;
-
-#[cfg(test)]
-mod tests;

@@ -6,8 +6,6 @@ mod numbers;
 mod options;
 mod plans;
 mod reading;
-#[cfg(test)]
-mod tests;
 
 pub use plans::{Plan, PlanError, one_plan};
 pub use reading::plan_of;

@@ -22,7 +22,7 @@ calls_of [] = []
 calls_of (nothing ∷ said) = calls_of said
 calls_of (call c extra ∷ said) = (c, extra) ∷ calls_of said
 
--- the reception line of a call: it is of the group of the call's number
+-- the reception line of a call: its group has the call's number
 unfoldable pub encoded_line : Bool → ℕ → Call × Extra → List ℕ
 encoded_line long number (c, extra) = codes "r g" ++ (decimal number ++ (body_text (transmitted long c extra) ++ 10 ∷ []))
 

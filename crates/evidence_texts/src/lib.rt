@@ -6,6 +6,3 @@ mod laws;
 
 pub use evidence::{put_evidence, put_evidence_line};
 pub use laws::evidence_is_read;
-
-#[cfg(test)]
-mod tests;

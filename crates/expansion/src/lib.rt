@@ -16,6 +16,3 @@ pub use specifiers::expansion_numbers;
 pub use spelling::spell_sets;
 pub use symbol_reader::ReadRefusal;
 pub use values::{Expansion, Sets};
-
-#[cfg(test)]
-mod tests;

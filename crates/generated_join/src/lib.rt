@@ -11,6 +11,3 @@ pub use hearing::RECEPTIONS;
 pub use joining::{MOST_GROUPS, summary_of};
 pub use laws::{generated_lines_are_read, joins_end_so};
 pub use summary::Summary;
-
-#[cfg(test)]
-mod tests;

@@ -17,6 +17,3 @@ pub use command::{Command, Determined, Refusal};
 pub use driving::drive;
 pub use faults::Fault;
 pub use laws::{limits, one_first_fault, one_output, said_lines};
-
-#[cfg(test)]
-mod tests;

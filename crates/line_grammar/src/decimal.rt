@@ -89,6 +89,3 @@ pub fn free_number(least: u64, most: u64, bytes: &[u8]) -> Result<(u64, &[u8]), 
     }
     Ok((number, rest))
 }
-
-#[cfg(test)]
-mod tests;

@@ -71,6 +71,3 @@ pub fn fixed_number<'a>(
     }
     Ok((number, rest))
 }
-
-#[cfg(test)]
-mod tests;

@@ -1,9 +1,10 @@
 -- What entries show together.
-use Rattle.std.proofs.Common.{◌≡◌, ℕ, ◌+◌, ◌%◌, ◌<◌, ◌≤◌, ◌==◌, Bool, true, false, ◌&&◌, ◌||◌, List, [], ◌∷◌, ◌++◌, All, length, drop, slice_index_or, refl, ap, sym, ◌∙◌, subst, add-one}
+use Rattle.std.proofs.Common.{◌≡◌, ℕ, ◌+◌, ◌%◌, ◌<◌, ◌≤◌, ◌==◌, Bool, true, false, ◌&&◌, ◌||◌, List, [], ◌∷◌, ◌++◌, Option, None, All, length, drop, slice_index_or, refl, ap, sym, ◌∙◌, subst, add-one}
 use Rattle.std.proofs.lemmas.List.{drop_more, drop_all}
 use Rattle.std.proofs.lemmas.List.Elements.{All-weaker, All-append}
 use Rattle.slot_evidence.specs.declared.places.Seen.{Seen}
-use Rattle.slot_evidence.specs.Facts.{Facts, no_facts, facts_of, union}
+use Rattle.phasing.specs.Origin.{lead_of}
+use Rattle.slot_evidence.specs.Facts.{Facts, no_facts, facts_at, facts_of, union}
 use Rattle.slot_evidence.specs.Sheet.{IsEnds}
 use Rattle.receiver_pool.specs.declared.heard.Heard.{Heard}
 use Rattle.receiver_pool.specs.declared.heard.Shown.{Shown}
@@ -21,6 +22,11 @@ or_nothing false b is = is
 or_assoc : (a b c : Bool) → ((a || b) || c) ≡ (a || (b || c))
 or_assoc true b c = refl
 or_assoc false b c = refl
+
+and_nothing : (a b : Bool) → (a && (b && false)) ≡ false
+and_nothing true true = refl
+and_nothing true false = refl
+and_nothing false b = refl
 
 -- the same facts
 pub shown_same : (F G : ℕ → Facts) (entries : List Shown) → ((k p v : ℕ) → F k p v ≡ G k p v) → AreShown F entries → AreShown G entries
@@ -68,6 +74,16 @@ pub turn_passed : (mine : Bool) (heard : Heard) (F : ℕ → Facts) (entries : L
 turn_passed mine heard F entries is are =
     shown_same F (λ k. union (F k) (λ p v. mine && (heard.group == k && facts_of heard.reception p v))) entries
     (λ k p v. sym (or_nothing (F k p v) (mine && (heard.group == k && facts_of heard.reception p v)) (ap (λ (b : Bool). b && (heard.group == k && facts_of heard.reception p v)) is)))
+    are
+
+-- a reception without an origin shows nothing
+pub nothing_heard : (mine : Bool) (heard : Heard) (F : ℕ → Facts) (entries : List Shown) → lead_of heard.reception ≡ None → AreShown F entries
+    → AreShown (λ k. union (F k) (λ p v. mine && (heard.group == k && facts_of heard.reception p v))) entries
+unfolding facts_of
+nothing_heard mine heard F entries none are =
+    shown_same F (λ k. union (F k) (λ p v. mine && (heard.group == k && facts_of heard.reception p v))) entries
+    (λ k p v. sym (or_nothing (F k p v) (mine && (heard.group == k && facts_of heard.reception p v))
+    (ap (λ (lead : Option ℕ). mine && (heard.group == k && facts_at heard.reception lead p v)) none ∙ and_nothing mine (heard.group == k))))
     are
 
 -- before the first reception of a batch

@@ -26,7 +26,7 @@ pub record AreSheets (F : ℕ → Facts) (sheets : List (List Seen)) (n : ℕ) :
   pub count : length sheets ≡ n
   pub each : (k : ℕ) → k < n → IsEnds (F k) (slice_index_or sheets k [])
 
--- an entry whose sheet keeps the ends of these facts, which are of its group, and other entries that show the rest
+-- an entry whose sheet keeps the ends of these facts, those of its group, and other entries that show the rest
 pub record ShowsFirst (F : ℕ → Facts) (first : Shown) (Others : (ℕ → Facts) → Type 0) : Type 0 where
   pub facts : Facts
   pub ends : IsEnds facts first.sheet
@@ -43,7 +43,7 @@ AreShown F (entry ∷ entries) = ShowsFirst F entry (λ rest. AreShown rest entr
 abbrev pub IsOneOf : ℕ → Shown → Type 0
 IsOneOf groups entry = entry.group < groups
 
--- the entries show these facts of each group, and are of groups of the batch
+-- the entries show these facts of each group, and belong to groups of the batch
 pub record Shows (F : ℕ → Facts) (batch : List Heard) (entries : List Shown) : Type 0 where
   pub facts : AreShown F entries
   pub groups : (n : ℕ) → All (Belongs n) batch → All (IsOneOf n) entries

@@ -9,7 +9,7 @@ ghost use Rattle.receiver_pool.specs.inside.Turns.{is_turn, group_part};
 use crate::gate::Gate;
 use crate::heard::{Heard, Shown};
 use phasing::LONGEST;
-use slot_evidence::{Sheet, shown_by};
+use slot_evidence::{Sheet, read_sheet};
 use std::alloc::{AllocError, Global};
 use std::thread::{Threads, join};
 
@@ -33,19 +33,23 @@ pub fn take_at(sheets: &mut [Sheet], number: usize) -> Sheet
     sheet
 }
 
-/// Reads a reception where it is one's turn: what it shows is one entry more.
+/// Reads a reception where it is one's turn: what it shows is one entry more. One without an origin shows nothing, and makes none.
 fn take_heard(entries: &mut Vec<Shown>, heard: &Heard, mine: bool) -> Result<(), AllocError>
     requires { length heard.now.reception ≤ LONGEST }
     ensures facts { OnOk result ((F : ℕ → Facts) → AreShown F entries.old.items
         → AreShown (λ k. union (F k) (λ p v. mine && (heard.now.group == k && facts_of heard.now.reception p v))) entries.new.items) }
     ensures groups { OnOk result ((n : ℕ) → heard.now.group < n → All (IsOneOf n) entries.old.items → All (IsOneOf n) entries.new.items) }
 {
-    if mine {
-        entries.push(Shown {
-            group: heard.group,
-            sheet: shown_by(&heard.reception),
-        })?;
+    if !mine {
+        return Ok(());
     }
+    let Some(sheet) = read_sheet(heard.reception.elements()) else {
+        return Ok(());
+    };
+    entries.push(Shown {
+        group: heard.group,
+        sheet,
+    })?;
     Ok(())
 }
 
@@ -106,9 +110,9 @@ fn fork_groups<R: Threads + Sync, G: Gate>(
     Ok(entries)
 }
 
-/// What a batch of receptions shows, one entry each with the number of its group, read by 1 to 64 workers with one fork: worker w takes the
-/// receptions whose index leaves w when divided by their number. Each enters the gate once, first thing. With one worker nothing is
-/// forked. The error is want of memory.
+/// What a batch of receptions shows: an entry with the number of its group for each that has an origin. 1 to 64 workers read them with
+/// one fork: worker w takes the receptions whose index leaves w when divided by their number. Each enters the gate once, first thing.
+/// With one worker nothing is forked. The error is want of memory.
 pub fn pool_groups<R: Threads + Sync, G: Gate>(
     rt: &R,
     alloc: Global,

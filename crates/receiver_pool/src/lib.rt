@@ -26,6 +26,3 @@ pub use meeting::Meeting;
 pub use pools::pool;
 pub use seats::{Seat, WHOLE};
 pub use workers::Workers;
-
-#[cfg(test)]
-mod tests;

@@ -22,7 +22,7 @@ pub fn alerts_end_by_hand_or_acknowledgement()
 {}
 
 /// The law that two attempts of one distress alert which follow each other are at least 210,000 ms apart, in every legal
-/// history. The second one is of another alert where its event begins one. It does nothing.
+/// history. The second one belongs to another alert where its event begins one. It does nothing.
 pub fn attempts_are_apart()
     ensures { (who : Identities) (later between earlier : History ShipWhat) (first second : Entry ShipWhat)
         → Legal (ship_rules who) (later ++ second ∷ (between ++ first ∷ earlier))

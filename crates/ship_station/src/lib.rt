@@ -13,6 +13,3 @@ pub use laws::{
     no_attempt_after_an_end,
 };
 pub use ships::Ship;
-
-#[cfg(test)]
-mod tests;

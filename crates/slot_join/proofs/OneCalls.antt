@@ -29,7 +29,7 @@ kept_shown S (seen.Differ a b) v is kept =
       | inr greatest ↦ ap S (eqb-true v b greatest) ∙ is.has_greatest
     ]
 
--- the facts of receptions are of places and symbols that there are
+-- the facts of receptions name places and symbols that there are
 small_at : (e : List Element) (lead : Option ℕ) (p v : ℕ) → facts_at e lead p v ≡ true → (p < 64) × (v < 128)
 small_at e None p v shown = absurd (cc)
 small_at e (Some lead) p v shown =

@@ -16,6 +16,3 @@ mod words;
 pub use laws::{one_traffic_line, traffic_lines_begin};
 pub use lines::{EventLine, Point, TrafficLine};
 pub use reading::read_traffic;
-
-#[cfg(test)]
-mod tests;

@@ -12,6 +12,3 @@ pub use act_texts::{put_act, put_refused};
 pub use civil_time::civil_minute;
 pub use command::Replay;
 pub use replaying::replay;
-
-#[cfg(test)]
-mod tests;

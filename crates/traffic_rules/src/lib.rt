@@ -13,6 +13,3 @@ pub use equality::are_equal;
 pub use hearing::hear;
 pub use repeating::repeat;
 pub use sending::send;
-
-#[cfg(test)]
-mod tests;

@@ -10,7 +10,7 @@ use Rattle.join_groups.specs.Output.{Told, Telling}
 abbrev pub Numbers : Type 0
 Numbers = List (ℕ × ℕ)
 
--- what is told is of these groups, one by one, whatever facts their sheets keep the ends of
+-- these groups are told of, one by one, whatever facts their sheets keep the ends of
 abbrev pub AreOf : Telling → (sheets : List (List Seen)) → Numbers → List Told → Type 0
 AreOf tells sheets [] [] = Unit {0}
 AreOf tells sheets [] (told ∷ all) = ⊥

@@ -1,4 +1,0 @@
-use Rattle.call_grammar.proofs.tests.is_end_wanted_once.Goals as goal
-
-pub take-requires-clause-open : goal.take-requires-clause-open
-take-requires-clause-open c = c.open_is_not_done.ensures c.loop-symbol.walk c.loop-symbol.invariant

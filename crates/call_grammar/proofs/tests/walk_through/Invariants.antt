@@ -1,6 +1,0 @@
-use Rattle.std.proofs.Common.{◌≡◌, ◌⊎◌, []}
-use Rattle.call_grammar.specs.Walk.{IsOpen}
-use Rattle.call_grammar.proofs.tests.walk_through.Given as goal
-
-abbrev pub invariant-loop-taken : goal.invariant-loop-taken
-invariant-loop-taken l = (l.walk ≡ []) ⊎ IsOpen l.walk

@@ -1,0 +1,225 @@
+use call_grammar::*;
+use call_values::{Call, End};
+use dsc_symbols::worked::ALERT;
+
+/// How many symbols, the second format specifier aside, a walk takes, and where it ends.
+fn walk_through(list: &[u8]) -> (usize, Step) {
+    open_is_not_done();
+    let mut walk = Walk::start();
+    for (taken, symbol) in list.iter().enumerate() {
+        match walk.take(*symbol % 128) {
+            Step::More => {}
+            step => return (taken, step),
+        }
+    }
+    (list.len(), Step::More)
+}
+
+#[test]
+fn the_standard_alert(rt: HostRuntime) {
+    let (taken, step) = walk_through(&ALERT[1..]);
+    assert_eq!(rt; taken, 16);
+    let Step::Done(Call::Alert(casualty)) = step else {
+        assert!(rt; false, "{step:?}");
+        return;
+    };
+    assert_eq!(rt; casualty.mmsi.number(), 338_040_079);
+    assert_eq!(rt; casualty.nature.number(), 106);
+    assert_eq!(rt; casualty.time.known(), Some((20, 19)));
+    assert_eq!(rt; casualty.comm.number(), 100);
+}
+
+#[test]
+fn spelled_and_read(rt: HostRuntime) {
+    let (_, step) = walk_through(&ALERT[1..]);
+    let Step::Done(call) = step else {
+        assert!(rt; false, "{step:?}");
+        return;
+    };
+    assert_eq!(rt; spell(&call).as_slice(), ALERT.as_slice());
+    assert_eq!(rt; read(&ALERT), Ok((call, 20)));
+    assert_eq!(rt; read(&ALERT[..19]), Err(ReadRefusal::Short(19)));
+    assert_eq!(rt; read(&ALERT[1..]), Err(ReadRefusal::Outside(1, 33)));
+    let mut list = ALERT;
+    list[19] = 117;
+    assert_eq!(rt; read(&list), Err(ReadRefusal::Outside(19, 117)));
+    list[17] = 79;
+    let wrong = ReadRefusal::Check {
+        n: 17,
+        want: 78,
+        got: 79,
+    };
+    assert_eq!(rt; read(&list), Err(wrong));
+}
+
+#[test]
+fn refused_symbols(rt: HostRuntime) {
+    let mut list = ALERT;
+    list[17] = 79;
+    let wrong = Step::Check { want: 78, got: 79 };
+    assert_eq!(rt; walk_through(&list[1..]), (16, wrong));
+    list[6] = 91;
+    assert_eq!(rt; walk_through(&list[1..]), (5, Step::Outside));
+    list[2] = 112;
+    assert_eq!(rt; walk_through(&list[1..]), (1, Step::Outside));
+    assert_eq!(rt; walk_through(&ALERT[1..16]), (15, Step::More));
+}
+
+/// Whether the list is read as a call that is spelled by it.
+fn is_read_back(list: &[u8]) -> bool {
+    match read(list) {
+        Ok((call, length)) => length == list.len() && spell(&call).as_slice() == list,
+        Err(_) => false,
+    }
+}
+
+/// Whether a walk through the list wants the first end of sequence once, and then meets one.
+fn is_end_wanted_once(list: &[u8]) -> bool {
+    open_is_not_done();
+    let mut walk = Walk::start();
+    let mut was_wanted = false;
+    for symbol in list.iter().skip(1) {
+        if walk.wants_end() {
+            if was_wanted || !matches!(symbol, 117 | 122 | 127) {
+                return false;
+            }
+            was_wanted = true;
+        }
+        match walk.take(*symbol % 128) {
+            Step::More => {}
+            step => return matches!(step, Step::Done(_)) && was_wanted && !walk.wants_end(),
+        }
+    }
+    false
+}
+
+#[test]
+fn each_form_and_each_address(rt: HostRuntime) {
+    let lists: [(&str, &[u8]); 14] = [
+        (
+            "an alert",
+            &[
+                112, 112, 33, 80, 40, 7, 90, 106, 14, 23, 10, 83, 12, 20, 19, 100, 127, 78, 127,
+                127,
+            ],
+        ),
+        (
+            "an acknowledgement",
+            &[
+                116, 116, 112, 0, 22, 41, 2, 20, 110, 33, 80, 40, 7, 90, 106, 14, 23, 10, 83, 12,
+                20, 19, 100, 127, 125, 127, 127,
+            ],
+        ),
+        (
+            "a relay to all ships",
+            &[
+                116, 116, 112, 0, 22, 41, 2, 20, 112, 33, 80, 40, 7, 90, 106, 14, 23, 10, 83, 12,
+                20, 19, 100, 117, 105, 117, 117,
+            ],
+        ),
+        (
+            "a relay to an area",
+            &[
+                102, 102, 14, 30, 84, 2, 2, 112, 0, 22, 41, 2, 20, 112, 33, 80, 40, 7, 90, 106, 14,
+                23, 10, 83, 12, 20, 19, 100, 127, 53, 127, 127,
+            ],
+        ),
+        (
+            "a relay acknowledged to a group",
+            &[
+                114, 114, 0, 22, 41, 2, 20, 112, 33, 80, 40, 7, 90, 112, 33, 80, 40, 7, 90, 106,
+                14, 23, 10, 83, 12, 20, 19, 100, 122, 100, 122, 122,
+            ],
+        ),
+        (
+            "a relay to one station",
+            &[
+                120, 120, 0, 22, 41, 2, 20, 112, 33, 81, 58, 13, 70, 112, 33, 80, 40, 7, 90, 106,
+                14, 23, 10, 83, 12, 20, 19, 100, 117, 100, 117, 117,
+            ],
+        ),
+        (
+            "a call to all ships",
+            &[
+                116, 116, 108, 0, 22, 41, 2, 20, 100, 126, 90, 0, 16, 126, 126, 126, 127, 96, 127,
+                127,
+            ],
+        ),
+        (
+            "an area call",
+            &[
+                102, 102, 14, 30, 84, 2, 2, 108, 0, 22, 41, 2, 20, 100, 126, 126, 126, 126, 126,
+                126, 126, 127, 2, 127, 127,
+            ],
+        ),
+        (
+            "a group call in tens of hertz",
+            &[
+                114, 114, 0, 22, 41, 2, 20, 110, 33, 80, 40, 7, 90, 109, 126, 41, 23, 45, 67, 2,
+                18, 20, 127, 9, 127, 127,
+            ],
+        ),
+        (
+            "a call to one station on channels",
+            &[
+                120, 120, 0, 22, 41, 2, 20, 100, 33, 80, 40, 7, 90, 109, 126, 31, 23, 45, 126, 126,
+                126, 122, 3, 122, 122,
+            ],
+        ),
+        (
+            "a call to one station with a position",
+            &[
+                120, 120, 0, 22, 41, 2, 20, 100, 33, 80, 40, 7, 90, 104, 100, 55, 99, 99, 99, 99,
+                99, 117, 28, 117, 117,
+            ],
+        ),
+        (
+            "a test",
+            &[
+                120, 120, 0, 22, 41, 2, 20, 108, 33, 80, 40, 7, 90, 118, 126, 126, 126, 126, 126,
+                126, 126, 117, 68, 117, 117,
+            ],
+        ),
+        (
+            "a position asked for",
+            &[
+                120, 120, 33, 81, 58, 13, 70, 100, 0, 22, 41, 2, 20, 121, 126, 126, 126, 126, 126,
+                126, 126, 117, 70, 117, 117,
+            ],
+        ),
+        (
+            "a position told",
+            &[
+                120, 120, 0, 22, 41, 2, 20, 100, 33, 81, 58, 13, 70, 121, 126, 55, 14, 23, 10, 83,
+                12, 19, 2, 122, 35, 122, 122,
+            ],
+        ),
+    ];
+    for (name, list) in lists {
+        assert!(rt; is_read_back(list), "{name}");
+        assert!(rt; is_end_wanted_once(list), "{name}");
+    }
+}
+
+#[test]
+fn symbols_that_part_the_forms(rt: HostRuntime) {
+    let mut list = [
+        120, 120, 0, 22, 41, 2, 20, 108, 33, 80, 40, 7, 90, 118, 126, 126, 126, 126, 126, 126, 126,
+        117, 68, 117, 117,
+    ];
+    list[7] = 106;
+    assert_eq!(rt; read(&list), Err(ReadRefusal::Outside(7, 106)));
+    list[7] = 108;
+    list[21] = 127;
+    assert_eq!(rt; read(&list), Err(ReadRefusal::Outside(21, 127)));
+    list[13] = 109;
+    list[14] = 100;
+    list[22] = 79;
+    list[23] = 127;
+    list[24] = 127;
+    let Ok((Call::Individual { end, .. }, 25)) = read(&list) else {
+        assert!(rt; false, "{:?}", read(&list));
+        return;
+    };
+    assert_eq!(rt; end, End::Plain);
+}

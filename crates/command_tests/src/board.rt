@@ -1,0 +1,264 @@
+ghost use Rattle.std.specs.Prelude.{◌≡◌, ◌≤◌, ◌⊎◌, All, IsTrue, length};
+ghost use Rattle.slot_evidence.specs.Allowed.{OnlyAllowed};
+ghost use Rattle.receiver_pool.specs.Groups.{IsShort};
+ghost use Rattle.receiver_pool.specs.inside.Worked.{two_facts};
+
+use dsc_symbols::worked::ALERT_SLOTS;
+use phasing::LONGEST;
+use receiver_pool::{
+    Allowed, Board, Gate, Heard, Meeting, Open, Seat, Shown, WHOLE, pool, pool_groups,
+};
+use slot_evidence::{Reception, Seen, Sheet, shown_by};
+use std::alloc::{AllocError, Global};
+use std::process::Abort;
+use std::test::Fail;
+use std::thread::{Threads, join};
+use ten_unit::{Element, word};
+
+/// The two facts of the worked row: place 8 showed 14, and it showed 22.
+struct TwoFacts;
+
+impl Allowed for TwoFacts {
+    ghost facts = { two_facts };
+}
+
+/// The sheet of one of the two facts.
+fn sheet_of(symbol: u8) -> Sheet
+    requires { (symbol ≡ 14) ⊎ (symbol ≡ 22) }
+    ensures { OnlyAllowed two_facts result }
+{
+    let mut sheet = Sheet::empty();
+    sheet.add(8, symbol);
+    sheet
+}
+
+/// That a sheet says of place 8 that it showed both symbols, and nothing of any other place.
+fn is_both(rt: &impl Abort, sheet: &Sheet) {
+    for p in 0..64 {
+        let seen = if p == 8 {
+            Seen::Differ(14, 22)
+        } else {
+            Seen::None
+        };
+        assert_eq!(rt; sheet.at(p), seen, "place {p}");
+    }
+}
+
+#[test]
+fn two_seats_on_one_thread(rt: HostRuntime) -> Result<(), Fail> {
+    let (board, seat) = Board::<TwoFacts>::new(rt.alloc())?;
+    assert_eq!(rt; seat.share(), WHOLE);
+    let (one, other) = board.split(seat);
+    assert_eq!(rt; one.share() + other.share(), WHOLE);
+    let one = board.admit(one, &sheet_of(14));
+    let other = board.admit(other, &sheet_of(22));
+    let (one, sheet) = board.look(one);
+    is_both(&rt, &sheet);
+    let seat = board.join(one, other);
+    is_both(&rt, &board.close(seat));
+    Ok(())
+}
+
+/// Two threads take a seat each of one board, and admit a fact each; the seats are joined and the board is closed.
+fn heard_by_two<R: Threads + Sync>(rt: &R, alloc: Global) -> Result<Sheet, AllocError> {
+    let (board, seat) = Board::<TwoFacts>::new(alloc)?;
+    let (one, other) = board.split(seat);
+    let shared = &board;
+    let first = sheet_of(14);
+    let second = sheet_of(22);
+    let (one, other) = join(
+        rt,
+        move || -> Seat<TwoFacts>
+            requires { (one.table ≡ shared.now) × OnlyAllowed two_facts first }
+            ensures { (result.table ≡ shared.entry.now) × (result.view.share ≡ one.view.share) }
+        { shared.admit(one, &first) },
+        move || -> Seat<TwoFacts>
+            requires { (other.table ≡ shared.now) × OnlyAllowed two_facts second }
+            ensures { (result.table ≡ shared.entry.now) × (result.view.share ≡ other.view.share) }
+        { shared.admit(other, &second) },
+    );
+    let seat = board.join(one, other);
+    Ok(board.close(seat))
+}
+
+#[test]
+fn two_seats_in_two_threads(rt: HostRuntime) -> Result<(), Fail> {
+    for _ in 0..100 {
+        let sheet = heard_by_two(&rt, rt.alloc())?;
+        is_both(&rt, &sheet);
+    }
+    Ok(())
+}
+
+#[test]
+fn a_seat_dropped_on_the_way(rt: HostRuntime) -> Result<(), Fail> {
+    let (board, seat) = Board::<TwoFacts>::new(rt.alloc())?;
+    let (one, other) = board.split(seat);
+    let other = board.admit(other, &sheet_of(22));
+    drop(other);
+    let one = board.admit(one, &sheet_of(14));
+    let (_one, sheet) = board.look(one);
+    is_both(&rt, &sheet);
+    Ok(())
+}
+
+#[test]
+fn the_open_gate_lets_pass(rt: HostRuntime) -> Result<(), Fail> {
+    Open.enter(0);
+    assert_eq!(rt; Open, Open);
+    Ok(())
+}
+
+/// A reception of the worked alert that begins with slot 0, in which these slots are lost.
+fn reception(alloc: Global, lost: &[usize]) -> Result<Reception, AllocError> {
+    let mut elements = Vec::new(alloc);
+    for (slot, symbol) in ALERT_SLOTS.iter().enumerate() {
+        if lost.contains(&slot) {
+            elements.extend_from_slice(&[Element::Lost; 10])?;
+        } else {
+            elements.extend_from_slice(&word(*symbol % 128))?;
+        }
+    }
+    Ok(Reception::from(elements))
+}
+
+/// The two receptions of the worked row: one lost its DX slots from 12 on and slot 31, the other all slots from 16 on but slot 26.
+fn two_receptions(alloc: Global) -> Result<Vec<Reception>, AllocError> {
+    let mut list = Vec::new(alloc);
+    list.push(reception(
+        alloc,
+        &[
+            12, 14, 16, 18, 20, 22, 24, 26, 28, 30, 31, 32, 34, 36, 38, 40, 42, 44, 46, 48, 50,
+        ],
+    )?)?;
+    list.push(reception(
+        alloc,
+        &[
+            16, 17, 18, 19, 20, 21, 22, 23, 24, 25, 27, 28, 29, 30, 31, 32, 33, 34, 35, 36, 37, 38,
+            39, 40, 41, 42, 43, 44, 45, 46, 47, 48, 49, 50, 51,
+        ],
+    )?)?;
+    Ok(list)
+}
+
+/// Whether no reception passes the greatest length.
+fn are_short(list: &[Reception]) -> bool
+    ensures { IsTrue result → All (λ heard. length heard ≤ LONGEST) list.now }
+{
+    list.iter()
+        .all(|heard| heard.elements().len() <= LONGEST as usize)
+}
+
+/// The sheet of receptions, joined one after another.
+fn one_by_one(list: &[Reception]) -> Sheet
+    requires { All (λ heard. length heard ≤ LONGEST) list.now }
+{
+    let mut sheet = Sheet::empty();
+    for heard in list {
+        sheet.meet(&shown_by(heard));
+    }
+    sheet
+}
+
+#[test]
+fn two_workers_meet_in_the_gate(rt: HostRuntime) -> Result<(), Fail> {
+    let list = two_receptions(rt.alloc())?;
+    assert!(rt; are_short(&list));
+    let gate = Meeting::of(2);
+    let sheet = pool(&rt, rt.alloc(), &list, 2, &gate)?;
+    assert_eq!(rt; gate.entered(), 2);
+    assert_eq!(rt; gate.met(), 2);
+    assert_eq!(rt; sheet.at(7), Seen::One(106));
+    assert_eq!(rt; sheet, one_by_one(&list));
+    Ok(())
+}
+
+#[test]
+fn any_number_of_workers(rt: HostRuntime) -> Result<(), Fail> {
+    let list = two_receptions(rt.alloc())?;
+    assert!(rt; are_short(&list));
+    let whole = one_by_one(&list);
+    for workers in [1, 2, 3, 64] {
+        assert_eq!(rt;
+            pool(&rt, rt.alloc(), &list, workers, &Open)?,
+            whole,
+            "{workers} workers"
+        );
+    }
+    assert_eq!(rt; pool(&rt, rt.alloc(), &[], 5, &Open)?, Sheet::empty());
+    Ok(())
+}
+
+/// Whether no reception of a batch passes the greatest length.
+fn are_all_short(batch: &[Heard]) -> bool
+    ensures { IsTrue result → All IsShort batch.now }
+{
+    batch.iter().all(|heard| heard.reception.elements().len() <= LONGEST as usize)
+}
+
+/// A batch of two groups: both receptions in group 1, and the second one in group 0 too.
+fn two_groups(alloc: Global) -> Result<Vec<Heard>, AllocError> {
+    let mut batch = Vec::new(alloc);
+    for reception in two_receptions(alloc)? {
+        batch.push(Heard {
+            group: 1,
+            reception,
+        })?;
+    }
+    if let Some(reception) = two_receptions(alloc)?.pop() {
+        batch.push(Heard {
+            group: 0,
+            reception,
+        })?;
+    }
+    Ok(batch)
+}
+
+/// The sheet of a group, joined from all of its entries.
+fn sheet_of_group(entries: &[Shown], group: usize) -> Sheet {
+    let mut sheet = Sheet::empty();
+    for entry in entries {
+        if entry.group == group {
+            sheet.meet(&entry.sheet);
+        }
+    }
+    sheet
+}
+
+#[test]
+fn receptions_without_an_origin_make_no_entry(rt: HostRuntime) -> Result<(), Fail> {
+    let mut batch = Vec::new(rt.alloc());
+    for group in [0, 1, 0] {
+        batch.push(Heard {
+            group,
+            reception: Reception::new(rt.alloc()),
+        })?;
+    }
+    assert!(rt; are_all_short(&batch));
+    for workers in [1, 2, 64] {
+        let entries = pool_groups(&rt, rt.alloc(), &batch, workers, &Open)?;
+        assert_eq!(rt; entries.len(), 0, "{workers} workers");
+    }
+    Ok(())
+}
+
+#[test]
+fn groups_of_a_batch(rt: HostRuntime) -> Result<(), Fail> {
+    let list = two_receptions(rt.alloc())?;
+    let batch = two_groups(rt.alloc())?;
+    assert!(rt; are_short(&list) && are_all_short(&batch));
+    let whole = one_by_one(&list);
+    for workers in [1, 2, 3, 64] {
+        let entries = pool_groups(&rt, rt.alloc(), &batch, workers, &Open)?;
+        assert_eq!(rt; entries.len(), 3);
+        let second = sheet_of_group(&entries, 0);
+        assert_eq!(rt; second.at(6), Seen::None);
+        assert_eq!(rt; second.at(7), Seen::One(106));
+        assert_eq!(rt; sheet_of_group(&entries, 1), whole, "{workers} workers");
+    }
+    let gate = Meeting::of(2);
+    let entries = pool_groups(&rt, rt.alloc(), &batch, 2, &gate)?;
+    assert_eq!(rt; entries.len(), 3);
+    assert_eq!(rt; gate.met(), 2);
+    Ok(())
+}

@@ -1,0 +1,179 @@
+use call_values::Band;
+use dsc_files::{EventLine, FileKind, Line, LineFault, Point, line_of};
+use slot_evidence::Seen;
+use std::test::Fail;
+use ten_unit::Element;
+
+// Lines of join's input, and the column at which each is ill-formed.
+const COLUMNS: [(&str, usize); 28] = [
+    ("x", 1),
+    (" r", 1),
+    ("\r", 1),
+    ("r ", 3),
+    ("rY", 2),
+    ("r YBX", 5),
+    ("r YB ", 5),
+    ("r  Y", 3),
+    ("r g", 4),
+    ("r gY", 4),
+    ("r g07 Y", 5),
+    ("r g0Y", 5),
+    ("r g0 ", 6),
+    ("r g1 g2", 6),
+    ("r g4294967296", 13),
+    ("r g42949672950", 14),
+    ("e ", 3),
+    ("e 5", 4),
+    ("e 05:1", 4),
+    ("e 64:1", 4),
+    ("e 0:128", 7),
+    ("e 7:130", 7),
+    ("e 7:200", 7),
+    ("e g5 ", 6),
+    ("e g5 64:1", 7),
+    ("e 1:2  3:4", 7),
+    ("e 1:2 ", 7),
+    ("e 1:2 3:4 g1", 11),
+];
+
+#[test]
+fn ill_formed_lines_have_columns(rt: HostRuntime) -> Result<(), Fail> {
+    for (text, column) in COLUMNS {
+        let Err(fault) = line_of(rt.alloc(), FileKind::Join, text.as_bytes()) else {
+            return Err("a line")?;
+        };
+        assert_eq!(rt; fault, LineFault::Column(column), "{text}");
+    }
+    Ok(())
+}
+
+#[test]
+fn comments_say_nothing(rt: HostRuntime) -> Result<(), Fail> {
+    for text in ["", "#", "# r YB", "#\r\n"] {
+        let Line::Nothing = line_of(rt.alloc(), FileKind::Join, text.as_bytes())? else {
+            return Err("something")?;
+        };
+    }
+    Ok(())
+}
+
+// Lines of receptions, their groups and their signs.
+const RECEPTIONS: [(&str, u32, &str); 5] = [
+    ("r", 0, ""),
+    ("r g0", 0, ""),
+    ("r g4294967295", 4_294_967_295, ""),
+    ("r YB-", 0, "YB-"),
+    ("r g17 -Y", 17, "-Y"),
+];
+
+#[test]
+fn receptions_have_elements(rt: HostRuntime) -> Result<(), Fail> {
+    for (text, wanted, signs) in RECEPTIONS {
+        let Line::Reception { group, elements } = line_of(
+            rt.alloc(),
+            FileKind::Join,
+            text.as_bytes(),
+        )?
+        else {
+            return Err("no reception")?;
+        };
+        assert_eq!(rt; group, wanted, "{text}");
+        assert_eq!(rt; elements.elements().len(), signs.len(), "{text}");
+        for (element, sign) in elements.elements().iter().zip(signs.as_bytes()) {
+            let wanted = match *sign {
+                b'Y' => Element::Y,
+                b'B' => Element::B,
+                _ => Element::Lost,
+            };
+            assert_eq!(rt; *element, wanted, "{text}");
+        }
+    }
+    Ok(())
+}
+
+#[test]
+fn evidence_has_pairs(rt: HostRuntime) -> Result<(), Fail> {
+    let text = b"e g9 63:127 0:120 8:22 8:14 8:14 8:17";
+    let Line::Evidence { group, sheet } = line_of(rt.alloc(), FileKind::Join, text)? else {
+        return Err("no evidence")?;
+    };
+    assert_eq!(rt; group, 9);
+    assert_eq!(rt; sheet.at(0), Seen::One(120));
+    assert_eq!(rt; sheet.at(8), Seen::Differ(14, 22));
+    assert_eq!(rt; sheet.at(9), Seen::None);
+    assert_eq!(rt; sheet.at(63), Seen::One(127));
+    for text in ["e", "e g0"] {
+        let Line::Evidence { group, sheet } = line_of(rt.alloc(), FileKind::Join, text.as_bytes())?
+        else {
+            return Err("no evidence")?;
+        };
+        assert_eq!(rt; group, 0);
+        assert_eq!(rt; sheet.at(0), Seen::None);
+    }
+    Ok(())
+}
+
+// Lines at points of a traffic file, and the column at which each is ill-formed there.
+const POINT_COLUMNS: [(Point, &str, usize); 14] = [
+    (Point::Station, "base 0", 1),
+    (Point::Station, "station coast 002241022 lf", 25),
+    (Point::Station, "r YB", 1),
+    (Point::Base, "e 0:112", 1),
+    (Point::Base, "0 tick", 1),
+    (Point::Groups { held: 16 }, "group 000000001", 1),
+    (Point::Groups { held: 15 }, "group 00000001", 15),
+    (Point::Groups { held: 0 }, "r YBX", 5),
+    (Point::Ship, "group 000000001", 1),
+    (Point::Ship, "e 64:1", 4),
+    (Point::Ship, "0 answer 0", 10),
+    (Point::Coast, "group 000000001", 1),
+    (Point::Coast, "0 alert nature=106 then=100", 4),
+    (Point::Ship, "0 tick\r", 7),
+];
+
+#[test]
+fn ill_formed_lines_of_points_have_columns(rt: HostRuntime) -> Result<(), Fail> {
+    for (point, text, column) in POINT_COLUMNS {
+        let kind = FileKind::Traffic(point);
+        let Err(fault) = line_of(rt.alloc(), kind, text.as_bytes()) else {
+            return Err("a line")?;
+        };
+        assert_eq!(rt; fault, LineFault::Column(column), "{text}");
+    }
+    Ok(())
+}
+
+#[test]
+fn lines_of_points_say_what_they_say(rt: HostRuntime) -> Result<(), Fail> {
+    let ship = FileKind::Traffic(Point::Ship);
+    let Line::Event { at, what } = line_of(rt.alloc(), ship, b"7 heard g3")? else {
+        return Err("no event")?;
+    };
+    assert_eq!(rt; (at, what), (7, EventLine::Heard(3)));
+    let Line::Evidence { group, .. } = line_of(rt.alloc(), ship, b"e g5 0:112")? else {
+        return Err("no evidence")?;
+    };
+    assert_eq!(rt; group, 5);
+    let station = FileKind::Traffic(Point::Station);
+    let Line::Coast(mmsi, band) = line_of(rt.alloc(), station, b"station coast 002241022 hf")?
+    else {
+        return Err("no coast station")?;
+    };
+    assert_eq!(rt; (mmsi.number(), band), (2_241_022, Band::Hf));
+    let coast = FileKind::Traffic(Point::Coast);
+    let Line::Event { at, what } = line_of(rt.alloc(), coast, b"8 answer 16")? else {
+        return Err("no event")?;
+    };
+    assert_eq!(rt; (at, what), (8, EventLine::Answer(16, true)));
+    let base = FileKind::Traffic(Point::Base);
+    let Line::Base(second) = line_of(rt.alloc(), base, b"base 1714594740")? else {
+        return Err("no base")?;
+    };
+    assert_eq!(rt; second, 1_714_594_740);
+    for point in [Point::Station, Point::Base, Point::Ship] {
+        let Line::Nothing = line_of(rt.alloc(), FileKind::Traffic(point), b"# r YB")? else {
+            return Err("something")?;
+        };
+    }
+    Ok(())
+}
