@@ -64,7 +64,7 @@ fn shown_to(
     requires short { All IsShort batch.now }
     ensures { IfOk result (λ v. Shows (group_part (is_turn workers worker (worker + 1)) batch.now (length batch.now)) batch.now v.items) }
 {
-    let mut entries = Vec::with_capacity(alloc, batch.len() / workers as usize + 1)?;
+    let mut entries = Vec::new(alloc);
     for (index, heard) in batch.iter().enumerate() {
         let mine = index % workers as usize == worker as usize;
         take_heard(&mut entries, heard, mine)?;
@@ -124,5 +124,18 @@ pub fn pool_groups<R: Threads + Sync, G: Gate>(
     requires short { All IsShort batch.now }
     ensures { IfOk result (λ v. Shows (facts_of_group batch.now) batch.now v.items) }
 {
-    fork_groups(rt, alloc, batch, 0, workers, workers, gate)
+    if workers == 1 {
+        return fork_groups(rt, alloc, batch, 0, 1, 1, gate);
+    }
+    // An empty thread comes first. A kernel may put the first new thread on the processor of the one that starts it, where it waits until
+    // that one has done its own share; the worker started behind it then has another processor, and begins at once.
+    let (_, entries) = join(
+        rt,
+        || {},
+        move || -> Result<Vec<Shown>, AllocError>
+            requires { IsSync R.row × IsSync G.row × ((1 ≤ workers) × (workers ≤ 64)) × All IsShort batch.now }
+            ensures { IfOk result (λ v. Shows (group_part (is_turn workers 0 workers) batch.entry.now (length batch.entry.now)) batch.entry.now v.items) }
+        { fork_groups(rt, alloc, batch, 0, workers, workers, gate) },
+    );
+    entries
 }

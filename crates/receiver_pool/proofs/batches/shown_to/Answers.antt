@@ -12,8 +12,8 @@ pub loop-index-init : goal.loop-index-init
 loop-index-init c =
     let turn = is_turn c.args.workers c.args.worker (c.args.worker + 1) in
     record {
-      facts = subst (λ (s : List Shown). AreShown (group_part turn c.args.batch.now 0) s) (sym c.in_ok-entries.ensures.items) (nothing_shown turn c.args.batch.now);
-      groups = λ n belong. subst (λ (s : List Shown). All (IsOneOf n) s) (sym c.in_ok-entries.ensures.items) (All-nil (IsOneOf n));
+      facts = subst (λ (s : List Shown). AreShown (group_part turn c.args.batch.now 0) s) (sym c.new-entries.ensures.items) (nothing_shown turn c.args.batch.now);
+      groups = λ n belong. subst (λ (s : List Shown). All (IsOneOf n) s) (sym c.new-entries.ensures.items) (All-nil (IsOneOf n));
     }
 
 pub loop-index-preserved : goal.loop-index-preserved
