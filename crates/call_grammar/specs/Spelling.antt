@@ -5,6 +5,7 @@ use Rattle.dsc_symbols.specs.declared.categories.TheConstants as categories
 use Rattle.dsc_symbols.specs.declared.telecommands.TheConstants as telecommands
 use Rattle.dsc_symbols.specs.declared.ends.TheConstants as ends
 use Rattle.dsc_symbols.specs.declared.messages.TheConstants.{NO_INFORMATION, POSITION_FOLLOWS, UNKNOWN_POSITION, UNKNOWN_TIME}
+use Rattle.call_values.specs.declared.bounds.TheConstants as bounds
 use Rattle.call_values.specs.declared.places.Fix.{Fix}
 use Rattle.call_values.specs.declared.calls.Casualty.{Casualty}
 use Rattle.call_values.specs.declared.calls.Call.{Call}
@@ -67,9 +68,9 @@ blanks (suc n) = NO_INFORMATION ∷ blanks n
 abbrev pub field_symbols : FieldKind → List ℕ
 field_symbols Absent = NO_INFORMATION ∷ NO_INFORMATION ∷ NO_INFORMATION ∷ []
 field_symbols (Hundreds n) = six_digits n
-field_symbols (Hf n) = six_digits (300000 + n)
-field_symbols (Vhf n) = six_digits (900000 + n)
-field_symbols (Tens n) = eight_digits (40000000 + n)
+field_symbols (Hf n) = six_digits (bounds.HF_CHANNELS + n)
+field_symbols (Vhf n) = six_digits (bounds.VHF_CHANNELS + n)
+field_symbols (Tens n) = eight_digits (bounds.TENS + n)
 
 -- two fields, or 55 and a position
 abbrev pub message_symbols : Message → List ℕ

@@ -4,6 +4,7 @@ ghost use Rattle.call_values.specs.Areas.{IsArea};
 ghost use Rattle.call_grammar.specs.Spelling as sequence;
 
 use arrayvec::ArrayVec;
+use call_values::bounds::{HF_CHANNELS, TENS, VHF_CHANNELS};
 use call_values::{
     Area, Body, Call, Casualty, Category, End, Field, FieldKind, First, Fix, HourMinute, Kind,
     Message, Mmsi, Position, Second, To,
@@ -248,9 +249,9 @@ fn append_field(list: &mut ArrayVec<u8, 64>, field: &Field)
     match field.kind() {
         FieldKind::Absent => append(list, &[NO_INFORMATION; 3]),
         FieldKind::Hundreds(number) => append(list, &six_digits(number)),
-        FieldKind::Hf(number) => append(list, &six_digits(300_000 + number)),
-        FieldKind::Vhf(number) => append(list, &six_digits(900_000 + u32::from(number))),
-        FieldKind::Tens(number) => append(list, &eight_digits(40_000_000 + number)),
+        FieldKind::Hf(number) => append(list, &six_digits(HF_CHANNELS + number)),
+        FieldKind::Vhf(number) => append(list, &six_digits(VHF_CHANNELS + u32::from(number))),
+        FieldKind::Tens(number) => append(list, &eight_digits(TENS + number)),
     }
 }
 

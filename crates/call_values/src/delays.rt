@@ -1,6 +1,9 @@
 ghost use Rattle.std.specs.Prelude.{◌≡◌, ◌↔◌, IfSome, IsSome};
 ghost use Rattle.call_values.specs.Delays.{IsAlertDelay, IsCoastDelay};
 
+use crate::bounds::{
+    LONGEST_ALERT_DELAY, LONGEST_COAST_DELAY, SHORTEST_ALERT_DELAY, SHORTEST_COAST_DELAY,
+};
 use std::marker::Model;
 
 /// The wait from one attempt of a distress alert to the next, in milliseconds: 210,000 to 270,000, which is 3.5 to 4.5
@@ -30,7 +33,7 @@ impl AlertDelay {
         ensures some { IsSome result ↔ IsAlertDelay milliseconds }
     {
         match milliseconds {
-            210_000..=270_000 => Some(AlertDelay {
+            SHORTEST_ALERT_DELAY..=LONGEST_ALERT_DELAY => Some(AlertDelay {
                 number: milliseconds,
             }),
             _ => None,
@@ -73,7 +76,7 @@ impl CoastDelay {
         ensures some { IsSome result ↔ IsCoastDelay milliseconds }
     {
         match milliseconds {
-            60_000..=165_000 => Some(CoastDelay {
+            SHORTEST_COAST_DELAY..=LONGEST_COAST_DELAY => Some(CoastDelay {
                 number: milliseconds,
             }),
             _ => None,

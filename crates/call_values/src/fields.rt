@@ -1,6 +1,7 @@
 ghost use Rattle.std.specs.Prelude.{◌≡◌, ◌↔◌, IfSome, IsSome};
 ghost use Rattle.call_values.specs.Fields.{IsHundreds, IsHfChannel, IsVhfChannel, IsTens, IsField};
 
+use crate::bounds::{LAST_HF_CHANNEL, LAST_HUNDREDS, LAST_TENS, LAST_VHF_CHANNEL};
 use std::marker::Model;
 
 /// What a frequency field of a call tells, in a range of each kind's own.
@@ -52,7 +53,7 @@ impl Field {
         ensures value { IfSome result (λ v. v ≡ FieldKind.Hundreds n) }
         ensures some { IsSome result ↔ IsHundreds n }
     {
-        if n <= 299_999 {
+        if n <= LAST_HUNDREDS {
             Some(Field {
                 kind: FieldKind::Hundreds(n),
             })
@@ -66,7 +67,7 @@ impl Field {
         ensures value { IfSome result (λ v. v ≡ FieldKind.Hf n) }
         ensures some { IsSome result ↔ IsHfChannel n }
     {
-        if n <= 99_999 {
+        if n <= LAST_HF_CHANNEL {
             Some(Field {
                 kind: FieldKind::Hf(n),
             })
@@ -80,7 +81,7 @@ impl Field {
         ensures value { IfSome result (λ v. v ≡ FieldKind.Vhf n) }
         ensures some { IsSome result ↔ IsVhfChannel n }
     {
-        if n <= 9_999 {
+        if n <= LAST_VHF_CHANNEL {
             Some(Field {
                 kind: FieldKind::Vhf(n),
             })
@@ -94,7 +95,7 @@ impl Field {
         ensures value { IfSome result (λ v. v ≡ FieldKind.Tens n) }
         ensures some { IsSome result ↔ IsTens n }
     {
-        if n <= 9_999_999 {
+        if n <= LAST_TENS {
             Some(Field {
                 kind: FieldKind::Tens(n),
             })

@@ -1,6 +1,7 @@
 ghost use Rattle.std.specs.Prelude.{◌≡◌, ◌↔◌, IfSome, IsSome};
 ghost use Rattle.call_values.specs.Identity.{IsMmsi};
 
+use crate::bounds::LAST_IDENTITY;
 use std::marker::Model;
 
 /// A maritime mobile service identity: a number of nine digits, leading zeros included.
@@ -28,7 +29,7 @@ impl Mmsi {
         ensures value { IfSome result (λ v. v ≡ n) }
         ensures some { IsSome result ↔ IsMmsi n }
     {
-        if n <= 999_999_999 {
+        if n <= LAST_IDENTITY {
             Some(Mmsi { number: n })
         } else {
             None

@@ -4,6 +4,7 @@
 
 mod areas;
 mod bodies;
+pub mod bounds;
 mod calls;
 mod choices;
 mod clock;

@@ -1,6 +1,7 @@
 -- What the acknowledgement of a distress alert goes back to: ITU-R M.541, acknowledgement of distress alerts by coast stations.
 use Rattle.std.specs.Prelude.{◌≡◌, ℕ, ◌+◌, ◌≤◌, ◌==◌, Bool, false, IsTrue, ◌∷◌, ◌++◌}
 use Rattle.std.specs.List.{list_any}
+use Rattle.call_values.specs.declared.bounds.TheConstants.{SHORTEST_COAST_DELAY}
 use Rattle.call_values.specs.declared.calls.Call.TheVariants as call
 use Rattle.call_values.specs.declared.calls.Casualty.{Casualty}
 use Rattle.call_values.specs.declared.choices.Band.{Band}
@@ -23,4 +24,4 @@ pub record GoesBackToAlert (band : Band) (casualty : Casualty) (sent : Entry Coa
   pub order : earlier ≡ between ++ heard ∷ before
   pub alert : heard.what ≡ Heard (call.Alert casualty)
   pub accepted : IsTrue (list_any (λ (e : Entry CoastWhat). accepts casualty.mmsi e.what) (sent ∷ between))
-  pub waited : IsTrue (waits band) → heard.at + 60000 ≤ sent.at
+  pub waited : IsTrue (waits band) → heard.at + SHORTEST_COAST_DELAY ≤ sent.at

@@ -10,6 +10,7 @@ use line_engine::{
     said_lines,
 };
 use std::alloc::{AllocError, Global};
+use std::process::Abort;
 use std::test::Fail;
 
 /// Says each line again. A line that begins with `!` is ill-formed, and behind three lines one that begins with `+` is a
@@ -136,6 +137,12 @@ fn of_endless(alloc: Global, byte: u8) -> Result<(u8, Vec<u8>), AllocError> {
     Ok((status.number(), sink.bytes().to_vec(alloc)?))
 }
 
+/// That a run ended with this status, and wrote this text.
+fn compare(rt: &impl Abort, run: &(u8, Vec<u8>), status: u8, text: &[u8]) {
+    assert_eq!(rt; run.0, status);
+    assert_eq!(rt; run.1.as_slice(), text);
+}
+
 /// Lines of so many bytes each, which a line feed ends.
 fn lines_of_length(alloc: Global, count: u32, length: usize) -> Result<Vec<u8>, AllocError> {
     let mut bytes = Vec::new(alloc);
@@ -169,9 +176,8 @@ fn lines_are_told(rt: HostRuntime) -> Result<(), Fail> {
     ];
     for (input, status, text) in rows {
         for piece in [1, 2, 1000] {
-            let (was, told) = echoed(rt.alloc(), input, piece, &[], &[])?;
-            assert_eq!(rt; was, status);
-            assert_eq!(rt; told.as_slice(), text);
+            let run = echoed(rt.alloc(), input, piece, &[], &[])?;
+            compare(&rt, &run, status, text);
         }
     }
     Ok(())
@@ -179,9 +185,8 @@ fn lines_are_told(rt: HostRuntime) -> Result<(), Fail> {
 
 #[test]
 fn endless_sources_end(rt: HostRuntime) -> Result<(), Fail> {
-    let (status, text) = of_endless(rt.alloc(), b'a')?;
-    assert_eq!(rt; status, 7);
-    assert_eq!(rt; text.as_slice(), b"dsc: line 1 too long\n".as_slice());
+    let run = of_endless(rt.alloc(), b'a')?;
+    compare(&rt, &run, 7, b"dsc: line 1 too long\n");
     let (status, text) = of_endless(rt.alloc(), b'\n')?;
     assert_eq!(rt; status, 7);
     assert_eq!(rt; text.len(), 4096 + 30);
@@ -199,16 +204,14 @@ fn each_failing_call_is_told(rt: HostRuntime) -> Result<(), Fail> {
     let texts: [&[u8]; 6] = [b"", b"", b"ab\n", b"ab\n", b"ab\ncde\n\n", b"ab\ncde\n\n"];
     for (text, call) in texts.into_iter().zip(1..7) {
         let failing = vec![in rt.alloc(); call]?;
-        let (status, told) = echoed(rt.alloc(), input, 2, &failing, &[])?;
-        assert_eq!(rt; status, 4);
-        assert_eq!(rt; told.as_slice(), text);
+        let run = echoed(rt.alloc(), input, 2, &failing, &[])?;
+        compare(&rt, &run, 4, text);
     }
     let fronts: [&[u8]; 4] = [b"", b"ab\n", b"ab\ncde\n\n", b"ab\ncde\n\nf\n"];
     for (text, call) in fronts.into_iter().zip(1..5) {
         let failing = vec![in rt.alloc(); call]?;
-        let (status, told) = echoed(rt.alloc(), input, 2, &[], &failing)?;
-        assert_eq!(rt; status, 5);
-        assert_eq!(rt; told.as_slice(), text);
+        let run = echoed(rt.alloc(), input, 2, &[], &failing)?;
+        compare(&rt, &run, 5, text);
     }
     Ok(())
 }
@@ -216,9 +219,8 @@ fn each_failing_call_is_told(rt: HostRuntime) -> Result<(), Fail> {
 #[test]
 fn longest_lines_cross_the_buffer(rt: HostRuntime) -> Result<(), Fail> {
     let mut input = lines_of_length(rt.alloc(), 32, LONGEST_LINE)?;
-    let (status, told) = echoed(rt.alloc(), &input, 200_000, &[], &[])?;
-    assert_eq!(rt; status, 0);
-    assert!(rt; told.as_slice() == input.as_slice());
+    let run = echoed(rt.alloc(), &input, 200_000, &[], &[])?;
+    compare(&rt, &run, 0, &input);
     let _feed = input.pop();
     input.push(b'a')?;
     let (status, told) = echoed(rt.alloc(), &input, 200_000, &[], &[])?;
@@ -230,9 +232,8 @@ fn longest_lines_cross_the_buffer(rt: HostRuntime) -> Result<(), Fail> {
 #[test]
 fn lines_are_counted(rt: HostRuntime) -> Result<(), Fail> {
     let mut input = lines_of_length(rt.alloc(), 4096, 1)?;
-    let (status, told) = echoed(rt.alloc(), &input, 3, &[], &[])?;
-    assert_eq!(rt; status, 0);
-    assert!(rt; told.as_slice() == input.as_slice());
+    let run = echoed(rt.alloc(), &input, 3, &[], &[])?;
+    compare(&rt, &run, 0, &input);
     input.push(b'!')?;
     let (status, told) = echoed(rt.alloc(), &input, 3, &[], &[])?;
     assert_eq!(rt; status, 7);

@@ -1,5 +1,5 @@
 use crate::forms::CALLS;
-use crate::receptions::{WHOLE, joined, line};
+use crate::receptions::{Row, WHOLE, compare, joined, line};
 use dsc_symbols::worked::ALERT_SLOTS;
 use std::alloc::{AllocError, Global};
 use std::test::Fail;
@@ -42,20 +42,14 @@ fn encoded_calls_are_joined(rt: HostRuntime) -> Result<(), Fail> {
         let (calls, answers) = calls_and_answers(alloc)?;
         let (encoded, status) = joined(&rt, alloc, words, calls)?;
         assert_eq!(rt; status, 0, "{words}");
-        let (written, status) = joined(&rt, alloc, "dsc join", encoded)?;
-        assert!(rt; written == answers, "{words}");
-        assert_eq!(rt; status, 0, "{words}");
+        compare(&rt, alloc, "dsc join", encoded, &answers, 0)?;
     }
     Ok(())
 }
 
 // The line of the worked alert's slots, behind so many dots.
 fn alert_line(alloc: Global, dots: usize) -> Result<Vec<u8>, AllocError> {
-    let heard = line(
-        alloc,
-        &ALERT_SLOTS,
-        &crate::receptions::Row { dots, ..WHOLE },
-    )?;
+    let heard = line(alloc, &ALERT_SLOTS, &Row { dots, ..WHOLE })?;
     let mut text = Vec::from_slice(alloc, b"r g0")?;
     text.extend_from_slice(heard.strip_prefix(b"r").unwrap_or(&heard))?;
     Ok(text)
@@ -70,9 +64,7 @@ fn the_worked_alert_encoded(rt: HostRuntime) -> Result<(), Fail> {
         ("dsc encode --dots 200", 200),
     ] {
         let input = Vec::from_slice(alloc, ALERT.as_bytes())?;
-        let (written, status) = joined(&rt, alloc, words, input)?;
-        assert!(rt; written == alert_line(alloc, dots)?, "{words}");
-        assert_eq!(rt; status, 0, "{words}");
+        compare(&rt, alloc, words, input, &alert_line(alloc, dots)?, 0)?;
     }
     Ok(())
 }
@@ -107,9 +99,8 @@ fn faults_among_calls(rt: HostRuntime) -> Result<(), Fail> {
         };
         want.extend_from_slice(fault.as_bytes())?;
         let bytes = Vec::from_slice(alloc, input.as_bytes())?;
-        let (written, status) = joined(&rt, alloc, "dsc encode", bytes)?;
-        assert!(rt; written == want, "{input:?}");
-        assert_eq!(rt; status, if fault.is_empty() { 0 } else { 3 }, "{input:?}");
+        let status = if fault.is_empty() { 0 } else { 3 };
+        compare(&rt, alloc, "dsc encode", bytes, &want, status)?;
     }
     Ok(())
 }

@@ -1,4 +1,4 @@
-use crate::receptions::{Row, WHOLE, joined, line};
+use crate::receptions::{Row, WHOLE, compare_receptions};
 use slot_join::{Extra, Joined, Sheet, report};
 use std::test::Fail;
 use time_diversity::on_air;
@@ -50,14 +50,7 @@ const ROWS: [Row; 6] = [
 
 #[test]
 fn receptions_of_an_alert_and_its_expansion(rt: HostRuntime) -> Result<(), Fail> {
-    let alloc = rt.alloc();
-    for row in &ROWS {
-        let text = line(alloc, &on_air(&EXPANDED), row)?;
-        let (written, status) = joined(&rt, alloc, "dsc join", text)?;
-        let name = row.name;
-        assert_eq!(rt; written.as_slice(), row.want.as_bytes(), "{name}");
-        assert_eq!(rt; status, row.status, "{name}");
-    }
+    compare_receptions(&rt, rt.alloc(), &on_air(&EXPANDED), &ROWS)?;
     Ok(())
 }
 

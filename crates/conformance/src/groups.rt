@@ -1,4 +1,6 @@
-use crate::receptions::{DX_AND_PLACE_7, REPORTED, Row, WHOLE, joined, line, words_of};
+use crate::receptions::{
+    DX_AND_PLACE_7, REPORTED, Row, Run, WHOLE, compare, compare_runs, joined, line, words_of,
+};
 use dsc_cmd::{SureSink, SureSource, run};
 use dsc_symbols::worked::ALERT_SLOTS;
 use receiver_pool::Open;
@@ -8,38 +10,42 @@ use std::test::Fail;
 const EVIDENCE: &str =
     "e g0 0:112 1:112 2:33 3:80 4:40 5:7 6:90 7:106 8:14 9:23 10:10 11:83 12:12 13:20 14:19 15:100 16:127 17:78 18:127 19:127\n";
 
-#[test]
-fn groups_by_rising_number(rt: HostRuntime) -> Result<(), Fail> {
-    let alloc = rt.alloc();
-    for (words, input, want, status) in [
-        ("dsc join", "e g4\n", "g4 missing 0\n", 1),
+// Words, and a run over lines of several groups.
+const GROUPS: [(&str, Run); 8] = [
+    ("dsc join", ("e g4\n", "g4 missing 0\n", 1)),
+    (
+        "dsc join",
         (
-            "dsc join",
             "e g9 0:120\ne g2 0:120 1:102\n",
             "g2 differ 0 102 120\ng9 missing 2\n",
             1,
         ),
-        ("dsc join --workers 64", EVIDENCE, REPORTED, 0),
+    ),
+    ("dsc join --workers 64", (EVIDENCE, REPORTED, 0)),
+    (
+        "dsc join --workers=2",
         (
-            "dsc join --workers=2",
             "r g3\ne 0:112 0:112\ne g3\nr\ne g1 63:127 63:0\n",
             "g0 missing 1\ng1 missing 0\ng3 missing 0\n",
             1,
         ),
-        (
-            "dsc evidence",
-            "r g3\ne 8:22 8:14 8:20\n",
-            "e g0 8:14 8:22\ne g3\n",
-            0,
-        ),
-        ("dsc evidence --workers 3", EVIDENCE, EVIDENCE, 0),
-        ("dsc evidence", "e 0:1\ne g\n", "dsc: line 2 column 4\n", 3),
-        ("dsc evidence", "", "", 0),
-    ] {
-        let bytes = Vec::from_slice(alloc, input.as_bytes())?;
-        let (written, ended) = joined(&rt, alloc, words, bytes)?;
-        assert_eq!(rt; written.as_slice(), want.as_bytes(), "{words} {input:?}");
-        assert_eq!(rt; ended, status, "{words} {input:?}");
+    ),
+    (
+        "dsc evidence",
+        ("r g3\ne 8:22 8:14 8:20\n", "e g0 8:14 8:22\ne g3\n", 0),
+    ),
+    ("dsc evidence --workers 3", (EVIDENCE, EVIDENCE, 0)),
+    (
+        "dsc evidence",
+        ("e 0:1\ne g\n", "dsc: line 2 column 4\n", 3),
+    ),
+    ("dsc evidence", ("", "", 0)),
+];
+
+#[test]
+fn groups_by_rising_number(rt: HostRuntime) -> Result<(), Fail> {
+    for (words, run) in GROUPS {
+        compare_runs(&rt, rt.alloc(), words, &[run])?;
     }
     Ok(())
 }
@@ -48,9 +54,7 @@ fn groups_by_rising_number(rt: HostRuntime) -> Result<(), Fail> {
 fn evidence_of_a_reception(rt: HostRuntime) -> Result<(), Fail> {
     let alloc = rt.alloc();
     let heard = line(alloc, &ALERT_SLOTS, &WHOLE)?;
-    let (written, status) = joined(&rt, alloc, "dsc evidence", heard)?;
-    assert_eq!(rt; written.as_slice(), EVIDENCE.as_bytes());
-    assert_eq!(rt; status, 0);
+    compare(&rt, alloc, "dsc evidence", heard, EVIDENCE.as_bytes(), 0)?;
     Ok(())
 }
 
@@ -73,9 +77,7 @@ fn evidence_beside_a_reception(rt: HostRuntime) -> Result<(), Fail> {
     for (first, second) in [(heard.as_slice(), other), (other, told.as_slice())] {
         let mut input = Vec::from_slice(alloc, first)?;
         input.extend_from_slice(second)?;
-        let (written, status) = joined(&rt, alloc, "dsc join", input)?;
-        assert_eq!(rt; written.as_slice(), REPORTED.as_bytes());
-        assert_eq!(rt; status, 0);
+        compare(&rt, alloc, "dsc join", input, REPORTED.as_bytes(), 0)?;
     }
     Ok(())
 }

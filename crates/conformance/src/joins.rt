@@ -1,4 +1,7 @@
-use crate::receptions::{DX_AND_PLACE_7, REPORTED, Row, WHOLE, joined, line, two_damaged};
+use crate::receptions::{
+    DX_AND_PLACE_7, REPORTED, Row, Run, WHOLE, compare, compare_receptions, compare_runs, line,
+    two_damaged,
+};
 use dsc_symbols::worked::ALERT_SLOTS;
 use std::test::Fail;
 use time_diversity::on_air;
@@ -106,15 +109,45 @@ const TEST_CALL_ROWS: [Row; 3] = [
     },
 ];
 
+// Lines at the edges of their grammar.
+const FAULTS: [Run; 18] = [
+    ("", "", 0),
+    ("\n#\n# r\n", "", 0),
+    ("r", "g0 missing 0\n", 1),
+    ("r\n#", "g0 missing 0\n", 1),
+    ("r \n", "dsc: line 1 column 3\n", 3),
+    ("r YBX\n", "dsc: line 1 column 5\n", 3),
+    ("r YB\r\n", "dsc: line 1 column 5\n", 3),
+    ("#\n\nr h0\n", "dsc: line 3 column 3\n", 3),
+    ("r g07 Y\n", "dsc: line 1 column 5\n", 3),
+    ("r g4294967296\n", "dsc: line 1 column 13\n", 3),
+    ("r g42949672950\n", "dsc: line 1 column 14\n", 3),
+    ("e 5\n", "dsc: line 1 column 4\n", 3),
+    ("e 64:1\n", "dsc: line 1 column 4\n", 3),
+    ("e 0:128\n", "dsc: line 1 column 7\n", 3),
+    ("e 7:130\n", "dsc: line 1 column 7\n", 3),
+    ("e g5 64:1\n", "dsc: line 1 column 7\n", 3),
+    ("e g5 \n", "dsc: line 1 column 6\n", 3),
+    ("r Y\ne 0:1\nx\n", "dsc: line 3 column 1\n", 3),
+];
+
+// Words that are no command.
+const REFUSED: [&str; 10] = [
+    "dsc listen",
+    "dsc join --",
+    "dsc join --workers 0",
+    "dsc join --workers 65",
+    "dsc join evidence",
+    "dsc encode --dots 30",
+    "dsc sentences --dots 20",
+    "join",
+    "dsc",
+    "",
+];
+
 #[test]
 fn receptions_of_one_alert(rt: HostRuntime) -> Result<(), Fail> {
-    let alloc = rt.alloc();
-    for row in &ROWS {
-        let (written, status) = joined(&rt, alloc, "dsc join", line(alloc, &ALERT_SLOTS, row)?)?;
-        let name = row.name;
-        assert_eq!(rt; written.as_slice(), row.want.as_bytes(), "{name}");
-        assert_eq!(rt; status, row.status, "{name}");
-    }
+    compare_receptions(&rt, rt.alloc(), &ALERT_SLOTS, &ROWS)?;
     Ok(())
 }
 
@@ -122,9 +155,7 @@ fn receptions_of_one_alert(rt: HostRuntime) -> Result<(), Fail> {
 fn two_receptions_of_one_alert(rt: HostRuntime) -> Result<(), Fail> {
     let alloc = rt.alloc();
     let input = two_damaged(alloc)?;
-    let (written, status) = joined(&rt, alloc, "dsc join", input)?;
-    assert_eq!(rt; written.as_slice(), REPORTED.as_bytes());
-    assert_eq!(rt; status, 0);
+    compare(&rt, alloc, "dsc join", input, REPORTED.as_bytes(), 0)?;
     Ok(())
 }
 
@@ -136,23 +167,14 @@ fn a_clean_and_a_damaged_reception_in_both_orders(rt: HostRuntime) -> Result<(),
     for (first, second) in [(&clean, &damaged), (&damaged, &clean)] {
         let mut input = first.as_slice().to_vec(alloc)?;
         input.extend_from_slice(second)?;
-        let (written, status) = joined(&rt, alloc, "dsc join", input)?;
-        assert_eq!(rt; written.as_slice(), b"g0 differ 8 14 22\n".as_slice());
-        assert_eq!(rt; status, 1);
+        compare(&rt, alloc, "dsc join", input, b"g0 differ 8 14 22\n", 1)?;
     }
     Ok(())
 }
 
 #[test]
 fn one_format_specifier_is_enough_for_a_test_call(rt: HostRuntime) -> Result<(), Fail> {
-    let alloc = rt.alloc();
-    let slots = on_air(&TEST_CALL);
-    for row in &TEST_CALL_ROWS {
-        let (written, status) = joined(&rt, alloc, "dsc join", line(alloc, &slots, row)?)?;
-        let name = row.name;
-        assert_eq!(rt; written.as_slice(), row.want.as_bytes(), "{name}");
-        assert_eq!(rt; status, row.status, "{name}");
-    }
+    compare_receptions(&rt, rt.alloc(), &on_air(&TEST_CALL), &TEST_CALL_ROWS)?;
     Ok(())
 }
 
@@ -165,67 +187,22 @@ fn as_many_lost_elements_as_a_line_holds(rt: HostRuntime) -> Result<(), Fail> {
     ] {
         let mut input = Vec::from_slice(alloc, b"r ")?;
         input.extend_from_slice(&vec![in alloc; b'-'; lost]?)?;
-        let (written, ended) = joined(&rt, alloc, "dsc join", input)?;
-        assert_eq!(rt; written.as_slice(), want.as_bytes(), "{lost}");
-        assert_eq!(rt; ended, status, "{lost}");
+        compare(&rt, alloc, "dsc join", input, want.as_bytes(), status)?;
     }
     Ok(())
 }
 
 #[test]
 fn faults_of_lines(rt: HostRuntime) -> Result<(), Fail> {
-    let alloc = rt.alloc();
-    for (input, want, status) in [
-        ("", "", 0),
-        ("\n#\n# r\n", "", 0),
-        ("r", "g0 missing 0\n", 1),
-        ("r\n#", "g0 missing 0\n", 1),
-        ("r \n", "dsc: line 1 column 3\n", 3),
-        ("r YBX\n", "dsc: line 1 column 5\n", 3),
-        ("r YB\r\n", "dsc: line 1 column 5\n", 3),
-        ("#\n\nr h0\n", "dsc: line 3 column 3\n", 3),
-        ("r g07 Y\n", "dsc: line 1 column 5\n", 3),
-        ("r g4294967296\n", "dsc: line 1 column 13\n", 3),
-        ("r g42949672950\n", "dsc: line 1 column 14\n", 3),
-        ("e 5\n", "dsc: line 1 column 4\n", 3),
-        ("e 64:1\n", "dsc: line 1 column 4\n", 3),
-        ("e 0:128\n", "dsc: line 1 column 7\n", 3),
-        ("e 7:130\n", "dsc: line 1 column 7\n", 3),
-        ("e g5 64:1\n", "dsc: line 1 column 7\n", 3),
-        ("e g5 \n", "dsc: line 1 column 6\n", 3),
-        ("r Y\ne 0:1\nx\n", "dsc: line 3 column 1\n", 3),
-    ] {
-        let bytes = Vec::from_slice(alloc, input.as_bytes())?;
-        let (written, ended) = joined(&rt, alloc, "dsc join", bytes)?;
-        assert_eq!(rt; written.as_slice(), want.as_bytes(), "{input:?}");
-        assert_eq!(rt; ended, status, "{input:?}");
-    }
+    compare_runs(&rt, rt.alloc(), "dsc join", &FAULTS)?;
     Ok(())
 }
 
 #[test]
 fn refused_words(rt: HostRuntime) -> Result<(), Fail> {
-    let alloc = rt.alloc();
-    for words in [
-        "dsc listen",
-        "dsc join --",
-        "dsc join --workers 0",
-        "dsc join --workers 65",
-        "dsc join evidence",
-        "dsc encode --dots 30",
-        "dsc sentences --dots 20",
-        "join",
-        "dsc",
-        "",
-    ] {
-        let bytes = Vec::from_slice(alloc, b"r YB\n")?;
-        let (written, status) = joined(&rt, alloc, words, bytes)?;
-        assert_eq!(rt;
-            written.as_slice(),
-            b"dsc: words refused\n".as_slice(),
-            "{words:?}"
-        );
-        assert_eq!(rt; status, 2, "{words:?}");
+    let run = ("r YB\n", "dsc: words refused\n", 2);
+    for words in REFUSED {
+        compare_runs(&rt, rt.alloc(), words, &[run])?;
     }
     Ok(())
 }

@@ -4,6 +4,7 @@ use dsc_cmd::{SureSink, SureSource, run};
 use dsc_symbols::worked::ALERT_SLOTS;
 use receiver_pool::Open;
 use std::alloc::{AllocError, Global};
+use std::process::Abort;
 use std::thread::Threads;
 use ten_unit::{Element, word};
 
@@ -120,4 +121,57 @@ pub(crate) fn joined<R: Threads + Sync>(
     let mut sink = SureSink::new(alloc, ROOM, 5)?;
     let status = run(rt, alloc, &words, &mut source, &mut sink, &Open);
     Ok((sink.bytes().to_vec(alloc)?, status.number()))
+}
+
+// Runs a command over these bytes, and compares what it wrote, and its status.
+pub(crate) fn compare<R: Threads + Sync + Abort>(
+    rt: &R,
+    alloc: Global,
+    words: &str,
+    input: Vec<u8>,
+    want: &[u8],
+    status: u8,
+) -> Result<(), AllocError> {
+    let (written, ended) = joined(rt, alloc, words, input)?;
+    assert_eq!(rt; written.as_slice(), want, "{words}");
+    assert_eq!(rt; ended, status, "{words}");
+    Ok(())
+}
+
+// What is read, what is written, and the status.
+pub(crate) type Run = (&'static str, &'static str, u8);
+
+// Runs a command over each of these texts, and compares what it writes, and its status.
+pub(crate) fn compare_runs<R: Threads + Sync + Abort>(
+    rt: &R,
+    alloc: Global,
+    words: &str,
+    runs: &[Run],
+) -> Result<(), AllocError> {
+    for (input, want, status) in runs {
+        let input = Vec::from_slice(alloc, input.as_bytes())?;
+        compare(rt, alloc, words, input, want.as_bytes(), *status)?;
+    }
+    Ok(())
+}
+
+// Joins receptions of these slots, each alone, and compares what is answered.
+pub(crate) fn compare_receptions<R: Threads + Sync + Abort>(
+    rt: &R,
+    alloc: Global,
+    slots: &[u8],
+    rows: &[Row],
+) -> Result<(), AllocError> {
+    for row in rows {
+        let input = line(alloc, slots, row)?;
+        compare(
+            rt,
+            alloc,
+            "dsc join",
+            input,
+            row.want.as_bytes(),
+            row.status,
+        )?;
+    }
+    Ok(())
 }

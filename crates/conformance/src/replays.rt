@@ -1,4 +1,4 @@
-use crate::receptions::{WHOLE, joined, line};
+use crate::receptions::{WHOLE, compare, line};
 use dsc_symbols::worked::ALERT_SLOTS;
 use std::test::Fail;
 
@@ -12,11 +12,9 @@ const DISTRESS: &str =
 fn a_ship_in_distress(rt: HostRuntime) -> Result<(), Fail> {
     let alloc = rt.alloc();
     let input = Vec::from_slice(alloc, DISTRESS.as_bytes())?;
-    let (written, status) = joined(&rt, alloc, "dsc replay", input)?;
     let want = b"0 send 5 alert from=338040079 nature=106 pos=1423108312 time=2019 then=100\n\
 210000 send 5 alert from=338040079 nature=106 pos=1423108312 time=2019 then=100\n221000 ended\n";
-    assert_eq!(rt; written.as_slice(), want.as_slice());
-    assert_eq!(rt; status, 0);
+    compare(&rt, alloc, "dsc replay", input, want, 0)?;
     Ok(())
 }
 
@@ -27,10 +25,8 @@ fn a_group_heard_twice(rt: HostRuntime) -> Result<(), Fail> {
     let mut input = Vec::from_slice(alloc, b"station ship 338158137\nbase 0\n")?;
     input.extend_from_slice(&line(alloc, &ALERT_SLOTS, &WHOLE)?)?;
     input.extend_from_slice(b"7 heard g0\n8 heard g0\n")?;
-    let (written, status) = joined(&rt, alloc, "dsc replay --workers 64", input)?;
     let want =
         b"7 distress casualty=338040079 nature=106 pos=1423108312 time=2019 then=100\n8 g0 missing 0\n";
-    assert_eq!(rt; written.as_slice(), want.as_slice());
-    assert_eq!(rt; status, 1);
+    compare(&rt, alloc, "dsc replay --workers 64", input, want, 1)?;
     Ok(())
 }

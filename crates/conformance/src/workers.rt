@@ -1,6 +1,6 @@
 //! Workers: they meet in the gate, and change no answer.
 
-use crate::receptions::{REPORTED, WHOLE, joined, line, two_damaged, words_of};
+use crate::receptions::{REPORTED, WHOLE, compare, joined, line, two_damaged, words_of};
 use dsc_cmd::{SureSink, SureSource, run};
 use dsc_symbols::worked::ALERT_SLOTS;
 use receiver_pool::Meeting;
@@ -67,9 +67,8 @@ fn full_batches(rt: HostRuntime) -> Result<(), Fail> {
     for _ in 0..256 {
         input.extend_from_slice(&lines)?;
     }
-    let (written, status) = joined(&rt, alloc, "dsc join --workers 3", input)?;
-    assert_eq!(rt; written.as_slice(), REPORTED.as_bytes());
-    assert_eq!(rt; status, 0);
+    let want = REPORTED.as_bytes();
+    compare(&rt, alloc, "dsc join --workers 3", input, want, 0)?;
     Ok(())
 }
 
@@ -83,9 +82,7 @@ fn the_end_of_a_batch_parts_no_group(rt: HostRuntime) -> Result<(), Fail> {
             input.extend_from_slice(b"r\n")?;
         }
         input.extend_from_slice(&two_damaged(alloc)?)?;
-        let (written, status) = joined(&rt, alloc, words, input)?;
-        assert_eq!(rt; written.as_slice(), REPORTED.as_bytes(), "{words}");
-        assert_eq!(rt; status, 0);
+        compare(&rt, alloc, words, input, REPORTED.as_bytes(), 0)?;
     }
     Ok(())
 }
@@ -123,9 +120,7 @@ fn workers_change_no_answer(rt: HostRuntime) -> Result<(), Fail> {
     ] {
         let (want, status) = joined(&rt, alloc, alone, mixed(alloc)?)?;
         for words in together {
-            let (written, code) = joined(&rt, alloc, words, mixed(alloc)?)?;
-            assert_eq!(rt; written.as_slice(), want.as_slice(), "{words}");
-            assert_eq!(rt; code, status);
+            compare(&rt, alloc, words, mixed(alloc)?, &want, status)?;
         }
     }
     Ok(())

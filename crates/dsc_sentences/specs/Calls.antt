@@ -3,6 +3,7 @@ use Rattle.std.specs.Prelude.{ℕ, zero, suc, ◌+◌, ◌*◌, ◌/◌, ◌%◌
 use Rattle.dsc_symbols.specs.declared.categories.TheConstants as categories
 use Rattle.dsc_symbols.specs.declared.telecommands.TheConstants as telecommands
 use Rattle.dsc_symbols.specs.declared.messages.TheConstants.{NO_INFORMATION}
+use Rattle.call_values.specs.declared.bounds.TheConstants as bounds
 use Rattle.call_values.specs.declared.places.Fix.{Fix}
 use Rattle.call_values.specs.declared.calls.Call.{Call}
 use Rattle.call_values.specs.declared.bodies.Body.{Body}
@@ -78,9 +79,9 @@ position_place position = decimals 10 (position_number position)
 abbrev pub frequency_place : FieldKind → List ℕ
 frequency_place Absent = []
 frequency_place (Hundreds n) = decimals 6 n
-frequency_place (Hf n) = decimals 6 (300000 + n)
-frequency_place (Vhf n) = decimals 6 (900000 + n)
-frequency_place (Tens n) = decimals 8 (40000000 + n)
+frequency_place (Hf n) = decimals 6 (bounds.HF_CHANNELS + n)
+frequency_place (Vhf n) = decimals 6 (bounds.VHF_CHANNELS + n)
+frequency_place (Tens n) = decimals 8 (bounds.TENS + n)
 
 -- two frequencies or channels, or a position
 abbrev pub message_place : Message → List ℕ

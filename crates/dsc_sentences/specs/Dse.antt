@@ -6,6 +6,7 @@ use Rattle.sentence_frame.specs.Texts as text
 use Rattle.sentence_frame.specs.Texts.{digit_text, IsDigits}
 use Rattle.sentence_frame.specs.Frames.{sentence}
 use Rattle.sentence_frame.specs.Refusals.{Form, texts_of}
+use Rattle.expansion.specs.declared.bounds.TheConstants.{LAST_ENHANCEMENT, LAST_SPEED, LAST_COURSE}
 use Rattle.expansion.specs.declared.parts.PartKind.{PartKind}
 use Rattle.expansion.specs.declared.parts.PartKind.TheVariants.{LeftOut, NoInformation, Digits}
 use Rattle.expansion.specs.declared.values.Sets.{Sets}
@@ -36,7 +37,7 @@ texts s = codes "1" ∷ codes "1" ∷ flag_text s.flag ∷ digit_text s.address 
 
 -- what the data behind a code may be
 abbrev pub data_shape : ℕ → Shape
-data_shape set = maybe (if set == 0 then number 8 99999999 else if set == 2 then number 4 9999 else number 4 3599)
+data_shape set = maybe (if set == 0 then number 8 LAST_ENHANCEMENT else if set == 2 then number 4 LAST_SPEED else number 4 LAST_COURSE)
 
 -- what pairs of a code and data may be, where these codes may come: each code passes the one before it
 unfoldable pub pair_shapes : List ℕ → List (List ℕ) → List Shape

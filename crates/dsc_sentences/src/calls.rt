@@ -11,6 +11,7 @@ use crate::decimals::{append_decimals, ten_digits};
 use crate::dsc::{DscFields, DscSentence};
 use arrayvec::ArrayVec;
 use call_grammar::{area_digits, category_symbol, own_end, position_digits};
+use call_values::bounds::{HF_CHANNELS, TENS, VHF_CHANNELS};
 use call_values::{Body, Call, Field, FieldKind, HourMinute, Kind, Message, Mmsi, Position, To};
 use dsc_symbols::messages::NO_INFORMATION;
 use dsc_symbols::{categories, formats, telecommands};
@@ -171,9 +172,13 @@ fn append_frequency(out: &mut ArrayVec<u8, 16>, field: &Field)
     match field.kind() {
         FieldKind::Absent => {}
         FieldKind::Hundreds(number) => append_decimals(out, 6, u64::from(number)),
-        FieldKind::Hf(number) => append_decimals(out, 6, 300_000 + u64::from(number)),
-        FieldKind::Vhf(number) => append_decimals(out, 6, 900_000 + u64::from(number)),
-        FieldKind::Tens(number) => append_decimals(out, 8, 40_000_000 + u64::from(number)),
+        FieldKind::Hf(number) => append_decimals(out, 6, u64::from(HF_CHANNELS + number)),
+        FieldKind::Vhf(number) => append_decimals(
+            out,
+            6,
+            u64::from(VHF_CHANNELS + u32::from(number)),
+        ),
+        FieldKind::Tens(number) => append_decimals(out, 8, u64::from(TENS + number)),
     }
 }
 

@@ -5,13 +5,15 @@ use Rattle.dsc_symbols.specs.declared.ends.TheConstants.{ENDS, RELAY_ENDS, TEST_
 use Rattle.dsc_symbols.specs.declared.natures.TheConstants.{NATURES}
 use Rattle.dsc_symbols.specs.declared.notices.TheConstants.{SECONDS}
 use Rattle.dsc_symbols.specs.declared.telecommands.TheConstants.{COMMS, FIRSTS}
+use Rattle.call_values.specs.declared.bounds.TheConstants.{IDENTITIES, SIX_DIGITS, EIGHT_DIGITS}
+use Rattle.expansion.specs.declared.bounds.TheConstants.{LAST_ENHANCEMENT, LAST_SPEED, LAST_COURSE}
 use Rattle.line_grammar.specs.Shapes.{Shape, letters, fixed_number, pair, choice}
 use Rattle.line_grammar.specs.Tokens.{Token, shaped}
 use Rattle.line_grammar.specs.Grammar.{Grammar, word, field, either}
 
 -- the nine digits of an identity
 abbrev pub identity_shape : Shape
-identity_shape = fixed_number 9 ((0, 999999999) ∷ [])
+identity_shape = fixed_number 9 IDENTITIES
 
 abbrev pub identity : Token
 identity = shaped identity_shape
@@ -82,7 +84,7 @@ address =
 abbrev pub frequency : Token
 frequency =
     shaped (choice (letters (codes "none"))
-    (choice (fixed_number 6 ((0, 299999) ∷ (300000, 399999) ∷ (900000, 909999) ∷ [])) (fixed_number 8 ((40000000, 49999999) ∷ []))))
+    (choice (fixed_number 6 SIX_DIGITS) (fixed_number 8 EIGHT_DIGITS)))
 
 -- a field behind its label
 abbrev pub labelled : List ℕ → Token → Grammar → Grammar
@@ -199,13 +201,13 @@ set width most = shaped (set_shape width most)
 
 -- the enhanced position, the speed and the course of an expansion
 abbrev pub enhanced : Grammar → Grammar
-enhanced rest = labelled (codes " enh=") (set 8 99999999) rest
+enhanced rest = labelled (codes " enh=") (set 8 LAST_ENHANCEMENT) rest
 
 abbrev pub speed : Grammar → Grammar
-speed rest = labelled (codes " speed=") (set 4 9999) rest
+speed rest = labelled (codes " speed=") (set 4 LAST_SPEED) rest
 
 abbrev pub course : Grammar → Grammar
-course rest = labelled (codes " course=") (set 4 3599) rest
+course rest = labelled (codes " course=") (set 4 LAST_COURSE) rest
 
 -- what may stand there or be left out
 abbrev pub perhaps : (Grammar → Grammar) → Grammar → Grammar

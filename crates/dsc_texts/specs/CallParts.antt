@@ -16,6 +16,7 @@ use Rattle.call_values.specs.declared.parts.Message.TheVariants.{Fields, At}
 use Rattle.call_values.specs.declared.parts.Kind.{Kind}
 use Rattle.call_values.specs.declared.parts.Kind.TheVariants.{Test, AskPosition, Position}
 use Rattle.call_grammar.specs.Spelling.{category_symbol, end_symbol}
+use Rattle.call_values.specs.declared.bounds.TheConstants as bounds
 use Rattle.expansion.specs.declared.parts.PartKind.{PartKind}
 use Rattle.expansion.specs.declared.parts.PartKind.TheVariants.{LeftOut, NoInformation, Digits}
 use Rattle.expansion.specs.declared.values.Sets.{Sets}
@@ -41,9 +42,9 @@ area_text a = digits 1 a.quadrant ++ (digits 2 a.latitude ++ (digits 3 a.longitu
 abbrev pub frequency_text : FieldKind → List ℕ
 frequency_text Absent = codes "none"
 frequency_text (Hundreds n) = digits 6 n
-frequency_text (Hf n) = digits 6 (300000 + n)
-frequency_text (Vhf n) = digits 6 (900000 + n)
-frequency_text (Tens n) = digits 8 (40000000 + n)
+frequency_text (Hf n) = digits 6 (bounds.HF_CHANNELS + n)
+frequency_text (Vhf n) = digits 6 (bounds.VHF_CHANNELS + n)
+frequency_text (Tens n) = digits 8 (bounds.TENS + n)
 
 -- whom a relay is for
 abbrev pub address_text : To → List ℕ

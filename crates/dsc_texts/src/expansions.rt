@@ -13,6 +13,7 @@ ghost use Rattle.dsc_texts.specs.inside.Reading.{ReadsSection, ReadsForm, ReadsT
 use crate::fields::{further, spelled};
 use crate::line::{end, take, word};
 use cursor::Cursor;
+use expansion::bounds::{LAST_COURSE, LAST_ENHANCEMENT, LAST_SPEED};
 use expansion::{Expansion, Part};
 use line_grammar::fixed_number;
 
@@ -55,11 +56,11 @@ fn set(line: &mut Cursor, label: &[u8], width: usize, most: u32) -> Result<Part,
 
 /// Reads the course and the end. An error is how many bytes are left at the fault.
 fn course(bytes: &[u8]) -> Result<Part, usize>
-    ensures lawful { IfOk result (λ course. IsSet 3599 course) }
+    ensures lawful { IfOk result (λ course. IsSet LAST_COURSE course) }
     ensures reads { ReadsForm (grammar.course finish) (λ p. p) inside.course bytes.now result }
 {
     let mut line = Cursor::new(bytes);
-    let course = set(&mut line, b" course=", 4, 3_599)?;
+    let course = set(&mut line, b" course=", 4, LAST_COURSE)?;
     end(&line)?;
     Ok(course)
 }
@@ -67,7 +68,7 @@ fn course(bytes: &[u8]) -> Result<Part, usize>
 /// Reads the end, where no course is told.
 #[tactic(auto, unfolding(line_grammar::specs::inside::Reading::read))]
 fn no_course(bytes: &[u8]) -> Result<Part, usize>
-    ensures lawful { IfOk result (λ course. IsUpTo 3599 course) }
+    ensures lawful { IfOk result (λ course. IsUpTo LAST_COURSE course) }
     ensures reads { ReadsForm finish first inside.perhaps_course bytes.now result }
 {
     end(&Cursor::new(bytes))?;
@@ -76,7 +77,7 @@ fn no_course(bytes: &[u8]) -> Result<Part, usize>
 
 /// Reads the course, perhaps, and the end. An error is how many bytes are left at the fault.
 fn perhaps_course(bytes: &[u8]) -> Result<Part, usize>
-    ensures lawful { IfOk result (λ course. IsUpTo 3599 course) }
+    ensures lawful { IfOk result (λ course. IsUpTo LAST_COURSE course) }
     ensures reads { ReadsForm (perhaps grammar.course finish) (λ p. p) inside.perhaps_course bytes.now result }
 {
     further(&no_course(bytes), &course(bytes))
@@ -84,18 +85,18 @@ fn perhaps_course(bytes: &[u8]) -> Result<Part, usize>
 
 /// Reads the speed and what may follow it. An error is how many bytes are left at the fault.
 fn speed(bytes: &[u8]) -> Result<(Part, Part), usize>
-    ensures lawful { IfOk result (λ sets. IsSet 9999 sets.0 × IsUpTo 3599 sets.1) }
+    ensures lawful { IfOk result (λ sets. IsSet LAST_SPEED sets.0 × IsUpTo LAST_COURSE sets.1) }
     ensures reads { ReadsForm (grammar.speed (perhaps grammar.course finish)) (λ p. p) inside.speed bytes.now result }
 {
     let mut line = Cursor::new(bytes);
-    let speed = set(&mut line, b" speed=", 4, 9_999)?;
+    let speed = set(&mut line, b" speed=", 4, LAST_SPEED)?;
     let course = perhaps_course(line.rest())?;
     Ok((speed, course))
 }
 
 /// Reads what may follow the speed, where none is told. An error is how many bytes are left at the fault.
 fn no_speed(bytes: &[u8]) -> Result<(Part, Part), usize>
-    ensures lawful { IfOk result (λ sets. IsUpTo 9999 sets.0 × IsUpTo 3599 sets.1) }
+    ensures lawful { IfOk result (λ sets. IsUpTo LAST_SPEED sets.0 × IsUpTo LAST_COURSE sets.1) }
     ensures reads { ReadsForm (perhaps grammar.course finish) first inside.perhaps_speed bytes.now result }
 {
     let course = perhaps_course(bytes)?;
@@ -104,7 +105,7 @@ fn no_speed(bytes: &[u8]) -> Result<(Part, Part), usize>
 
 /// Reads the speed, perhaps, and what may follow it. An error is how many bytes are left at the fault.
 fn perhaps_speed(bytes: &[u8]) -> Result<(Part, Part), usize>
-    ensures lawful { IfOk result (λ sets. IsUpTo 9999 sets.0 × IsUpTo 3599 sets.1) }
+    ensures lawful { IfOk result (λ sets. IsUpTo LAST_SPEED sets.0 × IsUpTo LAST_COURSE sets.1) }
     ensures reads { ReadsForm (perhaps grammar.speed (perhaps grammar.course finish)) (λ p. p) inside.perhaps_speed bytes.now result }
 {
     further(&no_speed(bytes), &speed(bytes))
@@ -131,7 +132,7 @@ fn from_enhanced(bytes: &[u8]) -> Result<Expansion, usize>
     ensures { ReadsForm (grammar.enhanced (perhaps grammar.speed (perhaps grammar.course finish))) first inside.sets bytes.now result }
 {
     let mut line = Cursor::new(bytes);
-    let enhanced = set(&mut line, b" enh=", 8, 99_999_999)?;
+    let enhanced = set(&mut line, b" enh=", 8, LAST_ENHANCEMENT)?;
     let (speed, course) = perhaps_speed(line.rest())?;
     Ok(Expansion::new(enhanced, speed, course).unwrap())
 }

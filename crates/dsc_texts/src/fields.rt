@@ -12,6 +12,9 @@ ghost use Rattle.call_grammar.specs.Spelling as spelling;
 ghost use Rattle.dsc_texts.specs.CallGrammar as grammar;
 ghost use Rattle.dsc_texts.specs.CallParts as texts;
 
+use call_values::bounds::{
+    EIGHT_DIGITS, HF_CHANNELS, IDENTITIES, LAST_HUNDREDS, SIX_DIGITS, TENS, VHF_CHANNELS,
+};
 use call_values::{
     Area, Category, Comm, End, Field, First, Fix, HourMinute, Mmsi, Nature, Position, Second, To,
 };
@@ -21,12 +24,6 @@ use dsc_symbols::natures::NATURES;
 use dsc_symbols::notices::SECONDS;
 use dsc_symbols::telecommands::{COMMS, FIRSTS};
 use line_grammar::{fixed_number, word};
-
-const IDENTITIES: [(u64, u64); 1] = [(0, 999_999_999)];
-
-const SIX_DIGITS: [(u64, u64); 3] = [(0, 299_999), (300_000, 399_999), (900_000, 909_999)];
-
-const EIGHT_DIGITS: [(u64, u64); 1] = [(40_000_000, 49_999_999)];
 
 /// A value that stands in call texts as one token.
 pub trait Token: Copy {
@@ -343,21 +340,21 @@ impl Token for Area {
 
 /// The field of six digits that stand for this number.
 fn of_six_digits(number: u32) -> Field
-    requires { is_within ((0, 299999) ∷ (300000, 399999) ∷ (900000, 909999) ∷ []) number ≡ true }
+    requires { is_within SIX_DIGITS number ≡ true }
     ensures { digits 6 number ≡ texts.frequency_text result }
 {
     match number {
-        0..=299_999 => Field::hundreds(number).unwrap(),
-        300_000..=399_999 => Field::hf(number - 300_000).unwrap(),
-        _ => Field::vhf((number - 900_000) as u16).unwrap(),
+        0..=LAST_HUNDREDS => Field::hundreds(number).unwrap(),
+        HF_CHANNELS..VHF_CHANNELS => Field::hf(number - HF_CHANNELS).unwrap(),
+        _ => Field::vhf((number - VHF_CHANNELS) as u16).unwrap(),
     }
 }
 
 /// Hundreds of hertz or a channel in six digits at the front of these bytes, and what follows them. An error is how
 /// many bytes are left at the fault.
 fn six_digits(bytes: &[u8]) -> Result<(Field, &[u8]), usize>
-    ensures value { IfOk result (λ parts. read_shape (shape.fixed_number 6 ((0, 299999) ∷ (300000, 399999) ∷ (900000, 909999) ∷ [])) bytes.now ≡ Ok (texts.frequency_text parts.0, parts.1.now)) }
-    ensures left { IfErr result (λ left. read_shape (shape.fixed_number 6 ((0, 299999) ∷ (300000, 399999) ∷ (900000, 909999) ∷ [])) bytes.now ≡ Err left) }
+    ensures value { IfOk result (λ parts. read_shape (shape.fixed_number 6 SIX_DIGITS) bytes.now ≡ Ok (texts.frequency_text parts.0, parts.1.now)) }
+    ensures left { IfErr result (λ left. read_shape (shape.fixed_number 6 SIX_DIGITS) bytes.now ≡ Err left) }
 {
     let (number, rest) = fixed_number(6, &SIX_DIGITS, bytes)?;
     Ok((of_six_digits(number as u32), rest))
@@ -366,11 +363,11 @@ fn six_digits(bytes: &[u8]) -> Result<(Field, &[u8]), usize>
 /// Tens of hertz in eight digits at the front of these bytes, and what follows them. An error is how many bytes are
 /// left at the fault.
 fn eight_digits(bytes: &[u8]) -> Result<(Field, &[u8]), usize>
-    ensures value { IfOk result (λ parts. read_shape (shape.fixed_number 8 ((40000000, 49999999) ∷ [])) bytes.now ≡ Ok (texts.frequency_text parts.0, parts.1.now)) }
-    ensures left { IfErr result (λ left. read_shape (shape.fixed_number 8 ((40000000, 49999999) ∷ [])) bytes.now ≡ Err left) }
+    ensures value { IfOk result (λ parts. read_shape (shape.fixed_number 8 EIGHT_DIGITS) bytes.now ≡ Ok (texts.frequency_text parts.0, parts.1.now)) }
+    ensures left { IfErr result (λ left. read_shape (shape.fixed_number 8 EIGHT_DIGITS) bytes.now ≡ Err left) }
 {
     let (number, rest) = fixed_number(8, &EIGHT_DIGITS, bytes)?;
-    Ok((Field::tens(number as u32 - 40_000_000).unwrap(), rest))
+    Ok((Field::tens(number as u32 - TENS).unwrap(), rest))
 }
 
 /// The six or eight digits of a frequency or channel, or none.

@@ -8,6 +8,7 @@ ghost use Rattle.dsc_texts.specs.CallParts.{position_text, time_text, area_text,
 use crate::pieces::append_digits;
 use arrayvec::ArrayVec;
 use call_grammar::category_symbol;
+use call_values::bounds::{HF_CHANNELS, TENS, VHF_CHANNELS};
 use call_values::{
     Area, Casualty, Category, Field, FieldKind, First, Fix, HourMinute, Message, Mmsi, Position,
     Second, To,
@@ -74,9 +75,13 @@ fn append_field<const N: usize>(out: &mut ArrayVec<u8, N>, field: &Field)
     match field.kind() {
         FieldKind::Absent => append(out, b"none"),
         FieldKind::Hundreds(number) => append_digits(out, 6, u64::from(number)),
-        FieldKind::Hf(number) => append_digits(out, 6, 300_000 + u64::from(number)),
-        FieldKind::Vhf(number) => append_digits(out, 6, 900_000 + u64::from(number)),
-        FieldKind::Tens(number) => append_digits(out, 8, 40_000_000 + u64::from(number)),
+        FieldKind::Hf(number) => append_digits(out, 6, u64::from(HF_CHANNELS + number)),
+        FieldKind::Vhf(number) => append_digits(
+            out,
+            6,
+            u64::from(VHF_CHANNELS + u32::from(number)),
+        ),
+        FieldKind::Tens(number) => append_digits(out, 8, u64::from(TENS + number)),
     }
 }
 

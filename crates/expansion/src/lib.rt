@@ -1,6 +1,7 @@
 //! Expansions: what may follow a call on air, how it is spelled in symbols and read back, symbol by symbol.
 #![tactic(auto)]
 
+pub mod bounds;
 mod laws;
 mod parts;
 mod readers;

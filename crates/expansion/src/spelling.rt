@@ -5,6 +5,7 @@ ghost use Rattle.symbol_reader.specs.Digits as digits;
 ghost use Rattle.expansion.specs.Parts.{IsUpTo};
 ghost use Rattle.expansion.specs.Spelling as sequence;
 
+use crate::bounds::{LAST_ENHANCEMENT, LAST_SPEED};
 use crate::parts::{Part, PartKind};
 use crate::specifiers::{COURSE, ENHANCED_POSITION, SPEED};
 use crate::values::Expansion;
@@ -42,7 +43,7 @@ fn covered(x: &Expansion, end: End) -> ArrayVec<u8, 16>
 /// Appends the set of an enhanced position, where there is one.
 fn append_position(list: &mut ArrayVec<u8, 16>, part: &Part)
     requires room { length list.old.items ≤ 11 }
-    requires range { IsUpTo 99999999 part.now }
+    requires range { IsUpTo LAST_ENHANCEMENT part.now }
     ensures list { list.new.items ≡ list.old.items ++ sequence.set_symbols specifiers.ENHANCED_POSITION digits.eight_digits part.now }
     ensures short { length list.new.items ≤ length list.old.items + 5 }
 {
@@ -59,7 +60,7 @@ fn append_position(list: &mut ArrayVec<u8, 16>, part: &Part)
 /// Appends a set of four digits, where there is one.
 fn append_digits(list: &mut ArrayVec<u8, 16>, specifier: u8, part: &Part)
     requires room { length list.old.items ≤ 8 }
-    requires range { IsUpTo 9999 part.now }
+    requires range { IsUpTo LAST_SPEED part.now }
     ensures list { list.new.items ≡ list.old.items ++ sequence.set_symbols specifier digits.four_digits part.now }
     ensures short { length list.new.items ≤ length list.old.items + 3 }
 {

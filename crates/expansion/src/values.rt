@@ -2,6 +2,7 @@ ghost use Rattle.std.specs.Prelude.{◌≡◌, ◌↔◌, IfSome, IsSome};
 ghost use Rattle.expansion.specs.Parts.{IsUpTo};
 ghost use Rattle.expansion.specs.Expansions.{IsExpansion};
 
+use crate::bounds::{LAST_COURSE, LAST_ENHANCEMENT, LAST_SPEED};
 use crate::parts::Part;
 use std::marker::Model;
 
@@ -44,9 +45,9 @@ impl Expansion {
         ensures some { IsSome result ↔ IsExpansion (record { enhanced = enhanced; speed = speed; course = course }) }
     {
         let is_some = enhanced.is_there() || speed.is_there() || course.is_there();
-        let is_in_range = enhanced.is_up_to(99_999_999)
-            && speed.is_up_to(9_999)
-            && course.is_up_to(3_599);
+        let is_in_range = enhanced.is_up_to(LAST_ENHANCEMENT)
+            && speed.is_up_to(LAST_SPEED)
+            && course.is_up_to(LAST_COURSE);
         if is_some && is_in_range {
             Some(Expansion {
                 sets: Sets {
@@ -63,7 +64,7 @@ impl Expansion {
     /// The enhanced position, in eight digits.
     pub fn enhanced(&self) -> Part
         ensures value { result ≡ self.now.enhanced }
-        ensures range { IsUpTo 99999999 result }
+        ensures range { IsUpTo LAST_ENHANCEMENT result }
     {
         self.sets.enhanced
     }
@@ -71,7 +72,7 @@ impl Expansion {
     /// The speed in tenths of a knot.
     pub fn speed(&self) -> Part
         ensures value { result ≡ self.now.speed }
-        ensures range { IsUpTo 9999 result }
+        ensures range { IsUpTo LAST_SPEED result }
     {
         self.sets.speed
     }
@@ -79,7 +80,7 @@ impl Expansion {
     /// The course in tenths of a degree.
     pub fn course(&self) -> Part
         ensures value { result ≡ self.now.course }
-        ensures range { IsUpTo 3599 result }
+        ensures range { IsUpTo LAST_COURSE result }
     {
         self.sets.course
     }

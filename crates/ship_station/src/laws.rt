@@ -7,6 +7,8 @@ ghost use Rattle.ship_station.specs.Events.{ship_occurs, begins_alert, MayEndAle
 ghost use Rattle.ship_station.specs.Past.{is_attempt, is_end};
 ghost use Rattle.ship_station.specs.ShipRules.{Identities, ship_rules};
 
+use call_values::bounds::SHORTEST_ALERT_DELAY;
+
 /// The law that after the end of a distress alert no attempt comes before the next event that begins one, in every legal
 /// history. It does nothing.
 pub fn no_attempt_after_an_end()
@@ -27,7 +29,7 @@ pub fn attempts_are_apart()
     ensures { (who : Identities) (later between earlier : History ShipWhat) (first second : Entry ShipWhat)
         → Legal (ship_rules who) (later ++ second ∷ (between ++ first ∷ earlier))
         → IsTrue (does is_attempt first) → NoneIs (does is_attempt) between → IsTrue (does is_attempt second) → begins_alert second ≡ false
-        → first.at + 210000 ≤ second.at }
+        → first.at + SHORTEST_ALERT_DELAY ≤ second.at }
 {}
 
 /// The law that each call that a ship sends and holds is sent at most twice: when it begins to be held, and once again at a

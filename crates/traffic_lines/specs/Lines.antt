@@ -1,5 +1,6 @@
 -- The lines of traffic files but for empty lines, comments, receptions and evidence: this project's profile.
 use Rattle.std.specs.Prelude.{◌≡◌, ℕ, ◌<◌, ◌≤◌, ◌^◌, Bool, true, false, List, [], ◌++◌, Option, Some, None, codes, decimal}
+use Rattle.call_values.specs.declared.bounds.TheConstants.{LAST_BASE}
 use Rattle.call_values.specs.declared.calls.Call.{Call}
 use Rattle.call_values.specs.declared.choices.Band.{Band}
 use Rattle.call_values.specs.declared.choices.Band.TheVariants.{Mf, Hf, Vhf}
@@ -94,7 +95,7 @@ band_text Vhf = codes "vhf"
 abbrev pub IsLineText : TrafficLine → List ℕ → Type 0
 IsLineText (Ship mmsi) text = IsMmsi mmsi × (text ≡ codes "station ship " ++ digits 9 mmsi)
 IsLineText (Coast mmsi band) text = IsMmsi mmsi × (text ≡ codes "station coast " ++ (digits 9 mmsi ++ (codes " " ++ band_text band)))
-IsLineText (Base second) text = (second ≤ 9999999999) × (text ≡ codes "base " ++ decimal second)
+IsLineText (Base second) text = (second ≤ LAST_BASE) × (text ≡ codes "base " ++ decimal second)
 IsLineText (Group mmsi) text = IsMmsi mmsi × (text ≡ codes "group " ++ digits 9 mmsi)
 IsLineText (Event at what) text = (said : List ℕ) × (at < 2 ^ 32) × IsEventText what said × (text ≡ decimal at ++ (codes " " ++ said))
 

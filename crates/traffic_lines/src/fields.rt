@@ -1,6 +1,7 @@
 #![tactic(auto, unfolding(line_grammar::specs::inside::Reading::read_token))]
 
 ghost use Rattle.std.specs.Prelude.{◌≡◌, ◌≤◌, ◌<◌, ◌^◌, ◌++◌, IfOk, IfErr, Ok, Err, List, ℕ, decimal};
+ghost use Rattle.call_values.specs.declared.bounds.TheConstants as bounds;
 ghost use Rattle.call_values.specs.Delays.{IsAlertDelay, IsCoastDelay};
 ghost use Rattle.call_values.specs.Identity.{IsMmsi};
 ghost use Rattle.call_values.specs.Parts.{IsTo};
@@ -17,13 +18,15 @@ ghost use Rattle.line_grammar.specs.inside.Reading.{read, read_token};
 ghost use Rattle.traffic_lines.specs.Lines.{IsHeldNumber};
 ghost use Rattle.traffic_lines.specs.inside.Grammars as grammar;
 
+use call_values::bounds::{
+    IDENTITIES, LAST_BASE, LONGEST_ALERT_DELAY, LONGEST_COAST_DELAY, SHORTEST_ALERT_DELAY,
+    SHORTEST_COAST_DELAY,
+};
 use call_values::{AlertDelay, CoastDelay, Comm, Mmsi, Nature, Position, To};
 use dsc_symbols::natures::NATURES;
 use dsc_symbols::telecommands::COMMS;
 use dsc_texts::{read_address, read_position};
 use line_grammar::{end, fixed_number, free_number, word};
-
-const IDENTITIES: [(u64, u64); 1] = [(0, 999_999_999)];
 
 /// A value that stands in lines as one token.
 pub trait Field: Copy {
@@ -125,28 +128,36 @@ impl Field for Comm {
 
 /// The milliseconds of a delay, without leading zeros.
 impl Field for AlertDelay {
-    ghost token = { tokens.free_number 210000 270000 };
+    ghost token = { tokens.free_number bounds.SHORTEST_ALERT_DELAY bounds.LONGEST_ALERT_DELAY };
 
     ghost Lawful = { IsAlertDelay };
 
     ghost text = { λ v. decimal v };
 
     fn read(bytes: &[u8]) -> Result<(AlertDelay, &[u8]), usize> {
-        let (number, rest) = free_number(210_000, 270_000, bytes)?;
+        let (number, rest) = free_number(
+            SHORTEST_ALERT_DELAY as u64,
+            LONGEST_ALERT_DELAY as u64,
+            bytes,
+        )?;
         Ok((AlertDelay::new(number as u32).unwrap(), rest))
     }
 }
 
 /// The milliseconds of a coast station's delay, without leading zeros.
 impl Field for CoastDelay {
-    ghost token = { tokens.free_number 60000 165000 };
+    ghost token = { tokens.free_number bounds.SHORTEST_COAST_DELAY bounds.LONGEST_COAST_DELAY };
 
     ghost Lawful = { IsCoastDelay };
 
     ghost text = { λ v. decimal v };
 
     fn read(bytes: &[u8]) -> Result<(CoastDelay, &[u8]), usize> {
-        let (number, rest) = free_number(60_000, 165_000, bytes)?;
+        let (number, rest) = free_number(
+            SHORTEST_COAST_DELAY as u64,
+            LONGEST_COAST_DELAY as u64,
+            bytes,
+        )?;
         Ok((CoastDelay::new(number as u32).unwrap(), rest))
     }
 }
@@ -186,14 +197,14 @@ pub struct Second {
 
 /// A second, without leading zeros.
 impl Field for Second {
-    ghost token = { tokens.free_number 0 9999999999 };
+    ghost token = { tokens.free_number 0 bounds.LAST_BASE };
 
-    ghost Lawful = { λ v. v.number ≤ 9999999999 };
+    ghost Lawful = { λ v. v.number ≤ bounds.LAST_BASE };
 
     ghost text = { λ v. decimal v.number };
 
     fn read(bytes: &[u8]) -> Result<(Second, &[u8]), usize> {
-        let (number, rest) = free_number(0, 9_999_999_999, bytes)?;
+        let (number, rest) = free_number(0, LAST_BASE, bytes)?;
         Ok((Second { number }, rest))
     }
 }

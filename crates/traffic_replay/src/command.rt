@@ -18,6 +18,7 @@ ghost use Rattle.traffic_replay.specs.inside.Gives.{gives_text};
 
 use crate::stations::Station;
 use crate::steps::{happen_at_coast, happen_at_ship};
+use call_values::bounds::LAST_BASE;
 use call_values::{Band, Mmsi};
 use coast_station::Coast;
 use dsc_files::{EventLine, FileKind, Line, LineFault, Point, Status, line_of, one_point_line};
@@ -127,7 +128,7 @@ impl Replay {
     /// Moments count from this second.
     fn name_base(&mut self, second: u64)
         requires next { self.old.point ≡ At.Base }
-        requires within { second ≤ 9999999999 }
+        requires within { second ≤ LAST_BASE }
         ensures { (said : Said) (text : List ℕ) → Keeps self.old said text → Keeps self.new (traffic (station.Base second) ∷ said) text }
     {
         self.base = second;
@@ -200,7 +201,7 @@ impl Replay {
     ) -> Result<(), AllocError>
         requires heard { HoldsSome self.old.heard }
         requires joins { JoinsBatches (J.pre workers.now.join) (J.post workers.now.join) }
-        requires within { self.old.base ≤ 9999999999 }
+        requires within { self.old.base ≤ LAST_BASE }
         requires event { IsEventAt self.old.station what.now }
         ensures { OnOk result ((said : Said) (text : List ℕ) → Keeps self.old said (text ++ out.old.items)
             → Keeps self.new (traffic (station.Event at what.now) ∷ said) (text ++ out.new.items)) }

@@ -1,6 +1,7 @@
 ghost use Rattle.std.specs.Prelude.{◌≡◌, ◌≤◌, ℕ};
 ghost use Rattle.traffic_replay.specs.Happenings as happenings;
 
+use call_values::bounds::LAST_BASE;
 use call_values::{Call, HourMinute, Position};
 use civil_time::civil_minute;
 use coast_station::CoastWhat;
@@ -17,7 +18,7 @@ pub struct Unreported {
 
 /// The time of a position: that of its line's moment in UTC, and unknown where the position is.
 fn time_at(base: u64, at: u32, position: &Position) -> HourMinute
-    requires { base ≤ 9999999999 }
+    requires { base ≤ LAST_BASE }
     ensures { result ≡ happenings.time_of base at position.now }
 {
     match position.known() {
@@ -38,7 +39,7 @@ pub(crate) fn heard_call(group: u32, answer: &Joined) -> Result<Call, Unreported
 
 /// The event at a ship that an event line gives of itself.
 pub(crate) fn ship_event(base: u64, at: u32, what: &EventLine) -> Option<ShipWhat>
-    requires { base ≤ 9999999999 }
+    requires { base ≤ LAST_BASE }
     ensures { result ≡ happenings.ship_event base at what.now }
 {
     match *what {

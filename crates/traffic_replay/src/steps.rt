@@ -23,6 +23,7 @@ use crate::heard::hear;
 use crate::outcomes::{Unreported, coast_event, heard_call, ship_event};
 use act_texts::{put_act, put_refused};
 use area_rules::{Act, Acts, StationRefusal};
+use call_values::bounds::LAST_BASE;
 use coast_station::{Coast, CoastEvent, CoastWhat};
 use dsc_files::EventLine;
 use dsc_texts::put_answer_line;
@@ -151,7 +152,7 @@ pub(crate) fn happen_at_ship<J: Drop + Fn(&[Heard]) -> Result<Vec<Shown>, AllocE
     what: &EventLine,
     out: &mut Vec<u8>,
 ) -> Result<bool, AllocError>
-    requires within { base ≤ 9999999999 }
+    requires within { base ≤ LAST_BASE }
     requires heard { HoldsSome groups.old }
     requires joins { JoinsBatches (J.pre workers.now.join) (J.post workers.now.join) }
     requires event { IsShipEvent what.now }

@@ -11,11 +11,12 @@ use Rattle.area_rules.specs.declared.held.Side.TheVariants.{Sent, Got}
 use Rattle.area_rules.specs.Histories.{Entry, History, since}
 use Rattle.area_rules.specs.Holding.{Places, newly_held, sent_at}
 use Rattle.area_rules.specs.Moments.{has_passed}
+use Rattle.traffic_rules.specs.declared.waits.TheConstants.{ANSWER_WAIT}
 use Rattle.traffic_rules.specs.Occurrences.{Occurrence, hears, is_tick, is_answer}
 
 -- how long a sent call waits for its answer, in milliseconds, before it is sent again, and before it is given up after that
 abbrev pub answer_wait : ℕ
-answer_wait = 300000
+answer_wait = ANSWER_WAIT
 
 -- an act begins to hold a call under a number
 abbrev pub holds : (number : ℕ) → Act → Bool

@@ -7,9 +7,11 @@ mod equality;
 mod hearing;
 mod repeating;
 mod sending;
+mod waits;
 
 pub use answering::answer;
 pub use equality::are_equal;
 pub use hearing::hear;
 pub use repeating::repeat;
 pub use sending::send;
+pub use waits::{ANSWER_WAIT, wait_for_answers};

@@ -3,10 +3,8 @@ ghost use Rattle.area_rules.specs.Holding.{place_of, with_place};
 ghost use Rattle.traffic_rules.specs.Repeating as repeating;
 ghost use Rattle.traffic_rules.specs.inside.After.{after_tick};
 
+use crate::waits::ANSWER_WAIT;
 use area_rules::{Act, Acts, Held, HeldCalls, Side, has_passed, put};
-
-/// How long a sent call waits for its answer, in milliseconds.
-const ANSWER_WAIT: u64 = 300_000;
 
 /// At a tick: sends each sent call again that has waited for its answer and was sent once, gives up each that was sent
 /// again, by rising number, and puts the acts last (ITU-R M.541, repetition of calls).

@@ -1,5 +1,6 @@
 -- The grammar of expansions, each symbol that parts two of them by itself: this project's profile.
 use Rattle.std.specs.Prelude.{ℕ, ◌+◌, ◌*◌, ◌==◌, List, [], ◌∷◌}
+use Rattle.expansion.specs.declared.bounds.TheConstants.{LAST_ENHANCEMENT}
 use Rattle.expansion.specs.declared.specifiers.TheConstants.{ENHANCED_POSITION, SPEED, COURSE}
 use Rattle.dsc_symbols.specs.declared.messages.TheConstants.{NO_INFORMATION}
 use Rattle.symbol_reader.specs.declared.letters.Letter.{Letter}
@@ -31,7 +32,7 @@ told_symbols digits (Digits n) = digits n
 
 -- eight digits, or no information
 abbrev pub EightDigits : PartKind → List ℕ → Type 0
-EightDigits = Spelled (IsTold 99999999) (told_symbols eight_digits)
+EightDigits = Spelled (IsTold LAST_ENHANCEMENT) (told_symbols eight_digits)
 
 -- four digits, the first two at most so much, or no information
 abbrev pub FourDigits : ℕ → PartKind → List ℕ → Type 0

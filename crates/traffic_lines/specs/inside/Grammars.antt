@@ -1,5 +1,6 @@
 -- The grammars by which traffic lines are read: this project's profile.
 use Rattle.std.specs.Prelude.{List, ℕ, codes}
+use Rattle.call_values.specs.declared.bounds.TheConstants as bounds
 use Rattle.dsc_texts.specs.CallGrammar.{address, identity, labelled, nature, comm, position as position_token}
 use Rattle.line_grammar.specs.Tokens.{Token, free_number}
 use Rattle.line_grammar.specs.Grammar.{Grammar, finish, anything, word, field, either}
@@ -16,7 +17,7 @@ abbrev pub position : Grammar
 position = only (codes "position ") position_token
 
 abbrev pub delay : Grammar
-delay = only (codes "delay ") (free_number 210000 270000)
+delay = only (codes "delay ") (free_number bounds.SHORTEST_ALERT_DELAY bounds.LONGEST_ALERT_DELAY)
 
 abbrev pub alert : Grammar
 alert = labelled (codes "alert nature=") nature (only (codes " then=") comm)
@@ -38,7 +39,7 @@ decline = only (codes "decline ") (free_number 1 16)
 
 -- a coast station's delay, and the same or the end of the line
 abbrev pub coast_delay : Grammar
-coast_delay = only (codes " ") (free_number 60000 165000)
+coast_delay = only (codes " ") (free_number bounds.SHORTEST_COAST_DELAY bounds.LONGEST_COAST_DELAY)
 
 abbrev pub perhaps_delay : Grammar
 perhaps_delay = either finish coast_delay
@@ -77,7 +78,7 @@ abbrev pub station : Grammar
 station = either ship coast
 
 abbrev pub base : Grammar
-base = only (codes "base ") (free_number 0 9999999999)
+base = only (codes "base ") (free_number 0 bounds.LAST_BASE)
 
 abbrev pub group : Grammar
 group = only (codes "group ") identity

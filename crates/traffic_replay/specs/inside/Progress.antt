@@ -14,6 +14,7 @@ use Rattle.ship_station.specs.ShipRules.{ship_rules}
 use Rattle.ship_station.specs.Stands.{Stands as ShipStands}
 use Rattle.coast_station.specs.CoastRules.{coast_rules}
 use Rattle.coast_station.specs.Stands.{Stands as CoastStands}
+use Rattle.call_values.specs.declared.bounds.TheConstants.{LAST_BASE}
 use Rattle.call_values.specs.declared.choices.Band.{Band}
 use Rattle.dsc_files.specs.JoinLine.{JoinLine}
 use Rattle.dsc_files.specs.PointLine.{PointLine, joined}
@@ -84,7 +85,7 @@ pub record Keeps (replay : Replay) (said : Said) (text : List ℕ) : Type 0 wher
   pub point : replay.point ≡ point_of said
   pub own : replay.own ≡ own_of said
   pub base : replay.base ≡ base_of said
-  pub within : replay.base ≤ 9999999999
+  pub within : replay.base ≤ LAST_BASE
   pub groups : replay.groups.items ≡ groups_of said
   pub counted : IsBehindGroups replay.point replay.groups.items
   pub most : length replay.groups.items ≤ 16
@@ -116,11 +117,11 @@ IsEventAt (station.Coast s) what = IsCoastEvent what
 
 -- what was read of a line may stand where the replay is
 pub record IsReady (replay : Replay) (read : Line) : Type 0 where
-  pub within : replay.base ≤ 9999999999
+  pub within : replay.base ≤ LAST_BASE
   pub heard : HoldsSome replay.heard
   pub most : length replay.groups.items ≤ 16
   pub ship : (mmsi : ℕ) → read ≡ got.Ship mmsi → replay.point ≡ point.Station
-  pub base : (second : ℕ) → read ≡ got.Base second → (replay.point ≡ point.Base) × (second ≤ 9999999999)
+  pub base : (second : ℕ) → read ≡ got.Base second → (replay.point ≡ point.Base) × (second ≤ LAST_BASE)
   pub coast : (mmsi : ℕ) (band : Band) → read ≡ got.Coast mmsi band → replay.point ≡ point.Station
   pub group : (mmsi : ℕ) → read ≡ got.Group mmsi → IsAmongGroups replay.point × (length replay.groups.items < 16)
   pub event : (at : ℕ) (what : EventLine) → read ≡ got.Event at what → IsEventAt replay.station what
