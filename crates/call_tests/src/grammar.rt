@@ -96,13 +96,7 @@ fn is_end_wanted_once(list: &[u8]) -> bool {
 #[test]
 fn each_form_and_each_address(rt: HostRuntime) {
     let lists: [(&str, &[u8]); 14] = [
-        (
-            "an alert",
-            &[
-                112, 112, 33, 80, 40, 7, 90, 106, 14, 23, 10, 83, 12, 20, 19, 100, 127, 78, 127,
-                127,
-            ],
-        ),
+        ("an alert", &ALERT),
         (
             "an acknowledgement",
             &[

@@ -1,4 +1,5 @@
 use dsc_files::{SureSink, SureSource};
+use dsc_symbols::worked::ALERT_SLOTS;
 use receiver_pool::Open;
 use std::alloc::{AllocError, Global};
 use std::test::Fail;
@@ -145,18 +146,11 @@ fn replays(rt: HostRuntime) -> Result<(), Fail> {
     Ok(())
 }
 
-// The slots of an alert of 338040079.
-const SLOTS: [u8; 52] = [
-    125, 111, 125, 110, 125, 109, 125, 108, 125, 107, 125, 106, 112, 105, 112, 104, 33, 112, 80,
-    112, 40, 33, 7, 80, 90, 40, 106, 7, 14, 90, 23, 106, 10, 14, 83, 23, 12, 10, 20, 83, 19, 12,
-    100, 20, 127, 19, 78, 100, 127, 127, 127, 78,
-];
-
-// Appends the line of a reception of the alert.
+// Appends the line of a reception of the worked alert.
 fn put_reception(file: &mut Vec<u8>) -> Result<(), AllocError> {
     file.extend_from_slice(b"r BYBYBYBYBYBYBYBYBYBY")?;
-    for slot in SLOTS {
-        for element in word(slot % 128) {
+    for symbol in ALERT_SLOTS {
+        for element in word(symbol % 128) {
             file.push(if element == Element::Y { b'Y' } else { b'B' })?;
         }
     }

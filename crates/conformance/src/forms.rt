@@ -1,4 +1,5 @@
 use call_grammar::{ReadRefusal, read, spell};
+use dsc_symbols::worked::ALERT;
 use dsc_texts::{put_call, read_bare_call, read_call};
 use slot_join::Extra;
 
@@ -6,9 +7,7 @@ use slot_join::Extra;
 pub(crate) const CALLS: [(&str, &[u8]); 26] = [
     (
         "alert from=338040079 nature=106 pos=1423108312 time=2019 then=100",
-        &[
-            112, 112, 33, 80, 40, 7, 90, 106, 14, 23, 10, 83, 12, 20, 19, 100, 127, 78, 127, 127,
-        ],
+        &ALERT,
     ),
     (
         "alert from=338040079 nature=112 pos=9999999999 time=8888 then=126",
