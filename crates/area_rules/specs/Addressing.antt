@@ -1,7 +1,7 @@
 -- Whom a call reaches: ITU-R M.493, format specifier and address.
 use Rattle.std.specs.Prelude.{ℕ, ◌==◌, Bool, true, false, Option, List}
 use Rattle.std.specs.List.{list_any}
-use Rattle.call_values.specs.declared.places.Fix.{Fix}
+use Rattle.call_values.specs.declared.positions.Fix.{Fix}
 use Rattle.call_values.specs.declared.calls.Call.{Call}
 use Rattle.call_values.specs.declared.parts.To.{To}
 use Rattle.call_values.specs.declared.parts.To.TheVariants as to

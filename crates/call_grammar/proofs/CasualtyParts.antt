@@ -3,7 +3,7 @@ use Rattle.std.proofs.Common.{◌≡◌, ℕ, List, [], ◌∷◌, ◌++◌, Opt
 use Rattle.symbol_reader.specs.inside.Languages.{Only, Then, Spelled}
 use Rattle.symbol_reader.proofs.Laws.{Good, Alike, then_good, only_good, alike_good}
 use Rattle.symbol_reader.proofs.Steps.{spelled_then}
-use Rattle.call_values.specs.declared.places.Fix.{Fix}
+use Rattle.call_values.specs.declared.positions.Fix.{Fix}
 use Rattle.call_values.specs.declared.calls.Casualty.{Casualty}
 use Rattle.dsc_symbols.specs.Natures.{IsNature}
 use Rattle.dsc_symbols.specs.Telecommands.{IsComm}

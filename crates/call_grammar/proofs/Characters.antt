@@ -1,7 +1,7 @@
 -- Every symbol of a call's list is below 128.
 use Rattle.std.proofs.Common.{ℕ, zero, suc, Bool, true, false, cond, ◌+◌, ◌*◌, ◌<◌, List, [], ◌∷◌, ◌++◌, Option, Some, None, arith}
 use Rattle.symbol_reader.proofs.Characters.{AreCharacters, both, ten, of_six, of_eight, of_check}
-use Rattle.call_values.specs.declared.places.Fix.{Fix}
+use Rattle.call_values.specs.declared.positions.Fix.{Fix}
 use Rattle.call_values.specs.declared.calls.Casualty.{Casualty}
 use Rattle.call_values.specs.declared.calls.Call.{Call}
 use Rattle.call_values.specs.declared.calls.Call.TheVariants.{Alert, Ack, Relay, RelayAck, AllShips, AreaCall, GroupCall, Individual, Service}
@@ -24,7 +24,7 @@ use Rattle.call_values.specs.Parts.{IsTo, IsMessage, IsKind}
 use Rattle.call_values.specs.Identity.{IsMmsi}
 use Rattle.dsc_symbols.specs.Natures.{IsNature}
 use Rattle.dsc_symbols.specs.Telecommands.{IsComm}
-use Rattle.call_values.specs.Places.{IsPosition}
+use Rattle.call_values.specs.Positions.{IsPosition}
 use Rattle.call_values.specs.Clock.{IsHourMinute}
 use Rattle.call_values.specs.Calls.{IsCasualty, IsRequest, IsCall}
 use Rattle.call_values.specs.Views.{address_of}

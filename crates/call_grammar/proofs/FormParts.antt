@@ -10,7 +10,7 @@ use Rattle.call_grammar.specs.declared.symbols.Specifier.{Specifier}
 use Rattle.call_grammar.specs.declared.symbols.Specifier.TheVariants as format
 use Rattle.call_grammar.specs.declared.symbols.Telecommand.{Telecommand}
 use Rattle.call_grammar.specs.declared.symbols.Telecommand.TheVariants as telecommand
-use Rattle.call_grammar.specs.inside.Forms.{Relays, Acks, AfterDistressTelecommand, AfterRelayer, Distress, Requests, Tests, Answers, Questions, AfterTold, Places, Others, AfterTelecommand, Individuals, SenderAndRequest, AfterCategory, Addressed, SenderAndIndividual, AfterCategoryToOne, AddressedOne, Alerts, AfterFormat}
+use Rattle.call_grammar.specs.inside.Forms.{Relays, Acks, AfterDistressTelecommand, AfterRelayer, Distress, Requests, Tests, PositionAnswers, PositionRequests, AfterTold, ShipPositions, Others, AfterTelecommand, Individuals, SenderAndRequest, AfterCategory, Addressed, SenderAndIndividual, AfterCategoryToOne, AddressedOne, Alerts, AfterFormat}
 use Rattle.call_grammar.proofs.IdentityParts.{identity_good}
 use Rattle.call_grammar.proofs.PositionParts.{position_good}
 use Rattle.call_grammar.proofs.TimeParts.{time_good}
@@ -46,18 +46,18 @@ tests_good m g from =
     then_good _ _ (letter_good (Exactly 126)) (λ _ _ _. then_good _ _ (letter_good (Exactly 126)) (λ _ _ _. then_good _ _ (blanks_good 5) (λ _ _ _.
     then_good _ _ (eithers_good 122 117 (λ e. omega (arith, e))) (λ _ _ _. only_good _))))
 
-pub answers_good : (m : ℕ) (g : Category) (from : ℕ) → Good (Answers m g from)
+pub answers_good : (m : ℕ) (g : Category) (from : ℕ) → Good (PositionAnswers m g from)
 answers_good m g from =
     then_good _ _ position_good (λ _ _ _. then_good _ _ time_good (λ _ _ _. then_good _ _ (letter_good (Exactly 122)) (λ _ _ _. only_good _)))
 
-pub questions_good : (m : ℕ) (g : Category) (from : ℕ) → Good (Questions m g from)
+pub questions_good : (m : ℕ) (g : Category) (from : ℕ) → Good (PositionRequests m g from)
 questions_good m g from = then_good _ _ (blanks_good 5) (λ _ _ _. then_good _ _ (letter_good (Exactly 117)) (λ _ _ _. only_good _))
 
 pub after_told_good : (m : ℕ) (g : Category) (from : ℕ) (is_told : Bool) → Good (AfterTold m g from is_told)
 after_told_good m g from true = answers_good m g from
 after_told_good m g from false = questions_good m g from
 
-pub places_good : (m : ℕ) (g : Category) (from : ℕ) → Good (Places m g from)
+pub places_good : (m : ℕ) (g : Category) (from : ℕ) → Good (ShipPositions m g from)
 places_good m g from =
     then_good _ _ (letter_good (Exactly 126)) (λ _ _ _. then_good _ _ (eithers_good 55 126 (λ e. omega (arith, e))) (λ b _ _. after_told_good m g from b))
 

@@ -17,7 +17,7 @@ use Rattle.call_grammar.specs.declared.symbols.Telecommand.TheVariants as teleco
 use Rattle.call_grammar.specs.Spelling.{format_of, covered, check_of, end_of}
 use Rattle.call_grammar.specs.inside.Grammar.{CheckedCharacters}
 use Rattle.call_grammar.specs.Walk.{IsViable, IsAtEnd, IsAtCheck}
-use Rattle.call_grammar.specs.inside.Forms.{Relays, Acks, AfterDistressTelecommand, Distress, Requests, Tests, Answers, Questions, AfterTold, Places, Others, AfterTelecommand, AfterCategory, Addressed, SenderAndIndividual, AfterCategoryToOne, AddressedOne, Alerts, AfterFormat}
+use Rattle.call_grammar.specs.inside.Forms.{Relays, Acks, AfterDistressTelecommand, Distress, Requests, Tests, PositionAnswers, PositionRequests, AfterTold, ShipPositions, Others, AfterTelecommand, AfterCategory, Addressed, SenderAndIndividual, AfterCategoryToOne, AddressedOne, Alerts, AfterFormat}
 use Rattle.call_grammar.proofs.IdentityParts.{identity_good}
 use Rattle.call_grammar.proofs.PositionParts.{position_good}
 use Rattle.call_grammar.proofs.TimeParts.{time_good}
@@ -141,17 +141,17 @@ tests_last m g from =
     then_last _ _ (letter_good (Exactly 126)) (λ _ _ _. then_last _ _ (letter_good (Exactly 126)) (λ _ _ _. then_last _ _ (blanks_good 5) (λ _ _ _.
     ends _ _ (code_one _ _))))
 
-answers_last : (m : ℕ) (g : Category) (from : ℕ) → LacksOne (Answers m g from)
+answers_last : (m : ℕ) (g : Category) (from : ℕ) → LacksOne (PositionAnswers m g from)
 answers_last m g from = then_last _ _ position_good (λ _ _ _. then_last _ _ time_good (λ _ _ _. ends _ _ (letter_one (Exactly 122))))
 
-questions_last : (m : ℕ) (g : Category) (from : ℕ) → LacksOne (Questions m g from)
+questions_last : (m : ℕ) (g : Category) (from : ℕ) → LacksOne (PositionRequests m g from)
 questions_last m g from = then_last _ _ (blanks_good 5) (λ _ _ _. ends _ _ (letter_one (Exactly 117)))
 
 after_told_last : (m : ℕ) (g : Category) (from : ℕ) (is_told : Bool) → LacksOne (AfterTold m g from is_told)
 after_told_last m g from true = answers_last m g from
 after_told_last m g from false = questions_last m g from
 
-places_last : (m : ℕ) (g : Category) (from : ℕ) → LacksOne (Places m g from)
+places_last : (m : ℕ) (g : Category) (from : ℕ) → LacksOne (ShipPositions m g from)
 places_last m g from =
     then_last _ _ (letter_good (Exactly 126)) (λ _ _ _. then_last _ _ (eithers_good 55 126 (λ e. omega (arith, e))) (λ b _ _. after_told_last m g from b))
 

@@ -1,6 +1,6 @@
 -- How long the lists of calls are.
 use Rattle.std.proofs.Common.{◌≡◌, ℕ, ◌+◌, ◌*◌, ◌≤◌, ◌⊎◌, inl, inr, List, [], ◌∷◌, ◌++◌, length, Option, Some, None, refl, ap, length-append, arith}
-use Rattle.call_values.specs.declared.places.Fix.{Fix}
+use Rattle.call_values.specs.declared.positions.Fix.{Fix}
 use Rattle.call_values.specs.declared.calls.Casualty.{Casualty}
 use Rattle.call_values.specs.declared.calls.Call.{Call}
 use Rattle.call_values.specs.declared.bodies.Body.{Body}

@@ -6,8 +6,8 @@ use Rattle.symbol_reader.specs.Letters.{Allows}
 use Rattle.symbol_reader.specs.inside.Languages.{Only, Then, Choice}
 use Rattle.symbol_reader.proofs.Laws.{Good, Alike, then_good, only_good, choice_good, alike_good}
 use Rattle.symbol_reader.proofs.Steps.{letter_good, one_then, joined}
-use Rattle.call_values.specs.declared.places.Fix.{Fix}
-use Rattle.call_values.specs.Places.{IsArc, IsFix}
+use Rattle.call_values.specs.declared.positions.Fix.{Fix}
+use Rattle.call_values.specs.Positions.{IsArc, IsFix}
 use Rattle.call_grammar.specs.Spelling.{ten_digits, position_digits}
 use Rattle.call_grammar.specs.inside.Grammar.{Symbol, Positions, KnownRest, UnknownRest, fix_of, latitude_ones, minutes_and_hundreds, longitude_ones, longitude_minutes}
 use Rattle.symbol_reader.proofs.Digits.{ten_digits-of}

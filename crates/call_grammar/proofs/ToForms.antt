@@ -24,7 +24,7 @@ use Rattle.call_grammar.specs.declared.symbols.Telecommand.{Telecommand}
 use Rattle.call_grammar.specs.declared.symbols.Telecommand.TheVariants as telecommand
 use Rattle.call_grammar.specs.Spelling.{identity_symbols, casualty_symbols, position_symbols, time_symbols, area_symbols, category_symbol, field_symbols, message_symbols, end_symbol, format_to, address_symbols, blanks, kind_symbols, kind_end}
 use Rattle.call_grammar.specs.inside.Grammar.{CheckedCharacters}
-use Rattle.call_grammar.specs.inside.Forms.{format_symbol, category_or_distress, distress_telecommand_symbol, IsDistressTelecommand, telecommand_symbol, IsTelecommand, relay, request, Relays, Acks, AfterDistressTelecommand, Distress, Requests, Tests, Answers, Questions, AfterTold, Places, Others, AfterTelecommand, SenderAndRequest, AfterCategory, Addressed, SenderAndIndividual, AfterCategoryToOne, AddressedOne, Alerts, AfterFormat, Formats}
+use Rattle.call_grammar.specs.inside.Forms.{format_symbol, category_or_distress, distress_telecommand_symbol, IsDistressTelecommand, telecommand_symbol, IsTelecommand, relay, request, Relays, Acks, AfterDistressTelecommand, Distress, Requests, Tests, PositionAnswers, PositionRequests, AfterTold, ShipPositions, Others, AfterTelecommand, SenderAndRequest, AfterCategory, Addressed, SenderAndIndividual, AfterCategoryToOne, AddressedOne, Alerts, AfterFormat, Formats}
 use Rattle.call_grammar.proofs.CodedParts.{blanks_list}
 use Rattle.call_grammar.proofs.FormLists.{distress-list, relay-list, letter-list, request-list, service-list}
 
@@ -132,7 +132,7 @@ to_test m g from v w h i p =
     ∙ ap (λ a. 126 ∷ a ∷ (blanks 5 ++ ((if s.chosen then 122 else 117) ∷ []))) k2 in
     moved (λ a. letter m g from (118 ∷ a)) v (Service m g from (Test s.chosen)) w _ s.after.value list (service_checked m g from (Test s.chosen) h i tt)
 
-to_answer : (m : ℕ) (g : Category) (from : ℕ) (v : Call) (w : List ℕ) → IsMmsi m → IsMmsi from → Answers m g from v w
+to_answer : (m : ℕ) (g : Category) (from : ℕ) (v : Call) (w : List ℕ) → IsMmsi m → IsMmsi from → PositionAnswers m g from v w
     → CheckedCharacters v (letter m g from (121 ∷ 126 ∷ 55 ∷ w))
 to_answer m g from v w h i p =
     let q = p.after in let r = q.after in
@@ -143,7 +143,7 @@ to_answer m g from v w h i p =
     moved (λ a. letter m g from (121 ∷ 126 ∷ 55 ∷ a)) v (Service m g from (Position p.chosen q.chosen)) w _ r.after.value list
     (service_checked m g from (Position p.chosen q.chosen) h i (p.before.is_lawful, q.before.is_lawful))
 
-to_question : (m : ℕ) (g : Category) (from : ℕ) (v : Call) (w : List ℕ) → IsMmsi m → IsMmsi from → Questions m g from v w
+to_question : (m : ℕ) (g : Category) (from : ℕ) (v : Call) (w : List ℕ) → IsMmsi m → IsMmsi from → PositionRequests m g from v w
     → CheckedCharacters v (letter m g from (121 ∷ 126 ∷ 126 ∷ w))
 to_question m g from v w h i p =
     let q = p.after in
@@ -157,7 +157,7 @@ to_told : (m : ℕ) (g : Category) (from : ℕ) (is_told : Bool) (v : Call) (w :
 to_told m g from true v w h i p = to_answer m g from v w h i p
 to_told m g from false v w h i p = to_question m g from v w h i p
 
-to_place : (m : ℕ) (g : Category) (from : ℕ) (v : Call) (w : List ℕ) → IsMmsi m → IsMmsi from → Places m g from v w → CheckedCharacters v (letter m g from (121 ∷ w))
+to_place : (m : ℕ) (g : Category) (from : ℕ) (v : Call) (w : List ℕ) → IsMmsi m → IsMmsi from → ShipPositions m g from v w → CheckedCharacters v (letter m g from (121 ∷ w))
 to_place m g from v w h i p =
     let q = p.after in
     let k : p.chosen ≡ 126 = p.before.allowed in

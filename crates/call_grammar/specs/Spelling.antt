@@ -6,7 +6,7 @@ use Rattle.dsc_symbols.specs.declared.telecommands.TheConstants as telecommands
 use Rattle.dsc_symbols.specs.declared.ends.TheConstants as ends
 use Rattle.dsc_symbols.specs.declared.messages.TheConstants.{NO_INFORMATION, POSITION_FOLLOWS, UNKNOWN_POSITION, UNKNOWN_TIME}
 use Rattle.call_values.specs.declared.bounds.TheConstants as bounds
-use Rattle.call_values.specs.declared.places.Fix.{Fix}
+use Rattle.call_values.specs.declared.positions.Fix.{Fix}
 use Rattle.call_values.specs.declared.calls.Casualty.{Casualty}
 use Rattle.call_values.specs.declared.calls.Call.{Call}
 use Rattle.call_values.specs.declared.calls.Call.TheVariants.{Alert, Ack, Relay, RelayAck, AllShips, AreaCall, GroupCall, Individual, Service}

@@ -73,7 +73,7 @@ fn test_call(list: &mut Cursor, to: Mmsi, category: Category, from: Mmsi) -> Res
 }
 
 fn position_call(list: &mut Cursor, to: Mmsi, category: Category, from: Mmsi) -> Result<Call, Stop>
-    ensures { Reads (forms.Places to category from) list.old result list.new }
+    ensures { Reads (forms.ShipPositions to category from) list.old result list.new }
 {
     symbol(list, Letter::Exactly(NO_INFORMATION))?;
     let is_told = either(list, POSITION_FOLLOWS, NO_INFORMATION)?;
@@ -97,7 +97,7 @@ fn after_told(
 }
 
 fn answer(list: &mut Cursor, to: Mmsi, category: Category, from: Mmsi) -> Result<Call, Stop>
-    ensures { Reads (forms.Answers to category from) list.old result list.new }
+    ensures { Reads (forms.PositionAnswers to category from) list.old result list.new }
 {
     let position = position(list)?;
     let time = time(list)?;
@@ -111,7 +111,7 @@ fn answer(list: &mut Cursor, to: Mmsi, category: Category, from: Mmsi) -> Result
 }
 
 fn question(list: &mut Cursor, to: Mmsi, category: Category, from: Mmsi) -> Result<Call, Stop>
-    ensures { Reads (forms.Questions to category from) list.old result list.new }
+    ensures { Reads (forms.PositionRequests to category from) list.old result list.new }
 {
     blanks(list)?;
     symbol(list, Letter::Exactly(ACKNOWLEDGE_RQ))?;

@@ -1,5 +1,5 @@
 ghost use Rattle.std.specs.Prelude.{◌≡◌, ◌+◌, ◌<◌, ◌≤◌, ◌++◌, ◌∷◌, length};
-ghost use Rattle.call_values.specs.Places.{IsFix};
+ghost use Rattle.call_values.specs.Positions.{IsFix};
 ghost use Rattle.call_values.specs.Areas.{IsArea};
 ghost use Rattle.call_grammar.specs.Spelling as sequence;
 

@@ -7,7 +7,7 @@ use Rattle.call_values.specs.declared.parts.Message.{Message}
 use Rattle.call_values.specs.declared.parts.Message.TheVariants.{Fields}
 use Rattle.call_values.specs.Identity.{IsMmsi}
 use Rattle.dsc_symbols.specs.Natures.{IsNature}
-use Rattle.call_values.specs.Places.{IsPosition}
+use Rattle.call_values.specs.Positions.{IsPosition}
 use Rattle.call_values.specs.Clock.{IsHourMinute}
 use Rattle.call_values.specs.Areas.{IsArea}
 use Rattle.dsc_symbols.specs.Telecommands.{IsFirst, IsSecond, IsComm}

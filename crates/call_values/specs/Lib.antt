@@ -1,5 +1,5 @@
 pub mod Identity
-pub mod Places
+pub mod Positions
 pub mod Clock
 pub mod Ends
 pub mod Calls

@@ -8,7 +8,7 @@ use Rattle.call_values.specs.declared.parts.Kind.TheVariants as kind
 use Rattle.call_values.specs.Identity.{IsMmsi}
 use Rattle.call_values.specs.Areas.{IsArea}
 use Rattle.call_values.specs.Fields.{IsField}
-use Rattle.call_values.specs.Places.{IsPosition}
+use Rattle.call_values.specs.Positions.{IsPosition}
 use Rattle.call_values.specs.Clock.{IsHourMinute}
 
 -- whom a call is for, by an area or an identity in its range

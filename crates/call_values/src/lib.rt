@@ -13,7 +13,7 @@ mod fields;
 mod identity;
 mod natures;
 mod parts;
-mod places;
+mod positions;
 mod telecommands;
 pub mod worked;
 
@@ -27,5 +27,5 @@ pub use fields::{Field, FieldKind};
 pub use identity::Mmsi;
 pub use natures::Nature;
 pub use parts::{Kind, Message, To};
-pub use places::{Fix, Position};
+pub use positions::{Fix, Position};
 pub use telecommands::{Comm, First, Second};

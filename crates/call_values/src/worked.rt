@@ -3,7 +3,7 @@
 use crate::Fix;
 
 /// 42 degrees 31 minutes north, 83 degrees 12 minutes west.
-pub const PLACE: Fix = Fix {
+pub const FIX: Fix = Fix {
     quadrant: 1,
     lat_deg: 42,
     lat_min: 31,

@@ -1,5 +1,5 @@
 use call_grammar::{ReadRefusal, read, spell};
-use call_values::worked::PLACE;
+use call_values::worked::FIX;
 use call_values::{Call, Casualty, Comm, HourMinute, Mmsi, Nature, Position};
 use dsc_symbols::worked::{ALERT, ALERT_SLOTS};
 use phasing::transmission;
@@ -11,7 +11,7 @@ fn alert() -> Option<Call> {
     Some(Call::Alert(Casualty {
         mmsi: Mmsi::new(338_040_079)?,
         nature: Nature::new(106)?,
-        position: Position::new(PLACE)?,
+        position: Position::new(FIX)?,
         time: HourMinute::new(20, 19)?,
         comm: Comm::new(100)?,
     }))

@@ -13,7 +13,7 @@ use Rattle.sentence_frame.proofs.Reading.{Agrees, agree_step, firsts, firsts_beh
 use Rattle.sentence_frame.proofs.Sentences.{opened_sound, framed_cut, texts_sound, texts_back}
 use Rattle.dsc_sentences.specs.declared.dsc.DscFields.{DscFields}
 use Rattle.dsc_sentences.specs.Dsc.{texts, shapes, formats, categories, IsDsc, IsReading, dsc}
-use Rattle.dsc_sentences.specs.inside.DscReading.{read_fields, Answers, end_in}
+use Rattle.dsc_sentences.specs.inside.DscReading.{read_fields, FieldsAnswer, end_in}
 use Rattle.dsc_sentences.proofs.Letters.{end_kind, mark_kind, is_there}
 use Rattle.dsc_sentences.proofs.DscFieldLaws.{format_kind, category_kind, two_kind, four_kind, ten_kind, head_is, dsc_texts, one_record}
 
@@ -93,12 +93,12 @@ eleven n h =
       | inr none ↦ absurd (false≢true none)
     ]
 
-answered : (bytes : List ℕ) (ts : List (List ℕ)) (r : Result DscFields SentenceRefusal) → texts_of dsc bytes ≡ judged 1 shapes ts ts → Agrees r (judged 1 shapes ts ts) ts (Has ts) → Answers r bytes
+answered : (bytes : List ℕ) (ts : List (List ℕ)) (r : Result DscFields SentenceRefusal) → texts_of dsc bytes ≡ judged 1 shapes ts ts → Agrees r (judged 1 shapes ts ts) ts (Has ts) → FieldsAnswer r bytes
 answered bytes ts (Ok s) j h = (j ∙ h.0 ∙ ap Ok (sym h.1.0), h.1.1)
 answered bytes ts (Err e) j h = j ∙ h
 
 -- so reading opened fields answers the bytes
-pub read_opened : (bytes fields : List ℕ) (answer : Result DscFields SentenceRefusal) → opened (codes "$CDDSC") (11 ∷ []) bytes ≡ Ok fields → answer ≡ read_fields fields → Answers answer bytes
+pub read_opened : (bytes fields : List ℕ) (answer : Result DscFields SentenceRefusal) → opened (codes "$CDDSC") (11 ∷ []) bytes ≡ Ok fields → answer ≡ read_fields fields → FieldsAnswer answer bytes
 read_opened bytes fields answer h e =
     let o = opened_sound (codes "$CDDSC") (11 ∷ []) bytes fields h in
     let cut = framed_cut (codes "$CDDSC") bytes fields head_is o.framed in
@@ -112,10 +112,10 @@ read_opened bytes fields answer h e =
     rw e (answered bytes ts (read_fields fields) judgement agree)
 
 -- the clauses of what is read
-pub answers_found : (bytes : List ℕ) (s : DscFields) → Answers (Ok s) bytes → bytes ≡ sentence (codes "$CDDSC") (texts s)
+pub answers_found : (bytes : List ℕ) (s : DscFields) → FieldsAnswer (Ok s) bytes → bytes ≡ sentence (codes "$CDDSC") (texts s)
 answers_found bytes s h = texts_sound dsc bytes (texts s) head_is h.0
 
-pub answers_only : (bytes : List ℕ) (answer : Result DscFields SentenceRefusal) (s : DscFields) → Answers answer bytes → IsDsc s → bytes ≡ sentence (codes "$CDDSC") (texts s) → answer ≡ Ok s
+pub answers_only : (bytes : List ℕ) (answer : Result DscFields SentenceRefusal) (s : DscFields) → FieldsAnswer answer bytes → IsDsc s → bytes ≡ sentence (codes "$CDDSC") (texts s) → answer ≡ Ok s
 answers_only bytes (Ok v) s h lawful e =
     let read : texts_of dsc bytes ≡ Ok (texts s) = ap (λ (l : List ℕ). texts_of dsc l) e ∙ texts_back dsc (texts s) (dsc_texts s lawful) in
     let found = h.0 in
@@ -125,15 +125,15 @@ answers_only bytes (Err x) s h lawful e =
     let read : texts_of dsc bytes ≡ Ok (texts s) = ap (λ (l : List ℕ). texts_of dsc l) e ∙ texts_back dsc (texts s) (dsc_texts s lawful) in
     absurd (cc)
 
-pub answers_refused : (bytes : List ℕ) (answer : Result DscFields SentenceRefusal) (e : SentenceRefusal) → Answers answer bytes → answer ≡ Err e → texts_of dsc bytes ≡ Err e
+pub answers_refused : (bytes : List ℕ) (answer : Result DscFields SentenceRefusal) (e : SentenceRefusal) → FieldsAnswer answer bytes → answer ≡ Err e → texts_of dsc bytes ≡ Err e
 answers_refused bytes (Ok v) e h same = absurd (cc)
 answers_refused bytes (Err x) e h same = (cc)
 
-pub answers_each : (bytes : List ℕ) (answer : Result DscFields SentenceRefusal) (e : SentenceRefusal) → Answers answer bytes → texts_of dsc bytes ≡ Err e → answer ≡ Err e
+pub answers_each : (bytes : List ℕ) (answer : Result DscFields SentenceRefusal) (e : SentenceRefusal) → FieldsAnswer answer bytes → texts_of dsc bytes ≡ Err e → answer ≡ Err e
 answers_each bytes (Ok v) e h same = absurd (let k = h.0 in cc)
 answers_each bytes (Err x) e h same = (cc)
 
-pub answers_read : (bytes : List ℕ) (answer : Result DscFields SentenceRefusal) → Answers answer bytes → IsReading bytes answer
+pub answers_read : (bytes : List ℕ) (answer : Result DscFields SentenceRefusal) → FieldsAnswer answer bytes → IsReading bytes answer
 answers_read bytes (Ok s) h = record {
   found = answers_found bytes s h;
   only = λ t. answers_only bytes (Ok s) t h;

@@ -21,7 +21,7 @@ use Rattle.expansion.specs.Expansions.{IsExpansion}
 use Rattle.expansion.specs.Parts.{IsThere, IsUpTo}
 use Rattle.dsc_sentences.specs.declared.dse.DseFields.{DseFields}
 use Rattle.dsc_sentences.specs.Dse.{texts, pair_shapes, data_shape, set_texts, expansion_texts, dse, IsDse, IsReading}
-use Rattle.dsc_sentences.specs.inside.DseReading.{Answers}
+use Rattle.dsc_sentences.specs.inside.DseReading.{FieldsAnswer}
 use Rattle.dsc_sentences.proofs.DseSets.{Rises, ArePairs, data_kind, code_one, code_more, code_other, code_among}
 use Rattle.dsc_sentences.proofs.DseLaws.{flag_kind, one_shown, one_record, BeginsOther, behind_code, append_none}
 use Rattle.dsc_sentences.proofs.DseAnswers.{rises_0, rises_2, rises_3, head_is}
@@ -215,10 +215,10 @@ dse_texts s h =
     (omega (arith, long)) (pair_plain codes ts sets.pairs) (omega (arith, few, room)) (rw (e1, e3, e4, e5) refl)
 
 -- the clauses of what is read
-answers_found : (bytes : List ℕ) (s : DseFields) → Answers (Ok s) bytes → bytes ≡ sentence (codes "$CDDSE") (texts s)
+answers_found : (bytes : List ℕ) (s : DseFields) → FieldsAnswer (Ok s) bytes → bytes ≡ sentence (codes "$CDDSE") (texts s)
 answers_found bytes s h = texts_sound dse bytes (texts s) head_is h.0
 
-answers_only : (bytes : List ℕ) (answer : Result DseFields SentenceRefusal) (s : DseFields) → Answers answer bytes → IsDse s → bytes ≡ sentence (codes "$CDDSE") (texts s) → answer ≡ Ok s
+answers_only : (bytes : List ℕ) (answer : Result DseFields SentenceRefusal) (s : DseFields) → FieldsAnswer answer bytes → IsDse s → bytes ≡ sentence (codes "$CDDSE") (texts s) → answer ≡ Ok s
 answers_only bytes (Ok v) s h lawful e =
     let read : texts_of dse bytes ≡ Ok (texts s) = ap (λ (l : List ℕ). texts_of dse l) e ∙ texts_back dse (texts s) (dse_texts s lawful) in
     let found = h.0 in
@@ -228,15 +228,15 @@ answers_only bytes (Err x) s h lawful e =
     let read : texts_of dse bytes ≡ Ok (texts s) = ap (λ (l : List ℕ). texts_of dse l) e ∙ texts_back dse (texts s) (dse_texts s lawful) in
     absurd (cc)
 
-answers_refused : (bytes : List ℕ) (answer : Result DseFields SentenceRefusal) (e : SentenceRefusal) → Answers answer bytes → answer ≡ Err e → texts_of dse bytes ≡ Err e
+answers_refused : (bytes : List ℕ) (answer : Result DseFields SentenceRefusal) (e : SentenceRefusal) → FieldsAnswer answer bytes → answer ≡ Err e → texts_of dse bytes ≡ Err e
 answers_refused bytes (Ok v) e h same = absurd (cc)
 answers_refused bytes (Err x) e h same = (cc)
 
-answers_each : (bytes : List ℕ) (answer : Result DseFields SentenceRefusal) (e : SentenceRefusal) → Answers answer bytes → texts_of dse bytes ≡ Err e → answer ≡ Err e
+answers_each : (bytes : List ℕ) (answer : Result DseFields SentenceRefusal) (e : SentenceRefusal) → FieldsAnswer answer bytes → texts_of dse bytes ≡ Err e → answer ≡ Err e
 answers_each bytes (Ok v) e h same = absurd (let k = h.0 in cc)
 answers_each bytes (Err x) e h same = (cc)
 
-pub answers_read : (bytes : List ℕ) (answer : Result DseFields SentenceRefusal) → Answers answer bytes → IsReading bytes answer
+pub answers_read : (bytes : List ℕ) (answer : Result DseFields SentenceRefusal) → FieldsAnswer answer bytes → IsReading bytes answer
 answers_read bytes (Ok s) h = record {
   found = answers_found bytes s h;
   only = λ t. answers_only bytes (Ok s) t h;

@@ -4,7 +4,7 @@ use Rattle.dsc_symbols.specs.declared.categories.TheConstants as categories
 use Rattle.dsc_symbols.specs.declared.telecommands.TheConstants as telecommands
 use Rattle.dsc_symbols.specs.declared.messages.TheConstants.{NO_INFORMATION}
 use Rattle.call_values.specs.declared.bounds.TheConstants as bounds
-use Rattle.call_values.specs.declared.places.Fix.{Fix}
+use Rattle.call_values.specs.declared.positions.Fix.{Fix}
 use Rattle.call_values.specs.declared.calls.Call.{Call}
 use Rattle.call_values.specs.declared.bodies.Body.{Body}
 use Rattle.call_values.specs.declared.bodies.Body.TheVariants.{Alert, Distress, Request, Service}

@@ -49,7 +49,7 @@ fn read_fields(fields: &mut Cursor) -> Result<DscFields, SentenceRefusal>
 
 /// The fields of the DSC sentence whose bytes these are; else the first refusal.
 fn fields_read(bytes: &[u8]) -> Result<DscFields, SentenceRefusal>
-    ensures { inside.Answers result bytes.now }
+    ensures { inside.FieldsAnswer result bytes.now }
 {
     match fields_of(b"$CDDSC", &[11], bytes) {
         Ok(mut fields) => read_fields(&mut fields),

@@ -9,7 +9,7 @@ ghost use Rattle.sentence_frame.specs.declared.refusals.SentenceRefusal.TheVaria
 use crate::dse_reading::read_dse;
 use crate::reading::read;
 use arrayvec::ArrayVec;
-use sentence_frame::{LONGEST, SentenceRefusal, hexadecimal};
+use sentence_frame::{LONGEST_SENTENCE, SentenceRefusal, hexadecimal};
 use text_pieces::{append, append_number};
 
 /// What is told of a sentence.
@@ -26,7 +26,7 @@ pub fn verdict_on(line: &[u8]) -> Verdict
     ensures { result ≡ verdicts.verdict_of line.now }
 {
     let text = without_return(line);
-    if text.len() > LONGEST - 2 {
+    if text.len() > LONGEST_SENTENCE - 2 {
         return Verdict::Refused(SentenceRefusal::TooLong(text.len() + 2));
     }
     let bytes = ended(text);
@@ -48,7 +48,7 @@ fn without_return(line: &[u8]) -> &[u8]
 }
 
 /// A text with CR and LF.
-fn ended(text: &[u8]) -> ArrayVec<u8, LONGEST>
+fn ended(text: &[u8]) -> ArrayVec<u8, LONGEST_SENTENCE>
     requires { length text.now ≤ 80 }
     ensures { result.items ≡ text.now ++ 13 ∷ 10 ∷ [] }
 {

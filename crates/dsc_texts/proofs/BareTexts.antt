@@ -6,7 +6,7 @@ use Rattle.call_values.specs.declared.calls.Call.{Call}
 use Rattle.call_values.specs.Calls.{IsCall}
 use Rattle.expansion.specs.declared.values.Sets.{Sets}
 use Rattle.slot_join.specs.declared.joined.Extra.TheVariants.{Whole}
-use Rattle.line_grammar.specs.Columns.{IsColumn, Answers}
+use Rattle.line_grammar.specs.Columns.{IsColumn, ReadsAs}
 use Rattle.line_grammar.specs.Grammar.{Grammar, finish, anything, word, either, none, first, second, Spells, written}
 use Rattle.line_grammar.specs.inside.Reading.{fits}
 use Rattle.line_grammar.specs.inside.Soundness.{is_sound, is_unambiguous}
@@ -69,11 +69,11 @@ blank_column c more n h k =
     let nearer : n < length (call_text c) + 1 → ⊥ = no_nearer c more n h k in
     omega arith
 
-blank_refused : (c : Call) (more : List ℕ) (answer : Result Call ℕ) → IsCall c → Answers IsBareCallText (call_text c ++ (32 ∷ more)) answer → answer ≡ Err (length (call_text c) + 1)
+blank_refused : (c : Call) (more : List ℕ) (answer : Result Call ℕ) → IsCall c → ReadsAs IsBareCallText (call_text c ++ (32 ∷ more)) answer → answer ≡ Err (length (call_text c) + 1)
 blank_refused c more (Ok u) h k = absurd (no_blank c u more h k.0.0 (sym k.0.1))
 blank_refused c more (Err n) h k = ap (λ (m : ℕ). Err m) (blank_column c more n h k)
 
-pub expansion_refused : (c : Call) (x : Sets) (answer : Result Call ℕ) → IsCall c → Answers IsBareCallText (reported_text c (Whole x)) answer → answer ≡ Err (length (call_text c) + 1)
+pub expansion_refused : (c : Call) (x : Sets) (answer : Result Call ℕ) → IsCall c → ReadsAs IsBareCallText (reported_text c (Whole x)) answer → answer ≡ Err (length (call_text c) + 1)
 expansion_refused c x answer h k =
     let blank = blank_in_front x in
-    blank_refused c blank.0 answer h (subst (λ (l : List ℕ). Answers IsBareCallText (call_text c ++ l) answer) blank.1 k)
+    blank_refused c blank.0 answer h (subst (λ (l : List ℕ). ReadsAs IsBareCallText (call_text c ++ l) answer) blank.1 k)

@@ -1,7 +1,7 @@
 -- calls and the parts of their texts
 use Rattle.std.proofs.Common.{◌≡◌, ℕ, Bool, [], ◌∷◌, ◌⊎◌, inl, inr, Option, codes, refl, ap}
 use Rattle.line_grammar.specs.Grammar.{word, field, Parts, part}
-use Rattle.call_values.specs.declared.places.Fix.{Fix}
+use Rattle.call_values.specs.declared.positions.Fix.{Fix}
 use Rattle.call_values.specs.declared.calls.Casualty.{Casualty}
 use Rattle.call_values.specs.declared.calls.Call.{Call}
 use Rattle.call_values.specs.declared.calls.Call.TheVariants.{Alert, Ack, Relay, RelayAck, AllShips, AreaCall, GroupCall, Individual, Service}
@@ -16,7 +16,7 @@ use Rattle.call_values.specs.Identity.{IsMmsi}
 use Rattle.dsc_symbols.specs.Natures.{IsNature}
 use Rattle.dsc_symbols.specs.Telecommands.{IsComm}
 use Rattle.dsc_symbols.specs.Telecommands.{IsFirst, IsSecond}
-use Rattle.call_values.specs.Places.{IsPosition}
+use Rattle.call_values.specs.Positions.{IsPosition}
 use Rattle.call_values.specs.Clock.{IsHourMinute}
 use Rattle.call_values.specs.Fields.{IsField}
 use Rattle.call_values.specs.Parts.{IsTo, IsMessage}

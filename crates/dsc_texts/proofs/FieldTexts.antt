@@ -6,13 +6,13 @@ use Rattle.line_grammar.specs.Shapes.{Shape, letters, fixed_number, pair, choice
 use Rattle.line_grammar.specs.Tokens.{IsToken}
 use Rattle.line_grammar.proofs.ShapesNumerals.{digits_length}
 use Rattle.line_grammar.proofs.Digits.{one_number, one_front}
-use Rattle.call_values.specs.declared.places.Fix.{Fix}
+use Rattle.call_values.specs.declared.positions.Fix.{Fix}
 use Rattle.call_values.specs.declared.fields.FieldKind.{FieldKind}
 use Rattle.call_values.specs.declared.fields.FieldKind.TheVariants.{Absent, Hundreds, Hf, Vhf, Tens}
 use Rattle.call_values.specs.declared.parts.To.{To}
 use Rattle.call_values.specs.declared.parts.To.TheVariants as to
 use Rattle.call_values.specs.Clock.{IsHourMinute}
-use Rattle.call_values.specs.Places.{IsArc, IsFix, IsPosition}
+use Rattle.call_values.specs.Positions.{IsArc, IsFix, IsPosition}
 use Rattle.call_values.specs.Areas.{Rectangle, IsArea}
 use Rattle.call_values.specs.Fields.{IsField}
 use Rattle.call_values.specs.Parts.{IsTo}

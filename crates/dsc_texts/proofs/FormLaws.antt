@@ -1,6 +1,6 @@
 -- texts that are written of the parts of a section and are read by its grammar
 use Rattle.std.proofs.Common.{◌≡◌, ℕ, ◌+◌, ◌≤◌, true, List, length, Result, Ok, Err, refl, sym, ◌∙◌, ap, subst}
-use Rattle.line_grammar.specs.Columns.{Answers, IsColumn}
+use Rattle.line_grammar.specs.Columns.{ReadsAs, IsColumn}
 use Rattle.line_grammar.specs.Grammar.{Grammar, Parts, Spells, written}
 use Rattle.line_grammar.specs.inside.Reading.{read}
 use Rattle.line_grammar.specs.inside.Soundness.{is_sound, is_unambiguous}
@@ -68,6 +68,6 @@ pub text_column : {V : Type 0} {G : Grammar} {Lawful : V → Type 0} {parts : V 
 text_column {Lawful = Lawful} {text = text} t bytes left n e k = IsColumn-stops (IsText Lawful text) bytes left n (text_stops t bytes left e) k
 
 -- of a text, reading answers nothing but its value
-pub answered : {V : Type 0} (Lawful : V → Type 0) (text : V → List ℕ) (v : V) (answer : Result V ℕ) → Lawful v → Answers (IsText Lawful text) (text v) answer → answer ≡ Ok v
+pub answered : {V : Type 0} (Lawful : V → Type 0) (text : V → List ℕ) (v : V) (answer : Result V ℕ) → Lawful v → ReadsAs (IsText Lawful text) (text v) answer → answer ≡ Ok v
 answered Lawful text v (Ok found) h k = ap (λ x. Ok x) (sym (k.1 v (h, refl)))
 answered Lawful text v (Err n) h k = absurd (k.is_none v (h, refl))

@@ -34,13 +34,13 @@ abbrev pub IsCallText : Call × Extra → List ℕ → Type 0
 IsCallText (call, extra) bytes = (IsCall call × IsWholeOrAbsent extra) × (bytes ≡ reported_text call extra)
 
 -- what an answer says, with the places and symbols that it names as plain numbers
-abbrev pub verdict_text : Joined → List ℕ
-verdict_text (Reported call extra) = codes " reported " ++ reported_text call extra
-verdict_text (Missing n) = codes " missing " ++ decimal n
-verdict_text (Differ n least greatest) = codes " differ " ++ decimal n ++ codes " " ++ decimal least ++ codes " " ++ decimal greatest
-verdict_text (Outside n symbol) = codes " outside " ++ decimal n ++ codes " " ++ decimal symbol
-verdict_text (Check n want got) = codes " check " ++ decimal n ++ codes " " ++ decimal want ++ codes " " ++ decimal got
+abbrev pub report_text : Joined → List ℕ
+report_text (Reported call extra) = codes " reported " ++ reported_text call extra
+report_text (Missing n) = codes " missing " ++ decimal n
+report_text (Differ n least greatest) = codes " differ " ++ decimal n ++ codes " " ++ decimal least ++ codes " " ++ decimal greatest
+report_text (Outside n symbol) = codes " outside " ++ decimal n ++ codes " " ++ decimal symbol
+report_text (Check n want got) = codes " check " ++ decimal n ++ codes " " ++ decimal want ++ codes " " ++ decimal got
 
 -- a group's answer, without the end of its line
 unfoldable pub answer_text : ℕ → Joined → List ℕ
-answer_text group answer = codes "g" ++ decimal group ++ verdict_text answer
+answer_text group answer = codes "g" ++ decimal group ++ report_text answer

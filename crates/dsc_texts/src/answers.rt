@@ -1,6 +1,6 @@
 ghost use Rattle.std.specs.Prelude.{◌≡◌, ◌+◌, ◌≤◌, ◌++◌, [], ◌∷◌, codes, decimal};
 ghost use Rattle.arrayvec.specs.ArrayVec.{array_vec_len};
-ghost use Rattle.dsc_texts.specs.Texts.{verdict_text, answer_text};
+ghost use Rattle.dsc_texts.specs.Texts.{report_text, answer_text};
 
 use crate::calls::append_reported;
 use arrayvec::ArrayVec;
@@ -35,12 +35,12 @@ fn append_answer<const N: usize>(out: &mut ArrayVec<u8, N>, group: u32, answer: 
 {
     append(out, b"g");
     append_number(out, u64::from(group));
-    append_verdict(out, answer);
+    append_report(out, answer);
 }
 
-fn append_verdict<const N: usize>(out: &mut ArrayVec<u8, N>, answer: &Joined)
+fn append_report<const N: usize>(out: &mut ArrayVec<u8, N>, answer: &Joined)
     requires { array_vec_len out.old + 161 ≤ N }
-    ensures items { out.new.items ≡ out.old.items ++ verdict_text answer.now }
+    ensures items { out.new.items ≡ out.old.items ++ report_text answer.now }
     ensures len { array_vec_len out.new ≤ array_vec_len out.old + 161 }
 {
     match answer {

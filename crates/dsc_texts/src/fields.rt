@@ -7,7 +7,7 @@ ghost use Rattle.line_grammar.specs.Shapes.{digits, is_within};
 ghost use Rattle.line_grammar.specs.inside.Reading as readers;
 ghost use Rattle.line_grammar.specs.inside.Reading.{read_shape, read_token};
 ghost use Rattle.call_values.specs.Parts.{IsTo};
-ghost use Rattle.call_values.specs.Places.{IsArc, IsPosition};
+ghost use Rattle.call_values.specs.Positions.{IsArc, IsPosition};
 ghost use Rattle.call_grammar.specs.Spelling as spelling;
 ghost use Rattle.dsc_texts.specs.CallGrammar as grammar;
 ghost use Rattle.dsc_texts.specs.CallParts as texts;

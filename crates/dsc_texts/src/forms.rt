@@ -47,13 +47,13 @@ pub fn relay<T: Tail>(bytes: &[u8]) -> Result<(Call, T), usize>
     let mut line = Cursor::new(bytes);
     let to: To = field(&mut line, b"relay to=")?;
     let distress = Distress::read(&mut line)?;
-    let sign: RelayEnd = field(&mut line, b" end=")?;
+    let eos: RelayEnd = field(&mut line, b" end=")?;
     let tail = T::read(line.rest())?;
     let call = Call::Relay {
         to,
         from: distress.from,
         casualty: distress.casualty,
-        ask: sign.ask,
+        ask: eos.ask,
     };
     Ok((call, tail))
 }
@@ -150,11 +150,11 @@ fn frequencies_and_end<T: Tail>(bytes: &[u8]) -> Result<(Ending, T), usize>
 {
     let mut line = Cursor::new(bytes);
     let frequencies = Frequencies::read(&mut line)?;
-    let sign: End = field(&mut line, b" end=")?;
+    let eos: End = field(&mut line, b" end=")?;
     let tail = T::read(line.rest())?;
     let ending = Ending {
         message: Message::Fields(frequencies.f1, frequencies.f2),
-        end: sign,
+        end: eos,
     };
     Ok((ending, tail))
 }
@@ -166,11 +166,11 @@ fn position_and_end<T: Tail>(bytes: &[u8]) -> Result<(Ending, T), usize>
 {
     let mut line = Cursor::new(bytes);
     let position: Position = field(&mut line, b" at=")?;
-    let sign: End = field(&mut line, b" end=")?;
+    let eos: End = field(&mut line, b" end=")?;
     let tail = T::read(line.rest())?;
     let ending = Ending {
         message: Message::At(position),
-        end: sign,
+        end: eos,
     };
     Ok((ending, tail))
 }
@@ -209,13 +209,13 @@ pub fn test<T: Tail>(bytes: &[u8]) -> Result<(Call, T), usize>
     let mut line = Cursor::new(bytes);
     let to: Mmsi = field(&mut line, b"test to=")?;
     let sender = Sender::read(&mut line)?;
-    let sign: TestEnd = field(&mut line, b" end=")?;
+    let eos: TestEnd = field(&mut line, b" end=")?;
     let tail = T::read(line.rest())?;
     let call = Call::Service {
         to,
         category: sender.category,
         from: sender.from,
-        kind: Kind::Test { reply: sign.reply },
+        kind: Kind::Test { reply: eos.reply },
     };
     Ok((call, tail))
 }

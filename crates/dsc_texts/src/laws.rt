@@ -4,7 +4,7 @@ ghost use Rattle.call_values.specs.Calls.{IsCall};
 ghost use Rattle.expansion.specs.declared.values.Sets.{Sets};
 ghost use Rattle.slot_join.specs.declared.joined.Extra.{Extra};
 ghost use Rattle.slot_join.specs.declared.joined.Extra.TheVariants.{Whole};
-ghost use Rattle.line_grammar.specs.Columns.{Answers};
+ghost use Rattle.line_grammar.specs.Columns.{ReadsAs};
 ghost use Rattle.dsc_texts.specs.CallParts.{call_text};
 ghost use Rattle.dsc_texts.specs.Texts.{IsBareCallText, IsCallText, IsWholeOrAbsent, reported_text};
 
@@ -12,18 +12,18 @@ ghost use Rattle.dsc_texts.specs.Texts.{IsBareCallText, IsCallText, IsWholeOrAbs
 /// this expansion. It does nothing.
 pub fn call_texts_are_read()
     ensures { (call : Call) (extra : Extra) (answer : Result (Call × Extra) ℕ)
-        → IsCall call → IsWholeOrAbsent extra → Answers IsCallText (reported_text call extra) answer → answer ≡ Ok (call, extra) }
+        → IsCall call → IsWholeOrAbsent extra → ReadsAs IsCallText (reported_text call extra) answer → answer ≡ Ok (call, extra) }
 {}
 
 /// The law that of a call's text, where no expansion may follow, reading can answer nothing but this call. It does nothing.
 pub fn bare_call_texts_are_read()
-    ensures { (call : Call) (answer : Result Call ℕ) → IsCall call → Answers IsBareCallText (call_text call) answer → answer ≡ Ok call }
+    ensures { (call : Call) (answer : Result Call ℕ) → IsCall call → ReadsAs IsBareCallText (call_text call) answer → answer ≡ Ok call }
 {}
 
 /// The law that an expansion is refused at the blank in front of it, where none may follow. It does nothing.
 pub fn expansions_are_refused_at_their_blank()
     ensures { (call : Call) (x : Sets) (answer : Result Call ℕ) → IsCall call
-        → Answers IsBareCallText (reported_text call (Whole x)) answer → answer ≡ Err (length (call_text call) + 1) }
+        → ReadsAs IsBareCallText (reported_text call (Whole x)) answer → answer ≡ Err (length (call_text call) + 1) }
 {}
 
 /// The law that no two calls have one text, whatever expansion follows them. It does nothing.

@@ -2,7 +2,7 @@ ghost use Rattle.std.specs.Prelude.{◌≡◌, ◌≤◌, IfErr};
 ghost use Rattle.line_grammar.specs.Grammar.{none};
 ghost use Rattle.dsc_texts.specs.Texts.{IsBareCallText, IsCallText, IsWholeOrAbsent};
 ghost use Rattle.dsc_texts.specs.inside.Expansions.{expansion_or_end, extra_parts};
-ghost use Rattle.line_grammar.specs.Columns.{Answers};
+ghost use Rattle.line_grammar.specs.Columns.{ReadsAs};
 
 use crate::forms::any_call;
 use call_values::Call;
@@ -14,7 +14,7 @@ use slot_join::Extra;
 /// where none does. An error is the column: the least n for which the first n bytes begin no call's text with or without
 /// an expansion, and the length plus one where the text ends too early.
 pub fn read_call(text: &[u8]) -> Result<(Call, Extra), usize>
-    ensures read { Answers IsCallText text.now result }
+    ensures read { ReadsAs IsCallText text.now result }
     ensures counted { IfErr result (λ n. 1 ≤ n) }
 {
     match any_call::<Option<Expansion>>(text) {
@@ -43,7 +43,7 @@ fn extra_of(tail: Option<Expansion>) -> Extra
 /// The call whose text this is, where no expansion may follow. An error is the column: the least n for which the first
 /// n bytes begin no call's text, and the length plus one where the text ends too early.
 pub fn read_bare_call(text: &[u8]) -> Result<Call, usize>
-    ensures { Answers IsBareCallText text.now result }
+    ensures { ReadsAs IsBareCallText text.now result }
 {
     match any_call::<()>(text) {
         Ok((call, _nothing)) => {

@@ -7,7 +7,7 @@ use crate::numbers::number;
 const MOST_WORKERS: u16 = 64;
 
 /// The most groups that `make` takes.
-const MOST_GROUPS: u16 = 1000;
+const MOST_MADE: u16 = 1000;
 
 /// The number of workers: 1 where none is given.
 pub fn workers(given: Option<&str>) -> Option<u8>
@@ -39,6 +39,6 @@ pub fn groups(given: Option<&str>) -> Option<u16>
 {
     match given {
         None => None,
-        Some(text) => Some(number(text, MOST_GROUPS)?),
+        Some(text) => Some(number(text, MOST_MADE)?),
     }
 }

@@ -9,7 +9,7 @@ use dsc_symbols::telecommands::ALL_MODES;
 pub const FIRST_SHIP: u32 = 338_000_000;
 
 /// Where each ship is: 42 degrees 31 minutes north, 83 degrees 12 minutes west.
-const PLACE: Fix = Fix {
+const FIX: Fix = Fix {
     quadrant: 1,
     lat_deg: 42,
     lat_min: 31,
@@ -25,7 +25,7 @@ pub(crate) fn alert(group: u16) -> Call
     Call::Alert(Casualty {
         mmsi: Mmsi::new(FIRST_SHIP + u32::from(group)).unwrap(),
         nature: Nature::new(FIRE_OR_EXPLOSION + (group % 11) as u8).unwrap(),
-        position: Position::new(PLACE).unwrap(),
+        position: Position::new(FIX).unwrap(),
         time: HourMinute::new((group % 24) as u8, (group % 60) as u8).unwrap(),
         comm: Comm::new(ALL_MODES).unwrap(),
     })

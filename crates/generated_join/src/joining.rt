@@ -15,7 +15,7 @@ use std::alloc::{AllocError, Global};
 use std::thread::Threads;
 
 /// At most so many groups are generated.
-pub const MOST_GROUPS: u16 = 1000;
+pub const MOST_MADE: u16 = 1000;
 
 /// The answer to a group: one worker joins its receptions, as `join` has it do, and the answer to its sheet is reported.
 fn answer_to<R: Threads + Sync, G: Gate>(
@@ -24,7 +24,7 @@ fn answer_to<R: Threads + Sync, G: Gate>(
     group: u16,
     gate: &G,
 ) -> Result<Joined, AllocError>
-    requires { group ≤ MOST_GROUPS }
+    requires { group ≤ MOST_MADE }
     ensures { IfOk result (IsAnswer (group_facts (lines_of_group group) group)) }
 {
     let slots = slots_of(&alert(group), &Extra::Absent);
@@ -45,7 +45,7 @@ pub fn summary_of<R: Threads + Sync, G: Gate>(
     groups: u16,
     gate: &G,
 ) -> Result<Summary, AllocError>
-    requires { groups ≤ MOST_GROUPS }
+    requires { groups ≤ MOST_MADE }
     ensures { IfOk result (IsSummary (generated groups)) }
 {
     let mut summary = Summary::new();

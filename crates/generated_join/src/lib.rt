@@ -8,6 +8,6 @@ mod laws;
 mod summary;
 
 pub use hearing::RECEPTIONS;
-pub use joining::{MOST_GROUPS, summary_of};
+pub use joining::{MOST_MADE, summary_of};
 pub use laws::{generated_lines_are_read, joins_end_so};
 pub use summary::Summary;

@@ -20,9 +20,9 @@ pub record IsColumn {W : Type 0} (L : Spelling W) (bytes : List ℕ) (n : ℕ) :
   pub within : n ≤ length bytes + 1
 
 -- the answer of a reader: the one value that the bytes spell, or their column
-abbrev pub Answers : {W : Type 0} (L : Spelling W) (bytes : List ℕ) → Result W ℕ → Type 0
-Answers {W = W} L bytes (Ok w) = L w bytes × ((u : W) → L u bytes → u ≡ w)
-Answers L bytes (Err n) = IsColumn L bytes n
+abbrev pub ReadsAs : {W : Type 0} (L : Spelling W) (bytes : List ℕ) → Result W ℕ → Type 0
+ReadsAs {W = W} L bytes (Ok w) = L w bytes × ((u : W) → L u bytes → u ≡ w)
+ReadsAs L bytes (Err n) = IsColumn L bytes n
 
 -- an answer that tells how many bytes are left at the fault, with the column in their place
 abbrev pub with_column : {W : Type 0} (bytes : List ℕ) → Result W ℕ → Result W ℕ

@@ -1,5 +1,5 @@
 ghost use Rattle.std.specs.Prelude.{◌≡◌, ◌+◌, ◌-◌, ◌≤◌, ℕ, List, length, Ok, Err, true};
-ghost use Rattle.line_grammar.specs.Columns.{Answers, IsColumn, with_column};
+ghost use Rattle.line_grammar.specs.Columns.{ReadsAs, IsColumn, with_column};
 ghost use Rattle.line_grammar.specs.Grammar.{AreParts, Grammar, Parts, Spells, written};
 ghost use Rattle.line_grammar.specs.Repeats.{Grow, SpellsSome};
 ghost use Rattle.line_grammar.specs.inside.Reading.{read};
@@ -7,7 +7,7 @@ ghost use Rattle.line_grammar.specs.inside.Soundness.{is_sound, is_unambiguous};
 
 /// The plain reader of a sound and unambiguous grammar answers each line with its one reading, or with its column.
 pub fn grammars_are_read()
-    ensures { (G : Grammar) (bytes : List ℕ) → is_sound G ≡ true → is_unambiguous G ≡ true → Answers (Spells G) bytes (with_column bytes (read G bytes)) }
+    ensures { (G : Grammar) (bytes : List ℕ) → is_sound G ≡ true → is_unambiguous G ≡ true → ReadsAs (Spells G) bytes (with_column bytes (read G bytes)) }
 {}
 
 /// The plain reader of a sound and unambiguous grammar reads back the parts of which a line was written.

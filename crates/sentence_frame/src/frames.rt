@@ -8,7 +8,7 @@ use crate::SentenceRefusal;
 use cursor::Cursor;
 
 /// The most bytes that a sentence has (IEC 61162-1).
-pub const LONGEST: usize = 82;
+pub const LONGEST_SENTENCE: usize = 82;
 
 /// The fields of a sentence with this head, each behind its comma, where there are so many as one of these counts; else the first
 /// refusal, up to that of their number.
@@ -59,7 +59,7 @@ fn framed<'a>(head: &[u8], bytes: &'a [u8]) -> Result<&'a [u8], SentenceRefusal>
     ensures ok { IfOk result (λ fields. refusal.framed head.now bytes.now ≡ Ok fields.now) }
     ensures err { IfErr result (λ e. refusal.framed head.now bytes.now ≡ Err e) }
 {
-    if bytes.len() > LONGEST {
+    if bytes.len() > LONGEST_SENTENCE {
         return Err(SentenceRefusal::TooLong(bytes.len()));
     }
     if !begins(head, bytes) {

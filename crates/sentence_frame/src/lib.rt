@@ -12,6 +12,6 @@ pub use fields::{
     code, digits, digits_up_to, letter, number, perhaps_code, perhaps_digits, perhaps_letter,
     perhaps_number,
 };
-pub use frames::{LONGEST, fields_of, next_text};
+pub use frames::{LONGEST_SENTENCE, fields_of, next_text};
 pub use refusals::SentenceRefusal;
 pub use writing::{begun, close, hexadecimal, put, put_digits, put_number, put_perhaps_digits};

@@ -4,12 +4,12 @@ ghost use Rattle.sentence_frame.specs.Frames as frame;
 ghost use Rattle.sentence_frame.specs.Refusals as refusal;
 ghost use Rattle.sentence_frame.specs.Texts.{AreDigits, digits, digit_text, perhaps_text};
 
-use crate::frames::{LONGEST, checksum};
+use crate::frames::{LONGEST_SENTENCE, checksum};
 use arrayvec::ArrayVec;
 use text_pieces::append;
 
 /// A sentence that begins with this head.
-pub fn begun(head: &[u8]) -> ArrayVec<u8, LONGEST>
+pub fn begun(head: &[u8]) -> ArrayVec<u8, LONGEST_SENTENCE>
     requires { length head.now ≤ 82 }
     ensures { result.items ≡ head.now }
 {
@@ -19,7 +19,7 @@ pub fn begun(head: &[u8]) -> ArrayVec<u8, LONGEST>
 }
 
 /// Appends a comma and a text.
-pub fn put(out: &mut ArrayVec<u8, LONGEST>, text: &[u8])
+pub fn put(out: &mut ArrayVec<u8, LONGEST_SENTENCE>, text: &[u8])
     requires { array_vec_len out.old + length text.now < 82 }
     ensures items { out.new.items ≡ out.old.items ++ 44 ∷ text.now }
     ensures len { array_vec_len out.new ≡ array_vec_len out.old + 1 + length text.now }
@@ -30,7 +30,7 @@ pub fn put(out: &mut ArrayVec<u8, LONGEST>, text: &[u8])
 
 /// Appends the last so many decimal digits of a number, zeros in front included.
 #[tactic(auto, unfolding(line_grammar::specs::Shapes::digits))]
-fn append_number(out: &mut ArrayVec<u8, LONGEST>, width: usize, number: u32)
+fn append_number(out: &mut ArrayVec<u8, LONGEST_SENTENCE>, width: usize, number: u32)
     requires { array_vec_len out.old + width ≤ 82 }
     ensures items { out.new.items ≡ out.old.items ++ digits width number }
     ensures len { array_vec_len out.new ≡ array_vec_len out.old + width }
@@ -42,7 +42,7 @@ fn append_number(out: &mut ArrayVec<u8, LONGEST>, width: usize, number: u32)
 }
 
 /// Appends a comma and a number in so many digits.
-pub fn put_number(out: &mut ArrayVec<u8, LONGEST>, width: usize, number: u32)
+pub fn put_number(out: &mut ArrayVec<u8, LONGEST_SENTENCE>, width: usize, number: u32)
     requires { array_vec_len out.old + width < 82 }
     ensures items { out.new.items ≡ out.old.items ++ 44 ∷ digits width number }
     ensures len { array_vec_len out.new ≡ array_vec_len out.old + 1 + width }
@@ -52,7 +52,7 @@ pub fn put_number(out: &mut ArrayVec<u8, LONGEST>, width: usize, number: u32)
 }
 
 /// Appends digits in decimal.
-fn append_digits(out: &mut ArrayVec<u8, LONGEST>, digits: &[u8])
+fn append_digits(out: &mut ArrayVec<u8, LONGEST_SENTENCE>, digits: &[u8])
     requires room { array_vec_len out.old + length digits.now ≤ 82 }
     requires digits { AreDigits digits.now }
     ensures items { out.new.items ≡ out.old.items ++ digit_text digits.now }
@@ -64,7 +64,7 @@ fn append_digits(out: &mut ArrayVec<u8, LONGEST>, digits: &[u8])
 }
 
 /// Appends a comma and digits.
-pub fn put_digits(out: &mut ArrayVec<u8, LONGEST>, digits: &[u8])
+pub fn put_digits(out: &mut ArrayVec<u8, LONGEST_SENTENCE>, digits: &[u8])
     requires room { array_vec_len out.old + length digits.now < 82 }
     requires digits { AreDigits digits.now }
     ensures items { out.new.items ≡ out.old.items ++ 44 ∷ digit_text digits.now }
@@ -75,7 +75,10 @@ pub fn put_digits(out: &mut ArrayVec<u8, LONGEST>, digits: &[u8])
 }
 
 /// Appends a comma, and digits where there are some.
-pub fn put_perhaps_digits<const N: usize>(out: &mut ArrayVec<u8, LONGEST>, digits: &Option<[u8; N]>)
+pub fn put_perhaps_digits<const N: usize>(
+    out: &mut ArrayVec<u8, LONGEST_SENTENCE>,
+    digits: &Option<[u8; N]>,
+)
     requires room { array_vec_len out.old + N < 82 }
     requires digits { IfSome digits.now AreDigits }
     ensures items { out.new.items ≡ out.old.items ++ 44 ∷ perhaps_text digit_text digits.now }
@@ -88,7 +91,7 @@ pub fn put_perhaps_digits<const N: usize>(out: &mut ArrayVec<u8, LONGEST>, digit
 }
 
 /// Appends `*`, the checksum of what stands behind the `$`, CR and LF.
-pub fn close(out: &mut ArrayVec<u8, LONGEST>)
+pub fn close(out: &mut ArrayVec<u8, LONGEST_SENTENCE>)
     requires room { array_vec_len out.old ≤ 77 }
     requires some { 0 < array_vec_len out.old }
     ensures { out.new.items ≡ frame.closed out.old.items }

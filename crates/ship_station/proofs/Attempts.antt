@@ -9,7 +9,7 @@ use Rattle.area_rules.specs.Histories.{Entry, History, does, NoneIs, last_told}
 use Rattle.area_rules.specs.Moments.{has_passed}
 use Rattle.area_rules.specs.Rules.{Legal}
 use Rattle.area_rules.proofs.PublicLaws.{legal_before}
-use Rattle.traffic_rules.specs.Hearing.{Place}
+use Rattle.traffic_rules.specs.Hearing.{Whereabouts}
 use Rattle.traffic_rules.proofs.PublicLaws.{none_sent, none_replied}
 use Rattle.ship_station.specs.declared.events.ShipWhat.{ShipWhat}
 use Rattle.ship_station.specs.declared.events.ShipWhat.TheVariants.{Position, Delay, Alert, Cancel, Tick, Send, Answer, Heard}
@@ -55,12 +55,12 @@ last_is (e ∷ between) earlier first attempt none =
     ap (λ (b : Bool). told_by b e.at (last_told attempt_moment (between ++ first ∷ earlier))) parts.0 ∙ last_is between earlier first attempt parts.1
 
 -- an attempt at a tick comes a delay after the last one
-passed_by : (own : ℕ) (place : Place) (alert : OwnAlert) (delay last at : ℕ) (test : Bool) → has_passed delay last at ≡ test
+passed_by : (own : ℕ) (place : Whereabouts) (alert : OwnAlert) (delay last at : ℕ) (test : Bool) → has_passed delay last at ≡ test
     → list_any is_attempt (if test then attempt own place alert ∷ [] else []) ≡ true → delay ≤ at - last
 passed_by own place alert delay last at true is h = leb-true delay (at - last) is
 passed_by own place alert delay last at false is h = absurd (false≢true h)
 
-tick_waits : (own : ℕ) (place : Place) (alert : Option OwnAlert) (delays : List ℕ) (last at : ℕ) → AllByRecursion IsAlertDelay delays
+tick_waits : (own : ℕ) (place : Whereabouts) (alert : Option OwnAlert) (delays : List ℕ) (last at : ℕ) → AllByRecursion IsAlertDelay delays
     → list_any is_attempt (at_tick own place alert delays last at) ≡ true → last + 210000 ≤ at
 tick_waits own place (Some alert) (delay ∷ delays) last at range h =
     let long = range.0.0 in

@@ -8,7 +8,7 @@ use Rattle.area_rules.specs.declared.acts.Act.{Act}
 use Rattle.area_rules.specs.Histories.{History, does}
 use Rattle.area_rules.specs.Moments.{has_passed}
 use Rattle.area_rules.specs.Rules.{Legal}
-use Rattle.traffic_rules.specs.Hearing.{Place}
+use Rattle.traffic_rules.specs.Hearing.{Whereabouts}
 use Rattle.ship_station.specs.declared.events.ShipWhat.{ShipWhat}
 use Rattle.ship_station.specs.declared.events.ShipWhat.TheVariants.{Position, Delay, Alert, Cancel, Tick, Send, Answer, Heard}
 use Rattle.ship_station.specs.declared.alerts.OwnAlert.{OwnAlert}
@@ -18,7 +18,7 @@ use Rattle.ship_station.specs.ShipRules.{Identities, attempt, at_tick, held, due
 use Rattle.ship_station.proofs.Traffic.{attempts_missed, tick_test}
 
 -- an attempt at a tick takes a delay that is left
-attempt_needs_delay : (own : ℕ) (place : Place) (alert : Option OwnAlert) (delays : List ℕ) (last at : ℕ) → list_any is_attempt (at_tick own place alert delays last at) ≡ true → 0 < length delays
+attempt_needs_delay : (own : ℕ) (place : Whereabouts) (alert : Option OwnAlert) (delays : List ℕ) (last at : ℕ) → list_any is_attempt (at_tick own place alert delays last at) ≡ true → 0 < length delays
 attempt_needs_delay own place (Some alert) (delay ∷ delays) last at h = omega arith
 attempt_needs_delay own place (Some alert) [] last at h = absurd (false≢true h)
 attempt_needs_delay own place None delays last at h = absurd (false≢true h)
@@ -66,7 +66,7 @@ pub none_given_none_used : (h : History ShipWhat) → drop (delays_used h) (dela
 none_given_none_used h = ap (drop (delays_used h)) (append-nil (delays_given h))
 
 -- an attempt is due where an alert is on and the first delay has passed
-pub attempt_due : (own : ℕ) (place : Place) (alert : OwnAlert) (delays : List ℕ) (last at : ℕ) → (length delays == 0) ≡ false → has_passed (slice_index delays 0) last at ≡ true
+pub attempt_due : (own : ℕ) (place : Whereabouts) (alert : OwnAlert) (delays : List ℕ) (last at : ℕ) → (length delays == 0) ≡ false → has_passed (slice_index delays 0) last at ≡ true
     → at_tick own place (Some alert) delays last at ≡ attempt own place alert ∷ []
 attempt_due own place alert [] last at some passed = absurd (false≢true (sym some))
 attempt_due own place alert (delay ∷ delays) last at some passed = ap (λ (b : Bool). if b then attempt own place alert ∷ [] else []) passed

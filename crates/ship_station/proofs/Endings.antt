@@ -11,7 +11,7 @@ use Rattle.area_rules.specs.Holding.{Places}
 use Rattle.area_rules.specs.Moments.{has_passed}
 use Rattle.area_rules.specs.Rules.{Legal}
 use Rattle.area_rules.proofs.PublicLaws.{legal_before}
-use Rattle.traffic_rules.specs.Hearing.{Place, heard_due}
+use Rattle.traffic_rules.specs.Hearing.{Whereabouts, heard_due}
 use Rattle.traffic_rules.proofs.PublicLaws.{none_sent, none_replied, none_heard}
 use Rattle.ship_station.specs.declared.events.ShipWhat.{ShipWhat}
 use Rattle.ship_station.specs.declared.events.ShipWhat.TheVariants.{Position, Delay, Alert, Cancel, Tick, Send, Answer, Heard}
@@ -45,7 +45,7 @@ ack_attempt : (test : Bool) → list_any is_attempt (if test then AlertEnded ∷
 ack_attempt true = refl
 ack_attempt false = refl
 
-call_attempt : (own : ℕ) (place : Place) (is_on : Bool) (places : Places) (c : Call) → list_any is_attempt (at_call own place is_on places c) ≡ false
+call_attempt : (own : ℕ) (place : Whereabouts) (is_on : Bool) (places : Places) (c : Call) → list_any is_attempt (at_call own place is_on places c) ≡ false
 call_attempt own place is_on places (call.Alert casualty) = refl
 call_attempt own place is_on places (call.Ack from casualty) = ack_attempt (is_on && (casualty.mmsi == own))
 call_attempt own place is_on places (call.Relay to from casualty ask) = none_heard is_attempt attempts_missed own (Some place) places (call.Relay to from casualty ask)
@@ -61,7 +61,7 @@ call_attempt own place is_on places (call.Individual to category from first seco
 call_attempt own place is_on places (call.Service to category from kind) =
     none_heard is_attempt attempts_missed own (Some place) places (call.Service to category from kind)
 
-pub heard_attempt : (own : ℕ) (place : Place) (is_on for_it : Bool) (places : Places) (c : Call)
+pub heard_attempt : (own : ℕ) (place : Whereabouts) (is_on for_it : Bool) (places : Places) (c : Call)
     → list_any is_attempt (if for_it then at_call own place is_on places c else []) ≡ false
 heard_attempt own place is_on true places c = call_attempt own place is_on places c
 heard_attempt own place is_on false places c = refl
@@ -91,11 +91,11 @@ none_after_end who (e ∷ later) earlier ended legal end none =
     ap (λ (b : Bool). b || list_any (does is_attempt) later) here ∙ none_after_end who later earlier ended legal.1 end parts.1
 
 -- no tick ends an alert
-tick_by : (own : ℕ) (place : Place) (alert : OwnAlert) (passed : Bool) → list_any is_end (if passed then attempt own place alert ∷ [] else []) ≡ false
+tick_by : (own : ℕ) (place : Whereabouts) (alert : OwnAlert) (passed : Bool) → list_any is_end (if passed then attempt own place alert ∷ [] else []) ≡ false
 tick_by own place alert true = refl
 tick_by own place alert false = refl
 
-pub tick_end : (own : ℕ) (place : Place) (alert : Option OwnAlert) (delays : List ℕ) (last at : ℕ) → list_any is_end (at_tick own place alert delays last at) ≡ false
+pub tick_end : (own : ℕ) (place : Whereabouts) (alert : Option OwnAlert) (delays : List ℕ) (last at : ℕ) → list_any is_end (at_tick own place alert delays last at) ≡ false
 tick_end own place (Some alert) (delay ∷ delays) last at = tick_by own place alert (has_passed delay last at)
 tick_end own place (Some alert) [] last at = refl
 tick_end own place None delays last at = refl
@@ -105,10 +105,10 @@ ack_by own true true h = refl
 ack_by own true false h = absurd (false≢true h)
 ack_by own false names h = absurd (false≢true h)
 
-heard_ends_none : (own : ℕ) (place : Place) (places : Places) (c : Call) → list_any is_end (heard_due own (Some place) places c) ≡ true → ⊥
+heard_ends_none : (own : ℕ) (place : Whereabouts) (places : Places) (c : Call) → list_any is_end (heard_due own (Some place) places c) ≡ true → ⊥
 heard_ends_none own place places c h = false≢true (sym (none_heard is_end ends_missed own (Some place) places c) ∙ h)
 
-call_end : (own : ℕ) (place : Place) (is_on : Bool) (places : Places) (c : Call) → list_any is_end (at_call own place is_on places c) ≡ true → MayEndAlert own (Heard c)
+call_end : (own : ℕ) (place : Whereabouts) (is_on : Bool) (places : Places) (c : Call) → list_any is_end (at_call own place is_on places c) ≡ true → MayEndAlert own (Heard c)
 call_end own place is_on places (call.Alert casualty) h = absurd (false≢true h)
 call_end own place is_on places (call.Ack from casualty) h = eqb-true casualty.mmsi own (ack_by own is_on (casualty.mmsi == own) h)
 call_end own place is_on places (call.Relay to from casualty ask) h = absurd (heard_ends_none own place places (call.Relay to from casualty ask) h)
@@ -119,7 +119,7 @@ call_end own place is_on places (call.GroupCall group category from first second
 call_end own place is_on places (call.Individual to category from first second message end) h = absurd (heard_ends_none own place places (call.Individual to category from first second message end) h)
 call_end own place is_on places (call.Service to category from kind) h = absurd (heard_ends_none own place places (call.Service to category from kind) h)
 
-heard_end : (own : ℕ) (place : Place) (is_on for_it : Bool) (places : Places) (c : Call)
+heard_end : (own : ℕ) (place : Whereabouts) (is_on for_it : Bool) (places : Places) (c : Call)
     → list_any is_end (if for_it then at_call own place is_on places c else []) ≡ true → MayEndAlert own (Heard c)
 heard_end own place is_on true places c h = call_end own place is_on places c h
 heard_end own place is_on false places c h = absurd (false≢true h)

@@ -1,13 +1,13 @@
 -- what a ship keeps after an event that gives no position and no delay, and begins no alert
 use Rattle.std.proofs.Common.{◌≡◌, ℕ, suc, ◌&&◌, Bool, true, false, Option, Some, None, is_some, unwrap_or, List, [], ◌∷◌, ◌++◌, drop, if◌then◌else◌, refl, sym, ◌∙◌, ap}
 use Rattle.std.specs.Option.{option_to_list}
-use Rattle.call_values.specs.declared.places.Fix.{Fix}
+use Rattle.call_values.specs.declared.positions.Fix.{Fix}
 use Rattle.area_rules.specs.Histories.{Entry, History, does, last_told, since}
-use Rattle.traffic_rules.specs.Hearing.{Place}
+use Rattle.traffic_rules.specs.Hearing.{Whereabouts}
 use Rattle.ship_station.specs.declared.events.ShipWhat.{ShipWhat}
 use Rattle.ship_station.specs.declared.alerts.OwnAlert.{OwnAlert}
 use Rattle.ship_station.specs.declared.ships.Ship.{Ship}
-use Rattle.ship_station.specs.Events.{place_of, delay_of, alert_of}
+use Rattle.ship_station.specs.Events.{whereabouts_of, delay_of, alert_of}
 use Rattle.ship_station.specs.Past.{is_attempt, is_end, is_tick, attempt_moment, kept, open_alert, last_attempt, delays_given, delays_used, delays_left}
 use Rattle.ship_station.specs.ShipRules.{Identities, held}
 use Rattle.ship_station.specs.Stands.{Keeps}
@@ -15,7 +15,7 @@ use Rattle.ship_station.proofs.Delays.{first_delay_used, none_given_none_used}
 
 -- an event that gives no position and no delay, and begins no alert
 pub record IsPlain (what : ShipWhat) : Type 0 where
-  pub place : place_of what ≡ None
+  pub place : whereabouts_of what ≡ None
   pub delay : delay_of what ≡ None
   pub alert : alert_of what ≡ None
 
@@ -30,9 +30,9 @@ pub record Moves (old new : Ship) (at : ℕ) (ticks ended tried : Bool) : Type 0
   pub attempted : new.attempted_at ≡ (if tried then at else old.attempted_at)
   pub delays : new.delays.items ≡ (if ticks && tried then drop 1 old.delays.items else old.delays.items)
 
-kept_after : (e : Entry ShipWhat) (h : History ShipWhat) → place_of e.what ≡ None → kept (e ∷ h) ≡ kept h
+kept_after : (e : Entry ShipWhat) (h : History ShipWhat) → whereabouts_of e.what ≡ None → kept (e ∷ h) ≡ kept h
 kept_after e h is =
-    ap (λ (o : Option Place). unwrap_or (if is_some o then o else last_told (λ (x : Entry ShipWhat). place_of x.what) h) (None, None)) is
+    ap (λ (o : Option Whereabouts). unwrap_or (if is_some o then o else last_told (λ (x : Entry ShipWhat). whereabouts_of x.what) h) (None, None)) is
 
 open_by : (e : Entry ShipWhat) (h : History ShipWhat) (b : Bool) → alert_of e.what ≡ None
     → last_told (λ (x : Entry ShipWhat). alert_of x.what) (if b then [] else e ∷ since (does is_end) h) ≡ (if b then None else open_alert h)
@@ -65,8 +65,8 @@ keeps_after who h e old new ended tried keeps plain ends tries moves holds = rec
   own = moves.own ∙ keeps.own;
   groups = moves.groups ∙ keeps.groups;
   last = moves.last;
-  position = moves.position ∙ keeps.position ∙ ap (λ (p : Place). p.0) (sym (kept_after e h plain.place));
-  time = moves.time ∙ keeps.time ∙ ap (λ (p : Place). p.1) (sym (kept_after e h plain.place));
+  position = moves.position ∙ keeps.position ∙ ap (λ (p : Whereabouts). p.0) (sym (kept_after e h plain.place));
+  time = moves.time ∙ keeps.time ∙ ap (λ (p : Whereabouts). p.1) (sym (kept_after e h plain.place));
   alert = moves.alert ∙ ap (λ (o : Option OwnAlert). if ended then None else o) keeps.alert
       ∙ sym (open_after e h plain.alert ∙ ap (λ (b : Bool). if b then None else open_alert h) ends);
   attempted = moves.attempted ∙ ap (λ (n : ℕ). if tried then e.at else n) keeps.attempted

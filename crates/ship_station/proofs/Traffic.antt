@@ -12,10 +12,10 @@ use Rattle.area_rules.specs.Holding.{Places}
 use Rattle.area_rules.specs.Moments.{has_passed}
 use Rattle.traffic_rules.specs.HeldTold.{holds, frees}
 use Rattle.traffic_rules.specs.Repeating.{repeats}
-use Rattle.traffic_rules.specs.Hearing.{Place, heard_due}
+use Rattle.traffic_rules.specs.Hearing.{Whereabouts, heard_due}
 use Rattle.traffic_rules.proofs.PublicLaws.{Misses, none_heard, none_repeated, AreQuiet}
 use Rattle.ship_station.specs.declared.alerts.OwnAlert.{OwnAlert}
-use Rattle.call_values.specs.declared.places.Fix.{Fix}
+use Rattle.call_values.specs.declared.positions.Fix.{Fix}
 use Rattle.area_rules.specs.Histories.{History}
 use Rattle.ship_station.specs.declared.events.ShipWhat.{ShipWhat}
 use Rattle.ship_station.specs.declared.ships.Ship.{Ship}
@@ -30,7 +30,7 @@ pub ends_missed : Misses is_end
 ends_missed = record { sent = λ c. refl; shown = refl; held = λ n. refl; answered = λ n. refl; gave_up = λ n. refl; distress = λ c. refl }
 
 -- a call for the ship that is neither an alert nor its acknowledgement
-pub traffic_due : (own : ℕ) (place : Place) (is_on : Bool) (places : Places) (c : Call) → ((x : Casualty) → c ≡ call.Alert x → ⊥) → ((f : ℕ) (x : Casualty) → c ≡ call.Ack f x → ⊥)
+pub traffic_due : (own : ℕ) (place : Whereabouts) (is_on : Bool) (places : Places) (c : Call) → ((x : Casualty) → c ≡ call.Alert x → ⊥) → ((f : ℕ) (x : Casualty) → c ≡ call.Ack f x → ⊥)
     → at_call own place is_on places c ≡ heard_due own (Some place) places c
 traffic_due own place is_on places (call.Alert casualty) no_alert no_ack = absurd (no_alert casualty refl)
 traffic_due own place is_on places (call.Ack from casualty) no_alert no_ack = absurd (no_ack from casualty refl)
@@ -43,11 +43,11 @@ traffic_due own place is_on places (call.Individual to category from first secon
 traffic_due own place is_on places (call.Service to category from kind) no_alert no_ack = refl
 
 -- an attempt at a tick mentions no number of a held call
-passed_quiet : (own : ℕ) (place : Place) (alert : OwnAlert) (passed : Bool) → AreQuiet (if passed then attempt own place alert ∷ [] else [])
+passed_quiet : (own : ℕ) (place : Whereabouts) (alert : OwnAlert) (passed : Bool) → AreQuiet (if passed then attempt own place alert ∷ [] else [])
 passed_quiet own place alert true = record { begin = λ k. refl; end = λ k. refl }
 passed_quiet own place alert false = record { begin = λ k. refl; end = λ k. refl }
 
-pub tick_quiet : (own : ℕ) (place : Place) (alert : Option OwnAlert) (delays : List ℕ) (last at : ℕ) → AreQuiet (at_tick own place alert delays last at)
+pub tick_quiet : (own : ℕ) (place : Whereabouts) (alert : Option OwnAlert) (delays : List ℕ) (last at : ℕ) → AreQuiet (at_tick own place alert delays last at)
 tick_quiet own place (Some alert) (delay ∷ delays) last at = passed_quiet own place alert (has_passed delay last at)
 tick_quiet own place (Some alert) [] last at = record { begin = λ k. refl; end = λ k. refl }
 tick_quiet own place None delays last at = record { begin = λ k. refl; end = λ k. refl }

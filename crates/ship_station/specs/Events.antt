@@ -4,12 +4,12 @@ use Rattle.call_values.specs.declared.calls.Call.TheVariants.{Ack}
 use Rattle.call_values.specs.Calls.{IsCall}
 use Rattle.call_values.specs.Clock.{IsHourMinute}
 use Rattle.call_values.specs.Delays.{IsAlertDelay}
-use Rattle.call_values.specs.Places.{IsPosition}
+use Rattle.call_values.specs.Positions.{IsPosition}
 use Rattle.dsc_symbols.specs.Natures.{IsNature}
 use Rattle.dsc_symbols.specs.Telecommands.{IsComm}
 use Rattle.area_rules.specs.Histories.{Entry}
 use Rattle.traffic_rules.specs.Occurrences.{Occurrence, ticks, answers, hears, other}
-use Rattle.traffic_rules.specs.Hearing.{Place}
+use Rattle.traffic_rules.specs.Hearing.{Whereabouts}
 use Rattle.ship_station.specs.declared.events.ShipWhat.{ShipWhat}
 use Rattle.ship_station.specs.declared.events.ShipWhat.TheVariants.{Position, Delay, Alert, Cancel, Tick, Send, Answer, Heard}
 use Rattle.ship_station.specs.declared.alerts.OwnAlert.{OwnAlert}
@@ -33,9 +33,9 @@ ship_occurs (Heard call) = hears call
 ship_occurs _ = other
 
 -- the position and the time that an event gives
-abbrev pub place_of : ShipWhat → Option Place
-place_of (Position position time) = Some (position, time)
-place_of _ = None
+abbrev pub whereabouts_of : ShipWhat → Option Whereabouts
+whereabouts_of (Position position time) = Some (position, time)
+whereabouts_of _ = None
 
 -- the delay that an event gives
 abbrev pub delay_of : ShipWhat → Option ℕ

@@ -2,12 +2,12 @@
 use Rattle.std.specs.Prelude.{ℕ, ◌==◌, ◌&&◌, Bool, true, false, Option, Some, None, unwrap_or, List, drop, if◌then◌else◌}
 use Rattle.area_rules.specs.declared.acts.Act.{Act}
 use Rattle.area_rules.specs.declared.acts.Act.TheVariants.{Send, AlertEnded}
-use Rattle.traffic_rules.specs.Hearing.{Place}
+use Rattle.traffic_rules.specs.Hearing.{Whereabouts}
 use Rattle.area_rules.specs.Histories.{Entry, History, does, last_told, all_told, how_many, since}
 use Rattle.ship_station.specs.declared.events.ShipWhat.{ShipWhat}
 use Rattle.ship_station.specs.declared.events.ShipWhat.TheVariants.{Tick}
 use Rattle.ship_station.specs.declared.alerts.OwnAlert.{OwnAlert}
-use Rattle.ship_station.specs.Events.{place_of, delay_of, alert_of}
+use Rattle.ship_station.specs.Events.{whereabouts_of, delay_of, alert_of}
 
 -- an act is an attempt of the distress alert: a call sent 5 times in a row
 abbrev pub is_attempt : Act → Bool
@@ -25,8 +25,8 @@ is_tick Tick = true
 is_tick _ = false
 
 -- the position and the time that the last event which gives some gives, and else none that is known
-abbrev pub kept : History ShipWhat → Place
-kept h = unwrap_or (last_told (λ e. place_of e.what) h) (None, None)
+abbrev pub kept : History ShipWhat → Whereabouts
+kept h = unwrap_or (last_told (λ e. whereabouts_of e.what) h) (None, None)
 
 -- the alert that the last event which begins one begins, unless the alert ended after it
 abbrev pub open_alert : History ShipWhat → Option OwnAlert

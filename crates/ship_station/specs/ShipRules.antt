@@ -17,7 +17,7 @@ use Rattle.traffic_rules.specs.HeldTold.{all_held}
 use Rattle.traffic_rules.specs.Sending.{send_refusal, send_due}
 use Rattle.traffic_rules.specs.Answering.{answer_refusal, answer_due}
 use Rattle.traffic_rules.specs.Repeating.{repeats}
-use Rattle.traffic_rules.specs.Hearing.{Place, heard_refusal, heard_due}
+use Rattle.traffic_rules.specs.Hearing.{Whereabouts, heard_refusal, heard_due}
 use Rattle.ship_station.specs.declared.events.ShipWhat.{ShipWhat}
 use Rattle.ship_station.specs.declared.events.ShipWhat.TheVariants.{Position, Delay, Alert, Cancel, Tick, Send, Answer, Heard}
 use Rattle.ship_station.specs.declared.alerts.OwnAlert.{OwnAlert}
@@ -30,7 +30,7 @@ pub record Identities : Type 0 where
   pub groups : List ℕ
 
 -- an attempt of an alert: the ship's distress alert with a position and a time, sent 5 times in a row
-abbrev pub attempt : (own : ℕ) → Place → OwnAlert → Act
+abbrev pub attempt : (own : ℕ) → Whereabouts → OwnAlert → Act
 attempt own place alert =
     act.Send (call.Alert (record { mmsi = own; nature = alert.nature; position = place.0; time = place.1; comm = alert.comm })) 5
 
@@ -60,13 +60,13 @@ refusal_at who h (Answer number accepts) = answer_refusal (held h) number
 refusal_at who h (Heard call) = if is_for who h call then heard_refusal (held h) call else None
 
 -- at a tick: an attempt, where an alert is on and at least the first delay has passed since the last attempt
-abbrev pub at_tick : (own : ℕ) → Place → Option OwnAlert → (delays : List ℕ) → (last at : ℕ) → List Act
+abbrev pub at_tick : (own : ℕ) → Whereabouts → Option OwnAlert → (delays : List ℕ) → (last at : ℕ) → List Act
 at_tick own place (Some alert) (delay ∷ delays) last at = if has_passed delay last at then attempt own place alert ∷ [] else []
 at_tick own place _ _ last at = []
 
 -- at a call for the ship: an alert is told as distress; an acknowledgement that names the ship ends the alert that is on; other calls
 -- by the rules of traffic, a position request being answered with what is kept
-abbrev pub at_call : (own : ℕ) → Place → (is_on : Bool) → Places → Call → List Act
+abbrev pub at_call : (own : ℕ) → Whereabouts → (is_on : Bool) → Places → Call → List Act
 at_call own place is_on places (call.Alert casualty) = Distress casualty ∷ []
 at_call own place is_on places (call.Ack from casualty) = if is_on && (casualty.mmsi == own) then AlertEnded ∷ [] else []
 at_call own place is_on places heard = heard_due own (Some place) places heard

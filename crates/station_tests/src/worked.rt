@@ -1,7 +1,7 @@
 //! Calls and acts of the stations' tests.
 use area_rules::{Act, Acts, single};
 use arrayvec::ArrayVec;
-use call_values::worked::PLACE;
+use call_values::worked::FIX;
 use call_values::{
     Call, Casualty, Category, Comm, End, Field, First, HourMinute, Kind, Message, Mmsi, Nature,
     Position, Second,
@@ -17,7 +17,7 @@ pub(crate) fn casualty(number: u32, hour: u8, minute: u8) -> Result<Casualty, Fa
     Ok(Casualty {
         mmsi: mmsi(number)?,
         nature: Nature::new(106).ok_or("nature")?,
-        position: Position::new(PLACE).ok_or("position")?,
+        position: Position::new(FIX).ok_or("position")?,
         time: HourMinute::new(hour, minute).ok_or("time")?,
         comm: Comm::new(100).ok_or("communication")?,
     })

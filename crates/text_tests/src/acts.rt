@@ -1,6 +1,6 @@
 use act_texts::*;
 use area_rules::{Act, StationRefusal};
-use call_values::worked::PLACE;
+use call_values::worked::FIX;
 use call_values::{Call, Casualty, Comm, HourMinute, Mmsi, Nature, Position};
 use dsc_texts::read_bare_call;
 use std::test::Fail;
@@ -16,7 +16,7 @@ fn adrift() -> Result<Casualty, Fail> {
     Ok(Casualty {
         mmsi: ship(338_040_079)?,
         nature: Nature::new(106).ok_or("nature")?,
-        position: Position::new(PLACE).ok_or("position")?,
+        position: Position::new(FIX).ok_or("position")?,
         time: HourMinute::new(20, 19).ok_or("time")?,
         comm: Comm::new(100).ok_or("communication")?,
     })

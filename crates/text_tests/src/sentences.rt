@@ -1,4 +1,4 @@
-use call_values::worked::PLACE;
+use call_values::worked::FIX;
 use call_values::{
     Area, Call, Casualty, Category, Comm, End, Field, First, HourMinute, Kind, Message, Mmsi,
     Nature, Position, Second, To,
@@ -33,7 +33,7 @@ const TRAFFIC: [&[u8]; 9] = [
 ];
 
 fn position() -> Option<Position> {
-    Position::new(PLACE)
+    Position::new(FIX)
 }
 
 fn casualty() -> Option<Casualty> {

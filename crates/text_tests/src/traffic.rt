@@ -1,4 +1,4 @@
-use call_values::worked::PLACE;
+use call_values::worked::FIX;
 use call_values::{
     AlertDelay, Area, Band, Call, Category, CoastDelay, Comm, Kind, Mmsi, Nature, Position, To,
 };
@@ -319,7 +319,7 @@ fn events_are_read(rt: HostRuntime) {
 #[test]
 fn positions_are_read(rt: HostRuntime) {
     let unknown = EventLine::Position(Position::unknown());
-    let known = EventLine::Position(Position::new(PLACE).expect(&rt, "a position"));
+    let known = EventLine::Position(Position::new(FIX).expect(&rt, "a position"));
     assert!(rt; is_read(b"0 position 9999999999", 0, &unknown));
     assert!(rt; is_read(b"0 position 1423108312", 0, &known));
 }

@@ -4,7 +4,7 @@ use Rattle.call_values.specs.declared.parts.To.{To}
 use Rattle.call_values.specs.Delays.{IsAlertDelay, IsCoastDelay}
 use Rattle.call_values.specs.Identity.{IsMmsi}
 use Rattle.call_values.specs.Parts.{IsTo}
-use Rattle.call_values.specs.Places.{IsPosition}
+use Rattle.call_values.specs.Positions.{IsPosition}
 use Rattle.dsc_symbols.specs.Telecommands.{IsComm}
 use Rattle.dsc_texts.specs.CallGrammar.{address, identity, labelled, nature, comm, position as position_token}
 use Rattle.dsc_texts.specs.CallParts.{address_text, position_text}

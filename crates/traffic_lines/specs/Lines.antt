@@ -7,7 +7,7 @@ use Rattle.call_values.specs.declared.choices.Band.TheVariants.{Mf, Hf, Vhf}
 use Rattle.call_values.specs.Delays.{IsAlertDelay, IsCoastDelay}
 use Rattle.call_values.specs.Identity.{IsMmsi}
 use Rattle.call_values.specs.Parts.{IsTo}
-use Rattle.call_values.specs.Places.{IsPosition}
+use Rattle.call_values.specs.Positions.{IsPosition}
 use Rattle.dsc_symbols.specs.Natures.{IsNature}
 use Rattle.dsc_symbols.specs.Telecommands.{IsComm}
 use Rattle.dsc_texts.specs.CallParts.{address_text, position_text}

@@ -4,7 +4,7 @@ ghost use Rattle.traffic_lines.specs.inside.Reading.{Finds, ReadsBy, IsCoastText
 use crate::calls::call_event;
 use crate::casualties::{accept, relay};
 use crate::choices::further;
-use crate::fields::{Field, HeldNumber, only};
+use crate::fields::{HeldNumber, Token, only};
 use crate::lines::EventLine;
 use crate::words::lone;
 use call_values::{AlertDelay, Comm, Nature, Position};

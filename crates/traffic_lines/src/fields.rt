@@ -5,7 +5,7 @@ ghost use Rattle.call_values.specs.declared.bounds.TheConstants as bounds;
 ghost use Rattle.call_values.specs.Delays.{IsAlertDelay, IsCoastDelay};
 ghost use Rattle.call_values.specs.Identity.{IsMmsi};
 ghost use Rattle.call_values.specs.Parts.{IsTo};
-ghost use Rattle.call_values.specs.Places.{IsPosition};
+ghost use Rattle.call_values.specs.Positions.{IsPosition};
 ghost use Rattle.dsc_symbols.specs.Natures.{IsNature};
 ghost use Rattle.dsc_symbols.specs.Telecommands.{IsComm};
 ghost use Rattle.dsc_texts.specs.CallGrammar as calls;
@@ -29,7 +29,7 @@ use dsc_texts::{read_address, read_position};
 use line_grammar::{end, fixed_number, free_number, word};
 
 /// A value that stands in lines as one token.
-pub trait Field: Copy {
+pub trait Token: Copy {
     /// The token.
     ghost token: { Token };
 
@@ -48,7 +48,7 @@ pub trait Field: Copy {
 }
 
 /// The value behind a word at the front of these bytes, and what follows it. An error is how many bytes are left at the fault.
-pub fn labelled<'a, T: Field>(label: &[u8], bytes: &'a [u8]) -> Result<(T, &'a [u8]), usize>
+pub fn labelled<'a, T: Token>(label: &[u8], bytes: &'a [u8]) -> Result<(T, &'a [u8]), usize>
     ensures lawful { IfOk result (λ parts. T.Lawful parts.0) }
     ensures text { IfOk result (λ parts. bytes.now ≡ label.now ++ (T.text parts.0 ++ parts.1.now)) }
     ensures value { IfOk result (λ parts. (rest : Grammar) (left : ℕ) → read rest parts.1.now ≡ Err left → read (calls.labelled label.now T.token rest) bytes.now ≡ Err left) }
@@ -60,7 +60,7 @@ pub fn labelled<'a, T: Field>(label: &[u8], bytes: &'a [u8]) -> Result<(T, &'a [
 }
 
 /// Reads a value behind a word, to the end of the line. An error is how many bytes are left at the fault.
-pub fn only<T: Field>(label: &[u8], bytes: &[u8]) -> Result<T, usize>
+pub fn only<T: Token>(label: &[u8], bytes: &[u8]) -> Result<T, usize>
     ensures lawful { IfOk result (λ value. T.Lawful value) }
     ensures text { IfOk result (λ value. bytes.now ≡ label.now ++ T.text value) }
     ensures left { IfErr result (λ left. read (grammar.only label.now T.token) bytes.now ≡ Err left) }
@@ -72,7 +72,7 @@ pub fn only<T: Field>(label: &[u8], bytes: &[u8]) -> Result<T, usize>
 }
 
 /// The nine digits of an identity.
-impl Field for Mmsi {
+impl Token for Mmsi {
     ghost token = { calls.identity };
 
     ghost Lawful = { IsMmsi };
@@ -86,7 +86,7 @@ impl Field for Mmsi {
 }
 
 /// The ten digits of a position, or nines.
-impl Field for Position {
+impl Token for Position {
     ghost token = { calls.position };
 
     ghost Lawful = { IsPosition };
@@ -99,7 +99,7 @@ impl Field for Position {
 }
 
 /// A nature of distress in three digits.
-impl Field for Nature {
+impl Token for Nature {
     ghost token = { calls.nature };
 
     ghost Lawful = { IsNature };
@@ -113,7 +113,7 @@ impl Field for Nature {
 }
 
 /// Subsequent communications in three digits.
-impl Field for Comm {
+impl Token for Comm {
     ghost token = { calls.comm };
 
     ghost Lawful = { IsComm };
@@ -127,7 +127,7 @@ impl Field for Comm {
 }
 
 /// The milliseconds of a delay, without leading zeros.
-impl Field for AlertDelay {
+impl Token for AlertDelay {
     ghost token = { tokens.free_number bounds.SHORTEST_ALERT_DELAY bounds.LONGEST_ALERT_DELAY };
 
     ghost Lawful = { IsAlertDelay };
@@ -145,7 +145,7 @@ impl Field for AlertDelay {
 }
 
 /// The milliseconds of a coast station's delay, without leading zeros.
-impl Field for CoastDelay {
+impl Token for CoastDelay {
     ghost token = { tokens.free_number bounds.SHORTEST_COAST_DELAY bounds.LONGEST_COAST_DELAY };
 
     ghost Lawful = { IsCoastDelay };
@@ -163,7 +163,7 @@ impl Field for CoastDelay {
 }
 
 /// Whom a relay is for: all, or an area, a group or a station behind a word.
-impl Field for To {
+impl Token for To {
     ghost token = { calls.address };
 
     ghost Lawful = { IsTo };
@@ -176,7 +176,7 @@ impl Field for To {
 }
 
 /// A group or a moment, without leading zeros.
-impl Field for u32 {
+impl Token for u32 {
     ghost token = { tokens.free_number 0 4294967295 };
 
     ghost Lawful = { λ v. v < 2 ^ 32 };
@@ -191,21 +191,21 @@ impl Field for u32 {
 
 /// The second that moments count from.
 #[derive(Clone, Copy)]
-pub struct Second {
+pub struct BaseSecond {
     pub number: u64,
 }
 
 /// A second, without leading zeros.
-impl Field for Second {
+impl Token for BaseSecond {
     ghost token = { tokens.free_number 0 bounds.LAST_BASE };
 
     ghost Lawful = { λ v. v.number ≤ bounds.LAST_BASE };
 
     ghost text = { λ v. decimal v.number };
 
-    fn read(bytes: &[u8]) -> Result<(Second, &[u8]), usize> {
+    fn read(bytes: &[u8]) -> Result<(BaseSecond, &[u8]), usize> {
         let (number, rest) = free_number(0, LAST_BASE, bytes)?;
-        Ok((Second { number }, rest))
+        Ok((BaseSecond { number }, rest))
     }
 }
 
@@ -216,7 +216,7 @@ pub struct HeldNumber {
 }
 
 /// The number of a held call, without leading zeros.
-impl Field for HeldNumber {
+impl Token for HeldNumber {
     ghost token = { tokens.free_number 1 16 };
 
     ghost Lawful = { λ v. IsHeldNumber v.number };

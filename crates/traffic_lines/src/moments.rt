@@ -6,7 +6,7 @@ ghost use Rattle.traffic_lines.specs.inside.Grammars as grammar;
 ghost use Rattle.traffic_lines.specs.inside.Reading.{Finds};
 
 use crate::events::{coast_event, ship_event};
-use crate::fields::Field;
+use crate::fields::Token;
 use crate::lines::TrafficLine;
 use line_grammar::word;
 

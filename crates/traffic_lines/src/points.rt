@@ -5,14 +5,14 @@ ghost use Rattle.traffic_lines.specs.inside.Grammars as grammar;
 ghost use Rattle.traffic_lines.specs.inside.Reading.{Finds, ReadsBy, IsBandText, IsGroupLine};
 
 use crate::choices::further;
-use crate::fields::{Second, labelled, only};
+use crate::fields::{BaseSecond, labelled, only};
 use crate::lines::TrafficLine;
 use crate::moments::ship_line;
 use crate::words::lone_value;
 use call_values::{Band, Mmsi};
 
 /// How many groups a ship belongs to at most.
-const MOST_GROUPS: u8 = 16;
+const MOST_SHIP_GROUPS: u8 = 16;
 
 /// Reads that the station is a ship. An error is how many bytes are left at the fault.
 fn ship(bytes: &[u8]) -> Result<TrafficLine, usize>
@@ -56,7 +56,7 @@ pub fn station_line(bytes: &[u8]) -> Result<TrafficLine, usize>
 pub fn base_line(bytes: &[u8]) -> Result<TrafficLine, usize>
     ensures { Finds (IsTrafficLine Base) (IsTrafficLine Base) bytes.now result }
 {
-    let second: Second = only(b"base ", bytes)?;
+    let second: BaseSecond = only(b"base ", bytes)?;
     Ok(TrafficLine::Base(second.number))
 }
 
@@ -80,7 +80,7 @@ fn group_or_event(held: u8, bytes: &[u8]) -> Result<TrafficLine, usize>
 pub fn line_behind_groups(held: u8, bytes: &[u8]) -> Result<TrafficLine, usize>
     ensures { Finds (IsTrafficLine (Groups held)) (IsTrafficLine (Groups held)) bytes.now result }
 {
-    if held < MOST_GROUPS {
+    if held < MOST_SHIP_GROUPS {
         group_or_event(held, bytes)
     } else {
         ship_line(bytes)

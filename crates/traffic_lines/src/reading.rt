@@ -1,5 +1,5 @@
 ghost use Rattle.std.specs.Prelude.{◌≤◌, IfErr};
-ghost use Rattle.line_grammar.specs.Columns.{Answers};
+ghost use Rattle.line_grammar.specs.Columns.{ReadsAs};
 ghost use Rattle.traffic_lines.specs.Lines.{IsTrafficLine};
 ghost use Rattle.traffic_lines.specs.inside.Reading.{Finds};
 
@@ -26,7 +26,7 @@ fn line_at(point: Point, bytes: &[u8]) -> Result<TrafficLine, usize>
 /// project's profile). An error is the column: the least n, from 1, for which the first n bytes begin no such line of this
 /// point, and the length plus one where the line ends too early.
 pub fn read_traffic(point: Point, bytes: &[u8]) -> Result<TrafficLine, usize>
-    ensures read { Answers (IsTrafficLine point) bytes.now result }
+    ensures read { ReadsAs (IsTrafficLine point) bytes.now result }
     ensures counted { IfErr result (λ n. 1 ≤ n) }
 {
     one_traffic_line();

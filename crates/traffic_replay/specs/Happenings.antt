@@ -1,7 +1,7 @@
 -- What happens at the event lines of a traffic file: this project's profile.
 use Rattle.std.specs.Prelude.{◌≡◌, ℕ, Option, Some, None, Result, Ok, Err, List, [], ◌∷◌}
 use Rattle.call_values.specs.declared.calls.Call.{Call}
-use Rattle.call_values.specs.declared.places.Fix.{Fix}
+use Rattle.call_values.specs.declared.positions.Fix.{Fix}
 use Rattle.slot_join.specs.declared.joined.Joined.{Joined}
 use Rattle.slot_join.specs.declared.joined.Joined.TheVariants.{Reported, Missing, Differ, Outside, Check}
 use Rattle.slot_join.specs.Answer.{IsAnswer}

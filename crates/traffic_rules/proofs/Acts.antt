@@ -14,7 +14,7 @@ use Rattle.area_rules.specs.Holding.{Places, place_of, first_free}
 use Rattle.traffic_rules.specs.Sending.{asks, acknowledges, held_under_least, send_due}
 use Rattle.traffic_rules.specs.Answering.{reply_to, reply_due_to, answer_due}
 use Rattle.traffic_rules.specs.Repeating.{is_overdue, repeated, repeats}
-use Rattle.traffic_rules.specs.Hearing.{Place, is_question, is_got, distress_told, question_due, answered_number, answered_or_shown, position_told, due_at_once, heard_due}
+use Rattle.traffic_rules.specs.Hearing.{Whereabouts, is_question, is_got, distress_told, question_due, answered_number, answered_or_shown, position_told, due_at_once, heard_due}
 
 -- a test that acts of these kinds don't meet
 pub record Misses (p : Act → Bool) : Type 0 where
@@ -103,11 +103,11 @@ module _ (p : Act → Bool) (m : Misses p) where
   shown_or (Some number) = one _ (m.answered number)
   shown_or None = one _ m.shown
 
-  position_or : (own : ℕ) (place : Option Place) (to : ℕ) (category : Category) → list_any p (position_told own place to category) ≡ false
+  position_or : (own : ℕ) (place : Option Whereabouts) (to : ℕ) (category : Category) → list_any p (position_told own place to category) ≡ false
   position_or own None to category = one _ m.shown
   position_or own (Some place) to category = one _ (m.sent _)
 
-  at_once : (own : ℕ) (place : Option Place) (call : Call) → list_any p (due_at_once own place call) ≡ false
+  at_once : (own : ℕ) (place : Option Whereabouts) (call : Call) → list_any p (due_at_once own place call) ≡ false
   at_once own place (Alert casualty) = refl
   at_once own place (Ack from casualty) = refl
   at_once own place (Relay to from casualty ask) = one _ (m.distress casualty)
@@ -126,11 +126,11 @@ module _ (p : Act → Bool) (m : Misses p) where
       ∙ ap (λ (b : Bool). b || list_any p (if is_got places call then [] else held_under_least (first_free places))) (told call)
       ∙ got_or_held (is_got places call) (first_free places)
 
-  heard_by : (own : ℕ) (place : Option Place) (places : Places) (call : Call) (q a : Bool)
+  heard_by : (own : ℕ) (place : Option Whereabouts) (places : Places) (call : Call) (q a : Bool)
       → list_any p (if q then question_due places call else (if a then answered_or_shown (answered_number places call) else due_at_once own place call)) ≡ false
   heard_by own place places call true a = question places call
   heard_by own place places call false true = shown_or (answered_number places call)
   heard_by own place places call false false = at_once own place call
 
-  pub none_heard : (own : ℕ) (place : Option Place) (places : Places) (call : Call) → list_any p (heard_due own place places call) ≡ false
+  pub none_heard : (own : ℕ) (place : Option Whereabouts) (places : Places) (call : Call) → list_any p (heard_due own place places call) ≡ false
   none_heard own place places call = heard_by own place places call (is_question call) (acknowledges call)

@@ -22,7 +22,7 @@ use Rattle.traffic_rules.specs.HeldTold.{holds, frees, begun_by, begins, ends, h
 use Rattle.traffic_rules.specs.Sending.{asks, acknowledges, is_sendable, refused_full, held_under_least, send_refusal, send_due}
 use Rattle.traffic_rules.specs.Answering.{reply_to, reply_due_to, refused_unless_got, answer_refusal, answer_due}
 use Rattle.traffic_rules.specs.Repeating.{is_overdue, repeated, repeats}
-use Rattle.traffic_rules.specs.Hearing.{Place, is_answered_by, is_question, is_got, must_be_held, distress_told, question_due, answered_number, answered_or_shown, position_told, due_at_once, heard_due, heard_refusal}
+use Rattle.traffic_rules.specs.Hearing.{Whereabouts, is_answered_by, is_question, is_got, must_be_held, distress_told, question_due, answered_number, answered_or_shown, position_told, due_at_once, heard_due, heard_refusal}
 use Rattle.traffic_rules.specs.inside.After.{held_at, freed_at, after_sending, after_answering, after_tick, after_question, after_hearing}
 use Rattle.traffic_rules.proofs.Places.{place_from, no_place, number_from, free_number}
 use Rattle.traffic_rules.proofs.HeldAfter.{gives_up}
@@ -145,11 +145,11 @@ told_end k (GroupCall group category from first second f1 f2) = refl
 told_end k (Individual to category from first second message end) = refl
 told_end k (Service to category from kind) = refl
 
-position_quiet : (own : ℕ) (place : Option Place) (to : ℕ) (category : Category) → AreQuiet (position_told own place to category)
+position_quiet : (own : ℕ) (place : Option Whereabouts) (to : ℕ) (category : Category) → AreQuiet (position_told own place to category)
 position_quiet own None to category = record { begin = λ k. refl; end = λ k. refl }
 position_quiet own (Some place) to category = record { begin = λ k. refl; end = λ k. refl }
 
-at_once_quiet : (own : ℕ) (place : Option Place) (call : Call) → AreQuiet (due_at_once own place call)
+at_once_quiet : (own : ℕ) (place : Option Whereabouts) (call : Call) → AreQuiet (due_at_once own place call)
 at_once_quiet own place (Alert casualty) = record { begin = λ k. refl; end = λ k. refl }
 at_once_quiet own place (Ack from casualty) = record { begin = λ k. refl; end = λ k. refl }
 at_once_quiet own place (Relay to from casualty ask) = record { begin = λ k. refl; end = λ k. refl }
@@ -295,7 +295,7 @@ module _ {What : Type 0} (occurs : What → Occurrence) (e : Entry What) (h : Hi
       let within = answered_within call n number in
       one_ended occurs e h n within.0 within.1 (λ k. begins_as _ acts k) (λ k. ends_as (hears call) _ happens acts k ∙ or-false (n == k)) (ap is_tick happens)
 
-  heard_by : (own : ℕ) (place : Option Place) (call : Call) (q a : Bool) → is_question call ≡ q → acknowledges call ≡ a → occurs e.what ≡ hears call
+  heard_by : (own : ℕ) (place : Option Whereabouts) (call : Call) (q a : Bool) → is_question call ≡ q → acknowledges call ≡ a → occurs e.what ≡ hears call
       → e.acts ≡ (if q then question_due (all_held occurs h) call
       else (if a then answered_or_shown (answered_number (all_held occurs h) call) else due_at_once own place call))
       → heard_refusal (all_held occurs h) call ≡ None
@@ -308,6 +308,6 @@ module _ {What : Type 0} (occurs : What → Occurrence) (e : Entry What) (h : Hi
       none_changed occurs e h (λ k. begins_as _ acts k ∙ quiet.begin k) (λ k. ends_as (hears call) _ happens acts k ∙ quiet.end k) (ap is_tick happens)
 
   -- after a call was heard
-  pub after_heard : (own : ℕ) (place : Option Place) (call : Call) → occurs e.what ≡ hears call → e.acts ≡ heard_due own place (all_held occurs h) call
+  pub after_heard : (own : ℕ) (place : Option Whereabouts) (call : Call) → occurs e.what ≡ hears call → e.acts ≡ heard_due own place (all_held occurs h) call
       → heard_refusal (all_held occurs h) call ≡ None → all_held occurs (e ∷ h) ≡ after_hearing (all_held occurs h) call e.at
   after_heard own place call happens acts none = heard_by own place call (is_question call) (acknowledges call) refl refl happens acts none

@@ -4,7 +4,7 @@ use Rattle.std.specs.Prelude.{ℕ, suc, nat_eq, ◌&&◌, not, Bool, true, false
 use Rattle.std.specs.Option.{option_map}
 use Rattle.std.specs.Cmp.Lexicographic.{pointwise}
 use Rattle.std.specs.List.{list_any}
-use Rattle.call_values.specs.declared.places.Fix.{Fix}
+use Rattle.call_values.specs.declared.positions.Fix.{Fix}
 use Rattle.call_values.specs.declared.calls.Call.{Call}
 use Rattle.call_values.specs.declared.calls.Call.TheVariants.{Alert, Ack, Relay, Individual, Service}
 use Rattle.call_values.specs.declared.choices.Category.{Category}
@@ -21,8 +21,8 @@ use Rattle.traffic_rules.specs.HeldTold.{is_sent}
 use Rattle.traffic_rules.specs.Sending.{acknowledges, refused_full, held_under_least}
 
 -- a position and a time, each where it is known
-abbrev pub Place : Type 0
-Place = Option Fix × Option (ℕ × ℕ)
+abbrev pub Whereabouts : Type 0
+Whereabouts = Option Fix × Option (ℕ × ℕ)
 
 -- two calls are equal: their lists are, which no two calls share
 abbrev pub are_equal : Call → Call → Bool
@@ -69,12 +69,12 @@ answered_or_shown (Some number) = Answered number ∷ []
 answered_or_shown None = Shown ∷ []
 
 -- a position request is answered with the position and the time that the station keeps; a station that keeps none shows it
-abbrev pub position_told : (own : ℕ) → Option Place → (to : ℕ) → Category → List Act
+abbrev pub position_told : (own : ℕ) → Option Whereabouts → (to : ℕ) → Category → List Act
 position_told own None to category = Shown ∷ []
 position_told own (Some place) to category = Send (Service to category own (Position place.0 place.1)) 1 ∷ []
 
 -- what is due at once at other calls: a relay tells of distress; a test and a position request are answered; all else is shown
-abbrev pub due_at_once : (own : ℕ) → Option Place → Call → List Act
+abbrev pub due_at_once : (own : ℕ) → Option Whereabouts → Call → List Act
 due_at_once own place (Alert casualty) = []
 due_at_once own place (Ack from casualty) = []
 due_at_once own place (Relay to from casualty ask) = Distress casualty ∷ []
@@ -83,7 +83,7 @@ due_at_once own place (Service to category from AskPosition) = position_told own
 due_at_once own place _ = Shown ∷ []
 
 -- what is due at a heard call: it is a question, or an acknowledgement, or another call
-abbrev pub heard_due : (own : ℕ) → Option Place → Places → Call → List Act
+abbrev pub heard_due : (own : ℕ) → Option Whereabouts → Places → Call → List Act
 heard_due own place places call =
     if is_question call then question_due places call
     else (if acknowledges call then answered_or_shown (answered_number places call) else due_at_once own place call)

@@ -132,20 +132,20 @@ Tests mmsi category from =
     Then (Eithers ends.ACKNOWLEDGE_BQ ends.ACKNOWLEDGE_RQ) (λ reply. Only (Service mmsi category from (Test reply))))))
 
 -- a position that is told
-abbrev pub Answers : ℕ → Category → ℕ → Call → List ℕ → Type 0
-Answers mmsi category from =
+abbrev pub PositionAnswers : ℕ → Category → ℕ → Call → List ℕ → Type 0
+PositionAnswers mmsi category from =
     Then Positions (λ position. Then Times (λ time. Then (Symbol (Exactly ends.ACKNOWLEDGE_BQ)) (λ _. Only (Service mmsi category from (Position position time)))))
 
 -- a position that is asked for
-abbrev pub Questions : ℕ → Category → ℕ → Call → List ℕ → Type 0
-Questions mmsi category from = Then (Blanks 5) (λ _. Then (Symbol (Exactly ends.ACKNOWLEDGE_RQ)) (λ _. Only (Service mmsi category from AskPosition)))
+abbrev pub PositionRequests : ℕ → Category → ℕ → Call → List ℕ → Type 0
+PositionRequests mmsi category from = Then (Blanks 5) (λ _. Then (Symbol (Exactly ends.ACKNOWLEDGE_RQ)) (λ _. Only (Service mmsi category from AskPosition)))
 
 abbrev pub AfterTold : ℕ → Category → ℕ → Bool → Call → List ℕ → Type 0
-AfterTold mmsi category from true = Answers mmsi category from
-AfterTold mmsi category from false = Questions mmsi category from
+AfterTold mmsi category from true = PositionAnswers mmsi category from
+AfterTold mmsi category from false = PositionRequests mmsi category from
 
-abbrev pub Places : ℕ → Category → ℕ → Call → List ℕ → Type 0
-Places mmsi category from = Then (Symbol (Exactly NO_INFORMATION)) (λ _. Then (Eithers POSITION_FOLLOWS NO_INFORMATION) (AfterTold mmsi category from))
+abbrev pub ShipPositions : ℕ → Category → ℕ → Call → List ℕ → Type 0
+ShipPositions mmsi category from = Then (Symbol (Exactly NO_INFORMATION)) (λ _. Then (Eithers POSITION_FOLLOWS NO_INFORMATION) (AfterTold mmsi category from))
 
 -- another call to one station
 abbrev pub Others : ℕ → Category → ℕ → ℕ → Call → List ℕ → Type 0
@@ -154,7 +154,7 @@ Others mmsi category from first =
 
 abbrev pub AfterTelecommand : ℕ → Category → ℕ → Telecommand → Call → List ℕ → Type 0
 AfterTelecommand mmsi category from telecommand.Test = Tests mmsi category from
-AfterTelecommand mmsi category from telecommand.Position = Places mmsi category from
+AfterTelecommand mmsi category from telecommand.Position = ShipPositions mmsi category from
 AfterTelecommand mmsi category from (telecommand.Request first) = Others mmsi category from first
 
 abbrev pub Individuals : ℕ → Category → ℕ → Call → List ℕ → Type 0

@@ -5,7 +5,7 @@ use Rattle.symbol_reader.specs.declared.letters.Letter.{Letter}
 use Rattle.symbol_reader.specs.declared.letters.Letter.TheVariants.{Exactly, UpTo, Digits}
 use Rattle.symbol_reader.specs.Letters.{Allows}
 use Rattle.symbol_reader.specs.inside.Languages.{One, Only, Then, Choice, Spelled}
-use Rattle.call_values.specs.declared.places.Fix.{Fix}
+use Rattle.call_values.specs.declared.positions.Fix.{Fix}
 use Rattle.call_values.specs.declared.calls.Casualty.{Casualty}
 use Rattle.call_values.specs.declared.calls.Call.{Call}
 use Rattle.call_values.specs.declared.fields.FieldKind.{FieldKind}
@@ -16,7 +16,7 @@ use Rattle.dsc_symbols.specs.Telecommands.{IsFirst, IsSecond}
 use Rattle.call_values.specs.Fields.{IsField}
 use Rattle.call_values.specs.Parts.{IsMessage}
 use Rattle.call_values.specs.Identity.{IsMmsi}
-use Rattle.call_values.specs.Places.{IsPosition}
+use Rattle.call_values.specs.Positions.{IsPosition}
 use Rattle.call_values.specs.Clock.{IsHourMinute}
 use Rattle.call_values.specs.Calls.{IsCasualty, IsCall}
 use Rattle.call_grammar.specs.Spelling.{identity_symbols, position_symbols, time_symbols, casualty_symbols, area_symbols, field_symbols, message_symbols, covered}

@@ -53,5 +53,5 @@ read_fields behind0 =
     )))))))))))
 
 -- what is answered of bytes: the fields whose texts they have, or the first refusal
-abbrev pub Answers : Result DscFields SentenceRefusal → List ℕ → Type 0
-Answers answer bytes = MatchResult answer (λ s. (texts_of dsc bytes ≡ Ok (texts s)) × IsDsc s) (λ e. texts_of dsc bytes ≡ Err e)
+abbrev pub FieldsAnswer : Result DscFields SentenceRefusal → List ℕ → Type 0
+FieldsAnswer answer bytes = MatchResult answer (λ s. (texts_of dsc bytes ≡ Ok (texts s)) × IsDsc s) (λ e. texts_of dsc bytes ≡ Err e)

@@ -60,8 +60,8 @@ read_fields behind0 =
     else Err (Field course.next))))))))
 
 -- what is answered of bytes: the fields whose texts they have, or the first refusal
-abbrev pub Answers : Result DseFields SentenceRefusal → List ℕ → Type 0
-Answers answer bytes = MatchResult answer (λ s. (texts_of dse bytes ≡ Ok (texts s)) × IsDse s) (λ e. texts_of dse bytes ≡ Err e)
+abbrev pub FieldsAnswer : Result DseFields SentenceRefusal → List ℕ → Type 0
+FieldsAnswer answer bytes = MatchResult answer (λ s. (texts_of dse bytes ≡ Ok (texts s)) × IsDse s) (λ e. texts_of dse bytes ≡ Err e)
 
 -- the fields of these parts
 abbrev pub fields_of : DseParts → DseFields

@@ -12,22 +12,22 @@ returns-in_err-frequencies g c =
     leaves_form (grammar.frequencies (grammar.end grammar.all_ends g.T.Tail.grammar)) first (ending_with g.T.Tail.parts) _ _ _ _ c.new-line.ensures c.from_residual.ensures.1
     (c.in_err-frequencies.ensures ((labelled (codes " end=") (grammar.symbol grammar.all_ends)) g.T.Tail.grammar))
 
-pub returns-in_err-sign : goal.returns-in_err-sign
-returns-in_err-sign g c =
-    leaves_form (grammar.frequencies (grammar.end grammar.all_ends g.T.Tail.grammar)) first (ending_with g.T.Tail.parts) _ _ _ _ c.new-line.ensures c.from_residual-in_err-sign.ensures.1
+pub returns-in_err-eos : goal.returns-in_err-eos
+returns-in_err-eos g c =
+    leaves_form (grammar.frequencies (grammar.end grammar.all_ends g.T.Tail.grammar)) first (ending_with g.T.Tail.parts) _ _ _ _ c.new-line.ensures c.from_residual-in_err-eos.ensures.1
     ((behind grammar.frequencies (λ rest. (labelled (codes " end=") (grammar.symbol grammar.all_ends)) rest) _ _ _ _ c.in_ok-frequencies.ensures
-    c.in_err-sign.ensures) g.T.Tail.grammar)
+    c.in_err-eos.ensures) g.T.Tail.grammar)
 
 pub returns-in_err-tail : goal.returns-in_err-tail
 returns-in_err-tail g c =
     leaves_form (grammar.frequencies (grammar.end grammar.all_ends g.T.Tail.grammar)) first (ending_with g.T.Tail.parts) _ _ _ _ c.new-line.ensures c.from_residual-in_err-tail.ensures.1
     (no_tail (λ rest. grammar.frequencies ((labelled (codes " end=") (grammar.symbol grammar.all_ends)) rest)) g.T.Tail.grammar _ _ _ _ _ (both grammar.frequencies (λ rest. (labelled (codes " end=") (grammar.symbol grammar.all_ends)) rest) _ _ _ _ _ c.in_ok-frequencies.ensures
-    c.in_ok-sign.ensures) c.rest.ensures c.in_err-tail.ensures)
+    c.in_ok-eos.ensures) c.rest.ensures c.in_err-tail.ensures)
 
 pub returns : goal.returns
 returns g c = (
   _,
   ap (read (grammar.frequencies (grammar.end grammar.all_ends g.T.Tail.grammar))) (sym c.new-line.ensures) ∙ whole (λ rest. grammar.frequencies ((labelled (codes " end=") (grammar.symbol grammar.all_ends)) rest)) g.T.Tail.grammar _ _ _ _ _ (both grammar.frequencies (λ rest. (labelled (codes " end=") (grammar.symbol grammar.all_ends)) rest) _ _ _ _ _ c.in_ok-frequencies.ensures
-      c.in_ok-sign.ensures) c.rest.ensures c.in_ok-tail.ensures,
+      c.in_ok-eos.ensures) c.rest.ensures c.in_ok-tail.ensures,
   refl,
 )

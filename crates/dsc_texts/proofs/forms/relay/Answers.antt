@@ -18,25 +18,25 @@ returns-in_err-distress g c =
     ((behind (labelled (codes "relay to=") grammar.address) (λ rest. grammar.distress ((labelled (codes " end=") (grammar.symbol grammar.relay_ends)) rest)) _ _ _ _ c.in_ok-to.ensures
     (λ rest. c.in_err-distress.ensures ((labelled (codes " end=") (grammar.symbol grammar.relay_ends)) rest))) g.T.Tail.grammar)
 
-pub returns-in_err-sign : goal.returns-in_err-sign
-returns-in_err-sign g c =
-    leaves_form (grammar.relay g.T.Tail.grammar) (nth 2) (parts_with g.T.Tail.parts) _ _ _ _ c.new-line.ensures c.from_residual-in_err-sign.ensures.1
+pub returns-in_err-eos : goal.returns-in_err-eos
+returns-in_err-eos g c =
+    leaves_form (grammar.relay g.T.Tail.grammar) (nth 2) (parts_with g.T.Tail.parts) _ _ _ _ c.new-line.ensures c.from_residual-in_err-eos.ensures.1
     ((behind (labelled (codes "relay to=") grammar.address) (λ rest. grammar.distress ((labelled (codes " end=") (grammar.symbol grammar.relay_ends)) rest)) _ _ _ _ c.in_ok-to.ensures
     (behind grammar.distress (λ rest. (labelled (codes " end=") (grammar.symbol grammar.relay_ends)) rest) _ _ _ _ c.in_ok-distress.ensures
-    c.in_err-sign.ensures)) g.T.Tail.grammar)
+    c.in_err-eos.ensures)) g.T.Tail.grammar)
 
 pub returns-in_err-tail : goal.returns-in_err-tail
 returns-in_err-tail g c =
     leaves_form (grammar.relay g.T.Tail.grammar) (nth 2) (parts_with g.T.Tail.parts) _ _ _ _ c.new-line.ensures c.from_residual-in_err-tail.ensures.1
     (no_tail (λ rest. (labelled (codes "relay to=") grammar.address) (grammar.distress ((labelled (codes " end=") (grammar.symbol grammar.relay_ends)) rest))) g.T.Tail.grammar _ _ _ _ _ (both (labelled (codes "relay to=") grammar.address) (λ rest. grammar.distress ((labelled (codes " end=") (grammar.symbol grammar.relay_ends)) rest)) _ _ _ _ _ c.in_ok-to.ensures
     (both grammar.distress (λ rest. (labelled (codes " end=") (grammar.symbol grammar.relay_ends)) rest) _ _ _ _ _ c.in_ok-distress.ensures
-    c.in_ok-sign.ensures)) c.rest.ensures c.in_err-tail.ensures)
+    c.in_ok-eos.ensures)) c.rest.ensures c.in_err-tail.ensures)
 
 pub returns : goal.returns
 returns g c = (
   _,
   ap (read (grammar.relay g.T.Tail.grammar)) (sym c.new-line.ensures) ∙ whole (λ rest. (labelled (codes "relay to=") grammar.address) (grammar.distress ((labelled (codes " end=") (grammar.symbol grammar.relay_ends)) rest))) g.T.Tail.grammar _ _ _ _ _ (both (labelled (codes "relay to=") grammar.address) (λ rest. grammar.distress ((labelled (codes " end=") (grammar.symbol grammar.relay_ends)) rest)) _ _ _ _ _ c.in_ok-to.ensures
       (both grammar.distress (λ rest. (labelled (codes " end=") (grammar.symbol grammar.relay_ends)) rest) _ _ _ _ _ c.in_ok-distress.ensures
-      c.in_ok-sign.ensures)) c.rest.ensures c.in_ok-tail.ensures,
+      c.in_ok-eos.ensures)) c.rest.ensures c.in_ok-tail.ensures,
   refl,
 )

@@ -7,17 +7,17 @@ use Rattle.traffic_lines.proofs.fields.only.Goals as goal
 
 pub returns-in_err-rest-clause-left : goal.returns-in_err-rest-clause-left
 returns-in_err-rest-clause-left g c =
-    passed (λ (left : ℕ). read (only c.args.label.now g.T.Field.token) c.args.bytes.now ≡ Err left) c.from_residual.result _ c.from_residual.ensures.1
+    passed (λ (left : ℕ). read (only c.args.label.now g.T.Token.token) c.args.bytes.now ≡ Err left) c.from_residual.result _ c.from_residual.ensures.1
     (no_label _ _ _ _ c.in_err-rest.ensures.left)
 
 pub returns-in_err-value-clause-left : goal.returns-in_err-value-clause-left
 returns-in_err-value-clause-left g c =
-    passed (λ (left : ℕ). read (only c.args.label.now g.T.Field.token) c.args.bytes.now ≡ Err left) c.from_residual-in_err-value.result _ c.from_residual-in_err-value.ensures.1
+    passed (λ (left : ℕ). read (only c.args.label.now g.T.Token.token) c.args.bytes.now ≡ Err left) c.from_residual-in_err-value.result _ c.from_residual-in_err-value.ensures.1
     (no_value _ _ _ _ _ c.in_ok-rest.ensures.rest c.in_err-value.ensures.left)
 
 pub returns-in_err-end-clause-left : goal.returns-in_err-end-clause-left
 returns-in_err-end-clause-left g c =
-    passed (λ (left : ℕ). read (only c.args.label.now g.T.Field.token) c.args.bytes.now ≡ Err left) c.from_residual-in_err-end.result _ c.from_residual-in_err-end.ensures.1
+    passed (λ (left : ℕ). read (only c.args.label.now g.T.Token.token) c.args.bytes.now ≡ Err left) c.from_residual-in_err-end.result _ c.from_residual-in_err-end.ensures.1
     (no_end _ _ _ _ _ _ _ c.in_ok-rest.ensures.rest c.in_ok-value.ensures.value c.in_err-end.ensures.left)
 
 pub returns-clause-text : goal.returns-clause-text

@@ -1,7 +1,7 @@
 use Rattle.std.proofs.Common.{◌≡◌, ℕ, ◌==◌, ◌&&◌, not, Bool, true, false, is_some, Some, None, Option, Result, Ok, Err, List, [], ◌∷◌, if◌then◌else◌, refl, sym, ◌∙◌, ap, subst}
 use Rattle.std.specs.List.{list_any}
 use Rattle.std.specs.Prelude.{OnOk}
-use Rattle.call_values.specs.declared.places.Fix.{Fix}
+use Rattle.call_values.specs.declared.positions.Fix.{Fix}
 use Rattle.call_values.specs.declared.calls.Call.{Call}
 use Rattle.call_values.specs.declared.calls.Call.TheVariants.{Alert, Ack}
 use Rattle.area_rules.specs.declared.acts.Act.{Act}
@@ -10,7 +10,7 @@ use Rattle.area_rules.specs.declared.refusals.StationRefusal.{StationRefusal}
 use Rattle.area_rules.specs.Histories.{Entry, History}
 use Rattle.area_rules.specs.Holding.{Places}
 use Rattle.area_rules.specs.Rules.{listed, refusal_or}
-use Rattle.traffic_rules.specs.Hearing.{Place, heard_refusal, heard_due}
+use Rattle.traffic_rules.specs.Hearing.{Whereabouts, heard_refusal, heard_due}
 use Rattle.traffic_rules.specs.inside.After.{after_hearing}
 use Rattle.traffic_rules.proofs.PublicLaws.{none_heard, AreQuiet, after_heard, after_hearing_nothing}
 use Rattle.ship_station.specs.declared.events.ShipWhat.{ShipWhat}

@@ -1,0 +1,13 @@
+use Rattle.std.proofs.Common.{arith}
+use Rattle.traffic_lines.proofs.Steps.{number_of}
+use Rattle.traffic_lines.proofs.fields.U32Token.read.Goals as goal
+
+pub returns-clause-list : goal.returns-clause-list
+returns-clause-list c =
+    let n = c.in_ok-number.ensures.number in
+    (number_of 0 4294967295 c.in_ok-number.number c.args.bytes.now n.0 c.in_ok-number.rest.now (omega arith) (omega arith) n.1 n.2).list
+
+pub returns-clause-value : goal.returns-clause-value
+returns-clause-value c =
+    let n = c.in_ok-number.ensures.number in
+    (number_of 0 4294967295 c.in_ok-number.number c.args.bytes.now n.0 c.in_ok-number.rest.now (omega arith) (omega arith) n.1 n.2).value
