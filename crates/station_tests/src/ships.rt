@@ -1,5 +1,5 @@
-use crate::worked::{casualty, nothing};
-use area_rules::{Act, Acts, StationRefusal, put, single};
+use crate::worked::{and, casualty, nothing, sent};
+use area_rules::{Act, Acts, StationRefusal, single};
 use call_values::{
     AlertDelay, Area, Call, Casualty, Category, End, Field, First, HourMinute, Kind, Message, Mmsi,
     Position, Second, To,
@@ -159,17 +159,6 @@ fn proposal(to: u32, from: u32, first: u8, second: u8, end: End) -> Result<Call,
         message: Message::Fields(Field::absent(), Field::absent()),
         end,
     })
-}
-
-fn sent(call: Call) -> Acts {
-    single(Act::Send { call, times: 1 })
-}
-
-fn and(mut acts: Acts, act: Act) -> Acts {
-    if acts.len() < 32 {
-        put(&mut acts, act);
-    }
-    acts
 }
 
 #[test]

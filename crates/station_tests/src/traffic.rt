@@ -1,5 +1,5 @@
-use crate::worked::{individual, mmsi, sent, service, unplaced};
-use area_rules::{Act, Acts, HeldCalls, StationRefusal, put, single};
+use crate::worked::{and, individual, mmsi, sent, service, unplaced};
+use area_rules::{Act, Acts, HeldCalls, StationRefusal, single};
 use call_values::{Call, End, HourMinute, Kind, Position, To};
 use std::test::Fail;
 use traffic_rules::*;
@@ -15,13 +15,6 @@ fn relay(ask: bool) -> Result<Call, Fail> {
         casualty: unplaced(338_040_079)?,
         ask,
     })
-}
-
-fn both(mut acts: Acts, act: Act) -> Acts {
-    if acts.len() < 32 {
-        put(&mut acts, act);
-    }
-    acts
 }
 
 #[test]
@@ -82,7 +75,7 @@ fn relays_are_told_and_held(rt: HostRuntime) -> Result<(), Fail> {
     );
     assert_eq!(rt;
         hear(&mut held, own, None, &call, 2),
-        Ok(both(distress, Act::Held(1)))
+        Ok(and(distress, Act::Held(1)))
     );
     assert_eq!(rt;
         hear(&mut held, own, None, &call, 3),
@@ -93,7 +86,7 @@ fn relays_are_told_and_held(rt: HostRuntime) -> Result<(), Fail> {
     for number in 1..=16 {
         assert_eq!(rt;
             send(&mut held, own, &test, 4),
-            Ok(both(sent(test), Act::Held(number)))
+            Ok(and(sent(test), Act::Held(number)))
         );
     }
     assert_eq!(rt;
@@ -111,11 +104,11 @@ fn sent_calls_wait_twice(rt: HostRuntime) -> Result<(), Fail> {
     let test = service(SHIP, OWN, Kind::Test { reply: false })?;
     assert_eq!(rt;
         send(&mut held, own, &ask, 0),
-        Ok(both(sent(ask), Act::Held(1)))
+        Ok(and(sent(ask), Act::Held(1)))
     );
     assert_eq!(rt;
         send(&mut held, own, &test, 10),
-        Ok(both(sent(test), Act::Held(2)))
+        Ok(and(sent(test), Act::Held(2)))
     );
     let answered = service(OWN, SHIP, Kind::Test { reply: true })?;
     let position = service(

@@ -1,5 +1,5 @@
 //! Calls and acts of the stations' tests.
-use area_rules::{Act, Acts, single};
+use area_rules::{Act, Acts, put, single};
 use arrayvec::ArrayVec;
 use call_values::worked::FIX;
 use call_values::{
@@ -64,4 +64,12 @@ pub(crate) fn sent(call: Call) -> Acts {
 
 pub(crate) fn nothing() -> Acts {
     ArrayVec::new()
+}
+
+/// These acts, and one more behind them where there is room.
+pub(crate) fn and(mut acts: Acts, act: Act) -> Acts {
+    if acts.len() < 32 {
+        put(&mut acts, act);
+    }
+    acts
 }
