@@ -1,5 +1,5 @@
 -- What copies of a call's characters that came intact show, and the answers to receptions of one call.
-use Rattle.std.proofs.Common.{◌≡◌, ℕ, zero, suc, ◌<◌, ◌≤◌, Bool, true, false, ◌&&◌, ◌||◌, ltb, List, [], ◌∷◌, ◌++◌, length, get_or, drop, Option, Some, refl, sym, ap, subst, ◌∙◌, inl, inr, ◌⊎◌, arith, length-append, All}
+use Rattle.std.proofs.Common.{◌≡◌, ℕ, zero, suc, ◌+◌, ◌<◌, ◌≤◌, Bool, true, false, ◌&&◌, ◌||◌, ltb, List, [], ◌∷◌, ◌++◌, length, get_or, drop, Option, Some, refl, sym, ap, subst, ◌∙◌, inl, inr, ◌⊎◌, arith, length-append, All}
 use Rattle.std.specs.List.{list_any}
 use Rattle.std.proofs.lemmas.Bool.{or_left, or_right, or_cases, and_from, lt-ltb}
 use Rattle.std.proofs.lemmas.List.{get_or_append_left, get_or_default}
@@ -18,11 +18,11 @@ use Rattle.slot_join.specs.declared.joined.Joined.TheVariants.{Reported}
 use Rattle.slot_join.specs.declared.joined.Joined.TheVariants.{Missing}
 use Rattle.slot_join.specs.declared.joined.Extra.{Extra}
 use Rattle.slot_join.specs.Extra.{Follows}
-use Rattle.slot_join.specs.Shown.{head_of, IsShown}
+use Rattle.slot_join.specs.Shown.{head_of, late_of, IsShown}
 use Rattle.slot_join.specs.Answer.{HasFormat, IsAnswer}
 use Rattle.slot_join.specs.Heard.{IsHeard}
-use Rattle.slot_join.specs.OneCall.{ShowsNoOther, IsCallReported, IsCallOrMissing}
-use Rattle.slot_join.specs.Intact.{IsIntactAt, CameNowhere, CameSomewhere, TellsTail, IsSent, IsSentOrLostPlace, ArrivesInParts}
+use Rattle.slot_join.specs.OneCall.{ShowsNoOther, IsEndPlace, ShowsNoOtherEnd, IsCallReported, IsCallOrMissing}
+use Rattle.slot_join.specs.Intact.{EndsWithin, IsIntactAt, CameNowhere, CameSomewhere, TellsTail, IsSent, IsSentOrLostPlace, ArrivesInParts}
 use Rattle.slot_join.proofs.ShownLists.{viable_front, front_viable}
 use Rattle.slot_join.proofs.CallOrMissing.{FormatsBegin, head_is}
 use Rattle.slot_join.proofs.OneWay.{in_call}
@@ -107,16 +107,24 @@ blank_nowhere lists receptions c tail p lawful below none k d inside = λ lead i
     let no : facts_of_all receptions p (get_or (through_check c) p 0) ≡ false = none (get_or (through_check c) p 0) in
     cc
 
+-- where the facts of receptions that end with the transmission showed nothing of the second and the third end of sequence, unless
+-- another symbol than the call's, no copy of these came intact
+abbrev pub LateAreLost : List (List Element) → Call → List ℕ → Type 0
+LateAreLost receptions c tail = (n : ℕ) → IsEndPlace c n → All (λ reception. EndsWithin reception (spell c ++ tail)) receptions
+    → (ShowsNoOtherEnd (facts_of_all receptions) c n → ShowsNone (late_of (facts_of_all receptions) n))
+    → CameNowhere receptions (spell c ++ tail) (n + 2) × CameNowhere receptions (spell c ++ tail) (n + 3)
+
 -- the call that was sent, or a place of it no copy of which came intact
 pub sent_or_lost : Lists → (receptions : List (List Element)) (c : Call) (tail : List ℕ) (answer : Joined) → IsCall c
     → ((extra : Extra) → Follows (facts_of_all receptions) c extra → TellsTail receptions c tail extra)
-    → IsCallOrMissing (facts_of_all receptions) c answer → IsSentOrLostPlace receptions c tail answer
-sent_or_lost lists receptions c tail answer lawful tells (inl is) = inl (record { extra = is.extra; tells = tells is.extra is.follows; answer_is = is.answer_is })
-sent_or_lost lists receptions c tail answer lawful tells (inr missing) = inr (record {
+    → LateAreLost receptions c tail → IsCallOrMissing (facts_of_all receptions) c answer → IsSentOrLostPlace receptions c tail answer
+sent_or_lost lists receptions c tail answer lawful tells ends (inl is) = inl (record { extra = is.extra; tells = tells is.extra is.follows; answer_is = is.answer_is })
+sent_or_lost lists receptions c tail answer lawful tells ends (inr missing) = inr (record {
   place = missing.place;
   inside = missing.inside;
   blank = missing.blank;
   nowhere = blank_nowhere lists receptions c tail missing.place lawful missing.inside missing.blank;
+  late = λ place within. ends missing.place place within (missing.late place);
   answer_is = missing.answer_is;
 })
 
@@ -144,7 +152,7 @@ module _ (law : HeardLaw) (lists : Lists) (formats : FormatsBegin) (receptions :
     rest = drop 2 (through_check c);
     begins = refl;
     head = format_one;
-    places = λ p least below. (came p below (arrives.places p least below), λ v has. only p v below has);
+    places = λ p least below. inl (came p below (arrives.places p least below), λ v has. only p v below has);
   }
 
   has : HasFormat (facts_of_all receptions) (format_of c)
