@@ -55,7 +55,7 @@ last_of c k = get_or k (length (before_end c)) 0
 abbrev pub beyond : Call → List ℕ → List ℕ
 beyond c k = drop (length (before_end c) + 1) k
 
-not_true : (b : Bool) → (b ≡ true → ⊥) → b ≡ false
+pub not_true : (b : Bool) → (b ≡ true → ⊥) → b ≡ false
 not_true true never = absurd (never refl)
 not_true false never = refl
 

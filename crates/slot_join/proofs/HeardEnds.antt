@@ -1,6 +1,6 @@
 -- What receptions that end with the transmission show of its last places, and of the later copies of the end of sequence.
-use Rattle.std.proofs.Common.{◌≡◌, ℕ, ◌+◌, ◌*◌, ◌<◌, ◌≤◌, Bool, true, false, ◌&&◌, ◌||◌, ltb, List, [], ◌∷◌, ◌++◌, length, get_or, Option, Some, None, refl, sym, ap, subst, ◌∙◌, inl, inr, arith, length-append, All}
-use Rattle.std.proofs.lemmas.Bool.{cases_lt, ltb-true, and_parts, or_cases}
+use Rattle.std.proofs.Common.{◌≡◌, ℕ, ◌+◌, ◌*◌, ◌<◌, ◌≤◌, Bool, true, false, ◌&&◌, ◌||◌, ltb, List, [], ◌∷◌, ◌++◌, length, get_or, Option, Some, None, refl, sym, ap, subst, ◌∙◌, inl, inr, ◌⊎◌, arith, length-append, All}
+use Rattle.std.proofs.lemmas.Bool.{cases_lt, ltb-true, and_parts, or_cases, or_left, or_right}
 use Rattle.std.proofs.lemmas.List.{get_or_append_left, get_or-append-add, length_push}
 use Rattle.std.proofs.lemmas.List.Elements.{All-get_or}
 use Rattle.ten_unit.specs.declared.character.Element.{Element}
@@ -15,9 +15,9 @@ use Rattle.slot_evidence.specs.Seen.{ShowsNone}
 use Rattle.slot_join.specs.Shown.{late_of}
 use Rattle.slot_join.specs.Heard.{IsOneWayAt, IsHeard}
 use Rattle.slot_join.specs.OneCall.{IsEndPlace, ShowsNoOtherEnd}
-use Rattle.slot_join.specs.Intact.{EndsWithin, CameNowhere}
+use Rattle.slot_join.specs.Intact.{EndsWithin, CameNowhere, CameSomewhere}
 use Rattle.slot_join.proofs.OneWay.{Laws, length-on_air, slot_told}
-use Rattle.slot_join.proofs.Copies.{Lists, LateAreLost}
+use Rattle.slot_join.proofs.Copies.{Lists, LateAreLost, somewhere_told}
 use Rattle.slot_join.proofs.Tails.{any_of, blank_list, shows_nothing}
 
 -- a place's RX slot that the transmission hasn't lies past the reception's end
@@ -93,11 +93,20 @@ module _ (law : WithinLaw) (lists : Lists) (receptions : List (List Element)) (c
         (λ e both shown. law (spell c ++ tail) e p v both.0 both.1 (omega (arith, whole)) (omega (arith, is, small)) shown ∙ is)
         receptions (λ k d inside. (heard k d inside, within k d inside)) has
 
-    as_sent : ShowsNoOtherEnd (facts_of_all receptions) c n
+    pub as_sent : ShowsNoOtherEnd (facts_of_all receptions) c n
     as_sent v has = elim (or_cases (facts_of_all receptions (n + 2) v) (facts_of_all receptions (n + 3) v) has) [
       | inl here ↦ told (n + 2) v (omega arith) second here
       | inr here ↦ told (n + 3) v (omega arith) third here
     ]
+
+  -- a copy of either that came intact is shown
+  pub later_shown : CameSomewhere receptions (spell c ++ tail) (n + 2) ⊎ CameSomewhere receptions (spell c ++ tail) (n + 3) → late_of (facts_of_all receptions) n (end_of c) ≡ true
+  later_shown (inl came) =
+      or_left (facts_of_all receptions (n + 2) (end_of c)) (facts_of_all receptions (n + 3) (end_of c)) (subst (λ (v : ℕ). facts_of_all receptions (n + 2) v ≡ true) second
+      (somewhere_told receptions (spell c ++ tail) (n + 2) (omega (arith, long, (lists.short c lawful).1)) (omega (arith, second, small)) came))
+  later_shown (inr came) =
+      or_right (facts_of_all receptions (n + 2) (end_of c)) (facts_of_all receptions (n + 3) (end_of c)) (subst (λ (v : ℕ). facts_of_all receptions (n + 3) v ≡ true) third
+      (somewhere_told receptions (spell c ++ tail) (n + 3) (omega (arith, long, (lists.short c lawful).1)) (omega (arith, third, small)) came))
 
   late_nowhere : ShowsNone (late_of (facts_of_all receptions) n) → CameNowhere receptions (spell c ++ tail) (n + 2) × CameNowhere receptions (spell c ++ tail) (n + 3)
   late_nowhere none = (

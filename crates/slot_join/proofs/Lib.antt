@@ -15,3 +15,4 @@ mod Followers
 mod ShownCalls
 mod Tails
 mod HeardEnds
+mod Parts

@@ -87,9 +87,17 @@ pub record IsSent (receptions : List (List Element)) (call : Call) (tail : List 
 abbrev pub IsSentOrLostPlace : List (List Element) → Call → List ℕ → Joined → Type 0
 IsSentOrLostPlace receptions call tail answer = IsSent receptions call tail answer ⊎ NamesLostPlace receptions call tail answer
 
--- each place of the call up to its error check character came intact at some receiver; of the two places of the format
--- specifier one is enough, except in distress alerts and calls to all ships, which need both
+-- the first end of sequence of the call stands at this place, each reception ends with the transmission, and a copy of the second or of
+-- the third end of sequence came intact at some receiver
+pub record EndCameLate (receptions : List (List Element)) (call : Call) (tail : List ℕ) (place : ℕ) : Type 0 where
+  pub end_place : IsEndPlace call place
+  pub within : All (λ reception. EndsWithin reception (spell call ++ tail)) receptions
+  pub copy : CameSomewhere receptions (spell call ++ tail) (place + 2) ⊎ CameSomewhere receptions (spell call ++ tail) (place + 3)
+
+-- each place of the call up to its error check character came intact at some receiver, or the first end of sequence came late; of the
+-- two places of the format specifier one is enough, except in distress alerts and calls to all ships, which need both
 pub record ArrivesInParts (receptions : List (List Element)) (call : Call) (tail : List ℕ) : Type 0 where
   pub format : CameSomewhere receptions (spell call ++ tail) 0 ⊎ CameSomewhere receptions (spell call ++ tail) 1
   pub both : needs_both (format_of call) ≡ true → CameSomewhere receptions (spell call ++ tail) 0 × CameSomewhere receptions (spell call ++ tail) 1
-  pub places : (place : ℕ) → 2 ≤ place → place < length (through_check call) → CameSomewhere receptions (spell call ++ tail) place
+  pub places : (place : ℕ) → 2 ≤ place → place < length (through_check call)
+      → CameSomewhere receptions (spell call ++ tail) place ⊎ EndCameLate receptions call tail place
