@@ -11,7 +11,7 @@ use Rattle.slot_evidence.specs.Alike.{AreAlike}
 use Rattle.slot_join.specs.declared.joined.Joined.{Joined}
 use Rattle.slot_join.specs.declared.joined.Extra.{Extra}
 use Rattle.slot_join.specs.declared.joined.Extra.TheVariants.{Absent, Whole, Broken}
-use Rattle.slot_join.specs.Shown.{head_of, Gives, IsShown}
+use Rattle.slot_join.specs.Shown.{head_of, late_of, IsLate, Gives, IsShown, IsShownLate}
 use Rattle.slot_join.specs.Extra.{IsBlankFrom, IsShownFrom, IsBroken, IsExtra, Follows}
 use Rattle.call_values.specs.declared.choices.End.{End}
 use Rattle.call_values.specs.declared.calls.Call.{Call}
@@ -37,8 +37,16 @@ none_too laws F G p alike none = laws.kept (F p) (G p) seen.None (alike.at p) no
 heads_alike : Laws → (F G : Facts) → Alike F G → AreAlike (head_of F) (head_of G)
 heads_alike laws F G alike = laws.unions (F 0) (G 0) (F 1) (G 1) (alike.at 0) (alike.at 1)
 
+late_too : Laws → (F G : Facts) (front : List ℕ) (n v : ℕ) → Alike F G → IsLate F front n v → IsLate G front n v
+late_too laws F G front n v alike late = record {
+  at_end = late.at_end;
+  none = none_too laws F G n alike late.none;
+  copies = laws.kept (late_of F n) (late_of G n) (seen.One v) (laws.unions (F (n + 2)) (G (n + 2)) (F (n + 3)) (G (n + 3)) (alike.at (n + 2)) (alike.at (n + 3))) late.copies;
+}
+
 gives_too : Laws → (F G : Facts) (front : List ℕ) (p v : ℕ) → Alike F G → Gives F front p v → Gives G front p v
-gives_too laws F G front p v alike one = laws.kept (F p) (G p) (seen.One v) (alike.at p) one
+gives_too laws F G front p v alike (inl one) = inl (laws.kept (F p) (G p) (seen.One v) (alike.at p) one)
+gives_too laws F G front p v alike (inr late) = inr (late_too laws F G front p v alike late)
 
 shown_too : Laws → (F G : Facts) (l : List ℕ) → Alike F G → IsShown F l → IsShown G l
 shown_too laws F G l alike a = record {
@@ -47,6 +55,13 @@ shown_too laws F G l alike a = record {
   begins = a.begins;
   head = laws.kept (head_of F) (head_of G) (seen.One a.format) (heads_alike laws F G alike) a.head;
   places = λ p least below. gives_too laws F G (take p l) p (get_or l p 0) alike (a.places p least below);
+}
+
+shown_late_too : Laws → (F G : Facts) (l : List ℕ) → Alike F G → IsShownLate F l → IsShownLate G l
+shown_late_too laws F G l alike a = record {
+  place = a.place;
+  inside = a.inside;
+  late = late_too laws F G (take a.place l) a.place (get_or l a.place 0) alike a.late;
 }
 
 blank_from_too : Laws → (F G : Facts) (from : ℕ) → Alike F G → IsBlankFrom F from → IsBlankFrom G from
@@ -86,13 +101,18 @@ reported_too laws F G answer alike r = record {
   answer_is = r.answer_is;
 }
 
-stops_at_too : (F G : Facts) (l : List ℕ) (v : ℕ) (answer : Joined) → StopsAt F l v answer → StopsAt G l v answer
-stops_at_too F G l v answer stops = stops
+not_late_too : Laws → (F G : Facts) (l : List ℕ) → Alike F G → (IsShownLate F l → ⊥) → IsShownLate G l → ⊥
+not_late_too laws F G l alike prompt late = prompt (shown_late_too laws G F l (flip F G alike) late)
 
-stops_too : (F G : Facts) (l : List ℕ) (here : Seen) (answer : Joined) → StopsWith F l here answer → StopsWith G l here answer
-stops_too F G l seen.None answer stops = stops
-stops_too F G l (seen.Differ a b) answer stops = stops
-stops_too F G l (seen.One v) answer stops = stops_at_too F G l v answer stops
+stops_at_too : Laws → (F G : Facts) (l : List ℕ) (v : ℕ) (answer : Joined) → Alike F G → StopsAt F l v answer → StopsAt G l v answer
+stops_at_too laws F G l v answer alike (inl x) = inl (shown_late_too laws F G l alike x.0, x.1)
+stops_at_too laws F G l v answer alike (inr (inl x)) = inr (inl (not_late_too laws F G l alike x.0, x.1, x.2))
+stops_at_too laws F G l v answer alike (inr (inr x)) = inr (inr (not_late_too laws F G l alike x.0, x.1, x.2))
+
+stops_too : Laws → (F G : Facts) (l : List ℕ) (here : Seen) (answer : Joined) → Alike F G → StopsWith F l here answer → StopsWith G l here answer
+stops_too laws F G l seen.None answer alike stops = stops
+stops_too laws F G l (seen.Differ a b) answer alike stops = stops
+stops_too laws F G l (seen.One v) answer alike stops = stops_at_too laws F G l v answer alike stops
 
 stopped_too : Laws → (F G : Facts) (answer : Joined) → Alike F G → IsStopped F answer → IsStopped G answer
 stopped_too laws F G answer alike s = record {
@@ -105,7 +125,7 @@ stopped_too laws F G answer alike s = record {
   };
   here = s.here;
   seen = laws.kept (F (length s.list)) (G (length s.list)) s.here (alike.at (length s.list)) s.seen;
-  stops = stops_too F G s.list s.here answer s.stops;
+  stops = stops_too laws F G s.list s.here answer alike s.stops;
 }
 
 has_format_too : Laws → (F G : Facts) (f : ℕ) → Alike F G → HasFormat F f → HasFormat G f

@@ -1,5 +1,5 @@
 -- What copies of a call's characters that came intact show, and the answers to receptions of one call.
-use Rattle.std.proofs.Common.{◌≡◌, ℕ, zero, suc, ◌<◌, ◌≤◌, Bool, true, false, ◌&&◌, ◌||◌, ltb, List, [], ◌∷◌, ◌++◌, length, get_or, drop, Option, Some, refl, sym, ap, subst, ◌∙◌, inl, inr, ◌⊎◌, arith, length-append, All}
+use Rattle.std.proofs.Common.{◌≡◌, ℕ, zero, suc, ◌+◌, ◌<◌, ◌≤◌, Bool, true, false, ◌&&◌, ◌||◌, ltb, List, [], ◌∷◌, ◌++◌, length, get_or, Option, Some, sym, ap, subst, ◌∙◌, inl, inr, ◌⊎◌, arith, length-append, All}
 use Rattle.std.specs.List.{list_any}
 use Rattle.std.proofs.lemmas.Bool.{or_left, or_right, or_cases, and_from, lt-ltb}
 use Rattle.std.proofs.lemmas.List.{get_or_append_left, get_or_default}
@@ -9,26 +9,17 @@ use Rattle.time_diversity.specs.Slots.{dx_slot, rx_slot}
 use Rattle.phasing.specs.Slot.{shows}
 use Rattle.call_values.specs.declared.calls.Call.{Call}
 use Rattle.call_values.specs.Calls.{IsCall}
-use Rattle.call_grammar.specs.Spelling.{spell, through_check, end_of, format_of}
-use Rattle.call_grammar.specs.Walk.{IsViable}
+use Rattle.call_grammar.specs.Spelling.{spell, through_check, end_of}
 use Rattle.slot_evidence.specs.Facts.{facts_of, facts_at, facts_of_all}
-use Rattle.slot_evidence.specs.Seen.{ShowsNone, ShowsOne}
+use Rattle.slot_evidence.specs.Seen.{ShowsNone}
 use Rattle.slot_join.specs.declared.joined.Joined.{Joined}
-use Rattle.slot_join.specs.declared.joined.Joined.TheVariants.{Reported}
-use Rattle.slot_join.specs.declared.joined.Joined.TheVariants.{Missing}
 use Rattle.slot_join.specs.declared.joined.Extra.{Extra}
 use Rattle.slot_join.specs.Extra.{Follows}
-use Rattle.slot_join.specs.Shown.{head_of, IsShown}
-use Rattle.slot_join.specs.Answer.{HasFormat, IsAnswer}
+use Rattle.slot_join.specs.Shown.{late_of}
 use Rattle.slot_join.specs.Heard.{IsHeard}
-use Rattle.slot_join.specs.OneCall.{ShowsNoOther, IsCallReported, IsCallOrMissing}
-use Rattle.slot_join.specs.Intact.{IsIntactAt, CameNowhere, CameSomewhere, TellsTail, IsSent, IsSentOrLostPlace, ArrivesInParts}
-use Rattle.slot_join.proofs.ShownLists.{viable_front, front_viable}
-use Rattle.slot_join.proofs.CallOrMissing.{FormatsBegin, head_is}
+use Rattle.slot_join.specs.OneCall.{ShowsNoOther, IsEndPlace, ShowsNoOtherEnd, IsCallOrMissing}
+use Rattle.slot_join.specs.Intact.{EndsWithin, IsIntactAt, CameNowhere, CameSomewhere, TellsTail, IsSentOrLostPlace}
 use Rattle.slot_join.proofs.OneWay.{in_call}
-use Rattle.slot_join.proofs.Stops.{FrontsDiffer}
-use Rattle.slot_join.proofs.OneAnswer.{OneSeen}
-use Rattle.slot_join.proofs.ShownCalls.{shown_is_reported}
 
 abbrev pub HeardLaw : Type 0
 HeardLaw = (call : Call) (tail : List ℕ) (reception : List Element) → IsCall call → IsHeard reception (spell call ++ tail) → ShowsNoOther (facts_of reception) (through_check call)
@@ -88,14 +79,19 @@ within lists c p lawful below =
     omega (arith, length-append (through_check c) ends, (lists.short c lawful).1)
 
 -- a place that came intact somewhere is shown
-somewhere_shown : Lists → (receptions : List (List Element)) (c : Call) (tail : List ℕ) (p : ℕ) → IsCall c → p < length (through_check c)
-    → CameSomewhere receptions (spell c ++ tail) p → facts_of_all receptions p (get_or (through_check c) p 0) ≡ true
+pub somewhere_told : (receptions : List (List Element)) (list : List ℕ) (p : ℕ) → p < 64 → get_or list p 0 < 128
+    → CameSomewhere receptions list p → facts_of_all receptions p (get_or list p 0) ≡ true
 unfolding facts_of_all
+somewhere_told receptions list p inside small came =
+    let v : ℕ = get_or list p 0 in
+    let shown : facts_of came.1 p v ≡ true = copy_shows came.1 list came.4.0 p inside small came.4.1 in
+    any_shows (λ e. facts_of e p v) receptions came.0 came.1 came.2 came.3 shown
+
+pub somewhere_shown : Lists → (receptions : List (List Element)) (c : Call) (tail : List ℕ) (p : ℕ) → IsCall c → p < length (through_check c)
+    → CameSomewhere receptions (spell c ++ tail) p → facts_of_all receptions p (get_or (through_check c) p 0) ≡ true
 somewhere_shown lists receptions c tail p lawful below came =
-    let v : ℕ = get_or (spell c ++ tail) p 0 in
-    let shown : facts_of came.1 p v ≡ true = copy_shows came.1 (spell c ++ tail) came.4.0 p (within lists c p lawful below) (character lists c tail p lawful below) came.4.1 in
-    let any : list_any (λ e. facts_of e p v) receptions ≡ true = any_shows (λ e. facts_of e p v) receptions came.0 came.1 came.2 came.3 shown in
-    subst (λ (u : ℕ). list_any (λ e. facts_of e p u) receptions ≡ true) (in_call c tail p below) any
+    subst (λ (u : ℕ). facts_of_all receptions p u ≡ true) (in_call c tail p below)
+    (somewhere_told receptions (spell c ++ tail) p (within lists c p lawful below) (character lists c tail p lawful below) came)
 
 -- a place that no reception showed came intact nowhere
 blank_nowhere : Lists → (receptions : List (List Element)) (c : Call) (tail : List ℕ) (p : ℕ) → IsCall c → p < length (through_check c)
@@ -107,63 +103,23 @@ blank_nowhere lists receptions c tail p lawful below none k d inside = λ lead i
     let no : facts_of_all receptions p (get_or (through_check c) p 0) ≡ false = none (get_or (through_check c) p 0) in
     cc
 
+-- where the facts of receptions that end with the transmission showed nothing of the second and the third end of sequence, unless
+-- another symbol than the call's, no copy of these came intact
+abbrev pub LateAreLost : List (List Element) → Call → List ℕ → Type 0
+LateAreLost receptions c tail = (n : ℕ) → IsEndPlace c n → All (λ reception. EndsWithin reception (spell c ++ tail)) receptions
+    → (ShowsNoOtherEnd (facts_of_all receptions) c n → ShowsNone (late_of (facts_of_all receptions) n))
+    → CameNowhere receptions (spell c ++ tail) (n + 2) × CameNowhere receptions (spell c ++ tail) (n + 3)
+
 -- the call that was sent, or a place of it no copy of which came intact
 pub sent_or_lost : Lists → (receptions : List (List Element)) (c : Call) (tail : List ℕ) (answer : Joined) → IsCall c
     → ((extra : Extra) → Follows (facts_of_all receptions) c extra → TellsTail receptions c tail extra)
-    → IsCallOrMissing (facts_of_all receptions) c answer → IsSentOrLostPlace receptions c tail answer
-sent_or_lost lists receptions c tail answer lawful tells (inl is) = inl (record { extra = is.extra; tells = tells is.extra is.follows; answer_is = is.answer_is })
-sent_or_lost lists receptions c tail answer lawful tells (inr missing) = inr (record {
+    → LateAreLost receptions c tail → IsCallOrMissing (facts_of_all receptions) c answer → IsSentOrLostPlace receptions c tail answer
+sent_or_lost lists receptions c tail answer lawful tells ends (inl is) = inl (record { extra = is.extra; tells = tells is.extra is.follows; answer_is = is.answer_is })
+sent_or_lost lists receptions c tail answer lawful tells ends (inr missing) = inr (record {
   place = missing.place;
   inside = missing.inside;
   blank = missing.blank;
   nowhere = blank_nowhere lists receptions c tail missing.place lawful missing.inside missing.blank;
+  late = λ place within. ends missing.place place within (missing.late place);
   answer_is = missing.answer_is;
 })
-
--- a call whose places came intact, each at some receiver, is an answer
-module _ (law : HeardLaw) (lists : Lists) (formats : FormatsBegin) (receptions : List (List Element)) (c : Call) (tail : List ℕ)
-    (lawful : IsCall c) (heard : All (λ reception. IsHeard reception (spell c ++ tail)) receptions) (arrives : ArrivesInParts receptions c tail) where
-  only : ShowsNoOther (facts_of_all receptions) (through_check c)
-  only = all_told law receptions c tail lawful heard
-
-  came : (p : ℕ) → p < length (through_check c) → CameSomewhere receptions (spell c ++ tail) p → facts_of_all receptions p (get_or (through_check c) p 0) ≡ true
-  came p below somewhere = somewhere_shown lists receptions c tail p lawful below somewhere
-
-  format_one : ShowsOne (head_of (facts_of_all receptions)) (format_of c)
-  format_one = (
-    elim arrives.format [
-      | inl first ↦ or_left (facts_of_all receptions 0 (format_of c)) (facts_of_all receptions 1 (format_of c)) (came 0 (omega arith) first)
-      | inr second ↦ or_right (facts_of_all receptions 0 (format_of c)) (facts_of_all receptions 1 (format_of c)) (came 1 (omega arith) second)
-    ],
-    λ v has. head_is (facts_of_all receptions) c only v has,
-  )
-
-  shown : IsShown (facts_of_all receptions) (through_check c)
-  shown = record {
-    format = format_of c;
-    rest = drop 2 (through_check c);
-    begins = refl;
-    head = format_one;
-    places = λ p least below. (came p below (arrives.places p least below), λ v has. only p v below has);
-  }
-
-  has : HasFormat (facts_of_all receptions) (format_of c)
-  has =
-      let f : ℕ = format_of c in
-      let begins : IsViable (f ∷ f ∷ []) = viable_front (f ∷ f ∷ []) (drop 2 (through_check c)) (front_viable c lawful) in
-      record {
-        is_one = (formats f).1 begins;
-        first = λ both none. absurd (cc (none f, came 0 (omega arith) (arrives.both both).0));
-        second = λ both none. absurd (cc (none f, came 1 (omega arith) (arrives.both both).1));
-      }
-
-  reported : OneSeen → FrontsDiffer → (answer : Joined) → IsAnswer (facts_of_all receptions) answer → IsCallReported (facts_of_all receptions) c answer
-  reported one differ answer is = shown_is_reported differ (facts_of_all receptions) c answer lawful shown has one format_one is
-
-  -- so it isn't a lost place
-  pub sent : OneSeen → FrontsDiffer → (answer : Joined) → IsAnswer (facts_of_all receptions) answer → IsSentOrLostPlace receptions c tail answer → IsSent receptions c tail answer
-  sent one differ answer is (inl told) = told
-  sent one differ answer is (inr lost) =
-      let r = reported one differ answer is in
-      let apart : Missing lost.place ≡ Reported c r.extra = sym lost.answer_is ∙ r.answer_is in
-      absurd (cc)

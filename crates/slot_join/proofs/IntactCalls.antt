@@ -111,7 +111,7 @@ shown_by F c places =
       rest = drop 2 (through_check c);
       begins = refl;
       head = one_or_other F (format_of c) (places 0 (omega arith)) (places 1 (omega arith));
-      places = λ p least below. subst (λ (x : ℕ). ShowsOne (F p) x) (get_or_append_left (through_check c) (end_of c ∷ end_of c ∷ []) 0 p below) (places p (omega arith));
+      places = λ p least below. inl (subst (λ (x : ℕ). ShowsOne (F p) x) (get_or_append_left (through_check c) (end_of c ∷ end_of c ∷ []) 0 p below) (places p (omega arith)));
     }
 
 -- the laws of the crates below that this one stands on

@@ -1,5 +1,6 @@
 mod ShownLists
 mod Stops
+mod LateEnds
 mod OneAnswer
 mod IntactCalls
 mod Heads
@@ -13,3 +14,5 @@ mod Copies
 mod Followers
 mod ShownCalls
 mod Tails
+mod HeardEnds
+mod Parts

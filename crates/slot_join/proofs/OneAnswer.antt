@@ -50,9 +50,14 @@ same_list F l m a b le ge =
 
 same_stop_at : (F : Facts) (l : List ℕ) (v : ℕ) (a b : Joined) → StopsAt F l v a → StopsAt F l v b → a ≡ b
 same_stop_at F l v a b (inl x) (inl y) = x.1 ∙ sym y.1
-same_stop_at F l v a b (inl x) (inr y) = absurd (y.0 x.0)
-same_stop_at F l v a b (inr x) (inl y) = absurd (x.0 y.0)
-same_stop_at F l v a b (inr x) (inr y) = x.1 ∙ sym y.1
+same_stop_at F l v a b (inl x) (inr (inl y)) = absurd (y.0 x.0)
+same_stop_at F l v a b (inl x) (inr (inr y)) = absurd (y.0 x.0)
+same_stop_at F l v a b (inr (inl x)) (inl y) = absurd (x.0 y.0)
+same_stop_at F l v a b (inr (inl x)) (inr (inl y)) = x.2 ∙ sym y.2
+same_stop_at F l v a b (inr (inl x)) (inr (inr y)) = absurd (y.1 x.1)
+same_stop_at F l v a b (inr (inr x)) (inl y) = absurd (x.0 y.0)
+same_stop_at F l v a b (inr (inr x)) (inr (inl y)) = absurd (x.1 y.1)
+same_stop_at F l v a b (inr (inr x)) (inr (inr y)) = x.2 ∙ sym y.2
 
 same_stop : (F : Facts) (l : List ℕ) (here : Seen) (a b : Joined) → StopsWith F l here a → StopsWith F l here b → a ≡ b
 same_stop F l seen.None a b x y = x ∙ sym y

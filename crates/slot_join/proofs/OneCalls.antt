@@ -1,22 +1,19 @@
 -- A board on which one call's facts alone may be posted.
-use Rattle.std.proofs.Common.{◌≡◌, ℕ, ◌+◌, ◌<◌, Bool, true, false, ◌&&◌, ◌||◌, ◌==◌, nat_lt, List, [], ◌∷◌, ◌++◌, length, slice_index, Option, Some, None, All, arith, ap, sym, ◌∙◌, inl, inr, length-append}
+use Rattle.std.proofs.Common.{◌≡◌, ℕ, ◌+◌, ◌<◌, true, ◌&&◌, ◌||◌, nat_lt, List, [], ◌∷◌, ◌++◌, length, slice_index, Option, Some, None, arith, ap, ◌∙◌, inl, inr, length-append}
 use Rattle.std.proofs.lemmas.Bool.{eqb-true, or_cases, and_parts, ltb-true}
-use Rattle.std.proofs.lemmas.List.Elements.{All-append}
 use Rattle.ten_unit.specs.declared.character.Element.{Element}
 use Rattle.time_diversity.specs.Slots.{dx_slot, rx_slot}
 use Rattle.phasing.specs.Slot.{shows}
 use Rattle.phasing.specs.Origin.{lead_of}
 use Rattle.call_values.specs.declared.calls.Call.{Call}
-use Rattle.call_values.specs.Calls.{IsCall}
 use Rattle.call_grammar.specs.Spelling.{through_check, end_of, spell}
 use Rattle.slot_evidence.specs.declared.places.Seen.{Seen}
 use Rattle.slot_evidence.specs.declared.places.Seen.TheVariants as seen
-use Rattle.slot_evidence.specs.Facts.{Symbols, Facts, facts_at, facts_of}
+use Rattle.slot_evidence.specs.Facts.{Symbols, facts_at, facts_of}
 use Rattle.slot_evidence.specs.Seen.{IsSeen, symbols_in}
 use Rattle.slot_evidence.specs.Sheet.{IsEnds, seen_at, facts_in}
-use Rattle.slot_evidence.specs.Allowed.{IsAllowed, OnlyAllowed}
-use Rattle.slot_join.specs.Heard.{IsHeard}
-use Rattle.slot_join.specs.OneCall.{ShowsNoOther, MayShow, AreOneCalls}
+use Rattle.slot_evidence.specs.Allowed.{OnlyAllowed}
+use Rattle.slot_join.specs.OneCall.{ShowsNoOther, AreOneCalls}
 use Rattle.slot_join.proofs.OneWay.{in_call}
 
 -- a symbol that is kept was shown

@@ -38,7 +38,7 @@ unfolding word_of
 ten v = refl
 
 -- a slot shows what was sent in it or nothing
-slot_told : Laws → (e : List Element) (list : List ℕ) (lead s p v : ℕ) → IsOneWayAt e list lead → s < 2 * length list + 12 → IsSlotOf s p → get_or list p 0 < 128 → v < 128 → shows e lead s v ≡ true → v ≡ get_or list p 0
+pub slot_told : Laws → (e : List Element) (list : List ℕ) (lead s p v : ℕ) → IsOneWayAt e list lead → s < 2 * length list + 12 → IsSlotOf s p → get_or list p 0 < 128 → v < 128 → shows e lead s v ≡ true → v ≡ get_or list p 0
 unfolding shows
 slot_told laws e list lead s p v heard below is small bv has =
     let word = (laws.equal (slot e lead s) v).0 has in

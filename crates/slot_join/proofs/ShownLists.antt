@@ -1,22 +1,25 @@
 -- Lists that one set of facts shows agree as far as both go.
-use Rattle.std.proofs.Common.{◌≡◌, ℕ, zero, suc, ◌+◌, ◌<◌, ◌≤◌, List, [], ◌∷◌, ◌++◌, length, get_or, take, drop, refl, sym, ap, subst, ◌∙◌, inl, inr, append_assoc, arith}
+use Rattle.std.proofs.Common.{◌≡◌, ℕ, zero, suc, ◌+◌, ◌<◌, ◌≤◌, true, false, List, [], ◌∷◌, ◌++◌, length, get_or, take, drop, refl, sym, ap, subst, ◌∙◌, inl, inr, append_assoc, length-append, arith}
 use Rattle.std.proofs.Math.Seq.{take-append_seam}
 use Rattle.std.proofs.lemmas.Bool.{cases_lt}
 use Rattle.std.proofs.lemmas.List.{take-append-le, length-take-le, get_or-take, take-append-drop, ext_get_or, get_or_append_left, get_or_push, drop_more, length_push}
 use Rattle.call_values.specs.declared.calls.Call.{Call}
 use Rattle.call_values.specs.Calls.{IsCall}
-use Rattle.call_grammar.specs.Spelling.{through_check, end_of}
-use Rattle.call_grammar.specs.Walk.{IsViable, IsOpen, after}
+use Rattle.call_grammar.specs.Spelling.{through_check, fields_of, end_of}
+use Rattle.call_grammar.specs.Walk.{IsViable, IsOpen, IsAtEnd, after}
 use Rattle.slot_evidence.specs.Facts.{Facts, Symbols}
 use Rattle.slot_evidence.specs.Seen.{ShowsOne}
-use Rattle.slot_join.specs.Shown.{head_of, Gives, IsShown, IsLongest}
+use Rattle.slot_join.specs.Shown.{head_of, late_of, IsLate, Gives, IsShown, IsShownLate, IsLongest}
 
 pub only_one : (S : Symbols) (u v : ℕ) → ShowsOne S u → ShowsOne S v → u ≡ v
 only_one S u v a b = b.1 u a.0
 
 -- a place gives one symbol, whatever stands before it
 one_given : (F : Facts) (a b : List ℕ) (p u v : ℕ) → Gives F a p u → Gives F b p v → u ≡ v
-one_given F a b p u v x y = only_one (F p) u v x y
+one_given F a b p u v (inl x) (inl y) = only_one (F p) u v x y
+one_given F a b p u v (inl x) (inr y) = absurd (cc (x.0, y.none u))
+one_given F a b p u v (inr x) (inl y) = absurd (cc (x.none v, y.0))
+one_given F a b p u v (inr x) (inr y) = only_one (late_of F p) u v x.copies y.copies
 
 same_at : (F : Facts) (l m : List ℕ) → IsShown F l → IsShown F m → (k : ℕ) → k < length l → k < length m → get_or l k 0 ≡ get_or m k 0
 same_at F l m a b zero p q =
@@ -58,6 +61,57 @@ push_shown F l v a one = record {
         (subst (λ (x : List ℕ). Gives F x (length l) (get_or (l ++ v ∷ []) (length l) 0)) (sym through_check)
         (subst (λ (x : ℕ). Gives F l (length l) x) (sym (get_or_push l v 0 (length l) refl)) one))
   ];
+}
+
+-- a shown list's front is shown
+pub shown_front : (F : Facts) (k rest : List ℕ) → 2 ≤ length k → IsShown F (k ++ rest) → IsShown F k
+shown_front F [] rest some a = absurd (omega arith)
+shown_front F (x ∷ []) rest some a = absurd (omega arith)
+shown_front F (x ∷ (y ∷ k)) rest some a =
+    let front : List ℕ = x ∷ (y ∷ k) in
+    let first : x ≡ a.format = ap (λ (l : List ℕ). get_or l 0 0) a.begins in
+    let second : y ≡ a.format = ap (λ (l : List ℕ). get_or l 1 0) a.begins in
+    record {
+      format = a.format;
+      rest = k;
+      begins = cc (first, second);
+      head = a.head;
+      places = λ p least below.
+          subst (λ (l : List ℕ). Gives F l p (get_or front p 0)) (take-append-le p front rest (omega arith))
+          (subst (λ (v : ℕ). Gives F (take p (front ++ rest)) p v) (get_or_append_left front rest 0 p below) (a.places p least (omega (arith, below, length-append front rest))));
+    }
+
+-- the end of sequence stands behind both format specifiers
+pub three : (l : List ℕ) → IsAtEnd l → 2 ≤ length l
+three l a = omega (arith, ap length a.list, length-append l (end_of a.call ∷ []), length-append (fields_of a.call) (end_of a.call ∷ []))
+
+-- a list of two characters has no late end of sequence
+pub prompt_start : (F : Facts) (l : List ℕ) → length l ≡ 2 → IsShownLate F l → ⊥
+prompt_start F l len late =
+    absurd (omega (arith, three (take late.place l) late.late.at_end, length-take-le late.place l (omega (arith, late.inside)), late.inside))
+
+-- behind a list without one, a place that showed a symbol gives none
+pub prompt_push : (F : Facts) (l : List ℕ) (v w : ℕ) → (IsShownLate F l → ⊥) → F (length l) w ≡ true → IsShownLate F (l ++ v ∷ []) → ⊥
+prompt_push F l v w prompt has late = elim (cases_lt late.place (length l)) [
+  | inl lt ↦ prompt (record {
+    place = late.place;
+    inside = lt;
+    late = subst (λ (u : ℕ). IsLate F (take late.place l) late.place u) (get_or_append_left l (v ∷ []) 0 late.place lt)
+        (subst (λ (x : List ℕ). IsLate F x late.place (get_or (l ++ v ∷ []) late.place 0)) (take-append-le late.place l (v ∷ []) (omega arith)) late.late);
+  })
+  | inr le ↦
+      let same : late.place ≡ length l = omega (arith, late.inside, length_push l v) in
+      let no : F (length l) w ≡ false = subst (λ (p : ℕ). F p w ≡ false) same (late.late.none w) in
+      absurd (cc)
+]
+
+-- behind a list, its place may give one
+pub late_push : (F : Facts) (l : List ℕ) (v : ℕ) → IsLate F l (length l) v → IsShownLate F (l ++ v ∷ [])
+late_push F l v late = record {
+  place = length l;
+  inside = omega (arith, length_push l v);
+  late = subst (λ (x : List ℕ). IsLate F x (length l) (get_or (l ++ v ∷ []) (length l) 0)) (sym (take-append_seam l (v ∷ [])))
+      (subst (λ (u : ℕ). IsLate F l (length l) u) (sym (get_or_push l v 0 (length l) refl)) late);
 }
 
 pub after_shown : (F : Facts) (l : List ℕ) (v : ℕ) → IsShown F l → after l v ≡ l ++ v ∷ []

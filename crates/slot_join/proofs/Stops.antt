@@ -1,5 +1,5 @@
 -- What a walk that is still open says of the answer.
-use Rattle.std.proofs.Common.{◌≡◌, ℕ, ◌+◌, ◌≤◌, ◌<◌, List, [], ◌∷◌, ◌++◌, length, drop, refl, sym, ap, subst, ◌∙◌, inl, inr, append_assoc, arith, length-append}
+use Rattle.std.proofs.Common.{◌≡◌, ℕ, ◌+◌, ◌-◌, ◌≤◌, ◌<◌, List, [], ◌∷◌, ◌++◌, length, drop, refl, sym, ap, subst, ◌∙◌, inl, inr, append_assoc, arith, length-append}
 use Rattle.call_values.specs.declared.calls.Call.{Call}
 use Rattle.call_values.specs.Calls.{IsCall}
 use Rattle.call_grammar.specs.Spelling.{through_check, spell, end_of, check_of}
@@ -13,7 +13,7 @@ use Rattle.slot_join.specs.declared.joined.Joined.{Joined}
 use Rattle.slot_join.specs.declared.joined.Joined.TheVariants.{Reported, Missing, Differ, Outside, Check}
 use Rattle.slot_join.specs.declared.joined.Extra.{Extra}
 use Rattle.slot_join.specs.Extra.{Follows}
-use Rattle.slot_join.specs.Shown.{Gives, IsShown, IsLongest}
+use Rattle.slot_join.specs.Shown.{IsLate, Gives, IsShown, IsShownLate, IsLongest}
 use Rattle.slot_join.specs.Answer.{IsReported, IsStopped, StopsWith}
 use Rattle.slot_join.proofs.ShownLists.{agree, push_shown, after_shown, open_viable, front_viable, longest_from, only_one}
 
@@ -39,48 +39,66 @@ stopped differ F l here answer o shown seen stops with =
     let longest : IsLongest F l = longest_from F l shown (open_viable l o) stops in
     record { list = l; unreported = unreported differ F l o longest; longest = longest; here = here; seen = seen; stops = with }
 
-pub stops_missing : FrontsDiffer → (F : Facts) (l : List ℕ) (n : ℕ) → length l ≡ n → IsOpen l → IsShown F l → ShowsNone (F n) → IsStopped F (Missing n)
-stops_missing differ F l n len o shown none =
+blank_stops : (F : Facts) (l : List ℕ) → IsShown F l → ShowsNone (F (length l)) → ((v : ℕ) → IsLate F l (length l) v → IsViable (after l v) → ⊥)
+    → (v : ℕ) → Gives F l (length l) v → IsViable (l ++ v ∷ []) → ⊥
+blank_stops F l shown here never v (inl one) viable = absurd (cc (here v, one.0))
+blank_stops F l shown here never v (inr late) viable = never v late (subst IsViable (sym (after_shown F l v shown)) viable)
+
+pub stops_missing : FrontsDiffer → (F : Facts) (l : List ℕ) (n : ℕ) → length l ≡ n → IsOpen l → IsShown F l → ShowsNone (F n)
+    → ((v : ℕ) → IsLate F l n v → IsViable (after l v) → ⊥) → IsStopped F (Missing n)
+stops_missing differ F l n len o shown none never =
     let here : ShowsNone (F (length l)) = subst (λ (k : ℕ). ShowsNone (F k)) (sym len) none in
-    stopped differ F l seen.None (Missing n) o shown here (λ v one viable. absurd (cc (here v, one.0))) (ap Missing (sym len))
+    let stays : (v : ℕ) → IsLate F l (length l) v → IsViable (after l v) → ⊥ = λ v late. never v (subst (λ (k : ℕ). IsLate F l k v) len late) in
+    stopped differ F l seen.None (Missing n) o shown here (blank_stops F l shown here stays) (ap Missing (sym len))
+
+several_stops : (F : Facts) (l : List ℕ) (a b : ℕ) → ShowsSeveral (F (length l)) a b → (v : ℕ) → Gives F l (length l) v → IsViable (l ++ v ∷ []) → ⊥
+several_stops F l a b here v (inl one) viable = absurd (omega (arith, one.1 a here.has_least, one.1 b here.has_greatest, here.apart))
+several_stops F l a b here v (inr late) viable = absurd (cc (late.none a, here.has_least))
 
 pub stops_differ : FrontsDiffer → (F : Facts) (l : List ℕ) (n a b : ℕ) → length l ≡ n → IsOpen l → IsShown F l → ShowsSeveral (F n) a b → IsStopped F (Differ n a b)
 stops_differ differ F l n a b len o shown several =
     let here : ShowsSeveral (F (length l)) a b = subst (λ (k : ℕ). ShowsSeveral (F k) a b) (sym len) several in
-    stopped differ F l (seen.Differ a b) (Differ n a b) o shown here
-    (λ v one viable. absurd (omega (arith, one.1 a here.has_least, one.1 b here.has_greatest, here.apart))) (ap (λ (k : ℕ). Differ k a b) (sym len))
+    stopped differ F l (seen.Differ a b) (Differ n a b) o shown here (several_stops F l a b here) (ap (λ (k : ℕ). Differ k a b) (sym len))
 
 one_stops : (F : Facts) (l : List ℕ) (v : ℕ) → IsShown F l → ShowsOne (F (length l)) v → (IsViable (after l v) → ⊥) → (u : ℕ) → Gives F l (length l) u → IsViable (l ++ u ∷ []) → ⊥
-one_stops F l v shown here not u one viable =
+one_stops F l v shown here not u (inr late) viable = absurd (cc (late.none v, here.0))
+one_stops F l v shown here not u (inl one) viable =
     let same : u ≡ v = only_one (F (length l)) u v one here in
     not (subst IsViable (ap (λ (x : ℕ). l ++ x ∷ []) same ∙ sym (after_shown F l v shown)) viable)
 
-pub stops_outside : FrontsDiffer → (F : Facts) (l : List ℕ) (n v : ℕ) → length l ≡ n → IsOpen l → IsShown F l → ShowsOne (F n) v
+pub stops_outside : FrontsDiffer → (F : Facts) (l : List ℕ) (n v : ℕ) → length l ≡ n → IsOpen l → IsShown F l → (IsShownLate F l → ⊥) → ShowsOne (F n) v
     → (IsViable (after l v) → ⊥) → (IsAtCheck l → ⊥) → IsStopped F (Outside n v)
-stops_outside differ F l n v len o shown one not no_check =
+stops_outside differ F l n v len o shown prompt one not no_check =
     let here : ShowsOne (F (length l)) v = subst (λ (k : ℕ). ShowsOne (F k) v) (sym len) one in
-    stopped differ F l (seen.One v) (Outside n v) o shown here (one_stops F l v shown here not) (inr (no_check, ap (λ (k : ℕ). Outside k v) (sym len)))
+    stopped differ F l (seen.One v) (Outside n v) o shown here (one_stops F l v shown here not) (inr (inr (prompt, no_check, ap (λ (k : ℕ). Outside k v) (sym len))))
 
-pub stops_check : FrontsDiffer → (F : Facts) (l : List ℕ) (n v want got : ℕ) → length l ≡ n → IsOpen l → IsShown F l → ShowsOne (F n) v
+pub stops_check : FrontsDiffer → (F : Facts) (l : List ℕ) (n v want got : ℕ) → length l ≡ n → IsOpen l → IsShown F l → (IsShownLate F l → ⊥) → ShowsOne (F n) v
     → (IsViable (after l v) → ⊥) → IsAtCheck l → want ≡ check_of (drop 1 l) → got ≡ v → IsStopped F (Check n want got)
-stops_check differ F l n v want got len o shown one not at want_is got_is =
+stops_check differ F l n v want got len o shown prompt one not at want_is got_is =
     let here : ShowsOne (F (length l)) v = subst (λ (k : ℕ). ShowsOne (F k) v) (sym len) one in
     let answer : Check n want got ≡ Check (length l) (check_of (drop 1 l)) v = cc (sym len, want_is, got_is) in
-    stopped differ F l (seen.One v) (Check n want got) o shown here (one_stops F l v shown here not) (inl (at, answer))
+    stopped differ F l (seen.One v) (Check n want got) o shown here (one_stops F l v shown here not) (inr (inl (prompt, at, answer)))
+
+-- a symbol with which no call goes on, behind a late end of sequence
+pub stops_late : FrontsDiffer → (F : Facts) (l : List ℕ) (n v : ℕ) → length l ≡ n → IsOpen l → IsShown F l → IsShownLate F l → ShowsOne (F n) v
+    → (IsViable (after l v) → ⊥) → IsStopped F (Missing (n - 1))
+stops_late differ F l n v len o shown late one not =
+    let here : ShowsOne (F (length l)) v = subst (λ (k : ℕ). ShowsOne (F k) v) (sym len) one in
+    stopped differ F l (seen.One v) (Missing (n - 1)) o shown here (one_stops F l v shown here not) (inl (late, ap (λ (k : ℕ). Missing (k - 1)) (sym len)))
 
 -- a shown list and the one symbol behind it that end a call report it
 pub reports : (F : Facts) (l : List ℕ) (n v : ℕ) (c : Call) (extra : Extra) → length l ≡ n → IsShown F l → ShowsOne (F n) v → IsCall c → after l v ≡ through_check c
     → Follows F c extra → IsReported F (Reported c extra)
 reports F l n v c extra len shown one lawful ends follows =
     let here : ShowsOne (F (length l)) v = subst (λ (k : ℕ). ShowsOne (F k) v) (sym len) one in
-    let all : IsShown F (through_check c) = subst (λ (x : List ℕ). IsShown F x) (sym (after_shown F l v shown) ∙ ends) (push_shown F l v shown here) in
+    let all : IsShown F (through_check c) = subst (λ (x : List ℕ). IsShown F x) (sym (after_shown F l v shown) ∙ ends) (push_shown F l v shown (inl here)) in
     record { call = c; extra = extra; lawful = lawful; shown = all; follows = follows; answer_is = refl }
 
 -- a shown list and one more symbol
 pub goes_on : (F : Facts) (l : List ℕ) (n v : ℕ) → length l ≡ n → IsShown F l → ShowsOne (F n) v → IsShown F (after l v)
 goes_on F l n v len shown one =
     let here : ShowsOne (F (length l)) v = subst (λ (k : ℕ). ShowsOne (F k) v) (sym len) one in
-    subst (λ (x : List ℕ). IsShown F x) (sym (after_shown F l v shown)) (push_shown F l v shown here)
+    subst (λ (x : List ℕ). IsShown F x) (sym (after_shown F l v shown)) (push_shown F l v shown (inl here))
 
 -- what stands at a place of the sheet was seen there
 pub seen_there : (F : Facts) (sheet : List Seen) (n : ℕ) (seen : Seen) → IsEnds F sheet → seen ≡ seen_at sheet n → IsSeen (F n) seen

@@ -58,7 +58,7 @@ not_le : (a b : ℕ) → b < a → nat_le a b ≡ false
 not_le a b h = lt-leb a b h
 
 module _ (equal : WordsEqual) (e : List Element) where
-  shows_nothing : (lead s v : ℕ) → length e + 150 < lead + 10 * s + 10 → shows e lead s v ≡ false
+  pub shows_nothing : (lead s v : ℕ) → length e + 150 < lead + 10 * s + 10 → shows e lead s v ≡ false
   unfolding shows
   shows_nothing lead s v past =
       let none : slot e lead s ≡ [] =

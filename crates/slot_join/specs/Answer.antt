@@ -1,5 +1,5 @@
 -- The answer to a set of facts: this project's profile, over the calls of ITU-R M.493.
-use Rattle.std.specs.Prelude.{◌≡◌, ℕ, Bool, true, ◌||◌, ◌==◌, ◌⊎◌, List, length, drop}
+use Rattle.std.specs.Prelude.{◌≡◌, ℕ, Bool, true, ◌||◌, ◌==◌, ◌⊎◌, ◌-◌, List, length, drop}
 use Rattle.dsc_symbols.specs.declared.formats.TheConstants.{DISTRESS, ALL_SHIPS}
 use Rattle.call_values.specs.declared.calls.Call.{Call}
 use Rattle.call_values.specs.Calls.{IsCall}
@@ -13,7 +13,7 @@ use Rattle.slot_evidence.specs.Seen.{IsSeen, ShowsNone}
 use Rattle.slot_join.specs.declared.joined.Joined.{Joined}
 use Rattle.slot_join.specs.declared.joined.Joined.TheVariants.{Reported, Missing, Differ, Outside, Check}
 use Rattle.slot_join.specs.declared.joined.Extra.{Extra}
-use Rattle.slot_join.specs.Shown.{head_of, IsShown, IsLongest}
+use Rattle.slot_join.specs.Shown.{head_of, IsShown, IsShownLate, IsLongest}
 use Rattle.slot_join.specs.Extra.{Follows}
 
 -- a call is shown up to its error check character, and what follows it is told with it
@@ -25,11 +25,13 @@ pub record IsReported (F : Facts) (answer : Joined) : Type 0 where
   pub follows : Follows F call extra
   pub answer_is : answer ≡ Reported call extra
 
--- the answer where no call goes on with the one symbol that the place behind the longest list showed
+-- the answer where no call goes on with the one symbol that the place behind the longest list showed: a late end of sequence,
+-- which then stands last, may be noise, and so its place is missing
 abbrev pub StopsAt : Facts → List ℕ → ℕ → Joined → Type 0
 StopsAt F list v answer =
-    (IsAtCheck list × (answer ≡ Check (length list) (check_of (drop 1 list)) v))
-    ⊎ ((IsAtCheck list → ⊥) × (answer ≡ Outside (length list) v))
+    (IsShownLate F list × (answer ≡ Missing (length list - 1)))
+    ⊎ ((IsShownLate F list → ⊥) × IsAtCheck list × (answer ≡ Check (length list) (check_of (drop 1 list)) v))
+    ⊎ ((IsShownLate F list → ⊥) × (IsAtCheck list → ⊥) × (answer ≡ Outside (length list) v))
 
 -- the answer by what the place behind the longest list showed: nothing, several symbols, or one
 abbrev pub StopsWith : Facts → List ℕ → Seen → Joined → Type 0

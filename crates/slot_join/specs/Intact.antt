@@ -19,6 +19,7 @@ use Rattle.slot_join.specs.declared.joined.Joined.TheVariants.{Reported, Missing
 use Rattle.slot_join.specs.declared.joined.Extra.{Extra}
 use Rattle.slot_join.specs.declared.joined.Extra.TheVariants.{Absent, Whole, Broken}
 use Rattle.slot_join.specs.Answer.{needs_both}
+use Rattle.slot_join.specs.OneCall.{IsEndPlace}
 
 -- at the reception's origin each slot of the list's transmission shows the symbol that was sent
 pub record ArrivesIntact (reception : List Element) (list : List ℕ) : Type 0 where
@@ -41,13 +42,20 @@ CameNowhere receptions list place = All (λ reception. (lead : ℕ) → IsIntact
 abbrev pub CameSomewhere : List (List Element) → List ℕ → ℕ → Type 0
 CameSomewhere receptions list place = Any (λ reception. (lead : ℕ) × IsIntactAt reception list lead place) receptions
 
+-- the reception ends with the list's transmission, or before
+abbrev pub EndsWithin : List Element → List ℕ → Type 0
+EndsWithin reception list = (lead : ℕ) → lead_of reception ≡ Some lead → length reception + 150 ≤ lead + 10 * length (on_air list)
+
 -- the answer names as missing a place of the call, up to its error check character, that no reception showed and no copy of
--- which came intact
+-- which came intact; where it is that of the first end of sequence, and each reception ends with the transmission, no copy of the
+-- second and of the third came intact either
 pub record NamesLostPlace (receptions : List (List Element)) (call : Call) (tail : List ℕ) (answer : Joined) : Type 0 where
   pub place : ℕ
   pub inside : place < length (through_check call)
   pub blank : ShowsNone (facts_of_all receptions place)
   pub nowhere : CameNowhere receptions (spell call ++ tail) place
+  pub late : IsEndPlace call place → All (λ reception. EndsWithin reception (spell call ++ tail)) receptions
+      → CameNowhere receptions (spell call ++ tail) (place + 2) × CameNowhere receptions (spell call ++ tail) (place + 3)
   pub answer_is : answer ≡ Missing place
 
 -- what was sent behind the call is this expansion's list, with the call's own end of sequence
@@ -56,10 +64,6 @@ pub record IsExpandedBy (call : Call) (tail : List ℕ) (x : Sets) : Type 0 wher
   pub own : end_symbol last ≡ end_of call
   pub lawful : IsExpansion x
   pub list : tail ≡ expanded x last
-
--- the reception ends with the list's transmission, or before
-abbrev pub EndsWithin : List Element → List ℕ → Type 0
-EndsWithin reception list = (lead : ℕ) → lead_of reception ≡ Some lead → length reception + 150 ≤ lead + 10 * length (on_air list)
 
 -- no copy of the list's character at this place came intact
 pub record IsLostAt (receptions : List (List Element)) (list : List ℕ) (place : ℕ) : Type 0 where
@@ -83,9 +87,17 @@ pub record IsSent (receptions : List (List Element)) (call : Call) (tail : List 
 abbrev pub IsSentOrLostPlace : List (List Element) → Call → List ℕ → Joined → Type 0
 IsSentOrLostPlace receptions call tail answer = IsSent receptions call tail answer ⊎ NamesLostPlace receptions call tail answer
 
--- each place of the call up to its error check character came intact at some receiver; of the two places of the format
--- specifier one is enough, except in distress alerts and calls to all ships, which need both
+-- the first end of sequence of the call stands at this place, each reception ends with the transmission, and a copy of the second or of
+-- the third end of sequence came intact at some receiver
+pub record EndCameLate (receptions : List (List Element)) (call : Call) (tail : List ℕ) (place : ℕ) : Type 0 where
+  pub end_place : IsEndPlace call place
+  pub within : All (λ reception. EndsWithin reception (spell call ++ tail)) receptions
+  pub copy : CameSomewhere receptions (spell call ++ tail) (place + 2) ⊎ CameSomewhere receptions (spell call ++ tail) (place + 3)
+
+-- each place of the call up to its error check character came intact at some receiver, or the first end of sequence came late; of the
+-- two places of the format specifier one is enough, except in distress alerts and calls to all ships, which need both
 pub record ArrivesInParts (receptions : List (List Element)) (call : Call) (tail : List ℕ) : Type 0 where
   pub format : CameSomewhere receptions (spell call ++ tail) 0 ⊎ CameSomewhere receptions (spell call ++ tail) 1
   pub both : needs_both (format_of call) ≡ true → CameSomewhere receptions (spell call ++ tail) 0 × CameSomewhere receptions (spell call ++ tail) 1
-  pub places : (place : ℕ) → 2 ≤ place → place < length (through_check call) → CameSomewhere receptions (spell call ++ tail) place
+  pub places : (place : ℕ) → 2 ≤ place → place < length (through_check call)
+      → CameSomewhere receptions (spell call ++ tail) place ⊎ EndCameLate receptions call tail place

@@ -1,24 +1,35 @@
 -- Facts of one call: this project's profile, over the places of ITU-R M.493.
 use Rattle.std.specs.Prelude.{◌≡◌, ℕ, ◌+◌, ◌<◌, true, ◌⊎◌, ◌↔◌, List, ◌++◌, length, slice_index}
 use Rattle.call_values.specs.declared.calls.Call.{Call}
-use Rattle.call_grammar.specs.Spelling.{through_check, spell}
+use Rattle.call_grammar.specs.Spelling.{up_to_end, through_check, spell, end_of}
 use Rattle.slot_evidence.specs.Facts.{Facts}
 use Rattle.slot_evidence.specs.Seen.{ShowsNone}
 use Rattle.slot_evidence.specs.Allowed.{IsAllowed}
 use Rattle.slot_join.specs.declared.joined.Joined.{Joined}
 use Rattle.slot_join.specs.declared.joined.Joined.TheVariants.{Reported, Missing}
 use Rattle.slot_join.specs.declared.joined.Extra.{Extra}
+use Rattle.slot_join.specs.Shown.{late_of}
 use Rattle.slot_join.specs.Extra.{Follows}
 
 -- a place of the list that showed a symbol showed that of the list and no other
 abbrev pub ShowsNoOther : Facts → List ℕ → Type 0
 ShowsNoOther F list = (p v : ℕ) → p < length list → F p v ≡ true → v ≡ slice_index list p
 
--- the answer names as missing a place of the list that showed nothing
-pub record IsMissing (F : Facts) (list : List ℕ) (answer : Joined) : Type 0 where
+-- the first end of sequence of the call stands at this place
+abbrev pub IsEndPlace : Call → ℕ → Type 0
+IsEndPlace call place = place + 1 ≡ length (up_to_end call)
+
+-- the places of the second and the third end of sequence, where the first stands at this place, showed no other symbol than the call's
+abbrev pub ShowsNoOtherEnd : Facts → Call → ℕ → Type 0
+ShowsNoOtherEnd F call place = (v : ℕ) → late_of F place v ≡ true → v ≡ end_of call
+
+-- the answer names as missing a place of the call, up to its error check character, that showed nothing; where it is that of the
+-- first end of sequence, those of the second and the third showed nothing either, or another symbol than the call's
+pub record IsMissing (F : Facts) (call : Call) (answer : Joined) : Type 0 where
   pub place : ℕ
-  pub inside : place < length list
+  pub inside : place < length (through_check call)
   pub blank : ShowsNone (F place)
+  pub late : IsEndPlace call place → ShowsNoOtherEnd F call place → ShowsNone (late_of F place)
   pub answer_is : answer ≡ Missing place
 
 -- the answer reports the call, and what follows it
@@ -29,7 +40,7 @@ pub record IsCallReported (F : Facts) (call : Call) (answer : Joined) : Type 0 w
 
 -- the call, or a place of it up to its error check character that showed nothing
 abbrev pub IsCallOrMissing : Facts → Call → Joined → Type 0
-IsCallOrMissing F call answer = IsCallReported F call answer ⊎ IsMissing F (through_check call) answer
+IsCallOrMissing F call answer = IsCallReported F call answer ⊎ IsMissing F call answer
 
 -- a list's transmission, with errors in one sense alone, may show this symbol at this place: the list's own at the places of
 -- which both copies are sent, and any symbol at its last two places and past it

@@ -14,8 +14,9 @@ use call_grammar::{formats_begin_calls, fronts_differ, lists_are_characters, lis
 use slot_evidence::one_seen;
 
 /// The law that truly phased receptions of one call, wrong in one sense alone in each character, are answered by the
-/// call, or by a place of it no copy of which came intact; and of what was sent behind the call no other expansion is told. It does
-/// nothing.
+/// call, or by a place of it no copy of which came intact; and of what was sent behind the call no other expansion is told. The
+/// copies of the first end of sequence are those of the second and the third too, where all receptions end with the transmission.
+/// It does nothing.
 pub fn sent_call_is_answered()
     ensures { (receptions : List (List Element)) (call : Call) (tail : List ℕ) (answer : Joined) → IsCall call
         → All (λ reception. IsHeard reception (spell call ++ tail)) receptions → IsAnswer (facts_of_all receptions) answer
@@ -31,7 +32,8 @@ pub fn sent_call_is_answered()
 }
 
 /// The law that such receptions are answered by the call wherever each of its places up to the error check character came
-/// intact in one copy at one of them. It does nothing.
+/// intact in one copy at one of them. Of the end of sequence the second or the third is enough where all of them end with the
+/// transmission. It does nothing.
 pub fn intact_copies_report_the_call()
     ensures { (receptions : List (List Element)) (call : Call) (tail : List ℕ) (answer : Joined) → IsCall call
         → All (λ reception. IsHeard reception (spell call ++ tail)) receptions → ArrivesInParts receptions call tail

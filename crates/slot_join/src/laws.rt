@@ -21,7 +21,10 @@ ghost use Rattle.slot_join.specs.Heard.{IsOneWayAt, IsTrulyPhased, IsHeard};
 ghost use Rattle.slot_join.specs.Intact.{ArrivesIntact, EndsWithin, IsExpandedBy};
 ghost use Rattle.slot_join.specs.OneCall.{ShowsNoOther, IsCallOrMissing, AreOneCalls};
 
-use call_grammar::{formats_begin_calls, fronts_differ, lists_are_characters, lists_are_short};
+use call_grammar::{
+    checks_tell_ends, formats_begin_calls, fronts_differ, lists_are_characters, lists_are_short,
+    one_check_place, one_end_place,
+};
 use phasing::{late_starts_are_found, whole_calls_are_found};
 use slot_evidence::{ends_are_kept, one_seen};
 use ten_unit::{one_way_errors_are_seen, words_tell_symbols_apart};
@@ -106,12 +109,15 @@ pub fn unphased_receptions_are_heard()
 
 /// The law that the truly phased receptions of a call that went wrong in one sense alone, character by character, show of
 /// its places up to the error check character no other symbols than the call's; and those of any list's transmission no other
-/// symbols than the list's at the places of which both copies are sent, the last two excepted. It does nothing.
+/// symbols than the list's at the places of which both copies are sent, the last two excepted. Where the reception ends with the
+/// transmission, it shows no other there either, and nothing past them. It does nothing.
 pub fn heard_calls_show_no_other()
     ensures call { (call : Call) (tail : List ℕ) (reception : List Element) → IsCall call → IsHeard reception (spell call ++ tail)
         → ShowsNoOther (facts_of reception) (through_check call) }
     ensures list { (list : List ℕ) (reception : List Element) (p v : ℕ) → All (λ symbol. symbol < 128) list → IsHeard reception list
         → p + 2 < length list → facts_of reception p v ≡ true → v ≡ slice_index list p }
+    ensures within { (list : List ℕ) (reception : List Element) (p v : ℕ) → IsHeard reception list → EndsWithin reception list
+        → p < length list → slice_index list p < 128 → facts_of reception p v ≡ true → v ≡ slice_index list p }
     ensures past { (list : List ℕ) (reception : List Element) (p v : ℕ) → EndsWithin reception list → length list ≤ p → facts_of reception p v ≡ false }
 {
     words_tell_symbols_apart();
@@ -121,12 +127,15 @@ pub fn heard_calls_show_no_other()
 }
 
 /// The law that where the places of a call, up to its error check character, showed no other symbols than the call's, the answer is the
-/// call, or names as missing a place of it that showed nothing. It does nothing.
+/// call, or names as missing a place of it that showed nothing. Its first end of sequence is missing only where those of the second and
+/// the third showed nothing either, or another symbol. It does nothing.
 pub fn call_or_missing_place()
     ensures { (F : Facts) (call : Call) (answer : Joined) → IsCall call → ShowsNoOther F (through_check call) → IsAnswer F answer
         → IsCallOrMissing F call answer }
 {
-    fronts_differ();
+    one_check_place();
+    one_end_place();
+    checks_tell_ends();
     formats_begin_calls();
 }
 

@@ -1,24 +1,25 @@
-ghost use Rattle.std.specs.Prelude.{◌≡◌, ◌⊎◌, ◌<◌, ◌↔◌, IsTrue, true, length, [], ◌∷◌};
-ghost use Rattle.call_grammar.specs.Walk.{IsOpen};
+ghost use Rattle.std.specs.Prelude.{◌≡◌, ◌⊎◌, ◌<◌, ◌↔◌, ℕ, IsTrue, IfSome, IsNone, true, length, [], ◌∷◌};
+ghost use Rattle.call_grammar.specs.Walk.{IsOpen, IsAtEnd, IsAtCheck};
 ghost use Rattle.dsc_symbols.specs.Formats.{IsFormat};
 ghost use Rattle.slot_evidence.specs.Facts.{Facts};
 ghost use Rattle.slot_evidence.specs.Seen.{IsSeen, IsLawful, ShowsNone, ShowsOne};
 ghost use Rattle.slot_evidence.specs.Sheet.{IsEnds, seen_at};
-ghost use Rattle.slot_join.specs.Shown.{head_of, IsShown};
+ghost use Rattle.slot_join.specs.Shown.{head_of, late_of, IsShown, IsShownLate};
 ghost use Rattle.slot_join.specs.Answer as answers;
 ghost use Rattle.slot_join.specs.Answer.{IsAnswer, IsReported, IsStopped, BehindFormat};
 
 use crate::extras::read_extra;
 use crate::joined::Joined;
 use call_grammar::{
-    Step, Walk, formats_begin_calls, fronts_differ, lists_are_short, open_is_not_done,
+    Step, Walk, formats_begin_calls, fronts_differ, lists_are_short, one_check_place,
+    one_end_place, open_is_not_done,
 };
 use dsc_symbols::formats::{ALL_SHIPS, DISTRESS};
 use slot_evidence::{Seen, Sheet};
 
 /// The answer to every set of facts that has this sheet: it reads the places one after the other, until one
 /// shows no symbol, several, or one with which no call goes on, or until a call has its right error check
-/// character.
+/// character. Only the first end of sequence may be known from its later copies.
 pub fn report(sheet: &Sheet) -> Joined
     ensures { (F : Facts) → IsEnds F sheet.now → IsAnswer F result }
 {
@@ -86,14 +87,75 @@ fn is_blank(sheet: &Sheet, p: u8) -> bool
     matches!(sheet.at(p), Seen::None)
 }
 
-/// The answer where this place, behind the list that was taken, showed nothing.
-fn behind_blank(walk: &Walk, n: u8) -> Joined
-    requires taken { length walk.now ≡ n }
-    requires open { IsOpen walk.now }
-    ensures { (F : Facts) → ShowsNone (F n) → IsShown F walk.now → IsStopped F result }
+/// What the places of the second and the third end of sequence showed together, where the first stands at place n.
+fn later_ends(sheet: &Sheet, n: u8) -> Seen
+    requires { n < 32 }
+    ensures together { (F : Facts) → IsEnds F sheet.now → IsSeen (late_of F n) result }
+    ensures lawful { IsLawful result }
+{
+    sheet.at(n + 2).meet(sheet.at(n + 3))
+}
+
+/// The end of sequence that its later copies alone show, where the first is wanted at this place.
+fn late_end(sheet: &Sheet, walk: &Walk, n: u8) -> Option<u8>
+    requires { n < 32 }
+    ensures at_end { IfSome result (λ end. IsAtEnd walk.now) }
+    ensures symbol { IfSome result (λ end. end < 128) }
+    ensures copies { IfSome result (λ end. (F : Facts) → IsEnds F sheet.now → ShowsOne (late_of F n) end) }
+    ensures none { IsNone result → (F : Facts) → IsEnds F sheet.now → IsAtEnd walk.now → (end : ℕ) → ShowsOne (late_of F n) end → ⊥ }
+{
+    if !walk.wants_end() {
+        return None;
+    }
+    let Seen::One(end) = later_ends(sheet, n) else {
+        return None;
+    };
+    Some(end)
+}
+
+/// The answer where this place, behind the list that was taken, showed nothing: it is missing, unless the first end of
+/// sequence is wanted there and its later copies show one that goes on.
+fn behind_blank(sheet: &Sheet, mut walk: Walk, n: u8) -> Joined
+    requires taken { length walk ≡ n }
+    requires open { IsOpen walk }
+    ensures { (F : Facts) → IsEnds F sheet.now → ShowsNone (F n) → IsShown F walk → (IsShownLate F walk → ⊥) → IsReported F result ⊎ IsStopped F result }
 {
     fronts_differ();
-    Joined::Missing(n)
+    lists_are_short();
+    open_is_not_done();
+    one_check_place();
+    one_end_place();
+    let Some(end) = late_end(sheet, &walk, n) else {
+        return Joined::Missing(n);
+    };
+    let Step::More = walk.take(end) else {
+        return Joined::Missing(n);
+    };
+    behind_late_end(sheet, walk, n + 1)
+}
+
+/// The answer where a late end of sequence was taken, and this is the place of the error check character. Where that is not the
+/// right one, the late end may be noise, and its place is missing.
+fn behind_late_end(sheet: &Sheet, mut walk: Walk, n: u8) -> Joined
+    requires taken { length walk ≡ n }
+    requires open { IsOpen walk }
+    requires check { IsAtCheck walk }
+    ensures { (F : Facts) → IsEnds F sheet.now → IsShown F walk → IsShownLate F walk → IsReported F result ⊎ IsStopped F result }
+{
+    fronts_differ();
+    lists_are_short();
+    open_is_not_done();
+    one_check_place();
+    let check = match sheet.at(n) {
+        Seen::None => return Joined::Missing(n),
+        Seen::Differ(least, greatest) => return Joined::Differ(n, least, greatest),
+        Seen::One(check) => check,
+    };
+    let Step::Done(call) = walk.take(check) else {
+        return Joined::Missing(n - 1);
+    };
+    let expansion = read_extra(sheet, &call, n);
+    Joined::Reported { call, expansion }
 }
 
 /// The answer where the format specifier was taken: a call, or the first place where none goes on.
@@ -107,7 +169,7 @@ fn follow(sheet: &Sheet, mut walk: Walk) -> Joined
     open_is_not_done();
     for n in 2..64 {
         let symbol = match sheet.at(n) {
-            Seen::None => return behind_blank(&walk, n),
+            Seen::None => return behind_blank(sheet, walk, n),
             Seen::Differ(least, greatest) => return Joined::Differ(n, least, greatest),
             Seen::One(symbol) => symbol,
         };

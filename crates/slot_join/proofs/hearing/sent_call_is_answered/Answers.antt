@@ -3,6 +3,7 @@ use Rattle.call_grammar.specs.Spelling.{spell}
 use Rattle.slot_evidence.specs.Facts.{facts_of_all}
 use Rattle.slot_join.specs.OneCall.{IsCallOrMissing}
 use Rattle.slot_join.proofs.Copies.{Lists, all_told, sent_or_lost}
+use Rattle.slot_join.proofs.HeardEnds.{late_lost}
 use Rattle.slot_join.proofs.Tails as tails
 use Rattle.slot_join.proofs.Tails.{all_of_tail, all_characters, tells}
 use Rattle.slot_join.proofs.hearing.sent_call_is_answered.Goals as goal
@@ -23,4 +24,5 @@ returns c = λ receptions call tail answer lawful heard is.
     (tells laws receptions call lawful tail
     (λ x sent p v below has. all_of_tail law.list receptions (spell call ++ tail) p v (all_characters laws lists.characters call tail x lawful sent) heard below has)
     (λ e p v within beyond. law.past (spell call) e p v within beyond))
+    (late_lost law.within lists receptions call tail lawful heard)
     missing
