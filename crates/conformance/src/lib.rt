@@ -3,11 +3,17 @@
 #![tactic(auto)]
 
 #[cfg(test)]
+mod cuts;
+#[cfg(test)]
 mod encoding;
 #[cfg(test)]
 mod expansions;
 #[cfg(test)]
+mod failures;
+#[cfg(test)]
 mod forms;
+#[cfg(test)]
+mod gates;
 #[cfg(test)]
 mod groups;
 #[cfg(test)]
