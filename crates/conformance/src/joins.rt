@@ -6,7 +6,7 @@ use dsc_symbols::worked::ALERT_SLOTS;
 use std::test::Fail;
 use time_diversity::on_air;
 
-const ROWS: [Row; 11] = [
+const ROWS: [Row; 14] = [
     Row {
         name: "without dots",
         dots: 0,
@@ -69,6 +69,26 @@ const ROWS: [Row; 11] = [
     Row {
         name: "first end lost",
         lost: &[44, 49],
+        ..WHOLE
+    },
+    Row {
+        name: "first end and check lost",
+        lost: &[44, 46, 49, 51],
+        want: "g0 missing 17\n",
+        status: 1,
+        ..WHOLE
+    },
+    Row {
+        name: "all ends lost",
+        lost: &[44, 48, 49, 50],
+        want: "g0 missing 16\n",
+        status: 1,
+        ..WHOLE
+    },
+    Row {
+        name: "first end lost, the later ones differ",
+        lost: &[44, 49],
+        other: &[(48, 117)],
         want: "g0 missing 16\n",
         status: 1,
         ..WHOLE
@@ -95,7 +115,7 @@ const WHOLE_TEST_CALL: Row = Row {
     ..WHOLE
 };
 
-const TEST_CALL_ROWS: [Row; 3] = [
+const TEST_CALL_ROWS: [Row; 4] = [
     WHOLE_TEST_CALL,
     Row {
         name: "second format lost",
@@ -105,6 +125,14 @@ const TEST_CALL_ROWS: [Row; 3] = [
     Row {
         name: "first format lost",
         lost: &[12, 17],
+        ..WHOLE_TEST_CALL
+    },
+    Row {
+        name: "first end lost, the later ones are another call's",
+        lost: &[54, 59],
+        other: &[(58, 122), (60, 122)],
+        want: "g0 missing 21\n",
+        status: 1,
         ..WHOLE_TEST_CALL
     },
 ];
@@ -173,7 +201,7 @@ fn a_clean_and_a_damaged_reception_in_both_orders(rt: HostRuntime) -> Result<(),
 }
 
 #[test]
-fn one_format_specifier_is_enough_for_a_test_call(rt: HostRuntime) -> Result<(), Fail> {
+fn receptions_of_one_test_call(rt: HostRuntime) -> Result<(), Fail> {
     compare_receptions(&rt, rt.alloc(), &on_air(&TEST_CALL), &TEST_CALL_ROWS)?;
     Ok(())
 }
