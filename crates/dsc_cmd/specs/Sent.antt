@@ -19,7 +19,7 @@ pub record TellsThis (told : Told) (k : ℕ) (answer : Joined) : Type 0 where
   pub well_is : told.is_well ≡ is_reported answer
 
 -- one of the lines that are told is the group's, and tells the call that was sent, or names as missing a place of it no copy of which came
--- intact; and it tells the call where each of its places came intact at some receiver
+-- intact; and it tells the call where each of its places came intact at some receiver, the end of sequence perhaps in a later copy
 pub record TellsSent (all : List Told) (k : ℕ) (call : Call) (tail : List ℕ) (receptions : List (List Element)) : Type 0 where
   pub told : Told
   pub is_one : Contains all told
