@@ -1,4 +1,4 @@
-use Rattle.std.proofs.Common.{◌≡◌, ℕ, false, None, refl, sym, ◌∙◌, ap}
+use Rattle.std.proofs.Common.{◌≡◌, false, None, refl, sym, ◌∙◌, ap}
 use Rattle.area_rules.specs.Histories.{Entry}
 use Rattle.area_rules.specs.Holding.{Places}
 use Rattle.area_rules.proofs.PublicLaws.{acts_of}

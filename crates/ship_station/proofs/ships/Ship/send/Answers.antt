@@ -1,5 +1,4 @@
 use Rattle.std.proofs.Common.{◌≡◌, ℕ, false, None, Some, refl, sym, ◌∙◌, ap, subst}
-use Rattle.area_rules.specs.declared.refusals.StationRefusal.{StationRefusal}
 use Rattle.area_rules.specs.Histories.{Entry, History}
 use Rattle.area_rules.specs.Holding.{Places}
 use Rattle.area_rules.proofs.PublicLaws.{refusal_of, acts_of, refused_on_time, continued_refused}
