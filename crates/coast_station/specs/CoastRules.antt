@@ -1,4 +1,5 @@
--- Rules of a coast station: ITU-R M.541, procedures of coast stations; the refusals are this project's profile.
+-- Rules of a coast station: when it acknowledges an alert stands in Accepting; all else, 16 open casualties at most among it, is this
+-- project's profile.
 use Rattle.std.specs.Prelude.{ℕ, ◌==◌, ◌&&◌, not, Bool, Option, Some, None, is_some, is_none, List, [], ◌∷◌, ◌++◌, length, if◌then◌else◌}
 use Rattle.call_values.specs.declared.calls.Call.{Call}
 use Rattle.call_values.specs.declared.calls.Call.TheVariants as call

@@ -26,7 +26,7 @@ use Rattle.traffic_rules.specs.Answering.{reply_to, reply_due_to, answer_due}
 use Rattle.traffic_rules.specs.Repeating.{is_overdue, repeated, repeats}
 use Rattle.traffic_rules.specs.Hearing.{Whereabouts, is_question, is_got, distress_told, question_due, answered_number, answered_or_shown, position_told, due_at_once, heard_due}
 use Rattle.traffic_rules.specs.Sendings.{asking, sends, is_holding, times_in, sends_and_holds, times_held, times_sent, times_sent_again}
-use Rattle.traffic_rules.specs.inside.After.{held_at, freed_at, after_sending, after_answering, after_tick, after_question, after_hearing}
+use Rattle.traffic_rules.specs.After.{held_at, freed_at, after_sending, after_answering, after_tick, after_question, after_hearing}
 use Rattle.traffic_rules.proofs.Counts.{waiting, times_append, all_sent_again, placed, none_in, AreAsking, placed_asking, ticked_asking}
 use Rattle.traffic_rules.proofs.HeldLists.{nothing_held}
 

@@ -11,7 +11,7 @@ use Rattle.area_rules.specs.Histories.{Entry, History}
 use Rattle.area_rules.specs.Holding.{Places}
 use Rattle.area_rules.specs.Rules.{listed, refusal_or}
 use Rattle.traffic_rules.specs.Hearing.{heard_refusal, heard_due}
-use Rattle.traffic_rules.specs.inside.After.{after_hearing}
+use Rattle.traffic_rules.specs.After.{after_hearing}
 use Rattle.traffic_rules.proofs.PublicLaws.{none_heard, after_heard, after_hearing_nothing}
 use Rattle.ship_station.specs.declared.events.ShipWhat.{ShipWhat}
 use Rattle.ship_station.specs.declared.events.ShipWhat.TheVariants.{Heard}

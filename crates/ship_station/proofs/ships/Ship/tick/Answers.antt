@@ -5,7 +5,7 @@ use Rattle.area_rules.specs.declared.refusals.StationRefusal.TheVariants.{NeedsD
 use Rattle.area_rules.specs.Histories.{Entry, History}
 use Rattle.area_rules.specs.Holding.{Places}
 use Rattle.traffic_rules.specs.Repeating.{repeats}
-use Rattle.traffic_rules.specs.inside.After.{after_tick}
+use Rattle.traffic_rules.specs.After.{after_tick}
 use Rattle.traffic_rules.proofs.PublicLaws.{after_ticking}
 use Rattle.ship_station.specs.declared.alerts.OwnAlert.{OwnAlert}
 use Rattle.ship_station.specs.declared.events.ShipWhat.{ShipWhat}
