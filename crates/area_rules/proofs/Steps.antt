@@ -5,7 +5,7 @@ use Rattle.area_rules.specs.declared.refusals.StationRefusal.{StationRefusal}
 use Rattle.area_rules.specs.declared.refusals.StationRefusal.TheVariants.{TimeBack}
 use Rattle.area_rules.specs.Moments.{time_back}
 use Rattle.area_rules.specs.Histories.{Entry, History, last_moment}
-use Rattle.area_rules.specs.Rules.{Rules, first_refusal, refusal_or, unless_refused, refused, answer_to, continued, Legal}
+use Rattle.area_rules.specs.Rules.{Rules, first_refusal, refusal_or, unless_refused, refused, answer_to, continued, Follows, Legal}
 
 some_is_none : {refusal : StationRefusal} → Some refusal ≡ None → ⊥
 some_is_none h = cc
@@ -27,6 +27,14 @@ module _ {What : Type 0} (rules : Rules What) where
 
   pub refused_on_time : (h : History What) (at : ℕ) (what : What) → last_moment h ≤ at → refused rules h at what ≡ rules.refusal h what
   refused_on_time h at what late = ap (λ r. first_refusal r (rules.refusal h what)) (on_time (last_moment h) at late)
+
+  by_rules : (back own : Option StationRefusal) → first_refusal back own ≡ None → own ≡ None
+  by_rules None own accepted = accepted
+  by_rules (Some refusal) own accepted = absurd (some_is_none accepted)
+
+  -- an entry of a legal history isn't refused by the station's rules
+  pub follows_rules : (e : Entry What) (h : History What) → Follows rules e h → rules.refusal h e.what ≡ None
+  follows_rules e h follows = by_rules (time_back (last_moment h) e.at) (rules.refusal h e.what) follows.accepted
 
   pub answer_refused : (h : History What) (at : ℕ) (what : What) (refusal : StationRefusal) → refused rules h at what ≡ Some refusal → answer_to rules h at what ≡ Err refusal
   answer_refused h at what refusal is = ap (λ r. refusal_or r (rules.due h at what)) is

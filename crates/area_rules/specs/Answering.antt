@@ -1,4 +1,4 @@
--- Which call answers a sent one: ITU-R M.541, acknowledgements of calls.
+-- Which call answers a sent one: this project's profile, over the forms of ITU-R M.493.
 use Rattle.std.specs.Prelude.{ℕ, ◌==◌, Bool, true, false}
 use Rattle.call_values.specs.declared.calls.Call.{Call}
 use Rattle.call_values.specs.declared.calls.Call.TheVariants.{Relay, RelayAck, Individual, Service}

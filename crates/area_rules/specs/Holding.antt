@@ -1,4 +1,4 @@
--- Calls that a station holds until they are answered: this project's profile.
+-- Calls that a station holds until they are answered, 16 at most: this project's profile.
 use Rattle.std.specs.Prelude.{◌≡◌, ℕ, zero, suc, ◌+◌, ◌<◌, Option, Some, None, is_none, position, List, slice_index_or, slice_set}
 use Rattle.std.specs.Option.{option_map}
 use Rattle.call_values.specs.declared.calls.Call.{Call}

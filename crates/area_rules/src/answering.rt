@@ -3,7 +3,7 @@ ghost use Rattle.area_rules.specs.Answering as answering;
 
 use call_values::{Call, End, Kind, Mmsi};
 
-/// Whether a heard call answers a sent one (ITU-R M.541, acknowledgements of calls): a relay acknowledgement a relay of the
+/// Whether a heard call answers a sent one (this project's profile): a relay acknowledgement a relay of the
 /// same casualty; an individual call with an acknowledgement, a test reply or a position answer of the station that an
 /// individual call, a test or a position request was for.
 pub fn answers(sent: &Call, heard: &Call) -> bool

@@ -4,6 +4,9 @@ ghost use Rattle.area_rules.specs.Holding as holding;
 use call_values::Call;
 use std::marker::Model;
 
+/// The most calls that a station holds at once, under the numbers from 1 to 16 (this project's profile).
+pub const MOST_HELD: usize = 16;
+
 /// Whether a held call was sent or got.
 #[derive(Clone, Copy, Debug, PartialEq, Eq)]
 pub enum Side {
@@ -52,7 +55,7 @@ impl Holding {
 /// At most 16 held calls, under the numbers 1 to 16.
 #[derive(Drop)]
 pub struct HeldCalls {
-    places: [Option<Holding>; 16],
+    places: [Option<Holding>; MOST_HELD],
 }
 
 impl Model for HeldCalls {
@@ -71,7 +74,9 @@ impl HeldCalls {
     pub fn empty() -> HeldCalls
         ensures { result ≡ replicate 16 None }
     {
-        HeldCalls { places: [None; 16] }
+        HeldCalls {
+            places: [None; MOST_HELD],
+        }
     }
 
     /// Holds a call under the least free number, and tells it; `None` exactly where 16 are held. A sent call was sent once.
@@ -107,10 +112,11 @@ impl HeldCalls {
         }
     }
 
-    /// Takes the call that is held under a number away, and tells it.
+    /// Takes the call that is held under a number away, and tells it. Where none is, the calls are as they were.
     pub fn release(&mut self, number: u8) -> Option<Held>
         ensures held { result ≡ holding.held_under self.old number }
         ensures free { self.new ≡ holding.with_place self.old number None }
+        ensures none { IfNone result (self.new ≡ self.old) }
     {
         let held = self.find(number)?;
         self.places[number as usize - 1] = None;

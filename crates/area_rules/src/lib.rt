@@ -7,6 +7,7 @@ mod addressing;
 mod answering;
 mod areas;
 mod held;
+mod laws;
 mod moments;
 mod refusals;
 
@@ -14,6 +15,7 @@ pub use acts::{Act, Acts, put, single};
 pub use addressing::{for_coast, for_ship};
 pub use answering::answers;
 pub use areas::contains;
-pub use held::{Held, HeldCalls, Holding, Side};
+pub use held::{Held, HeldCalls, Holding, MOST_HELD, Side};
+pub use laws::sixteen_held_calls;
 pub use moments::has_passed;
 pub use refusals::{StationRefusal, time_back};

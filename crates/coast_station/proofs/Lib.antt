@@ -11,3 +11,4 @@ mod Acknowledgements
 mod Places
 mod Keeping
 mod Traffic
+mod Sendings

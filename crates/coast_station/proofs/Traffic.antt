@@ -7,7 +7,7 @@ use Rattle.area_rules.specs.declared.refusals.StationRefusal.{StationRefusal}
 use Rattle.area_rules.specs.Holding.{Places}
 use Rattle.area_rules.specs.Rules.{refusal_or}
 use Rattle.traffic_rules.specs.Hearing.{heard_refusal, heard_due}
-use Rattle.traffic_rules.specs.inside.After.{after_hearing}
+use Rattle.traffic_rules.specs.After.{after_hearing}
 use Rattle.coast_station.specs.declared.events.CoastWhat.TheVariants.{Heard}
 use Rattle.coast_station.specs.declared.casualties.OpenCasualty.{OpenCasualty}
 use Rattle.coast_station.specs.declared.coasts.Coast.{Coast}

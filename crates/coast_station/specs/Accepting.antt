@@ -1,5 +1,5 @@
--- How a coast station accepts and acknowledges distress alerts: ITU-R M.541, acknowledgement of distress alerts by coast stations; the
--- refusals are this project's profile.
+-- How a coast station accepts and acknowledges distress alerts: that an acknowledgement waits 1 to 2.75 minutes from the alert on MF and HF,
+-- and needn't on VHF, is ITU-R M.541's; that the operator accepts, and the refusals, are this project's profile.
 use Rattle.std.specs.Prelude.{ℕ, ◌==◌, ◌&&◌, ◌||◌, not, Bool, true, false, Option, Some, None, is_some, is_none, List, [], ◌∷◌, map, if◌then◌else◌}
 use Rattle.std.specs.List.{filter}
 use Rattle.call_values.specs.declared.calls.Call.TheVariants.{Ack}

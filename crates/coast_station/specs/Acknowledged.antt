@@ -1,4 +1,5 @@
--- What the acknowledgement of a distress alert goes back to: ITU-R M.541, acknowledgement of distress alerts by coast stations.
+-- What the acknowledgement of a distress alert goes back to: the wait is that of ITU-R M.541, acknowledgement of distress alerts by coast
+-- stations; that an event accepts the alert is this project's profile.
 use Rattle.std.specs.Prelude.{◌≡◌, ℕ, ◌+◌, ◌≤◌, ◌==◌, Bool, false, IsTrue, ◌∷◌, ◌++◌}
 use Rattle.std.specs.List.{list_any}
 use Rattle.call_values.specs.declared.bounds.TheConstants.{SHORTEST_COAST_DELAY}

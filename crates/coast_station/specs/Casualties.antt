@@ -1,5 +1,4 @@
--- The casualties that a coast station's history tells of: ITU-R M.541, acknowledgement of distress alerts by coast stations. Which of
--- them are open, and in which order they stand, is this project's profile.
+-- The casualties that a coast station's history tells of, which of them are open, and in which order they stand: this project's profile.
 use Rattle.std.specs.Prelude.{ℕ, ◌==◌, not, Bool, false, Option, Some, None, is_some, List, [], ◌∷◌, ◌++◌, if◌then◌else◌}
 use Rattle.std.specs.List.{list_any, filter, flat_map}
 use Rattle.std.specs.Option.{option_to_list, option_map}

@@ -1,4 +1,5 @@
--- Rules of a coast station: ITU-R M.541, procedures of coast stations; the refusals are this project's profile.
+-- Rules of a coast station: when it acknowledges an alert stands in Accepting; all else, 16 open casualties at most among it, is this
+-- project's profile.
 use Rattle.std.specs.Prelude.{ℕ, ◌==◌, ◌&&◌, not, Bool, Option, Some, None, is_some, is_none, List, [], ◌∷◌, ◌++◌, length, if◌then◌else◌}
 use Rattle.call_values.specs.declared.calls.Call.{Call}
 use Rattle.call_values.specs.declared.calls.Call.TheVariants as call
@@ -21,6 +22,7 @@ use Rattle.traffic_rules.specs.Sending.{send_refusal, send_due, refused_full}
 use Rattle.coast_station.specs.declared.events.CoastWhat.{CoastWhat}
 use Rattle.coast_station.specs.declared.events.CoastWhat.TheVariants.{Accept, Tick, Relay, Send, Answer, Heard}
 use Rattle.coast_station.specs.declared.casualties.OpenCasualty.{OpenCasualty}
+use Rattle.coast_station.specs.declared.casualties.TheConstants.{MOST_CASUALTIES}
 use Rattle.coast_station.specs.Accepting.{find_casualty, accept_refusal, accept_due, acknowledgements_due}
 use Rattle.coast_station.specs.Casualties.{open_casualties}
 use Rattle.coast_station.specs.Events.{IsCoastWhat, coast_occurs}
@@ -50,7 +52,7 @@ is_for own call = not (sender_of call == own) && is_for_coast call own
 -- a heard alert is refused where it begins a casualty and 16 are open; another call as at each station
 abbrev pub refusal_at_call : List OpenCasualty → Places → Call → Option StationRefusal
 refusal_at_call casualties places (call.Alert casualty) =
-    if is_none (find_casualty casualty.mmsi casualties) && (length casualties == 16) then Some Full else None
+    if is_none (find_casualty casualty.mmsi casualties) && (length casualties == MOST_CASUALTIES) then Some Full else None
 refusal_at_call casualties places (call.Ack from casualty) = None
 refusal_at_call casualties places heard = heard_refusal places heard
 

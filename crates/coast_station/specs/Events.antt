@@ -1,4 +1,4 @@
--- Events at a coast station: ITU-R M.541, procedures of coast stations.
+-- Events at a coast station: this project's profile; the delays, 1 to 2.75 minutes, are those of ITU-R M.541.
 use Rattle.std.specs.Prelude.{ℕ, ◌==◌, Option, Some, None, IfSome, if◌then◌else◌}
 use Rattle.call_values.specs.declared.calls.Casualty.{Casualty}
 use Rattle.call_values.specs.declared.calls.Call.TheVariants as call

@@ -9,6 +9,9 @@ use call_values::{Call, Casualty, CoastDelay, Comm, HourMinute, Mmsi, Nature, Po
 use dsc_symbols::{natures, telecommands};
 use std::marker::Model;
 
+/// The most casualties that a station keeps open at once (this project's profile).
+pub const MOST_CASUALTIES: usize = 16;
+
 /// A ship in distress whose alert was heard and not acknowledged (ITU-R M.541, acknowledgement by coast stations).
 #[derive(Clone, Copy)]
 pub(crate) struct OpenCasualty {
@@ -75,7 +78,7 @@ pub(crate) fn acknowledgement(own: Mmsi, alert: &Casualty) -> Act
 /// At most 16 open casualties, in the order in which their first alerts were heard.
 #[derive(Drop)]
 pub(crate) struct Casualties {
-    entries: ArrayVec<OpenCasualty, 16>,
+    entries: ArrayVec<OpenCasualty, MOST_CASUALTIES>,
 }
 
 impl Model for Casualties {
@@ -184,7 +187,11 @@ fn place_of(entries: &[OpenCasualty], mmsi: Mmsi) -> Option<usize>
         .position(|casualty| casualty.alert.mmsi.number() == mmsi.number())
 }
 
-fn put_at(entries: &mut ArrayVec<OpenCasualty, 16>, place: usize, casualty: &OpenCasualty)
+fn put_at(
+    entries: &mut ArrayVec<OpenCasualty, MOST_CASUALTIES>,
+    place: usize,
+    casualty: &OpenCasualty,
+)
     requires { place < length entries.old.items }
     ensures { entries.new.items ≡ slice_set entries.old.items place casualty.now }
 {
@@ -207,7 +214,7 @@ fn acknowledgements(entries: &[OpenCasualty], own: Mmsi, at: u64) -> Acts
 }
 
 /// The casualties whose acknowledgement isn't due.
-fn not_due(entries: &[OpenCasualty], at: u64) -> ArrayVec<OpenCasualty, 16>
+fn not_due(entries: &[OpenCasualty], at: u64) -> ArrayVec<OpenCasualty, MOST_CASUALTIES>
     requires { length entries.now ≤ 16 }
     ensures { result.items ≡ left.not_due at entries.now }
 {

@@ -42,7 +42,7 @@ impl Coast {
         }
     }
 
-    /// Does what is due at an event (ITU-R M.541, procedures of coast stations). The acts are at most 32. Refused, in this
+    /// Does what is due at an event (when an alert is acknowledged is ITU-R M.541's; all else is this project's profile). The acts are at most 32. Refused, in this
     /// order: an event before the last accepted one (`TimeBack`); accepting or telling on an alert of a ship of which no
     /// casualty is open (`NoCasualty`); accepting on MF or HF without a delay (`NeedsDelay`); a call that the operator may not
     /// send (`NotSendable`); an answer to a number under which no call that was got is held (`NoSuchCall`); what would begin a

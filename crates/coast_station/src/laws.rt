@@ -1,15 +1,20 @@
-ghost use Rattle.std.specs.Prelude.{◌≡◌, ◌==◌, ◌∷◌, ◌++◌, ℕ, List, false, IsTrue};
+ghost use Rattle.std.specs.Prelude.{◌≡◌, ◌==◌, ◌+◌, ◌≤◌, ◌∷◌, ◌++◌, ℕ, Bool, List, false, IsTrue};
 ghost use Rattle.std.specs.List.{list_any};
 ghost use Rattle.area_rules.specs.declared.acts.Act.{Act};
 ghost use Rattle.area_rules.specs.declared.acts.Act.TheVariants as act;
 ghost use Rattle.area_rules.specs.Histories.{Entry, History, does};
 ghost use Rattle.area_rules.specs.Rules.{Legal};
+ghost use Rattle.call_values.specs.declared.calls.Call.{Call};
 ghost use Rattle.call_values.specs.declared.calls.Call.TheVariants as call;
 ghost use Rattle.call_values.specs.declared.calls.Casualty.{Casualty};
 ghost use Rattle.coast_station.specs.declared.events.CoastWhat.{CoastWhat};
 ghost use Rattle.coast_station.specs.Acknowledged.{GoesBackToAlert};
 ghost use Rattle.coast_station.specs.Casualties.{acknowledges, born, is_alert, is_born};
 ghost use Rattle.coast_station.specs.CoastRules.{Station, coast_rules};
+ghost use Rattle.coast_station.specs.Events.{coast_occurs};
+ghost use Rattle.traffic_rules.specs.Sendings.{asking, times_held, times_sent, times_sent_again};
+
+use crate::casualties::MOST_CASUALTIES;
 
 /// The law that the identities of the open casualties are those of which an alert was heard since they were last ended, behind
 /// every history. It does nothing.
@@ -37,4 +42,19 @@ pub fn an_identity_is_acknowledged_once()
     ensures { (who : Station) (later earlier : History CoastWhat) (sent : Entry CoastWhat) (mmsi : ℕ) (first last : List Act) (acknowledgement : Act)
         → Legal (coast_rules who) (later ++ sent ∷ earlier) → sent.acts ≡ first ++ acknowledgement ∷ last
         → IsTrue (acknowledges mmsi acknowledgement) → list_any (acknowledges mmsi) last ≡ false }
+{}
+
+/// The law that a call that asks for an acknowledgement is sent at most twice for each time that it is held: once as it begins to be
+/// held, and at ticks not more often than that, in every legal history. Of such calls any may be counted: one call alone, those to
+/// one station, or all of them. It does nothing.
+pub fn held_calls_are_sent_at_most_twice()
+    ensures first { (who : Station) (h : History CoastWhat) (is_such : Call → Bool) → Legal (coast_rules who) h
+        → times_sent (asking is_such) h ≡ times_held (asking is_such) h + times_sent_again coast_occurs (asking is_such) h }
+    ensures again { (who : Station) (h : History CoastWhat) (is_such : Call → Bool) → Legal (coast_rules who) h
+        → times_sent_again coast_occurs (asking is_such) h ≤ times_held (asking is_such) h }
+{}
+
+/// The law that sixteen casualties are open at most. It does nothing.
+pub fn sixteen_casualties()
+    ensures { MOST_CASUALTIES ≡ 16 }
 {}

@@ -8,9 +8,11 @@ mod events;
 mod laws;
 
 pub use call_values::Band;
+pub use casualties::MOST_CASUALTIES;
 pub use coasts::Coast;
 pub use events::{CoastEvent, CoastWhat};
 pub use laws::{
     acknowledgements_go_back_to_accepted_alerts, an_alert_is_heard_between_acknowledgements,
-    an_identity_is_acknowledged_once, casualties_are_born,
+    an_identity_is_acknowledged_once, casualties_are_born, held_calls_are_sent_at_most_twice,
+    sixteen_casualties,
 };

@@ -9,7 +9,7 @@ use Rattle.slot_evidence.specs.declared.places.Seen.TheVariants as seen
 use Rattle.slot_evidence.specs.Seen.{symbols_in}
 use Rattle.slot_evidence.specs.Sheet.{seen_at}
 use Rattle.slot_evidence.specs.Allowed.{IsAllowed, OnlyAllowed}
-use Rattle.slot_evidence.specs.inside.Kept.{seen_between, seen_with, least_of, past_of, AreInOrder}
+use Rattle.slot_evidence.specs.TwoNumbers.{seen_between, seen_with, least_of, past_of, AreInOrder}
 use Rattle.slot_evidence.specs.inside.Back.{least_back, past_back}
 use Rattle.slot_evidence.proofs.PublicLaws.{one_or_differ}
 use Rattle.receiver_pool.specs.Views.{Reach, Place, blank, View, place_at, kept_of, seen_sheet}

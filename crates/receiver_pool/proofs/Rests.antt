@@ -7,7 +7,7 @@ use Rattle.slot_evidence.specs.declared.places.Seen.{Seen}
 use Rattle.slot_evidence.specs.declared.places.Seen.TheVariants as seen
 use Rattle.slot_evidence.specs.Seen.{IsLawful}
 use Rattle.slot_evidence.specs.Sheet.{IsSheet, seen_at}
-use Rattle.slot_evidence.specs.inside.Kept.{least_of, past_of, AreInOrder}
+use Rattle.slot_evidence.specs.TwoNumbers.{least_of, past_of, AreInOrder}
 use Rattle.slot_evidence.proofs.PublicLaws.{order_met}
 use Rattle.receiver_pool.specs.declared.seats.TheConstants.{WHOLE}
 use Rattle.receiver_pool.specs.Views.{Reach, no_reach, united, reach_of, kept_of, Place, blank, View, place_at, fresh, spent, given_sheet}

@@ -1,7 +1,7 @@
 -- A seat of a board: this project's profile.
 use Rattle.std.specs.Prelude.{◌≡◌, ℕ, ◌<◌, ◌≤◌, length}
 use Rattle.atomic_table.specs.Seated.{TableId}
-use Rattle.slot_evidence.specs.inside.Kept.{AreInOrder}
+use Rattle.slot_evidence.specs.TwoNumbers.{AreInOrder}
 use Rattle.receiver_pool.specs.Views.{Reach, View, place_at}
 
 -- a seat: of which board's table it is, and what it knows

@@ -1,7 +1,7 @@
 -- What a seat knows of a board, place by place: this project's profile.
 use Rattle.std.specs.Prelude.{ℕ, min, max, List, map, replicate, slice_index_or}
 use Rattle.slot_evidence.specs.declared.places.Seen.{Seen}
-use Rattle.slot_evidence.specs.inside.Kept.{least_of, past_of, seen_between}
+use Rattle.slot_evidence.specs.TwoNumbers.{least_of, past_of, seen_between}
 
 -- how far symbols reach at a place: the least one, 128 for none, and the number after the greatest, 0 for none
 pub record Reach : Type 0 where

@@ -3,7 +3,7 @@ ghost use Rattle.receiver_pool.specs.Seats.{IsSeated};
 ghost use Rattle.receiver_pool.specs.Events.{Event, words_after, IsLeast, IsPastGreatest, HaveSame};
 
 use crate::allowed::Allowed;
-use crate::seats::Seat;
+use crate::seats::{Seat, WHOLE};
 
 /// The law of the core: after any list of events the words of each place are the least and the greatest of its events, so lists
 /// of the same events, in any order and with any repetition, end alike. It does nothing.
@@ -19,3 +19,8 @@ pub fn seats_are_at_rest<A: Allowed>(seat: &Seat<A>)
 {
     let _share = &seat.share;
 }
+
+/// The law that the whole share of a board, which its seats have together, is 1,073,741,824. It does nothing.
+pub fn whole_share()
+    ensures { WHOLE ≡ 1073741824 }
+{}

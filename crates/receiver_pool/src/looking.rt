@@ -2,7 +2,7 @@
 ghost use Rattle.std.specs.Prelude.{◌≡◌, ℕ, ◌+◌, ◌<◌, ◌≤◌, length, slice_set};
 ghost use Rattle.std.specs.Mem.Slots.{slots_items, slots_len, IsFull};
 ghost use Rattle.slot_evidence.specs.declared.places.Seen.TheVariants as seen;
-ghost use Rattle.slot_evidence.specs.inside.Kept.{seen_between};
+ghost use Rattle.slot_evidence.specs.TwoNumbers.{seen_between};
 ghost use Rattle.slot_evidence.specs.Sheet.{seen_at};
 ghost use Rattle.receiver_pool.specs.Views.{place_at, kept_of, seen_sheet};
 ghost use Rattle.receiver_pool.specs.Rule.{words_of};

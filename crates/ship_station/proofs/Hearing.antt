@@ -1,5 +1,5 @@
 -- what is due at a heard call, by whom it is for
-use Rattle.std.proofs.Common.{◌≡◌, ℕ, ◌==◌, ◌&&◌, not, Bool, true, false, None, is_some, if◌then◌else◌, [], refl, sym, ◌∙◌, ap}
+use Rattle.std.proofs.Common.{◌≡◌, ℕ, ◌==◌, ◌&&◌, not, Bool, true, false, None, is_some, if◌then◌else◌, [], ◌∙◌, ap}
 use Rattle.call_values.specs.declared.calls.Call.{Call}
 use Rattle.call_values.specs.declared.positions.Fix.{Fix}
 use Rattle.std.specs.Prelude.{Option, List}

@@ -5,3 +5,5 @@ mod Keeping
 mod Hearing
 mod Endings
 mod Attempts
+mod Sendings
+mod Sent

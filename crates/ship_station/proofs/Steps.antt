@@ -1,5 +1,5 @@
 -- a ship that keeps what a history with an accepted event more tells stands for it
-use Rattle.std.proofs.Common.{◌≡◌, ℕ, ◌≤◌, ◌==◌, Bool, true, false, Option, Some, None, is_some, Result, Ok, Err, List, ◌∷◌, length, if◌then◌else◌, refl, sym, ◌∙◌, ap, subst}
+use Rattle.std.proofs.Common.{◌≡◌, ℕ, ◌≤◌, ◌==◌, Bool, false, Option, Some, None, is_some, Result, Ok, Err, List, ◌∷◌, length, if◌then◌else◌, refl, sym, ◌∙◌, ap, subst}
 use Rattle.std.specs.Prelude.{OnOk, OnErr}
 use Rattle.arrayvec.specs.ArrayVec.{ArrayVec}
 use Rattle.area_rules.specs.declared.acts.Act.{Act}

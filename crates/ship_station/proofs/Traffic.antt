@@ -1,5 +1,5 @@
 -- acts of the rules of traffic at a ship: no attempt and no end of the alert
-use Rattle.std.proofs.Common.{◌≡◌, ℕ, ◌==◌, ◌&&◌, ◌||◌, Bool, true, false, Option, Some, None, is_some, List, [], ◌∷◌, ◌++◌, if◌then◌else◌, refl, sym, ◌∙◌, ap}
+use Rattle.std.proofs.Common.{◌≡◌, ℕ, ◌||◌, Bool, true, false, Option, Some, None, List, [], ◌∷◌, ◌++◌, if◌then◌else◌, refl, ◌∙◌, ap}
 use Rattle.std.proofs.Math.Bool.{or-false}
 use Rattle.std.specs.List.{list_any}
 use Rattle.std.proofs.lemmas.List.Folds.{list_any-append}
@@ -7,13 +7,11 @@ use Rattle.call_values.specs.declared.calls.Call.{Call}
 use Rattle.call_values.specs.declared.calls.Call.TheVariants as call
 use Rattle.call_values.specs.declared.calls.Casualty.{Casualty}
 use Rattle.area_rules.specs.declared.acts.Act.{Act}
-use Rattle.area_rules.specs.declared.acts.Act.TheVariants.{AlertEnded}
 use Rattle.area_rules.specs.Holding.{Places}
 use Rattle.area_rules.specs.Moments.{has_passed}
-use Rattle.traffic_rules.specs.HeldTold.{holds, frees}
 use Rattle.traffic_rules.specs.Repeating.{repeats}
 use Rattle.traffic_rules.specs.Hearing.{Whereabouts, heard_due}
-use Rattle.traffic_rules.proofs.PublicLaws.{Misses, none_heard, none_repeated, AreQuiet}
+use Rattle.traffic_rules.proofs.PublicLaws.{Misses, none_repeated, AreQuiet}
 use Rattle.ship_station.specs.declared.alerts.OwnAlert.{OwnAlert}
 use Rattle.call_values.specs.declared.positions.Fix.{Fix}
 use Rattle.area_rules.specs.Histories.{History}

@@ -1,4 +1,4 @@
--- Events at a ship: ITU-R M.541, distress alert attempts.
+-- Events at a ship: this project's profile; the delays between attempts of an alert, 3.5 to 4.5 minutes, are those of ITU-R M.541.
 use Rattle.std.specs.Prelude.{◌≡◌, ℕ, Bool, Option, Some, None, is_some}
 use Rattle.call_values.specs.declared.calls.Call.TheVariants.{Ack}
 use Rattle.call_values.specs.Calls.{IsCall}

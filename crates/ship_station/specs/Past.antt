@@ -1,4 +1,5 @@
--- What a ship's history tells: ITU-R M.541, distress alert attempts; the list of delays is this project's profile.
+-- What a ship's history tells: attempts of 5 calls, and the delays between them, are those of ITU-R M.541, distress alert attempts; that an
+-- operator lists the delays is this project's profile.
 use Rattle.std.specs.Prelude.{ℕ, ◌==◌, ◌&&◌, Bool, true, false, Option, Some, None, unwrap_or, List, drop, if◌then◌else◌}
 use Rattle.area_rules.specs.declared.acts.Act.{Act}
 use Rattle.area_rules.specs.declared.acts.Act.TheVariants.{Send, AlertEnded}

@@ -1,4 +1,5 @@
--- Rules of a ship: ITU-R M.541, distress alert attempts and the reception of calls; the refusals are this project's profile.
+-- Rules of a ship: the attempts of its alert, and when they are repeated, are those of ITU-R M.541, distress alert attempts; all else is this
+-- project's profile.
 use Rattle.std.specs.Prelude.{ℕ, ◌==◌, ◌&&◌, Bool, Option, Some, None, is_some, is_none, List, [], ◌∷◌, ◌++◌, length, not, if◌then◌else◌}
 use Rattle.call_values.specs.declared.calls.Call.{Call}
 use Rattle.call_values.specs.declared.calls.Call.TheVariants as call

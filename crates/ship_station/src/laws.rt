@@ -1,8 +1,12 @@
-ghost use Rattle.std.specs.Prelude.{◌≡◌, ℕ, ◌+◌, ◌≤◌, ◌∷◌, ◌++◌, false, IsTrue};
+ghost use Rattle.std.specs.Prelude.{◌≡◌, ℕ, ◌+◌, ◌≤◌, ◌⊎◌, Bool, false, List, ◌∷◌, ◌++◌, IsTrue};
+ghost use Rattle.call_values.specs.declared.calls.Call.{Call};
+ghost use Rattle.area_rules.specs.declared.acts.Act.{Act};
+ghost use Rattle.area_rules.specs.declared.acts.Act.TheVariants as act;
 ghost use Rattle.area_rules.specs.Histories.{Entry, History, does, NoneIs};
 ghost use Rattle.area_rules.specs.Rules.{Legal};
-ghost use Rattle.traffic_rules.specs.Sendings.{times_sent};
+ghost use Rattle.traffic_rules.specs.Sendings.{asking, is_alert, times_held, times_sent, times_sent_again};
 ghost use Rattle.ship_station.specs.declared.events.ShipWhat.{ShipWhat};
+ghost use Rattle.ship_station.specs.Attempted.{IsAttempted};
 ghost use Rattle.ship_station.specs.Events.{ship_occurs, begins_alert, MayEndAlert};
 ghost use Rattle.ship_station.specs.Past.{is_attempt, is_end};
 ghost use Rattle.ship_station.specs.ShipRules.{Identities, ship_rules};
@@ -32,8 +36,21 @@ pub fn attempts_are_apart()
         → first.at + SHORTEST_ALERT_DELAY ≤ second.at }
 {}
 
-/// The law that each call that a ship sends and holds is sent at most twice: when it begins to be held, and once again at a
-/// tick, in every legal history. It does nothing.
+/// The law that a ship sends its distress alert as attempts alone: 5 times in a row, as its own, with the position and the time that
+/// are kept, at the event that begins the alert or at a tick at which it is on; and that it sends every other call once, in every
+/// legal history. It does nothing.
+pub fn alerts_are_sent_as_attempts()
+    ensures { (who : Identities) (later earlier : History ShipWhat) (sent : Entry ShipWhat) (call : Call) (times : ℕ) (first last : List Act)
+        → Legal (ship_rules who) (later ++ sent ∷ earlier) → sent.acts ≡ first ++ act.Send call times ∷ last
+        → IsAttempted who.own earlier sent.what (act.Send call times) ⊎ ((is_alert call ≡ false) × (times ≡ 1)) }
+{}
+
+/// The law that a call that asks for an acknowledgement is sent at most twice for each time that it is held: once as it begins to be
+/// held, and at ticks not more often than that, in every legal history. Of such calls any may be counted: one call alone, those to
+/// one station, or all of them. It does nothing.
 pub fn held_calls_are_sent_at_most_twice()
-    ensures { (who : Identities) (h : History ShipWhat) (number : ℕ) → Legal (ship_rules who) h → times_sent ship_occurs number h ≤ 2 }
+    ensures first { (who : Identities) (h : History ShipWhat) (is_such : Call → Bool) → Legal (ship_rules who) h
+        → times_sent (asking is_such) h ≡ times_held (asking is_such) h + times_sent_again ship_occurs (asking is_such) h }
+    ensures again { (who : Identities) (h : History ShipWhat) (is_such : Call → Bool) → Legal (ship_rules who) h
+        → times_sent_again ship_occurs (asking is_such) h ≤ times_held (asking is_such) h }
 {}

@@ -3,7 +3,7 @@ ghost use Rattle.std.specs.List.{list_any};
 ghost use Rattle.area_rules.specs.Addressing.{is_for_ship};
 ghost use Rattle.call_values.specs.Views.{sender_of};
 ghost use Rattle.traffic_rules.specs.Hearing.{heard_refusal, heard_due};
-ghost use Rattle.traffic_rules.specs.inside.After.{after_hearing};
+ghost use Rattle.traffic_rules.specs.After.{after_hearing};
 ghost use Rattle.ship_station.specs.Past.{is_attempt};
 ghost use Rattle.area_rules.specs.declared.acts.Act.TheVariants.{AlertEnded};
 ghost use Rattle.area_rules.specs.Histories.{History};
@@ -63,8 +63,8 @@ impl Ship {
         }
     }
 
-    /// Does what is due at an event (ITU-R M.541, distress alert attempts, the reception of distress calls, and the repetition and
-    /// acknowledgement of calls). The acts are at most 32. Refused, in this order: an event before the last accepted one
+    /// Does what is due at an event (the attempts of its distress alert are those of ITU-R M.541; all else is this project's
+    /// profile). The acts are at most 32. Refused, in this order: an event before the last accepted one
     /// (`TimeBack`); a delay where 16 are held (`Full`); an alert where one is on (`AlertActive`) or no delay is held
     /// (`NeedsDelay`); a cancel where no alert is on (`NoAlert`); a tick where an alert is on and no delay is held (`NeedsDelay`);
     /// a call that the operator may not send (`NotSendable`); an answer to a number under which no call that was got is held

@@ -7,7 +7,8 @@ use Rattle.slot_evidence.specs.declared.places.Seen.TheVariants as seen
 use Rattle.slot_evidence.specs.Facts.{Symbols, Facts, one_fact, union}
 use Rattle.slot_evidence.specs.Seen.{IsSeen}
 use Rattle.slot_evidence.specs.Sheet.{IsEnds}
-use Rattle.slot_evidence.specs.inside.Kept.{seen_between, seen_of, past_symbol, AreInOrder, AreKept}
+use Rattle.slot_evidence.specs.TwoNumbers.{seen_between, AreInOrder}
+use Rattle.slot_evidence.specs.inside.Kept.{seen_of, past_symbol, AreKept}
 use Rattle.slot_evidence.proofs.Ends.{IsEnds-add, one_symbol}
 use Rattle.slot_evidence.proofs.Kept.{one_or_differ, as_many, ordered_at, ordered_from, ordered_set, seen_set, kept_at, kept_long}
 

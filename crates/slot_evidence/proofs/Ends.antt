@@ -4,7 +4,7 @@ use Rattle.std.proofs.lemmas.Bool.{eq-eqb, eqb-true, or_left, or_right, or_cases
 use Rattle.std.proofs.lemmas.List.{ext_get_or, get_or-set_same, get_or-set_other, get_or-replicate, get_or_past, length-set}
 use Rattle.slot_evidence.specs.declared.places.Seen.{Seen}
 use Rattle.slot_evidence.specs.declared.places.Seen.TheVariants as seen
-use Rattle.slot_evidence.specs.Facts.{Symbols, Facts, no_facts, one_fact, union, facts_at, facts_of}
+use Rattle.slot_evidence.specs.Facts.{Facts, no_facts, one_fact, union, facts_at, facts_of}
 use Rattle.slot_evidence.specs.Seen.{IsSeen, IsLawful, symbols_in}
 use Rattle.slot_evidence.specs.Sheet.{IsSheet, IsEnds, seen_at, facts_in}
 use Rattle.slot_evidence.proofs.Sets.{IsSeen-same, one_seen, or_none}

@@ -8,7 +8,8 @@ use Rattle.slot_evidence.specs.declared.places.Seen.TheVariants as seen
 use Rattle.slot_evidence.specs.Seen.{IsLawful}
 use Rattle.slot_evidence.specs.Sheet.{seen_at, IsSheet}
 use Rattle.slot_evidence.specs.inside.Back.{least_back, past_back, leasts_back, pasts_back}
-use Rattle.slot_evidence.specs.inside.Kept.{span_seen, seen_between, seen_of, seen_with, least_of, past_of, AreInOrder, AreOrdered, AreKept}
+use Rattle.slot_evidence.specs.TwoNumbers.{span_seen, seen_between, seen_with, least_of, past_of, AreInOrder}
+use Rattle.slot_evidence.specs.inside.Kept.{seen_of, AreOrdered, AreKept}
 
 -- what the numbers of a place say: the one symbol, or two that differ
 pub one_or_differ : (least greatest : ℕ) (P : Seen → Type 0) → (least ≡ greatest → P (seen.One least)) → ((least ≡ greatest → ⊥) → P (seen.Differ least greatest)) → P (seen_between least (suc greatest))

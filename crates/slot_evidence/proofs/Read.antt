@@ -9,7 +9,8 @@ use Rattle.phasing.specs.Slot.{slot, shows}
 use Rattle.phasing.specs.Origin.{lead_of}
 use Rattle.slot_evidence.specs.Facts.{Symbols, facts_at, facts_of}
 use Rattle.slot_evidence.specs.Sheet.{IsEnds}
-use Rattle.slot_evidence.specs.inside.Kept.{seen_of, past_symbol, AreInOrder, AreKept}
+use Rattle.slot_evidence.specs.TwoNumbers.{AreInOrder}
+use Rattle.slot_evidence.specs.inside.Kept.{seen_of, past_symbol, AreKept}
 use Rattle.slot_evidence.proofs.Ends.{place_facts, no_place}
 use Rattle.slot_evidence.proofs.Edges.{IsEdges, edges_met, edges_symbol, order_met, order_symbol, kept_from, ends_from}
 

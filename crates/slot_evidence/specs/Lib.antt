@@ -1,5 +1,6 @@
 pub mod Facts
 pub mod Seen
+pub mod TwoNumbers
 pub mod Sheet
 pub mod Alike
 pub mod Allowed

@@ -1,5 +1,5 @@
 ghost use Rattle.std.specs.Prelude.{◌≡◌, ◌||◌, ◌<◌, ◌≤◌, MatchOption};
-ghost use Rattle.slot_evidence.specs.inside.Kept.{AreInOrder, seen_between, span_seen};
+ghost use Rattle.slot_evidence.specs.TwoNumbers.{AreInOrder, seen_between, span_seen};
 ghost use Rattle.slot_evidence.specs.Facts.{Symbols};
 ghost use Rattle.slot_evidence.specs.Seen.{ShowsNone, IsSeen, IsLawful};
 ghost use Rattle.slot_evidence.specs.inside.Span.{IsSpan, IsLawfulSpan};

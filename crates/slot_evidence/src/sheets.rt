@@ -1,6 +1,7 @@
 ghost use Rattle.std.specs.Prelude.{◌≡◌, ℕ, ◌||◌, ◌<◌, ◌≤◌, length, replicate, min, max, slice_index, slice_set};
 ghost use Rattle.slot_evidence.specs.Facts.{Facts, Symbols, no_facts, one_fact, union};
-ghost use Rattle.slot_evidence.specs.inside.Kept.{AreKept, seen_of, seen_with};
+ghost use Rattle.slot_evidence.specs.TwoNumbers.{seen_with};
+ghost use Rattle.slot_evidence.specs.inside.Kept.{AreKept, seen_of};
 ghost use Rattle.slot_evidence.specs.Seen.{IsSeen, IsLawful};
 ghost use Rattle.slot_evidence.specs.Sheet.{IsEnds, IsMeet, IsSheet, seen_at, facts_in};
 
@@ -18,7 +19,8 @@ pub struct Sheet {
 impl Model for Sheet {
     ghost use Rattle.std.specs.Prelude.{List, map};
     ghost use Rattle.slot_evidence.specs.declared.places.Seen.{Seen};
-    ghost use Rattle.slot_evidence.specs.inside.Kept.{AreKept, seen_of, least_of, past_of};
+    ghost use Rattle.slot_evidence.specs.TwoNumbers.{least_of, past_of};
+    ghost use Rattle.slot_evidence.specs.inside.Kept.{AreKept, seen_of};
     ghost use Rattle.slot_evidence.specs.inside.Back.{leasts_back, pasts_back};
 
     ghost Value = { List Seen };

@@ -77,28 +77,6 @@ gives_none : (at : ℕ) (o : Option Holding) → gives_up at o ≡ true → tick
 gives_none at None is = absurd (false≢true is)
 gives_none at (Some x) is = given_up (is_overdue at x.side x.at) (x.times == 1) (sent_at at (Some x)) (Some x) is
 
--- what is held of a call after a tick that doesn't free its number
-abbrev pub resent : (at : ℕ) → Option Holding → Option Holding
-resent at None = None
-resent at (Some x) = if is_overdue at x.side x.at && (x.times == 1) then sent_at at (Some x) else Some x
-
-not_once : (late : Bool) (t : ℕ) (x y : Option Holding) → t ≡ 2 → y ≡ (if late && (t == 1) then x else y)
-not_once true t x y two = sym (ap (λ (n : ℕ). if n == 1 then x else y) two)
-not_once false t x y two = refl
-
-once : (late : Bool) (t now : ℕ) (x : Holding) → t ≡ 1
-    → sent_again_at (if late then Some now else None) x ≡ (if late && (t == 1) then sent_at now (Some x) else Some x)
-once true t now x one = ap (λ (b : Bool). if b then sent_at now (Some x) else Some x) (sym (eq-eqb t 1 one))
-once false t now x one = refl
-
-resent_of : (call : Call) (side : Side) (at times : ℕ) (first : Option ℕ) (now : ℕ) → times ≡ first_times side
-    → again side (if is_some first then first else (if has_passed answer_wait at now then Some now else None)) (holding call side at times)
-    ≡ resent now (again side first (holding call side at times))
-resent_of call Got at times first now new = refl
-resent_of call Sent at times None now new = once (has_passed answer_wait at now) times now (holding call Sent at times) new
-resent_of call Sent at times (Some a) now new =
-    not_once (has_passed answer_wait a now) (times + 1) _ (Some (holding call Sent a (times + 1))) (ap (λ (n : ℕ). n + 1) new)
-
 module _ {What : Type 0} (occurs : What → Occurrence) where
   pub new_begun : (e : Option (Entry What)) → IsNew (begun occurs e)
   new_begun None = tt
@@ -168,18 +146,3 @@ module _ {What : Type 0} (occurs : What → Occurrence) where
   pub passes : (e : Entry What) (h : History What) (k : ℕ) → begins occurs k e ≡ false → is_tick (occurs e.what) ≡ true
       → ends occurs k e ≡ gives_up e.at (held_told occurs h k) → held_told occurs (e ∷ h) k ≡ ticked e.at (held_told occurs h k)
   passes e h k no_begin tick end = passes_by e h k (gives_up e.at (held_told occurs h k)) no_begin tick end refl
-
-  since_resent : (o : Option Holding) (e : Entry What) (later : History What) → IsNew o → is_tick (occurs e.what) ≡ true
-      → held_since occurs o (e ∷ later) ≡ resent e.at (held_since occurs o later)
-  since_resent None e later new tick = refl
-  since_resent (Some x) e later new tick =
-      let first = first_passed occurs x.at later in
-      ap (λ (b : Bool). again x.side (if is_some first then first else (if b && has_passed answer_wait x.at e.at then Some e.at else None)) x) tick
-      ∙ resent_of x.call x.side x.at x.times first e.at new
-
-  -- a tick that doesn't free a number sends its call again where it is due
-  pub goes_on_held : (e : Entry What) (h : History What) (k : ℕ) → begins occurs k e ≡ false → ends occurs k e ≡ false → is_tick (occurs e.what) ≡ true
-      → held_told occurs (e ∷ h) k ≡ resent e.at (held_told occurs h k)
-  goes_on_held e h k no_begin no_end tick =
-      let o = opened occurs k h in
-      told_by e h k no_begin no_end ∙ since_resent (begun occurs o) e (since (begins occurs k) h) (new_begun o) tick

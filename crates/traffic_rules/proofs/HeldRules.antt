@@ -1,4 +1,4 @@
--- what is held after each event of the rules that both stations share: what `inside/After` says
+-- what is held after each event of the rules that both stations share: what `specs/After` says
 use native.Mathlib.Omega.{arith}
 use Rattle.std.proofs.Common.{◌≡◌, ℕ, zero, suc, ◌+◌, ◌<◌, ◌≤◌, ◌⊎◌, inl, inr, ◌==◌, ◌&&◌, ◌||◌, not, Bool, true, false, Option, Some, None, is_none, List, [], ◌∷◌, ◌++◌, if◌then◌else◌, refl, sym, ◌∙◌, ap}
 use Rattle.std.specs.List.{list_any}
@@ -23,7 +23,7 @@ use Rattle.traffic_rules.specs.Sending.{asks, acknowledges, is_sendable, refused
 use Rattle.traffic_rules.specs.Answering.{reply_to, reply_due_to, refused_unless_got, answer_refusal, answer_due}
 use Rattle.traffic_rules.specs.Repeating.{is_overdue, repeated, repeats}
 use Rattle.traffic_rules.specs.Hearing.{Whereabouts, is_answered_by, is_question, is_got, must_be_held, distress_told, question_due, answered_number, answered_or_shown, position_told, due_at_once, heard_due, heard_refusal}
-use Rattle.traffic_rules.specs.inside.After.{held_at, freed_at, after_sending, after_answering, after_tick, after_question, after_hearing}
+use Rattle.traffic_rules.specs.After.{held_at, freed_at, after_sending, after_answering, after_tick, after_question, after_hearing}
 use Rattle.traffic_rules.proofs.Places.{place_from, no_place, number_from, free_number}
 use Rattle.traffic_rules.proofs.HeldAfter.{gives_up}
 use Rattle.traffic_rules.proofs.HeldLists.{none_changed, one_begun, one_ended, all_ticked}

@@ -5,4 +5,6 @@ mod HeldAfter
 mod HeldLists
 mod HeldRules
 mod Acts
-mod Twice
+mod Counts
+mod Handled
+mod Plain

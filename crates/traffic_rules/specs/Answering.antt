@@ -1,4 +1,4 @@
--- How an operator answers the calls that a station got: ITU-R M.541, acknowledgement of calls, and ITU-R M.493, telecommands.
+-- How an operator answers the calls that a station got: this project's profile, with the telecommands of ITU-R M.493.
 use Rattle.std.specs.Prelude.{ℕ, Bool, true, false, Option, Some, None, List, [], ◌∷◌, if◌then◌else◌}
 use Rattle.call_values.specs.declared.calls.Call.{Call}
 use Rattle.call_values.specs.declared.calls.Call.TheVariants.{Relay, RelayAck, Individual}

@@ -1,5 +1,4 @@
--- What a station does at a heard call that is for it and is neither a distress alert nor its acknowledgement: ITU-R M.541, reception
--- and acknowledgement of calls; holding and showing are this project's profile.
+-- What a station does at a heard call that is for it and is neither a distress alert nor its acknowledgement: this project's profile.
 use Rattle.std.specs.Prelude.{ℕ, suc, nat_eq, ◌&&◌, not, Bool, true, false, Option, Some, None, List, [], ◌∷◌, ◌++◌, position, if◌then◌else◌}
 use Rattle.std.specs.Option.{option_map}
 use Rattle.std.specs.Cmp.Lexicographic.{pointwise}

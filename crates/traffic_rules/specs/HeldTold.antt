@@ -5,6 +5,7 @@ use Rattle.std.specs.List.{list_any}
 use Rattle.call_values.specs.declared.calls.Call.{Call}
 use Rattle.area_rules.specs.declared.acts.Act.{Act}
 use Rattle.area_rules.specs.declared.acts.Act.TheVariants.{Send, Held, Answered, GaveUp}
+use Rattle.area_rules.specs.declared.held.TheConstants.{MOST_HELD}
 use Rattle.area_rules.specs.declared.held.Holding.{Holding}
 use Rattle.area_rules.specs.declared.held.Side.{Side}
 use Rattle.area_rules.specs.declared.held.Side.TheVariants.{Sent, Got}
@@ -94,4 +95,4 @@ module _ {What : Type 0} (occurs : What → Occurrence) where
 
   -- the calls that are held under the numbers 1 to 16
   unfoldable pub all_held : History What → Places
-  all_held h = places_from (held_told h) 1 16
+  all_held h = places_from (held_told h) 1 MOST_HELD

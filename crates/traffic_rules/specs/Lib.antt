@@ -5,4 +5,4 @@ pub mod Answering
 pub mod Repeating
 pub mod Hearing
 pub mod Sendings
-pub mod inside
+pub mod After

@@ -1,4 +1,4 @@
--- Sent calls that wait for their answers: ITU-R M.541, repetition of calls; the waits and the giving up are this project's profile.
+-- Sent calls that wait for their answers, 5 minutes before they are sent again and 5 before they are given up: this project's profile.
 use Rattle.std.specs.Prelude.{ℕ, suc, ◌==◌, ◌&&◌, Bool, Option, Some, None, List, [], ◌∷◌, ◌++◌, if◌then◌else◌}
 use Rattle.area_rules.specs.declared.acts.Act.{Act}
 use Rattle.area_rules.specs.declared.acts.Act.TheVariants.{Send, GaveUp}

@@ -1,4 +1,4 @@
--- Calls that an operator sends: ITU-R M.541, calling; what may be sent and what is held is this project's profile.
+-- Calls that an operator sends: this project's profile, with the ends of sequence of ITU-R M.493.
 use Rattle.std.specs.Prelude.{ℕ, ◌==◌, ◌&&◌, not, Bool, true, false, Option, Some, None, is_none, List, [], ◌∷◌, if◌then◌else◌}
 use Rattle.call_values.specs.declared.calls.Call.{Call}
 use Rattle.call_values.specs.declared.calls.Call.TheVariants.{Alert, Ack, RelayAck, Service}

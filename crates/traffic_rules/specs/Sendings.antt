@@ -1,34 +1,58 @@
--- How often a held call was sent: this project's profile.
-use Rattle.std.specs.Prelude.{ℕ, zero, suc, ◌&&◌, Bool, true, false, Option, Some, None, List, [], ◌∷◌, if◌then◌else◌}
-use Rattle.std.specs.List.{list_any}
+-- How often calls are sent and held: this project's profile.
+use Rattle.std.specs.Prelude.{ℕ, ◌+◌, ◌&&◌, Bool, true, false, List, [], ◌∷◌, if◌then◌else◌}
+use Rattle.call_values.specs.declared.calls.Call.{Call}
+use Rattle.call_values.specs.declared.calls.Call.TheVariants.{Alert}
 use Rattle.area_rules.specs.declared.acts.Act.{Act}
-use Rattle.area_rules.specs.declared.acts.Act.TheVariants.{Send}
-use Rattle.area_rules.specs.declared.held.Holding.{Holding}
-use Rattle.area_rules.specs.Histories.{Entry, History}
+use Rattle.area_rules.specs.declared.acts.Act.TheVariants.{Send, Held}
+use Rattle.area_rules.specs.Histories.{Entry, History, does, how_many}
 use Rattle.traffic_rules.specs.Occurrences.{Occurrence, is_tick}
-use Rattle.traffic_rules.specs.HeldTold.{begins, ends, begun, held_told}
-use Rattle.traffic_rules.specs.Repeating.{repeated}
+use Rattle.traffic_rules.specs.Sending.{asks}
 
--- an act sends a call
-abbrev pub is_send : Act → Bool
-is_send (Send call times) = true
-is_send _ = false
+-- those calls among some that ask for an acknowledgement
+abbrev pub asking : (Call → Bool) → Call → Bool
+asking is_such call = asks call && is_such call
 
--- what is due at a tick of the call under a number sends it again
-abbrev pub is_sent_again : (at number : ℕ) → Option Holding → Bool
-is_sent_again at number held = list_any is_send (repeated at number held)
+-- a call is a distress alert
+abbrev pub is_alert : Call → Bool
+is_alert (Alert casualty) = true
+is_alert _ = false
 
--- how often a call was sent when it begins to be held
-abbrev pub times_begun : Option Holding → ℕ
-times_begun None = 0
-times_begun (Some x) = x.times
+-- an act sends such a call
+abbrev pub sends : (Call → Bool) → Act → Bool
+sends is_such (Send call times) = is_such call
+sends is_such _ = false
+
+-- an act begins to hold a call
+abbrev pub is_holding : Act → Bool
+is_holding (Held number) = true
+is_holding _ = false
+
+-- how often an act sends such a call
+abbrev pub times_by : (Call → Bool) → Act → ℕ
+times_by is_such (Send call times) = if is_such call then times else 0
+times_by is_such _ = 0
+
+-- how often acts send such calls
+abbrev pub times_in : (Call → Bool) → List Act → ℕ
+times_in is_such [] = 0
+times_in is_such (act ∷ acts) = times_by is_such act + times_in is_such acts
+
+module _ {What : Type 0} where
+  -- an entry sends such a call and begins to hold it
+  abbrev pub sends_and_holds : (Call → Bool) → Entry What → Bool
+  sends_and_holds is_such e = does (sends is_such) e && does is_holding e
+
+  -- how often such calls began to be held as they were sent
+  abbrev pub times_held : (Call → Bool) → History What → ℕ
+  times_held is_such h = how_many (sends_and_holds is_such) h
+
+  -- how often such calls were sent
+  abbrev pub times_sent : (Call → Bool) → History What → ℕ
+  times_sent is_such [] = 0
+  times_sent is_such (e ∷ h) = times_in is_such e.acts + times_sent is_such h
 
 module _ {What : Type 0} (occurs : What → Occurrence) where
-  -- how often the call under a number was sent since the number was free: when it began to be held, and at each tick at which it was
-  -- due again
-  abbrev pub times_sent : (number : ℕ) → History What → ℕ
-  times_sent number [] = 0
-  times_sent number (e ∷ h) =
-      if ends occurs number e then 0
-      else (if begins occurs number e then times_begun (begun occurs (Some e))
-      else (if is_tick (occurs e.what) && is_sent_again e.at number (held_told occurs h number) then suc (times_sent number h) else times_sent number h))
+  -- how often such calls were sent at ticks
+  abbrev pub times_sent_again : (Call → Bool) → History What → ℕ
+  times_sent_again is_such [] = 0
+  times_sent_again is_such (e ∷ h) = (if is_tick (occurs e.what) then times_in is_such e.acts else 0) + times_sent_again is_such h

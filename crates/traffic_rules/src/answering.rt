@@ -3,15 +3,15 @@ ghost use Rattle.dsc_symbols.specs.declared.notices.TheConstants as TheNotices;
 ghost use Rattle.dsc_symbols.specs.declared.telecommands.TheConstants as TheTelecommands;
 ghost use Rattle.area_rules.specs.Rules.{listed, refusal_or};
 ghost use Rattle.traffic_rules.specs.Answering as answering;
-ghost use Rattle.traffic_rules.specs.inside.After.{after_answering};
+ghost use Rattle.traffic_rules.specs.After.{after_answering};
 
 use area_rules::{Act, Acts, HeldCalls, Side, StationRefusal, single};
 use arrayvec::ArrayVec;
 use call_values::{Call, End, First, Mmsi, Second, To};
 use dsc_symbols::{notices, telecommands};
 
-/// Answers the call that was got under a number, as the operator accepts or declines it, and frees the number (ITU-R M.541,
-/// acknowledgement of calls). Refused where no call that was got is held under the number (`NoSuchCall`).
+/// Answers the call that was got under a number, as the operator accepts or declines it, and frees the number (this project's
+/// profile). Refused where no call that was got is held under the number (`NoSuchCall`).
 pub fn answer(
     held: &mut HeldCalls,
     own: Mmsi,

@@ -3,7 +3,7 @@ ghost use Rattle.area_rules.specs.declared.acts.Act.TheVariants as act;
 ghost use Rattle.call_values.specs.declared.calls.Call.TheVariants as form;
 ghost use Rattle.area_rules.specs.Rules.{listed, refusal_or};
 ghost use Rattle.traffic_rules.specs.Hearing as hearing;
-ghost use Rattle.traffic_rules.specs.inside.After.{after_question, freed_at, after_hearing};
+ghost use Rattle.traffic_rules.specs.After.{after_question, freed_at, after_hearing};
 
 use crate::equality::are_equal;
 use crate::sending::acknowledges;
@@ -12,8 +12,8 @@ use arrayvec::ArrayVec;
 use call_values::{Call, Category, End, HourMinute, Kind, Mmsi, Position};
 
 /// Does what is due at a heard call that is for the station and is neither a distress alert nor its acknowledgement
-/// (ITU-R M.541, reception and acknowledgement of calls). A position request is answered with the place that is given, and
-/// shown where none is. Refused: a call that must be held where no number is free (`Full`).
+/// (this project's profile). A position request is answered with the place that is given, and shown where none is.
+/// Refused: a call that must be held where no number is free (`Full`).
 pub fn hear(
     held: &mut HeldCalls,
     own: Mmsi,

@@ -1,13 +1,13 @@
 ghost use Rattle.std.specs.Prelude.{◌≡◌, ◌<◌, ◌≤◌, ◌++◌, ◌+◌, length};
 ghost use Rattle.area_rules.specs.Holding.{place_of, with_place};
 ghost use Rattle.traffic_rules.specs.Repeating as repeating;
-ghost use Rattle.traffic_rules.specs.inside.After.{after_tick};
+ghost use Rattle.traffic_rules.specs.After.{after_tick};
 
 use crate::waits::ANSWER_WAIT;
 use area_rules::{Act, Acts, Held, HeldCalls, Side, has_passed, put};
 
 /// At a tick: sends each sent call again that has waited for its answer and was sent once, gives up each that was sent
-/// again, by rising number, and puts the acts last (ITU-R M.541, repetition of calls).
+/// again, by rising number, and puts the acts last (this project's profile).
 pub fn repeat(held: &mut HeldCalls, at: u64, acts: &mut Acts)
     requires { length acts.old.items ≤ 16 }
     ensures acts { acts.new.items ≡ acts.old.items ++ repeating.repeats at 1 held.old }

@@ -1,14 +1,15 @@
 ghost use Rattle.std.specs.Prelude.{◌≡◌, OnOk, OnErr};
 ghost use Rattle.area_rules.specs.Rules.{listed, refusal_or};
 ghost use Rattle.traffic_rules.specs.Sending as sending;
-ghost use Rattle.traffic_rules.specs.inside.After.{after_sending};
+ghost use Rattle.traffic_rules.specs.After.{after_sending};
 
 use area_rules::{Act, Acts, HeldCalls, Side, StationRefusal, put, single};
 use call_grammar::end_of;
 use call_values::{Call, Kind, Mmsi};
 use dsc_symbols::ends;
 
-/// Sends a call that the operator gives, once, and holds it where it asks for an acknowledgement (ITU-R M.541, calling).
+/// Sends a call that the operator gives, once, and holds it where it asks for an acknowledgement (this project's
+/// profile).
 /// Refused: a call that an operator of this station may not send (`NotSendable`), or else one that must be held where no
 /// number is free (`Full`).
 pub fn send(held: &mut HeldCalls, own: Mmsi, call: &Call, at: u64) -> Result<Acts, StationRefusal>

@@ -1,7 +1,7 @@
 ghost use Rattle.std.specs.Prelude.{◌≡◌};
 
 /// How long a sent call waits for its answer, in milliseconds, before it is sent again, and before it is given up after
-/// that (this project's profile, over ITU-R M.541, repetition of calls).
+/// that (this project's profile).
 pub const ANSWER_WAIT: u64 = 300_000;
 
 /// The law that a sent call waits so long. It does nothing.

@@ -8,7 +8,7 @@ use Rattle.area_rules.specs.declared.acts.Act.{Act}
 use Rattle.area_rules.specs.declared.refusals.StationRefusal.{StationRefusal}
 use Rattle.area_rules.specs.Holding.{Places}
 use Rattle.area_rules.specs.Rules.{refusal_or}
-use Rattle.traffic_rules.specs.inside.After.{after_sending, after_answering, after_tick, after_hearing}
+use Rattle.traffic_rules.specs.After.{after_sending, after_answering, after_tick, after_hearing}
 use Rattle.coast_station.specs.declared.events.CoastWhat.{CoastWhat}
 use Rattle.coast_station.specs.declared.events.CoastWhat.TheVariants.{Accept, Tick, Relay, Send, Answer, Heard}
 use Rattle.coast_station.specs.declared.casualties.OpenCasualty.{OpenCasualty}

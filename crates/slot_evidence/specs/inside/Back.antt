@@ -3,7 +3,8 @@ use Rattle.std.specs.Prelude.{◌≡◌, ℕ, zero, suc, ◌==◌, Bool, true, f
 use Rattle.std.proofs.Common.{ap, sym, ◌∙◌}
 use Rattle.std.proofs.lemmas.Bool.{eqb-true}
 use Rattle.slot_evidence.specs.declared.places.Seen.TheVariants as seen
-use Rattle.slot_evidence.specs.inside.Kept.{seen_between, seen_of, least_of, past_of, AreInOrder, AreOrdered}
+use Rattle.slot_evidence.specs.TwoNumbers.{seen_between, least_of, past_of, AreInOrder}
+use Rattle.slot_evidence.specs.inside.Kept.{seen_of, AreOrdered}
 
 least_either : (b : Bool) (least greatest : ℕ) → least_of (cond b (seen.One least) (seen.Differ least greatest)) ≡ least
 least_either true least greatest = refl

@@ -1,6 +1,11 @@
-use Rattle.traffic_rules.proofs.PublicLaws.{at_most_twice}
+use Rattle.traffic_rules.proofs.PublicLaws.{sent_or_again, again_at_most}
 use Rattle.ship_station.specs.Events.{ship_occurs}
+use Rattle.ship_station.specs.ShipRules.{ship_rules}
+use Rattle.ship_station.proofs.Sendings.{entry_handles}
 use Rattle.ship_station.proofs.laws.held_calls_are_sent_at_most_twice.Goals as goal
 
-pub returns : goal.returns
-returns c who h number legal = at_most_twice ship_occurs number h
+pub returns-clause-first : goal.returns-clause-first
+returns-clause-first c who h is_such legal = sent_or_again ship_occurs (ship_rules who) is_such (entry_handles is_such who) h legal
+
+pub returns-clause-again : goal.returns-clause-again
+returns-clause-again c who h is_such legal = again_at_most ship_occurs (ship_rules who) is_such (entry_handles is_such who) h legal

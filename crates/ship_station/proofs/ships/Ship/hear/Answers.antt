@@ -1,18 +1,18 @@
-use Rattle.std.proofs.Common.{◌≡◌, ℕ, ◌==◌, ◌&&◌, not, Bool, true, false, is_some, Some, None, Option, Result, Ok, Err, List, [], ◌∷◌, if◌then◌else◌, refl, sym, ◌∙◌, ap, subst}
+use Rattle.std.proofs.Common.{◌≡◌, ℕ, ◌==◌, ◌&&◌, Bool, true, false, is_some, Some, None, Option, Result, Ok, Err, List, [], ◌∷◌, if◌then◌else◌, refl, sym, ◌∙◌, ap, subst}
 use Rattle.std.specs.List.{list_any}
 use Rattle.std.specs.Prelude.{OnOk}
 use Rattle.call_values.specs.declared.positions.Fix.{Fix}
 use Rattle.call_values.specs.declared.calls.Call.{Call}
-use Rattle.call_values.specs.declared.calls.Call.TheVariants.{Alert, Ack}
+use Rattle.call_values.specs.declared.calls.Call.TheVariants.{Ack}
 use Rattle.area_rules.specs.declared.acts.Act.{Act}
 use Rattle.area_rules.specs.declared.acts.Act.TheVariants.{Distress, AlertEnded}
 use Rattle.area_rules.specs.declared.refusals.StationRefusal.{StationRefusal}
 use Rattle.area_rules.specs.Histories.{Entry, History}
 use Rattle.area_rules.specs.Holding.{Places}
 use Rattle.area_rules.specs.Rules.{listed, refusal_or}
-use Rattle.traffic_rules.specs.Hearing.{Whereabouts, heard_refusal, heard_due}
-use Rattle.traffic_rules.specs.inside.After.{after_hearing}
-use Rattle.traffic_rules.proofs.PublicLaws.{none_heard, AreQuiet, after_heard, after_hearing_nothing}
+use Rattle.traffic_rules.specs.Hearing.{heard_refusal, heard_due}
+use Rattle.traffic_rules.specs.After.{after_hearing}
+use Rattle.traffic_rules.proofs.PublicLaws.{none_heard, after_heard, after_hearing_nothing}
 use Rattle.ship_station.specs.declared.events.ShipWhat.{ShipWhat}
 use Rattle.ship_station.specs.declared.events.ShipWhat.TheVariants.{Heard}
 use Rattle.ship_station.specs.declared.alerts.OwnAlert.{OwnAlert}
@@ -22,7 +22,7 @@ use Rattle.ship_station.specs.Past.{is_attempt, is_end, kept, open_alert}
 use Rattle.ship_station.specs.ShipRules.{Identities, held, is_for, at_call, due_at, refusal_at}
 use Rattle.ship_station.specs.Stands.{Keeps}
 use Rattle.ship_station.proofs.Steps.{accepted, answer_on_time, goes}
-use Rattle.ship_station.proofs.Keeping.{keeps_after, Moves}
+use Rattle.ship_station.proofs.Keeping.{keeps_after}
 use Rattle.ship_station.proofs.Traffic.{attempts_missed, ends_missed, traffic_due}
 use Rattle.ship_station.proofs.Hearing.{is_for_by, due_for, due_for_others, refusal_for, refusal_for_others}
 use Rattle.ship_station.proofs.ships.Ship.hear.Goals as goal

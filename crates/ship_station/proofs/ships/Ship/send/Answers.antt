@@ -1,10 +1,9 @@
 use Rattle.std.proofs.Common.{◌≡◌, ℕ, false, None, Some, refl, sym, ◌∙◌, ap, subst}
-use Rattle.area_rules.specs.declared.refusals.StationRefusal.{StationRefusal}
 use Rattle.area_rules.specs.Histories.{Entry, History}
 use Rattle.area_rules.specs.Holding.{Places}
 use Rattle.area_rules.proofs.PublicLaws.{refusal_of, acts_of, refused_on_time, continued_refused}
 use Rattle.traffic_rules.specs.Sending.{send_refusal, send_due}
-use Rattle.traffic_rules.specs.inside.After.{after_sending}
+use Rattle.traffic_rules.specs.After.{after_sending}
 use Rattle.traffic_rules.proofs.PublicLaws.{none_sent, after_send}
 use Rattle.ship_station.specs.declared.events.ShipWhat.{ShipWhat}
 use Rattle.ship_station.specs.declared.events.ShipWhat.TheVariants.{Send}

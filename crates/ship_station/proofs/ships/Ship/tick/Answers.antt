@@ -1,11 +1,11 @@
-use Rattle.std.proofs.Common.{◌≡◌, ℕ, ◌==◌, ◌&&◌, Bool, false, is_some, None, Option, List, ◌++◌, length, drop, if◌then◌else◌, refl, sym, ◌∙◌, ap}
+use Rattle.std.proofs.Common.{◌≡◌, ℕ, ◌==◌, ◌&&◌, false, is_some, None, Option, List, ◌++◌, length, drop, if◌then◌else◌, refl, sym, ◌∙◌, ap}
 use Rattle.std.specs.List.{list_any}
 use Rattle.area_rules.specs.declared.acts.Act.{Act}
 use Rattle.area_rules.specs.declared.refusals.StationRefusal.TheVariants.{NeedsDelay}
 use Rattle.area_rules.specs.Histories.{Entry, History}
 use Rattle.area_rules.specs.Holding.{Places}
 use Rattle.traffic_rules.specs.Repeating.{repeats}
-use Rattle.traffic_rules.specs.inside.After.{after_tick}
+use Rattle.traffic_rules.specs.After.{after_tick}
 use Rattle.traffic_rules.proofs.PublicLaws.{after_ticking}
 use Rattle.ship_station.specs.declared.alerts.OwnAlert.{OwnAlert}
 use Rattle.ship_station.specs.declared.events.ShipWhat.{ShipWhat}
@@ -13,7 +13,7 @@ use Rattle.ship_station.specs.declared.events.ShipWhat.TheVariants.{Tick}
 use Rattle.ship_station.specs.declared.ships.Ship.{Ship}
 use Rattle.ship_station.specs.Events.{ship_occurs}
 use Rattle.ship_station.specs.Past.{is_attempt, is_end, kept, open_alert, last_attempt, delays_left}
-use Rattle.ship_station.specs.ShipRules.{Identities, held, at_tick, refusal_at, due_at}
+use Rattle.ship_station.specs.ShipRules.{Identities, held, at_tick, refusal_at}
 use Rattle.ship_station.specs.Stands.{Keeps}
 use Rattle.ship_station.proofs.Steps.{accepted, answered, not_refused}
 use Rattle.ship_station.proofs.Keeping.{keeps_after}

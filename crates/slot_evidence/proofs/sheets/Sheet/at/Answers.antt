@@ -1,7 +1,7 @@
 use Rattle.std.proofs.Common.{List, ap, sym, ◌∙◌, arith, slice_index, ℕ}
 use Rattle.std.proofs.lemmas.List.{get_or_default}
 use Rattle.slot_evidence.specs.declared.places.Seen.{Seen}
-use Rattle.slot_evidence.specs.inside.Kept.{seen_between}
+use Rattle.slot_evidence.specs.TwoNumbers.{seen_between}
 use Rattle.slot_evidence.specs.Sheet.{seen_at}
 use Rattle.slot_evidence.proofs.Kept.{kept_at}
 use Rattle.slot_evidence.proofs.Edges.{order_at}

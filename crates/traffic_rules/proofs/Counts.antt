@@ -1,0 +1,119 @@
+-- sent calls that wait to be sent again, and how often acts send such calls
+use native.Mathlib.Omega.{arith}
+use Rattle.std.proofs.Common.{◌≡◌, ℕ, zero, suc, ◌+◌, ◌≤◌, ◌==◌, ◌&&◌, Bool, true, false, Option, Some, None, List, [], ◌∷◌, ◌++◌, slice_set, if◌then◌else◌, refl, sym, ap, subst}
+use Rattle.std.proofs.lemmas.Bool.{eqb-true, or_parts}
+use Rattle.std.specs.Prelude.{map}
+use Rattle.std.specs.List.{list_any}
+use Rattle.call_values.specs.declared.calls.Call.{Call}
+use Rattle.area_rules.specs.declared.acts.Act.{Act}
+use Rattle.area_rules.specs.declared.acts.Act.TheVariants.{Send, GaveUp}
+use Rattle.area_rules.specs.declared.held.Holding.{Holding}
+use Rattle.area_rules.specs.Holding.{Places, with_place, sent_at}
+use Rattle.area_rules.specs.Moments.{has_passed}
+use Rattle.traffic_rules.specs.HeldTold.{answer_wait, is_sent}
+use Rattle.traffic_rules.specs.Repeating.{repeated, ticked, repeats}
+use Rattle.traffic_rules.specs.Sending.{asks}
+use Rattle.traffic_rules.specs.Sendings.{sends, times_by, times_in}
+
+module _ (p : Call → Bool) where
+  -- such a call that was sent once is held
+  abbrev pub waits_once : Option Holding → ℕ
+  waits_once None = 0
+  waits_once (Some x) = if (x.times == 1) && (is_sent x.side && p x.call) then 1 else 0
+
+  -- how many such calls are held
+  abbrev pub waiting : Places → ℕ
+  waiting [] = 0
+  waiting (o ∷ places) = waits_once o + waiting places
+
+  -- once a call is sent again it isn't one of them
+  abbrev pub IsNoMore : (again once sent counted : Bool) → Type 0
+  IsNoMore again once sent counted =
+      ((if counted then 1 else 0) + 0) + (if again && (sent && counted) then 1 else 0) ≤ (if once && (sent && counted) then 1 else 0)
+
+  no_more : (counted : Bool) → IsNoMore false true true counted
+  no_more true = omega arith
+  no_more false = omega arith
+
+  one_by : (n at : ℕ) (x : Holding) (sent passed once : Bool) → is_sent x.side ≡ sent → (x.times == 1) ≡ once
+      → times_in p (if sent && passed then (if once then Send x.call 1 ∷ [] else GaveUp n ∷ []) else [])
+      + waits_once (if sent && passed then (if once then sent_at at (Some x) else None) else Some x) ≤ waits_once (Some x)
+  one_by n at x true true true sent once =
+      let again : (x.times + 1 == 1) ≡ false = ap (λ (t : ℕ). t + 1 == 1) (eqb-true x.times 1 once) in
+      subst (λ (b : Bool). IsNoMore b (x.times == 1) (is_sent x.side) (p x.call)) (sym again)
+      (subst (λ (b : Bool). IsNoMore false b (is_sent x.side) (p x.call)) (sym once)
+      (subst (λ (b : Bool). IsNoMore false true b (p x.call)) (sym sent) (no_more (p x.call))))
+  one_by n at x true true false sent once = omega arith
+  one_by n at x true false once sent is_once = omega arith
+  one_by n at x false passed once sent is_once = omega arith
+
+  one_ticked : (at n : ℕ) (o : Option Holding) → times_in p (repeated at n o) + waits_once (ticked at o) ≤ waits_once o
+  one_ticked at n None = omega arith
+  one_ticked at n (Some x) = one_by n at x (is_sent x.side) (has_passed answer_wait x.at at) (x.times == 1) refl refl
+
+  pub times_append : (xs ys : List Act) → times_in p (xs ++ ys) ≡ times_in p xs + times_in p ys
+  times_append [] ys = omega arith
+  times_append (x ∷ xs) ys = let rest = times_append xs ys in omega arith
+
+  -- at a tick each of them is sent again, or none of it
+  pub all_sent_again : (at n : ℕ) (places : Places) → times_in p (repeats at n places) + waiting (map (ticked at) places) ≤ waiting places
+  all_sent_again at n [] = omega arith
+  all_sent_again at n (o ∷ places) =
+      let here = one_ticked at n o in
+      let rest = all_sent_again at (suc n) places in
+      let sum = times_append (repeated at n o) (repeats at (suc n) places) in
+      omega arith
+
+  set_waiting : (places : Places) (i : ℕ) (o : Option Holding) → waiting (slice_set places i o) ≤ waiting places + waits_once o
+  set_waiting [] i o = omega arith
+  set_waiting (x ∷ places) zero o = omega arith
+  set_waiting (x ∷ places) (suc i) o = let rest = set_waiting places i o in omega arith
+
+  -- a place that is set adds no more than what is put into it
+  pub placed : (places : Places) (n : ℕ) (o : Option Holding) → waiting (with_place places n o) ≤ waiting places + waits_once o
+  placed places zero o = omega arith
+  placed places (suc i) o = set_waiting places i o
+
+  no_times : (act : Act) → sends p act ≡ false → times_by p act ≡ 0
+  no_times (Send call times) none = ap (λ (b : Bool). if b then times else 0) none
+  no_times _ none = refl
+
+  -- acts that send no such call send none at any time
+  pub none_in : (acts : List Act) → list_any (sends p) acts ≡ false → times_in p acts ≡ 0
+  none_in [] none = refl
+  none_in (act ∷ acts) none =
+      let parts = or_parts (sends p act) (list_any (sends p) acts) none in
+      let here = no_times act parts.0 in
+      let rest = none_in acts parts.1 in
+      omega arith
+
+-- a call that is held as sent asks for an acknowledgement
+abbrev pub IsAsking : Option Holding → Type 0
+IsAsking None = Unit {0}
+IsAsking (Some x) = is_sent x.side ≡ true → asks x.call ≡ true
+
+abbrev pub AreAsking : Places → Type 0
+AreAsking [] = Unit {0}
+AreAsking (o ∷ places) = IsAsking o × AreAsking places
+
+set_asking : (places : Places) (i : ℕ) (o : Option Holding) → IsAsking o → AreAsking places → AreAsking (slice_set places i o)
+set_asking [] i o new are = are
+set_asking (x ∷ places) zero o new are = (new, are.1)
+set_asking (x ∷ places) (suc i) o new are = (are.0, set_asking places i o new are.1)
+
+pub placed_asking : (places : Places) (n : ℕ) (o : Option Holding) → IsAsking o → AreAsking places → AreAsking (with_place places n o)
+placed_asking places zero o new are = are
+placed_asking places (suc i) o new are = set_asking places i o new are
+
+ticked_by : (late once : Bool) (at : ℕ) (x : Holding) → IsAsking (Some x) → IsAsking (if late then (if once then sent_at at (Some x) else None) else Some x)
+ticked_by true true at x is = is
+ticked_by true false at x is = tt
+ticked_by false once at x is = is
+
+one_asking : (at : ℕ) (o : Option Holding) → IsAsking o → IsAsking (ticked at o)
+one_asking at None is = tt
+one_asking at (Some x) is = ticked_by (is_sent x.side && has_passed answer_wait x.at at) (x.times == 1) at x is
+
+pub ticked_asking : (at : ℕ) (places : Places) → AreAsking places → AreAsking (map (ticked at) places)
+ticked_asking at [] are = tt
+ticked_asking at (o ∷ places) are = (one_asking at o are.0, ticked_asking at places are.1)
