@@ -189,10 +189,10 @@ fn endless_sources_end(rt: HostRuntime) -> Result<(), Fail> {
     compare(&rt, &run, 7, b"dsc: line 1 too long\n");
     let (status, text) = of_endless(rt.alloc(), b'\n')?;
     assert_eq!(rt; status, 7);
-    assert_eq!(rt; text.len(), 4096 + 30);
+    assert_eq!(rt; text.len(), 65_536 + 31);
     assert!(rt;
         text.as_slice()
-            .ends_with(b"\n\ndsc: line 4097 too many lines\n")
+            .ends_with(b"\n\ndsc: line 65537 too many lines\n")
     );
     Ok(())
 }
@@ -231,7 +231,7 @@ fn longest_lines_cross_the_buffer(rt: HostRuntime) -> Result<(), Fail> {
 
 #[test]
 fn lines_are_counted(rt: HostRuntime) -> Result<(), Fail> {
-    let mut input = lines_of_length(rt.alloc(), 4096, 1)?;
+    let mut input = lines_of_length(rt.alloc(), 65_536, 1)?;
     let run = echoed(rt.alloc(), &input, 3, &[], &[])?;
     compare(&rt, &run, 0, &input);
     input.push(b'!')?;
@@ -239,7 +239,7 @@ fn lines_are_counted(rt: HostRuntime) -> Result<(), Fail> {
     assert_eq!(rt; status, 7);
     assert!(rt;
         told.as_slice()
-            .ends_with(b"a\na\ndsc: line 4097 too many lines\n")
+            .ends_with(b"a\na\ndsc: line 65537 too many lines\n")
     );
     Ok(())
 }

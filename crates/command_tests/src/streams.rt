@@ -39,6 +39,43 @@ impl Read for FailsAtTheSecond {
     }
 }
 
+/// A reader that gives one byte, and a writer that takes one, at every third call: a signal interrupts the others.
+#[derive(Drop)]
+struct Interrupted {
+    calls: u32,
+}
+
+impl Interrupted {
+    /// Counts a call, and has two of three interrupted.
+    fn begin(&mut self) -> io::Result<()> {
+        self.calls = self.calls.saturating_add(1);
+        if self.calls.is_multiple_of(3) {
+            return Ok(());
+        }
+        Err(ErrorKind::Interrupted.into())
+    }
+}
+
+impl Read for Interrupted {
+    fn read(&mut self, into: &mut [u8]) -> io::Result<usize> {
+        self.begin()?;
+        let n = into.len().min(1);
+        into[..n].fill(b'#');
+        Ok(n)
+    }
+}
+
+impl Write for Interrupted {
+    fn write(&mut self, piece: &[u8]) -> io::Result<usize> {
+        self.begin()?;
+        Ok(piece.len().min(1))
+    }
+
+    fn flush(&mut self) -> io::Result<()> {
+        self.begin()
+    }
+}
+
 /// A writer that takes one byte at a time, and counts its flushes, of which those from the second on fail.
 #[derive(Drop)]
 struct OneByte<'a> {
@@ -152,4 +189,17 @@ fn a_writer_that_takes_one_byte_and_fails_to_flush(rt: HostRuntime) {
     assert_eq!(rt; flushes.load(Ordering::SeqCst), 1);
     assert_eq!(rt; sink.flush(), Err(Failed));
     assert_eq!(rt; flushes.load(Ordering::SeqCst), 2);
+}
+
+// A call that a signal interrupted is tried again, and is no fault.
+#[test]
+fn interrupted_calls_are_tried_again(rt: HostRuntime) {
+    let mut source = StdSource::new(Interrupted { calls: 0 });
+    let mut into = [0; 3];
+    assert_eq!(rt; source.read(&mut into), Ok(1));
+    assert_eq!(rt; source.read(&mut into), Ok(1));
+    assert_eq!(rt; into, *b"#\0\0");
+    let mut sink = StdSink::new(Interrupted { calls: 0 });
+    assert_eq!(rt; write_all(&mut sink, b"abc"), Ok(()));
+    assert_eq!(rt; sink.flush(), Ok(()));
 }

@@ -3,9 +3,13 @@
 #![tactic(auto)]
 
 #[cfg(test)]
+mod cuts;
+#[cfg(test)]
 mod encoding;
 #[cfg(test)]
 mod expansions;
+#[cfg(test)]
+mod failures;
 #[cfg(test)]
 mod forms;
 #[cfg(test)]

@@ -42,7 +42,7 @@ pub(crate) const DX_AND_PLACE_7: &[usize] = &[
     12, 14, 16, 18, 20, 22, 24, 26, 28, 30, 31, 32, 34, 36, 38, 40, 42, 44, 46, 48, 50,
 ];
 
-fn sign(element: Element) -> u8 {
+pub(crate) fn sign(element: Element) -> u8 {
     match element {
         Element::Y => b'Y',
         Element::B => b'B',

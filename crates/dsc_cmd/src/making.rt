@@ -36,6 +36,7 @@ fn tell_summary<K: Sink>(groups: u16, summary: &Summary, sink: &mut K) -> Status
     ensures sound { IsFinished result → K.faults sink.new ≡ K.faults sink.old }
     ensures cut { result ≡ 5 → CutsOffSummary groups (K.written sink.old) (K.written sink.new) }
     ensures cause { result ≡ 5 → Rises (K.faults sink.old) (K.faults sink.new) }
+    ensures unflushed { result ≡ 5 → K.flushed sink.new ≡ K.flushed sink.old }
     ensures told { Told (K.written sink.old) (K.written sink.new) }
 {
     match write_flushed(sink, &summary.text()) {
@@ -59,6 +60,7 @@ pub(crate) fn make<R: Threads + Sync, K: Sink, G: Gate>(
     ensures sound { result ≢ 5 → K.faults sink.new ≡ K.faults sink.old }
     ensures cut { result ≡ 5 → CutsOffSummary groups (K.written sink.old) (K.written sink.new) }
     ensures cause { result ≡ 5 → Rises (K.faults sink.old) (K.faults sink.new) }
+    ensures unflushed { result ≡ 5 → K.flushed sink.new ≡ K.flushed sink.old }
     ensures unwritten { result ≡ 6 → sink.new ≡ sink.old }
     ensures told { Told (K.written sink.old) (K.written sink.new) }
 {

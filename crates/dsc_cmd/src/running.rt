@@ -1,6 +1,6 @@
 ghost use Rattle.std.specs.Prelude.{◌≡◌, ◌⊎◌, ◌≤◌, ◌≢◌, ℕ, map, string_bytes, OnOk, OnErr};
 ghost use Rattle.dsc_streams.specs.Streams.{Rises, Told};
-ghost use Rattle.line_engine.specs.Endings.{IsFinished, IsOfFault, Writes, WritesFront, TellsWhole, TellsFault, TellsSoFar, TellsFront, CutsOff, TakesAtMost};
+ghost use Rattle.line_engine.specs.Endings.{IsFinished, IsOfFault, IsBrokenOff, Writes, WritesFront, TellsWhole, TellsFault, TellsSoFar, TellsFront, CutsOff, TakesAtMost};
 ghost use Rattle.dsc_words.specs.Words.{IsInRange, IsPlan};
 ghost use Rattle.dsc_words.specs.declared.plans.Plan.TheVariants.{Join as joins, Make as makes};
 ghost use Rattle.dsc_words.specs.declared.plans.Plan.{Plan as Planned};
@@ -29,6 +29,7 @@ pub(crate) fn write_flushed<K: Sink>(sink: &mut K, text: &[u8]) -> Result<(), Fa
     ensures sound { OnOk result (K.faults sink.new ≡ K.faults sink.old) }
     ensures front { OnErr result (WritesFront (K.written sink.old) (K.written sink.new) text.now) }
     ensures cause { OnErr result (Rises (K.faults sink.old) (K.faults sink.new)) }
+    ensures unflushed { OnErr result (K.flushed sink.new ≡ K.flushed sink.old) }
     ensures told { Told (K.written sink.old) (K.written sink.new) }
 {
     write_all(sink, text)?;
@@ -42,6 +43,7 @@ fn refuse<K: Sink>(sink: &mut K) -> Status
     ensures sound { result ≡ 2 → K.faults sink.new ≡ K.faults sink.old }
     ensures cut { result ≡ 5 → WritesFront (K.written sink.old) (K.written sink.new) words_refused }
     ensures cause { result ≡ 5 → Rises (K.faults sink.old) (K.faults sink.new) }
+    ensures unflushed { result ≡ 5 → K.flushed sink.new ≡ K.flushed sink.old }
     ensures told { Told (K.written sink.old) (K.written sink.new) }
 {
     match write_flushed(sink, b"dsc: words refused\n") {
@@ -66,6 +68,7 @@ fn execute<R: Threads + Sync, S: Source, K: Sink, G: Gate>(
     ensures cut { result ≡ 5 → CutsOff (meaning_of plan) (input_of plan (S.left source.old)) (input_of plan (S.left source.new)) (K.written sink.old) (K.written sink.new) }
     ensures memory { result ≡ 6 → TellsFront (meaning_of plan) (input_of plan (S.left source.old)) (input_of plan (S.left source.new)) (K.written sink.old) (K.written sink.new) }
     ensures unwritten { IsQuietPlan plan → (result ≡ 4) ⊎ (result ≡ 6) → sink.new ≡ sink.old }
+    ensures unflushed { IsBrokenOff result → K.flushed sink.new ≡ K.flushed sink.old }
     ensures bounded { TakesAtMost (S.left source.old) (S.left source.new) MOST_TAKEN }
     ensures read_cause { result ≡ 4 → Rises (S.faults source.old) (S.faults source.new) }
     ensures read_sound { result ≢ 4 → S.faults source.new ≡ S.faults source.old }
@@ -125,7 +128,7 @@ fn execute<R: Threads + Sync, S: Source, K: Sink, G: Gate>(
 /// | 4 | the source failed: what the lines so far gave was written |
 /// | 5 | the sink failed: a front of the text may have been written |
 /// | 6 | there was no memory: a front of what the lines so far gave may have been written |
-/// | 7 | a limit was passed, 4,096 lines, 4,200 bytes in one or 1,024 groups, and the line of this first fault was written |
+/// | 7 | a limit was passed, 65,536 lines, 4,200 bytes in one or 1,024 groups, and the line of this first fault was written |
 ///
 /// `join`, `evidence` and `make` write nothing before the end of their input. What the lines before a fault gave stands before its line.
 pub fn run<R: Threads + Sync, S: Source, K: Sink, G: Gate>(
@@ -166,6 +169,7 @@ pub fn run<R: Threads + Sync, S: Source, K: Sink, G: Gate>(
         ⊎ CutsOffPlan (map string_bytes words.now) (S.left source.old) (S.left source.new) (K.written sink.old) (K.written sink.new) }
     ensures memory { result ≡ 6 → (sink.new ≡ sink.old) ⊎ TellsPlanFront (map string_bytes words.now) (S.left source.old) (S.left source.new) (K.written sink.old) (K.written sink.new) }
     ensures unwritten { (plan : Planned) → IsPlan (map string_bytes words.now) plan → IsQuietPlan plan → (result ≡ 4) ⊎ (result ≡ 6) → sink.new ≡ sink.old }
+    ensures unflushed { IsBrokenOff result → K.flushed sink.new ≡ K.flushed sink.old }
     ensures bounded { TakesAtMost (S.left source.old) (S.left source.new) MOST_TAKEN }
     ensures read_sound { result ≢ 4 → S.faults source.new ≡ S.faults source.old }
     ensures write_sound { result ≢ 5 → K.faults sink.new ≡ K.faults sink.old }

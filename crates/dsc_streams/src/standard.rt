@@ -5,8 +5,50 @@ ghost use Rattle.dsc_streams.specs.Standard.{untold};
 
 use crate::streams::after;
 use crate::{Failed, Sink, Source};
-use std::io::{Read, Write};
+use std::io::{self, ErrorKind, Read, Write};
 use std::marker::Model;
+
+/// Reads, and reads again where a signal interrupted the call.
+fn read_uninterrupted<R: Read>(reader: &mut R, into: &mut [u8]) -> io::Result<usize>
+    ensures count { IfOk result (λ n. n ≤ length into.new) }
+    ensures len { length into.new ≡ length into.old }
+    ensures consumes { ReadConsumes (R.remaining reader.old) (R.remaining reader.new) result into.new }
+{
+    for _ in 0..u64::MAX {
+        match reader.read(into) {
+            Err(error) if error.kind() == ErrorKind::Interrupted => {}
+            done => return done,
+        }
+    }
+    Err(io::Error::from(ErrorKind::Interrupted))
+}
+
+/// Writes, and writes again where a signal interrupted the call.
+fn write_uninterrupted<W: Write>(writer: &mut W, piece: &[u8]) -> io::Result<usize>
+    ensures count { IfOk result (λ n. n ≤ length piece.now) }
+    ensures appends { WriteAppends (W.contents writer.old) (W.contents writer.new) result piece.now }
+{
+    for _ in 0..u64::MAX {
+        match writer.write(piece) {
+            Err(error) if error.kind() == ErrorKind::Interrupted => {}
+            done => return done,
+        }
+    }
+    Err(io::Error::from(ErrorKind::Interrupted))
+}
+
+/// Flushes, and flushes again where a signal interrupted the call.
+fn flush_uninterrupted<W: Write>(writer: &mut W) -> io::Result<()>
+    ensures keeps { Keeps (W.contents writer.old) (W.contents writer.new) }
+{
+    for _ in 0..u64::MAX {
+        match writer.flush() {
+            Err(error) if error.kind() == ErrorKind::Interrupted => {}
+            done => return done,
+        }
+    }
+    Err(io::Error::from(ErrorKind::Interrupted))
+}
 
 /// A reader of the system as a source. It tells no bytes, and counts its failures. What a read took from the
 /// reader, where the reader tells it, is said by `consumes`.
@@ -52,7 +94,7 @@ impl<R: Read> Source for StdSource<R> {
         // Of what the reader tells: exactly these bytes were taken from it, and none only at its end.
         ensures consumes { ReadConsumes (R.remaining self.old.stream) (R.remaining self.new.stream) result into.new }
     {
-        match self.reader.read(into) {
+        match read_uninterrupted(&mut self.reader, into) {
             Ok(n) => Ok(n),
             Err(_) => {
                 self.faults = after(self.faults);
@@ -118,7 +160,7 @@ impl<W: Write> Sink for StdSink<W> {
         // Of what the writer tells: exactly these bytes were appended to it.
         ensures appends { WriteAppends (W.contents self.old.stream) (W.contents self.new.stream) result piece.now }
     {
-        match self.writer.write(piece) {
+        match write_uninterrupted(&mut self.writer, piece) {
             // A writer that takes nothing would be asked forever.
             Ok(0) | Err(_) => Err(self.fail()),
             Ok(taken) => Ok(taken),
@@ -134,7 +176,7 @@ impl<W: Write> Sink for StdSink<W> {
         ensures once { OnErr result (self.new.faults ≡ next self.old.faults) }
         ensures keeps { Keeps (W.contents self.old.stream) (W.contents self.new.stream) }
     {
-        match self.writer.flush() {
+        match flush_uninterrupted(&mut self.writer) {
             Ok(()) => Ok(()),
             Err(_) => Err(self.fail()),
         }

@@ -1,6 +1,6 @@
 ghost use Rattle.std.specs.Prelude.{◌≡◌, ◌≢◌, ◌≤◌, ◌⊎◌, All, IfOk};
 ghost use Rattle.dsc_streams.specs.Streams.{Rises, Told};
-ghost use Rattle.line_engine.specs.Endings.{IsFinished, IsOfFault, TakesAtMost, TellsWhole, TellsFault, TellsSoFar, CutsOff, TellsFront};
+ghost use Rattle.line_engine.specs.Endings.{IsFinished, IsOfFault, IsBrokenOff, TakesAtMost, TellsWhole, TellsFault, TellsSoFar, CutsOff, TellsFront};
 ghost use Rattle.receiver_pool.specs.Groups.{facts_of_group, IsShort, Shows};
 ghost use Rattle.join_groups.specs.Meanings.{groups_meaning};
 
@@ -24,7 +24,7 @@ use std::thread::Threads;
 /// | 4 | the source failed: nothing was written |
 /// | 5 | the sink failed: a front of the text may have been written |
 /// | 6 | there was no memory: nothing was written |
-/// | 7 | a limit was passed, 4,096 lines, 4,200 bytes in one or 1,024 groups, and the line of this first fault was written |
+/// | 7 | a limit was passed, 65,536 lines, 4,200 bytes in one or 1,024 groups, and the line of this first fault was written |
 pub fn tell_groups<R: Threads + Sync, S: Source, K: Sink, G: Gate, T: Teller>(
     rt: &R,
     alloc: Global,
@@ -45,6 +45,9 @@ pub fn tell_groups<R: Threads + Sync, S: Source, K: Sink, G: Gate, T: Teller>(
 
     // Nothing is given before the input's end, and the sink is left alone until then.
     ensures quiet { (result ≡ 4) ⊎ (result ≡ 6) → sink.new ≡ sink.old }
+
+    // Nothing is flushed but at the end of a run that isn't broken off.
+    ensures unflushed { IsBrokenOff result → K.flushed sink.new ≡ K.flushed sink.old }
 
     // No more is read than the limits ask for.
     ensures bounded { TakesAtMost (S.left source.old) (S.left source.new) MOST_TAKEN }

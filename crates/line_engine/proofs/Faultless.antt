@@ -40,14 +40,14 @@ one_more meaning lines last sound all = record {
 }
 
 -- a line that is taken within the limits has no fault
-pub sound_line : (meaning : Meaning) (lines : Lines) (line : List ℕ) → IsTakenBehind meaning lines line → length lines < 4096 → length line ≤ 4200 → (fault : Fault) → IsFault meaning lines line fault → ⊥
+pub sound_line : (meaning : Meaning) (lines : Lines) (line : List ℕ) → IsTakenBehind meaning lines line → length lines < 65536 → length line ≤ 4200 → (fault : Fault) → IsFault meaning lines line fault → ⊥
 sound_line meaning lines line is few short TooManyLines h = omega (arith, h)
 sound_line meaning lines line is few short TooLong h = omega (arith, h.1)
 sound_line meaning lines line is few short (Column n) h = is.well_formed n h.1
 sound_line meaning lines line is few short TooManyGroups h = is.not_overfull h.2
 
 pub takes_line : {Command : Type 0} {meaning : Meaning} {stands_for : Command → Lines → List ℕ → Type 0} {lines : Lines} {line : List ℕ} {new : Command} {text : List ℕ}
-    → length lines < 4096 → length line ≤ 4200 → IsTakenBehind meaning lines line → stands_for new (lines ++ line ∷ []) text → TakesLines meaning stands_for lines (line ∷ []) new text
+    → length lines < 65536 → length line ≤ 4200 → IsTakenBehind meaning lines line → stands_for new (lines ++ line ∷ []) text → TakesLines meaning stands_for lines (line ∷ []) new text
 takes_line {meaning = meaning} {lines = lines} {line = line} few short is stands = record {
   few = omega (arith, length_push lines line);
   faultless = one_more meaning lines line (sound_line meaning lines line is few short);
@@ -56,11 +56,11 @@ takes_line {meaning = meaning} {lines = lines} {line = line} few short is stands
 
 -- no line more
 pub takes_none : {Command : Type 0} {meaning : Meaning} {stands_for : Command → Lines → List ℕ → Type 0} {lines : Lines} {command : Command} {text : List ℕ} (more : Lines)
-    → more ≡ [] → length lines ≤ 4096 → stands_for command lines text → TakesLines meaning stands_for lines more command text
+    → more ≡ [] → length lines ≤ 65536 → stands_for command lines text → TakesLines meaning stands_for lines more command text
 takes_none {meaning = meaning} {stands_for = stands_for} {lines = lines} {command = command} {text = text} more e few stands =
     let same : lines ≡ lines ++ more = sym (append-nil lines) ∙ ap (λ (l : Lines). lines ++ l) (sym e) in
     record {
-      few = subst (λ (l : Lines). length l ≤ 4096) same few;
+      few = subst (λ (l : Lines). length l ≤ 65536) same few;
       faultless = λ none. subst (λ (l : Lines). IsFaultless meaning l) same none;
       stands = subst (λ (l : Lines). stands_for command l text) same stands;
     }

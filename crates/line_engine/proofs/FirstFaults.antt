@@ -76,7 +76,7 @@ well_formed meaning earlier line within well few TooManyGroups h = few h.2
 
 fault_or_none : (meaning : Meaning) → IsDecided meaning → (earlier : Lines) (line : List ℕ) → ((fault : Fault) × IsFault meaning earlier line fault) ⊎ ((fault : Fault) → IsFault meaning earlier line fault → ⊥)
 fault_or_none meaning decided earlier line =
-    elim (cases_lt (length earlier) 4096) [
+    elim (cases_lt (length earlier) 65536) [
       | inr many ↦ inl (TooManyLines, many)
       | inl few ↦ (elim (cases_lt 4200 (length line)) [
         | inl long ↦ inl (TooLong, (few, long))

@@ -213,7 +213,7 @@ on_through {meaning = meaning} {stands_for = stands_for} {taken = taken} {new = 
     let same : on.lines ++ lines_of rest ≡ lines_of taken = sym (at_end taken on.lines rest on.goes_on) in
     record {
       text = on.text;
-      few = subst (λ (l : Lines). length l ≤ 4096) same takes.few;
+      few = subst (λ (l : Lines). length l ≤ 65536) same takes.few;
       faultless = subst (λ (l : Lines). IsFaultless meaning l) same (takes.faultless on.faultless);
       stands = subst (λ (l : Lines). stands_for new l (on.text ++ after)) same takes.stands;
       wrote = on.wrote;
@@ -251,7 +251,7 @@ counted_line {line = line} was takes = record {
 
 -- a run that stopped between two reads
 pub stopped : {Sink : Type 0} {meaning : Meaning} {written : Sink → Option (List ℕ)} {faults : Sink → ℕ} (left_before left : Option (List ℕ)) (start sink : Sink) (taken pending : List ℕ) (h : Halt)
-    → Loses left_before left taken → length taken ≤ 17338368 → Stops meaning written faults start left taken pending sink h → RunsInto meaning written faults left_before left start pending sink h
+    → Loses left_before left taken → length taken ≤ 275447808 → Stops meaning written faults start left taken pending sink h → RunsInto meaning written faults left_before left start pending sink h
 stopped left_before left start sink taken pending (halt.Fault first) lost within s = record { taken = taken; lost = lost; within = within; stops = s }
 stopped left_before left start sink taken pending halt.Read lost within s = absurd s
 stopped left_before left start sink taken pending halt.Write lost within s = record { taken = taken; lost = lost; within = within; stops = s }

@@ -41,13 +41,13 @@ pub record IsReadOn {Command Sink : Type 0} (meaning : Meaning) (stands_for : Co
     (start : Sink) (window : List ℕ) (count : ℕ) (command : Command) (pending : List ℕ) (sink : Sink) : Type 0 where
   pub taken : List ℕ
   pub lost : Loses left_before left_after taken
-  pub within : length taken ≤ 17338368
+  pub within : length taken ≤ 275447808
   pub most : length taken ≤ count * 4201 + length window
   pub on : IsOn meaning stands_for written faults start taken window count command pending sink
 
 pub read_on : {Command Sink : Type 0} {meaning : Meaning} {stands_for : Command → Lines → List ℕ → Type 0} {written : Sink → Option (List ℕ)} {faults : Sink → ℕ} {start old new : Sink}
     {taken window : List ℕ} {count : ℕ} {command : Command} {before : List ℕ} (left_before left_mid left_after : Option (List ℕ)) (after given bytes : List ℕ) (n : ℕ)
-    → (on : IsOn meaning stands_for written faults start taken window count command before old) → Loses left_before left_mid taken → length taken ≤ count * 4201 + length window → count * 4201 + length window ≤ 17207296
+    → (on : IsOn meaning stands_for written faults start taken window count command before old) → Loses left_before left_mid taken → length taken ≤ count * 4201 + length window → count * 4201 + length window ≤ 275316736
     → after ≡ [] → HasWritten written faults start new (on.text ++ before) → bytes ≡ window ++ given → length given ≡ n → n ≤ 131072 → Loses left_mid left_after given
     → IsReadOn meaning stands_for written faults left_before left_after start bytes count command after new
 read_on {taken = taken} {window = window} {count = count} left_before left_mid left_after after given bytes n on lost most few empty wrote e len le lost_too = record {
@@ -88,6 +88,6 @@ runs_into_last {left_after = left_after} {sink = sink} bytes after gives ended t
     stops_after sink after is h (stops_last bytes after left_after gives (cut_all bytes t s.0) ended is.on h (s.1 is.on.lines is.on.text is.on.stands is.on.count_is))
 
 -- an open line within the limits
-pub few_bytes : (count left len : ℕ) → count ≤ 4096 → (0 < left → count < 4096) → left ≤ 4200 → len ≡ left → count * 4201 + len ≤ 17207296
+pub few_bytes : (count left len : ℕ) → count ≤ 65536 → (0 < left → count < 65536) → left ≤ 4200 → len ≡ left → count * 4201 + len ≤ 275316736
 few_bytes count zero len few some short e = omega arith
-few_bytes count (suc n) len few some short e = let less : count < 4096 = some (omega arith) in omega arith
+few_bytes count (suc n) len few some short e = let less : count < 65536 = some (omega arith) in omega arith

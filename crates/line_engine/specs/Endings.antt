@@ -14,6 +14,10 @@ IsFinished status = (status ≡ 0) ⊎ (status ≡ 1)
 abbrev pub IsOfFault : ℕ → Type 0
 IsOfFault status = (status ≡ 3) ⊎ (status ≡ 7)
 
+-- the statuses of a run that was broken off: by its source, by its sink, or for want of memory
+abbrev pub IsBrokenOff : ℕ → Type 0
+IsBrokenOff status = (status ≡ 4) ⊎ (status ≡ 5) ⊎ (status ≡ 6)
+
 -- what may follow the bytes that were taken: nothing, or what the source tells is left
 abbrev pub IsRest : (left : Option (List ℕ)) → List ℕ → Type 0
 IsRest left rest = (rest ≡ []) ⊎ (left ≡ Some rest)

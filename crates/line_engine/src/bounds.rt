@@ -1,5 +1,5 @@
 /// An input has at most this many lines.
-pub const MOST_LINES: usize = 4096;
+pub const MOST_LINES: usize = 65_536;
 
 /// A line has at most this many bytes, without its line feed.
 pub const LONGEST_LINE: usize = 4200;

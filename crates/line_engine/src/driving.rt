@@ -2,7 +2,7 @@ ghost use Rattle.std.specs.Prelude.{◌≡◌, ◌≢◌, ◌⊎◌, ℕ, List, 
 ghost use Rattle.dsc_streams.specs.Streams.{Rises, Told};
 ghost use Rattle.line_engine.specs.declared.halts.Halt.TheVariants as halts;
 ghost use Rattle.line_engine.specs.Meaning.{IsQuiet};
-ghost use Rattle.line_engine.specs.Endings.{IsFinished, IsOfFault, TakesAtMost, TellsWhole, TellsFault, TellsSoFar, CutsOff, TellsFront};
+ghost use Rattle.line_engine.specs.Endings.{IsFinished, IsOfFault, IsBrokenOff, TakesAtMost, TellsWhole, TellsFault, TellsSoFar, CutsOff, TellsFront};
 ghost use Rattle.line_engine.specs.inside.Progress.{RunsThrough, RunsInto};
 
 use crate::bounds::MOST_TAKEN;
@@ -29,6 +29,7 @@ fn take_input<C: Command, S: Source, K: Sink>(
     ensures stopped { IfErr result (λ halt. RunsInto C.meaning K.written K.faults (S.left source.old) (S.left source.new) sink.old out.new.items sink.new halt) }
     ensures cause { IsErrOf result Halt.Read → Rises (S.faults source.old) (S.faults source.new) }
     ensures sound { (IsErrOf result Halt.Read → ⊥) → S.faults source.new ≡ S.faults source.old }
+    ensures not_flushed { K.flushed sink.new ≡ K.flushed sink.old }
 {
     let mut window = Window::new(alloc)?;
     let mut count = 0;
@@ -77,6 +78,9 @@ pub fn drive<C: Command, S: Source, K: Sink>(
 
     // A command that gives nothing before its input's end leaves the sink alone until then.
     ensures quiet { IsQuiet C.meaning → (result ≡ 4) ⊎ (result ≡ 6) → sink.new ≡ sink.old }
+
+    // Nothing is flushed but at the end of a run that isn't broken off.
+    ensures unflushed { IsBrokenOff result → K.flushed sink.new ≡ K.flushed sink.old }
 
     // No more is read than the limits ask for.
     ensures bounded { TakesAtMost (S.left source.old) (S.left source.new) MOST_TAKEN }

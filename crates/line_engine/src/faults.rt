@@ -10,7 +10,7 @@ use text_pieces::{append, append_number};
 /// What is wrong with a line of an input.
 #[derive(Clone, Copy, Debug, PartialEq, Eq)]
 pub enum Fault {
-    /// The line stands behind line 4,096.
+    /// The line stands behind line 65,536.
     TooManyLines,
     /// The line has more than 4,200 bytes.
     TooLong,
@@ -28,7 +28,7 @@ pub(crate) struct FirstFault {
 }
 
 /// The line that tells of a fault in the input: `dsc: line 3 column 7`, `dsc: line 2 too long`,
-/// `dsc: line 4097 too many lines` or `dsc: line 9 too many groups`.
+/// `dsc: line 65537 too many lines` or `dsc: line 9 too many groups`.
 #[tactic(auto, unfolding(crate::specs::Faults::fault_line))]
 pub(crate) fn put_fault(first: &FirstFault) -> ArrayVec<u8, 80>
     ensures { result.items ≡ fault_line first.now.line first.now.fault }

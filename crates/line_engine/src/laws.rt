@@ -11,7 +11,7 @@ use crate::command::{Command, Determined};
 
 /// The law that these are the limits of an input. It does nothing.
 pub fn limits()
-    ensures lines { MOST_LINES ≡ 4096 }
+    ensures lines { MOST_LINES ≡ 65536 }
     ensures bytes { LONGEST_LINE ≡ 4200 }
 {}
 

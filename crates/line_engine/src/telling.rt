@@ -11,6 +11,7 @@ pub(crate) fn write_pending<K: Sink>(out: &mut Vec<u8>, sink: &mut K) -> Result<
     ensures wrote { OnOk result ((start : K) (text : List ℕ) → HasWritten K.written K.faults start sink.old text
         → HasWritten K.written K.faults start sink.new (text ++ out.old.items)) }
     ensures failed { IfErr result (λ halt. PendingFails K.written K.faults sink.old sink.new out.old.items halt) }
+    ensures not_flushed { K.flushed sink.new ≡ K.flushed sink.old }
 {
     if out.is_empty() {
         return Ok(());
@@ -31,6 +32,7 @@ fn write_flushed<K: Sink>(sink: &mut K, text: &[u8], last: &[u8]) -> Result<(), 
     ensures sound { OnOk result (K.faults sink.new ≡ K.faults sink.old) }
     ensures failed { OnErr result ((start : K) (before : List ℕ) → HasWritten K.written K.faults start sink.old before
         → Fails K.written K.faults start sink.new (before ++ text.now ++ last.now)) }
+    ensures not_flushed { OnErr result (K.flushed sink.new ≡ K.flushed sink.old) }
 {
     write_all(sink, text)?;
     write_all(sink, last)?;
@@ -46,6 +48,7 @@ pub(crate) fn tell<K: Sink>(sink: &mut K, text: &[u8], last: &[u8], status: Stat
     ensures sound { result ≢ 5 → K.faults sink.new ≡ K.faults sink.old }
     ensures failed { result ≡ 5 → (start : K) (before : List ℕ) → HasWritten K.written K.faults start sink.old before
         → Fails K.written K.faults start sink.new (before ++ text.now ++ last.now) }
+    ensures not_flushed { result ≡ 5 → K.flushed sink.new ≡ K.flushed sink.old }
 {
     match write_flushed(sink, text, last) {
         Ok(()) => status,

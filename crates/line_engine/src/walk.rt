@@ -113,6 +113,7 @@ fn take_and_write<C: Command, K: Sink>(
     ensures stopped { IfErr result (λ halt. (start : K) (left : Option (List ℕ)) (taken rest : List ℕ) → list_all is_inside line.now ≡ true
         → IsOn C.meaning C.stands_for K.written K.faults start taken (line.now ++ (10 ∷ rest)) count command.old out.old.items sink.old
         → Stops C.meaning K.written K.faults start left taken out.new.items sink.new halt) }
+    ensures not_flushed { K.flushed sink.new ≡ K.flushed sink.old }
 {
     take_line(command, count, line, out)?;
     if out.len() < MOST_PENDING {
@@ -149,6 +150,7 @@ pub(crate) fn take_lines<C: Command, K: Sink>(
     ensures stopped { IfErr result (λ halt. (start : K) (left : Option (List ℕ)) (taken : List ℕ)
         → IsOn C.meaning C.stands_for K.written K.faults start taken bytes.now count command.old out.old.items sink.old
         → Stops C.meaning K.written K.faults start left taken out.new.items sink.new halt) }
+    ensures not_flushed { K.flushed sink.new ≡ K.flushed sink.old }
 {
     let mut count = count;
     let mut rest = bytes;

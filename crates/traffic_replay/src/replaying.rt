@@ -1,7 +1,7 @@
 ghost use Rattle.std.specs.Prelude.{◌≡◌, ◌≢◌, ◌≤◌, ◌⊎◌, All, IfOk};
 ghost use Rattle.dsc_streams.specs.Streams.{Rises, Told};
 ghost use Rattle.line_engine.specs.Meaning.{IsQuiet};
-ghost use Rattle.line_engine.specs.Endings.{IsFinished, IsOfFault, TakesAtMost, TellsWhole, TellsFault, TellsSoFar, CutsOff, TellsFront};
+ghost use Rattle.line_engine.specs.Endings.{IsFinished, IsOfFault, IsBrokenOff, TakesAtMost, TellsWhole, TellsFault, TellsSoFar, CutsOff, TellsFront};
 ghost use Rattle.receiver_pool.specs.Groups.{facts_of_group, IsShort, Shows};
 ghost use Rattle.traffic_replay.specs.Meaning.{replay_meaning};
 
@@ -23,7 +23,7 @@ use std::thread::Threads;
 /// | 4 | the source failed: what the lines so far gave was written |
 /// | 5 | the sink failed: a front of the text may have been written |
 /// | 6 | there was no memory: a front of what the lines so far gave may have been written |
-/// | 7 | a limit was passed, 4,096 lines, 4,200 bytes in one or 1,024 groups, and the line of this first fault was written behind what the lines before it gave |
+/// | 7 | a limit was passed, 65,536 lines, 4,200 bytes in one or 1,024 groups, and the line of this first fault was written behind what the lines before it gave |
 pub fn replay<R: Threads + Sync, S: Source, K: Sink, G: Gate>(
     rt: &R,
     alloc: Global,
@@ -43,6 +43,9 @@ pub fn replay<R: Threads + Sync, S: Source, K: Sink, G: Gate>(
 
     // If nothing were given before the end, the sink would be left alone until then.
     ensures quiet { IsQuiet replay_meaning → (result ≡ 4) ⊎ (result ≡ 6) → sink.new ≡ sink.old }
+
+    // Nothing is flushed but at the end of a run that isn't broken off.
+    ensures unflushed { IsBrokenOff result → K.flushed sink.new ≡ K.flushed sink.old }
 
     // No more is read than the limits ask for.
     ensures bounded { TakesAtMost (S.left source.old) (S.left source.new) MOST_TAKEN }

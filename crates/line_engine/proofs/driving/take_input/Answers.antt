@@ -21,6 +21,7 @@ loop-window-init g c =
       taken = [];
       lost = Loses-none (g.S.Source.left c.args.source.now);
       sound = refl;
+      flushed = refl;
       most = omega arith;
       few = omega arith;
       within = omega arith;
@@ -37,7 +38,7 @@ returns-in_err-write_pending-clause-stopped g c =
     let new = c.write_pending.new.sink in
     let after = c.write_pending.new.out.items in
     let left = g.S.Source.left c.loop-window.source in
-    let within : length was.taken ≤ 17338368 = omega (arith, was.most, was.few) in
+    let within : length was.taken ≤ 275447808 = omega (arith, was.most, was.few) in
     exit c.from_residual-in_err-write_pending.result h _ c.from_residual-in_err-write_pending.ensures.1
     (stopped (g.S.Source.left c.args.source.now) left c.args.sink.now new was.taken after h was.lost within (stops_in_write new after left g.met.C.Command.gives was.on h c.in_err-write_pending.ensures.failed))
 
@@ -118,6 +119,7 @@ loop-window-preserved g c =
       taken = is.taken;
       lost = is.lost;
       sound = c.in-Ok.ensures.sound ∙ was.sound;
+      flushed = c.take_lines.ensures.not_flushed ∙ c.write_pending.ensures.not_flushed ∙ was.flushed;
       most = omega arith;
       few = few_bytes walked.count walked.left _ few within.0 within.1 len;
       within = few;

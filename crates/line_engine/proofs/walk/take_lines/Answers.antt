@@ -1,4 +1,4 @@
-use Rattle.std.proofs.Common.{◌≡◌, ◌+◌, List, ℕ, drop, true, refl, sym, subst, arith}
+use Rattle.std.proofs.Common.{◌≡◌, ◌+◌, List, ℕ, drop, true, refl, sym, ◌∙◌, subst, arith}
 use Rattle.line_engine.proofs.Cutting.{is_text, behind_feed, still_left, length_behind, is_line, text_first, text_all}
 use Rattle.line_engine.proofs.Going.{on_left}
 use Rattle.line_engine.proofs.Writing.{exit}
@@ -31,6 +31,7 @@ loop-at-preserved g c =
       less = omega arith;
       few = omega arith;
       goes_on = omega (arith, was.goes_on, within.1, c.split_at.ensures.front_len, len);
+      flushed = c.take_and_write.ensures.not_flushed ∙ was.flushed;
       counted = c.in_ok-take_and_write.ensures.counted;
       on = λ start taken on. c.in_ok-take_and_write.ensures.on start taken _ text (on_left split (was.on start taken on));
     }
