@@ -1,13 +1,11 @@
 ghost use Rattle.std.specs.Prelude.{◌≡◌, ℕ, ◌≤◌, nat_lt, None, [], ◌∷◌, ◌++◌, codes, length, slice_index, if◌then◌else◌};
 ghost use Rattle.line_engine.specs.Lines.{Lines};
 ghost use Rattle.line_engine.specs.Said.{said};
-ghost use Rattle.line_engine.specs.Saying.{said_determined};
-ghost use Rattle.std.proofs.Common.{sym, ◌∙◌};
+ghost use Rattle.line_engine.specs.Determined.{IsDetermined};
 
 use dsc_streams::{ByteSink, ByteSource, Failed, Source, Status, SureSink};
 use line_engine::{
-    Command, Determined, LONGEST_LINE, Refusal, drive, limits, one_first_fault, one_output,
-    said_lines,
+    Command, LONGEST_LINE, Refusal, drive, limits, one_first_fault, one_output, said_lines,
 };
 use std::alloc::{AllocError, Global};
 use std::process::Abort;
@@ -58,9 +56,10 @@ impl Command for Echo {
     }
 }
 
-impl Determined for Echo {
-    ghost determined = { said_determined _ (λ _ line. line ++ 10 ∷ []) (λ _. 0) (λ earlier line m n h k. h.1 ∙ sym k.1) (record { gives = λ lines text h. h; ends = λ lines text status h. h }) };
-}
+/// The law that lines determine what is said again of them. It does nothing.
+fn echoes_are_determined()
+    ensures { IsDetermined Echo.meaning }
+{}
 
 /// Says at the end whether there was a line, and ends with 1 where there was one.
 #[derive(Drop)]
@@ -276,5 +275,6 @@ fn laws_are_met() {
     limits();
     said_lines();
     one_first_fault::<Echo>();
+    echoes_are_determined();
     one_output::<Echo>();
 }

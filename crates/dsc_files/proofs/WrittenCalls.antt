@@ -1,5 +1,5 @@
 -- the text of a call is read as this call
-use Rattle.std.proofs.Common.{◌≡◌, ℕ, ◌==◌, false, List, [], ◌∷◌, inl, inr, refl, sym, ap, ◌∙◌, arith, Result, Ok, Err}
+use Rattle.std.proofs.Common.{◌≡◌, ℕ, ◌==◌, false, List, [], ◌∷◌, ◌++◌, codes, inl, inr, refl, sym, ap, ◌∙◌, arith, Result, Ok, Err}
 use Rattle.call_values.specs.declared.calls.Call.{Call}
 use Rattle.call_values.specs.declared.calls.Call.TheVariants as form
 use Rattle.call_values.specs.declared.parts.Kind.TheVariants as kind
@@ -11,7 +11,7 @@ use Rattle.dsc_files.specs.declared.lines.Line.{Line}
 use Rattle.dsc_files.specs.declared.lines.Line.TheVariants as got
 use Rattle.dsc_files.specs.declared.lines.LineFault.{LineFault}
 use Rattle.dsc_files.specs.declared.lines.LineFault.TheVariants as fault
-use Rattle.dsc_files.specs.CallLine.{nothing, call, IsCallLine}
+use Rattle.dsc_files.specs.CallLine.{CallLine, nothing, call, IsCallLine}
 use Rattle.dsc_files.specs.Lines.{ReadsCall}
 
 abbrev pub ApartLaw : Type 0
@@ -73,8 +73,37 @@ is_letter (form.Service to category from (kind.Test reply)) = refl
 is_letter (form.Service to category from kind.AskPosition) = refl
 is_letter (form.Service to category from (kind.Position position time)) = refl
 
+-- nor does it begin as a sentence
+is_no_dollar : (c : Call) → (letter_of c == 36) ≡ false
+unfolding letter_of
+is_no_dollar (form.Alert casualty) = refl
+is_no_dollar (form.Ack from casualty) = refl
+is_no_dollar (form.Relay to from casualty ask) = refl
+is_no_dollar (form.RelayAck to from casualty) = refl
+is_no_dollar (form.AllShips category from first second f1 f2) = refl
+is_no_dollar (form.AreaCall area category from first second f1 f2) = refl
+is_no_dollar (form.GroupCall group category from first second f1 f2) = refl
+is_no_dollar (form.Individual to category from first second message end) = refl
+is_no_dollar (form.Service to category from (kind.Test reply)) = refl
+is_no_dollar (form.Service to category from kind.AskPosition) = refl
+is_no_dollar (form.Service to category from (kind.Position position time)) = refl
+
+call_no_dollar : (c : Call) (x : Extra) (text : List ℕ) → text ≡ reported_text c x → first_of text ≡ 36 → ⊥
+call_no_dollar c x text is e = not_equal (letter_of c) 36 (is_no_dollar c) (sym (begins_so c x) ∙ ap first_of (sym is) ∙ e)
+
+no_dollar : (a : CallLine) (text : List ℕ) → IsCallLine a text → first_of text ≡ 36 → ⊥
+no_dollar nothing text is e = let same : 35 ≡ 36 = sym (says_nothing text is) ∙ e in omega (arith, same)
+no_dollar (call c x) text is e = call_no_dollar c x text is.1 e
+
+first_dollar : (rest : List ℕ) → first_of (codes "$" ++ rest) ≡ 36
+unfolding first_of
+first_dollar rest = refl
+
+pub no_sentence : (a : CallLine) (text rest : List ℕ) → IsCallLine a text → text ≡ codes "$" ++ rest → ⊥
+no_sentence a text rest is e = no_dollar a text is (ap first_of e ∙ first_dollar rest)
+
 -- a call's text says a call
-no_empty : (c : Call) (x : Extra) → IsCallLine nothing (reported_text c x) → ⊥
+pub no_empty : (c : Call) (x : Extra) → IsCallLine nothing (reported_text c x) → ⊥
 no_empty c x is = not_equal (letter_of c) 35 (is_letter c) (sym (begins_so c x) ∙ says_nothing (reported_text c x) is)
 
 pub call_is_read : ApartLaw → (c : Call) (x : Extra) (answer : Result Line LineFault) → IsCall c → IsWholeOrAbsent x → ReadsCall (reported_text c x) answer → answer ≡ Ok (got.Call c x)

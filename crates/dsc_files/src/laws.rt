@@ -8,6 +8,8 @@ ghost use Rattle.dsc_files.specs.declared.lines.Line.TheVariants as line;
 ghost use Rattle.dsc_files.specs.declared.lines.LineFault.{LineFault};
 ghost use Rattle.dsc_files.specs.JoinLine.{JoinLine, IsLine};
 ghost use Rattle.dsc_files.specs.Lines.{ReadsCall};
+ghost use Rattle.dsc_files.specs.CallLine.{CallLine, IsCallLine};
+ghost use Rattle.dsc_files.specs.SentenceLine.{SentenceLine, IsSentenceLine};
 ghost use Rattle.dsc_files.specs.PointLine.{PointLine, IsPointLine};
 ghost use Rattle.traffic_lines.specs.declared.lines.Point.{Point as At};
 
@@ -25,6 +27,20 @@ pub fn one_point_line()
 {
     one_traffic_line();
     traffic_lines_begin();
+}
+
+/// The law that a line of a file of calls says one thing. It does nothing.
+pub fn one_call_line()
+    ensures { (a b : CallLine) (text : List ℕ) → IsCallLine a text → IsCallLine b text → a ≡ b }
+{
+    texts_tell_calls_apart();
+}
+
+/// The law that a line of a file of calls and sentences says one thing. It does nothing.
+pub fn one_sentence_line()
+    ensures { (a b : SentenceLine) (text : List ℕ) → IsSentenceLine a text → IsSentenceLine b text → a ≡ b }
+{
+    texts_tell_calls_apart();
 }
 
 /// The law that of the text that `put_call` writes of a call and of the expansion behind it, reading a line of calls can answer

@@ -16,7 +16,9 @@ pub use dsc_streams::{
     SureSource, write_all,
 };
 pub use dsc_texts::{put_answer, put_answer_line, put_call};
-pub use laws::{one_line, one_point_line, written_calls_are_read};
+pub use laws::{
+    one_call_line, one_line, one_point_line, one_sentence_line, written_calls_are_read,
+};
 pub use lines::{FileKind, Line, LineFault};
 pub use reading::line_of;
 pub use traffic_lines::{EventLine, Point};

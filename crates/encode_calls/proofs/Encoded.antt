@@ -1,5 +1,5 @@
 -- what the command has encoded, one line further
-use Rattle.std.proofs.Common.{◌≡◌, ℕ, zero, suc, ◌+◌, ◌≤◌, Bool, List, [], ◌∷◌, ◌++◌, length, refl, sym, ap, ◌∙◌, arith, append_assoc, append-nil, length-append}
+use Rattle.std.proofs.Common.{◌≡◌, ℕ, suc, ◌+◌, ◌≤◌, Bool, List, [], ◌∷◌, ◌++◌, length, refl, sym, ap, ◌∙◌, arith, append_assoc, append-nil, length-append}
 use Rattle.call_values.specs.declared.calls.Call.{Call}
 use Rattle.slot_join.specs.declared.joined.Extra.{Extra}
 use Rattle.line_engine.specs.Lines.{Lines}

@@ -1,5 +1,5 @@
 -- What is sent of a call: ITU-R M.493, call sequence, time diversity and dot pattern; that an expansion follows with the call's own end of sequence is this project's profile.
-use Rattle.std.specs.Prelude.{ℕ, ◌==◌, Bool, if◌then◌else◌, List, [], ◌++◌}
+use Rattle.std.specs.Prelude.{ℕ, Bool, List, [], ◌++◌}
 use Rattle.ten_unit.specs.declared.character.Element.{Element}
 use Rattle.call_values.specs.declared.calls.Call.{Call}
 use Rattle.call_grammar.specs.Spelling.{end_of, end_named, spell}

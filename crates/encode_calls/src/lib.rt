@@ -2,9 +2,11 @@
 #![tactic(auto)]
 
 mod command;
+mod laws;
 mod lines;
 mod signs;
 mod transmissions;
 
 pub use command::{Dots, Encode, LongDots, ShortDots};
+pub use laws::lines_determine_output;
 pub use transmissions::slots_of;

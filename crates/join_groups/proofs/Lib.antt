@@ -6,3 +6,4 @@ mod Keeping
 mod TellingLemmas
 mod LinesTaken
 mod TextLaws
+mod Determined

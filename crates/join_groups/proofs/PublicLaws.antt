@@ -5,6 +5,8 @@ pub use Rattle.join_groups.proofs.Naming.{same_facts}
 -- a line, and lines, give no facts of a group that they don't name; a line of one group gives facts of this group alone
 pub use Rattle.join_groups.proofs.Naming.{unnamed_line, unnamed_facts}
 pub use Rattle.join_groups.proofs.Keeping.{line_of_one}
+-- numbers that rise are known by which they are
+pub use Rattle.join_groups.proofs.Rising.{same_rising}
 -- what is held of groups is held of the same groups and facts
 pub use Rattle.join_groups.proofs.Holding.{holds_same}
 -- groups are full exactly where a line brings one too many

@@ -1,4 +1,4 @@
-ghost use Rattle.std.specs.Prelude.{◌≡◌, ◌⊎◌, ℕ, ◌+◌, ◌<◌, ◌≤◌, Bool, false, nat_le, length, [], Some, IfOk, IfErr, OnOk};
+ghost use Rattle.std.specs.Prelude.{◌≡◌, ◌≢◌, ◌⊎◌, ℕ, ◌+◌, ◌<◌, ◌≤◌, Bool, false, nat_le, length, [], Some, IfOk, IfErr, OnOk};
 ghost use Rattle.slot_evidence.specs.Facts.{Facts, facts_of, no_facts};
 ghost use Rattle.slot_evidence.specs.Sheet.{IsEnds};
 ghost use Rattle.receiver_pool.specs.Joining.{JoinsBatches};
@@ -45,6 +45,7 @@ impl Groups {
             → (IsFull named group → ⊥) × Holds self.new (named_with group named) F × (number_in self.new group ≡ Some n)) }
         ensures err { IfErr result (λ refusal. (refusal ≡ Refusal.Memory) ⊎ ((named : ℕ → Bool) (F : ℕ → Facts) → Holds self.old named F
             → (refusal ≡ Refusal.TooManyGroups) × IsFull named group)) }
+        ensures kept { IfErr result (λ refusal. refusal ≢ Refusal.Memory → self.new ≡ self.old) }
         ensures batch { self.new.batch ≡ self.old.batch }
     {
         match self.numbers.get(&group) {
@@ -60,6 +61,7 @@ impl Groups {
             → (IsFull named group → ⊥) × Holds self.new (named_with group named) F × (number_in self.new group ≡ Some n)) }
         ensures err { IfErr result (λ refusal. (refusal ≡ Refusal.Memory) ⊎ ((named : ℕ → Bool) (F : ℕ → Facts) → Holds self.old named F
             → (refusal ≡ Refusal.TooManyGroups) × IsFull named group)) }
+        ensures kept { IfErr result (λ refusal. refusal ≢ Refusal.Memory → self.new ≡ self.old) }
         ensures batch { self.new.batch ≡ self.old.batch }
     {
         if self.numbers.len() >= MOST_GROUPS {
@@ -80,6 +82,7 @@ impl Groups {
             → (IsFull named group → ⊥) × Holds self.new (named_with group named) (facts_with group G F)) }
         ensures err { IfErr result (λ refusal. (refusal ≡ Refusal.Memory) ⊎ ((named : ℕ → Bool) (F : ℕ → Facts) → Holds self.old named F
             → (refusal ≡ Refusal.TooManyGroups) × IsFull named group)) }
+        ensures kept { IfErr result (λ refusal. refusal ≢ Refusal.Memory → self.new ≡ self.old) }
         ensures batch { self.new.batch ≡ self.old.batch }
     {
         let number = self.number_of(group)?;
@@ -102,6 +105,7 @@ impl Groups {
             → (IsFull named group → ⊥) × Holds self.new (named_with group named) (facts_with group (facts_of heard) F)) }
         ensures err { IfErr result (λ refusal. (refusal ≡ Refusal.Memory) ⊎ ((named : ℕ → Bool) (F : ℕ → Facts) → Holds self.old named F
             → (refusal ≡ Refusal.TooManyGroups) × IsFull named group)) }
+        ensures kept { IfErr result (λ refusal. refusal ≢ Refusal.Memory → self.new ≡ self.old) }
 
         // The open batch stays below its bound.
         ensures few { OnOk result (length self.old.batch.items < MOST_IN_BATCH → length self.new.batch.items < MOST_IN_BATCH) }

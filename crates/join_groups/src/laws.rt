@@ -1,15 +1,35 @@
 ghost use Rattle.std.specs.Prelude.{◌≡◌, ℕ, ◌<◌, ◌^◌, ◌↔◌, ◌++◌, ◌∷◌, List, Contains};
 ghost use Rattle.slot_evidence.specs.declared.places.Seen.{Seen};
 ghost use Rattle.slot_evidence.specs.Sheet.{IsSheet, IsEnds};
+ghost use Rattle.line_engine.specs.Determined.{IsDetermined};
 ghost use Rattle.dsc_files.specs.JoinLine.{JoinLine, IsLine, evidence};
 ghost use Rattle.evidence_texts.specs.Evidence.{pairs_below, evidence_text};
 ghost use Rattle.join_groups.specs.Groups.{group_facts};
-ghost use Rattle.join_groups.specs.Output.{IsJoinText, IsEvidenceText};
+ghost use Rattle.join_groups.specs.Output.{TellsAnswer, TellsEvidence, IsJoinText, IsEvidenceText};
+ghost use Rattle.join_groups.specs.Meanings.{groups_meaning};
 ghost use Rattle.join_groups.specs.Laws.{AreOfGroup};
 
+use crate::groups::{MOST_GROUPS, MOST_IN_BATCH};
+use dsc_files::one_line;
 use evidence_texts::evidence_is_read;
-use slot_evidence::ends_are_kept;
-use slot_join::alike_facts_have_one_answer;
+use slot_evidence::{ends_are_kept, one_sheet};
+use slot_join::{alike_facts_have_one_answer, one_answer};
+
+/// The law that these are the limits of groups. It does nothing.
+pub fn limits()
+    ensures groups { MOST_GROUPS ≡ 1024 }
+    ensures batch { MOST_IN_BATCH ≡ 256 }
+{}
+
+/// The law that lines of receptions and evidence determine what `join` and `evidence` write. It does nothing.
+pub fn lines_determine_output()
+    ensures join { IsDetermined (groups_meaning TellsAnswer) }
+    ensures evidence { IsDetermined (groups_meaning TellsEvidence) }
+{
+    one_line();
+    one_answer();
+    one_sheet();
+}
 
 /// The law that texts depend on the set of lines alone: neither their order nor how often one stands there can be seen. It does
 /// nothing.

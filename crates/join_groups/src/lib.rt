@@ -11,5 +11,5 @@ mod telling;
 pub use commands::TellGroups;
 pub use driving::tell_groups;
 pub use groups::{Groups, MOST_GROUPS, MOST_IN_BATCH};
-pub use laws::{evidence_stands_for_lines, texts_forget_order};
+pub use laws::{evidence_stands_for_lines, limits, lines_determine_output, texts_forget_order};
 pub use telling::{Answers, Ends, Teller, is_reported};

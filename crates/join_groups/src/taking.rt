@@ -1,5 +1,5 @@
 //! The lines of `join` and `evidence`, and what groups take of them.
-ghost use Rattle.std.specs.Prelude.{◌≡◌, ◌⊎◌, ◌++◌, ◌∷◌, ◌<◌, ◌≤◌, length, [], List, IfErr, OnOk};
+ghost use Rattle.std.specs.Prelude.{◌≡◌, ◌≢◌, ◌⊎◌, ◌++◌, ◌∷◌, ◌<◌, ◌≤◌, length, [], List, IfErr, OnOk};
 ghost use Rattle.dsc_files.specs.JoinLine.{JoinLine, IsLine};
 ghost use Rattle.dsc_files.specs.Lines.{Says};
 ghost use Rattle.receiver_pool.specs.Joining.{JoinsBatches};
@@ -26,6 +26,7 @@ pub(crate) fn take_line<J: Drop + Fn(&[Heard]) -> Result<Vec<Shown>, AllocError>
     ensures ok { OnOk result ((said : List JoinLine) → Keeps groups.old said
         → (line : JoinLine) × (IsLine line text.now × (BringsTooMany said line → ⊥) × Keeps groups.new (said ++ line ∷ []))) }
     ensures err { IfErr result (λ refusal. (said : List JoinLine) → Keeps groups.old said → IsRefused said text.now refusal) }
+    ensures kept { IfErr result (λ refusal. refusal ≢ Refusal.Memory → groups.new ≡ groups.old) }
     ensures few { OnOk result (length groups.old.batch.items < MOST_IN_BATCH → length groups.new.batch.items < MOST_IN_BATCH) }
 {
     match line_of(alloc, FileKind::Join, text) {
@@ -48,6 +49,7 @@ fn take_read<J: Drop + Fn(&[Heard]) -> Result<Vec<Shown>, AllocError>>(
         → (BringsTooMany said line → ⊥) × Keeps groups.new (said ++ line ∷ [])) }
     ensures err { IfErr result (λ refusal. (refusal ≡ Refusal.Memory) ⊎ ((said : List JoinLine) (line : JoinLine) → Keeps groups.old said
         → Says line read → (refusal ≡ Refusal.TooManyGroups) × BringsTooMany said line)) }
+    ensures kept { IfErr result (λ refusal. refusal ≢ Refusal.Memory → groups.new ≡ groups.old) }
     ensures few { OnOk result (length groups.old.batch.items < MOST_IN_BATCH → length groups.new.batch.items < MOST_IN_BATCH) }
 {
     match read {

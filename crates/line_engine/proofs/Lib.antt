@@ -1,3 +1,4 @@
+pub mod PublicLaws
 mod Cutting
 mod Faultless
 mod Going

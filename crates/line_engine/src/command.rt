@@ -3,7 +3,6 @@ ghost use Rattle.line_engine.specs.declared.command.Refusal.TheVariants.{Memory 
 ghost use Rattle.line_engine.specs.Lines.{Lines};
 ghost use Rattle.line_engine.specs.Meaning.{Meaning};
 ghost use Rattle.line_engine.specs.Commands.{IsTakenBehind, IsRefusedBehind, KeepsText, StandsBelow};
-ghost use Rattle.line_engine.specs.Determined.{IsDetermined};
 ghost use Rattle.line_engine.specs.Endings.{IsFinished};
 
 use crate::bounds::{LONGEST_LINE, MOST_LINES};
@@ -70,9 +69,4 @@ pub trait Command: Drop {
 
     /// What it stands for is what its lines give.
     ghost gives: { (command : Self) (lines : Lines) (text : List ℕ) → stands_for command lines text → meaning.Gives lines text };
-}
-
-/// A command whose lines determine one output.
-pub trait Determined: Command {
-    ghost determined: { IsDetermined Self.meaning };
 }

@@ -3,11 +3,11 @@ ghost use Rattle.line_engine.specs.declared.faults.Fault.{Fault};
 ghost use Rattle.line_engine.specs.Lines.{Lines, lines_of, IsCutInto};
 ghost use Rattle.line_engine.specs.Faults.{IsFaultless, IsFirstFault};
 ghost use Rattle.line_engine.specs.Output.{IsSoFar, IsOutput, Asks};
-ghost use Rattle.line_engine.specs.Determined.{HasOneColumn, IsDecided, BeginsWith};
+ghost use Rattle.line_engine.specs.Determined.{HasOneColumn, IsDecided, IsDetermined, BeginsWith};
 ghost use Rattle.line_engine.specs.Said.{said};
 
 use crate::bounds::{LONGEST_LINE, MOST_LINES};
-use crate::command::{Command, Determined};
+use crate::command::Command;
 
 /// The law that these are the limits of an input. It does nothing.
 pub fn limits()
@@ -26,10 +26,10 @@ pub fn one_first_fault<C: Command>()
 
 /// Lines that determine their output ask for one text and status, and whatever of it is written before the input's end
 /// begins it.
-pub fn one_output<C: Determined>()
-    ensures one { (lines : Lines) (a b : List ℕ) (s t : ℕ) → IsOutput C.meaning lines a s → IsOutput C.meaning lines b t → (a ≡ b) × (s ≡ t) }
-    ensures so_far { (lines : Lines) (text whole : List ℕ) (status : ℕ) → IsSoFar C.meaning lines text → IsOutput C.meaning lines whole status → BeginsWith whole text }
-    ensures asked { (lines : Lines) (text whole : List ℕ) (status : ℕ) → Asks C.meaning lines text → IsOutput C.meaning lines whole status → BeginsWith whole text }
+pub fn one_output<C: Command>()
+    ensures one { IsDetermined C.meaning → (lines : Lines) (a b : List ℕ) (s t : ℕ) → IsOutput C.meaning lines a s → IsOutput C.meaning lines b t → (a ≡ b) × (s ≡ t) }
+    ensures so_far { IsDetermined C.meaning → (lines : Lines) (text whole : List ℕ) (status : ℕ) → IsSoFar C.meaning lines text → IsOutput C.meaning lines whole status → BeginsWith whole text }
+    ensures asked { IsDetermined C.meaning → (lines : Lines) (text whole : List ℕ) (status : ℕ) → Asks C.meaning lines text → IsOutput C.meaning lines whole status → BeginsWith whole text }
 {}
 
 /// What lines say, one line after the other.

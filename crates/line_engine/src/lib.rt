@@ -13,7 +13,7 @@ mod walk;
 mod window;
 
 pub use bounds::{LONGEST_LINE, MOST_LINES, MOST_TAKEN};
-pub use command::{Command, Determined, Refusal};
+pub use command::{Command, Refusal};
 pub use driving::drive;
 pub use faults::Fault;
 pub use laws::{limits, one_first_fault, one_output, said_lines};

@@ -4,7 +4,7 @@ use Rattle.call_values.specs.declared.calls.Call.{Call}
 use Rattle.slot_join.specs.declared.joined.Extra.{Extra}
 use Rattle.dsc_files.specs.declared.lines.Line.{Line}
 use Rattle.dsc_files.specs.declared.lines.Line.TheVariants as got
-use Rattle.dsc_files.specs.CallLine.{CallLine, nothing, call}
+use Rattle.dsc_files.specs.CallLine.{nothing, call}
 use Rattle.dsc_files.specs.SentenceLine.{SentenceLine, said, sentence, IsSentenceLine}
 use Rattle.dsc_files.specs.Lines.{SaysSentence}
 

@@ -7,7 +7,7 @@ use Rattle.slot_join.specs.declared.joined.Extra.TheVariants.{Absent, Whole, Bro
 use Rattle.line_grammar.specs.Columns.{IsColumn}
 use Rattle.line_engine.specs.Lines.{Lines}
 use Rattle.line_engine.specs.Meaning.{Meaning}
-use Rattle.dsc_files.specs.CallLine.{CallLine, nothing, call}
+use Rattle.dsc_files.specs.CallLine.{nothing, call}
 use Rattle.dsc_files.specs.SentenceLine.{SentenceLine, said, sentence, IsSentenceLine}
 use Rattle.dsc_sentences.specs.declared.verdicts.Verdict.{Verdict}
 use Rattle.dsc_sentences.specs.declared.verdicts.Verdict.TheVariants.{Accepted, Refused}

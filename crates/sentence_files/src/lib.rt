@@ -2,5 +2,7 @@
 #![tactic(auto)]
 
 mod command;
+mod laws;
 
 pub use command::Sentences;
+pub use laws::lines_determine_output;

@@ -1,10 +1,9 @@
-use Rattle.std.proofs.Common.{◌≡◌, ◌++◌, ◌∷◌, [], ◌||◌, not, Bool, List, ℕ, sym, ap, subst, ◌∙◌, append_assoc}
+use Rattle.std.proofs.Common.{◌++◌, ◌∷◌, [], Bool, List, ℕ, sym, ap, subst, ◌∙◌, append_assoc}
 use Rattle.dsc_files.specs.SentenceLine.{SentenceLine, sentence, IsSentenceLine}
 use Rattle.dsc_files.specs.declared.lines.Line.{Line}
 use Rattle.dsc_files.specs.Lines.{SaysSentence}
 use Rattle.dsc_sentences.specs.CallSentences.{sentences_of}
-use Rattle.dsc_sentences.specs.Verdicts.{verdict_of}
-use Rattle.sentence_files.specs.Telling.{expansion_in, is_accepted, line_text}
+use Rattle.sentence_files.specs.Telling.{expansion_in, line_text}
 use Rattle.sentence_files.specs.inside.Progress.{HasTold}
 use Rattle.sentence_files.proofs.Told.{nothing_told, call_told, sentence_told}
 use Rattle.sentence_files.proofs.Sayings.{says_nothing, says_call, says_sentence}

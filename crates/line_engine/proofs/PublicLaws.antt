@@ -1,0 +1,6 @@
+-- Laws that proofs of other crates may cite. The other files here are this crate's own.
+
+-- lines have one first fault
+pub use Rattle.line_engine.proofs.FirstFaults.{one_first}
+-- lines that determine their output have one, and whatever of it is written before the input's end begins it
+pub use Rattle.line_engine.proofs.Outputs.{one_text, begins_output, begins_asked}
