@@ -2,3 +2,5 @@ mod Behind
 mod SentGroups
 mod EncodedCalls
 mod MadeEndings
+mod OneOutput
+mod FrontsOfOutput

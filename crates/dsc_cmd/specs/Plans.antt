@@ -1,7 +1,11 @@
 -- What a run of each command promises: this project's profile.
-use Rattle.std.specs.Prelude.{◌≡◌, ℕ, List, [], Option, Some, codes}
+use Rattle.std.specs.Prelude.{◌≡◌, ℕ, List, [], ◌++◌, Option, Some, codes}
+use Rattle.dsc_streams.specs.Streams.{Loses, Gains}
+use Rattle.line_engine.specs.Lines.{lines_of}
 use Rattle.line_engine.specs.Meaning.{Meaning, IsQuiet}
-use Rattle.line_engine.specs.Endings.{Writes, WritesFront, CutsOff, TellsFront}
+use Rattle.line_engine.specs.Output.{IsOutput}
+use Rattle.line_engine.specs.Determined.{BeginsWith}
+use Rattle.line_engine.specs.Endings.{IsRest, Writes, WritesFront, CutsOff, TellsFront}
 use Rattle.dsc_words.specs.declared.plans.Plan.{Plan}
 use Rattle.dsc_words.specs.declared.plans.Plan.TheVariants.{Join, Evidence, Encode, Sentences, Replay, Make}
 use Rattle.dsc_words.specs.Words.{IsPlan}
@@ -77,3 +81,11 @@ pub record CutsOffSummary (n : ℕ) (before after : Option (List ℕ)) : Type 0 
   pub status : ℕ
   pub is_made : IsMade n text status
   pub writes : WritesFront before after text
+
+-- 4, 5 and 6: a front of the output that the whole input asks for was appended, whatever is left of the input
+pub record WritesFrontOfOutput (meaning : Meaning) (left_before left_after before after : Option (List ℕ)) : Type 0 where
+  pub taken : List ℕ
+  pub lost : Loses left_before left_after taken
+  pub front : List ℕ
+  pub appended : Gains before after front
+  pub begins : (rest : List ℕ) → IsRest left_after rest → (whole : List ℕ) (status : ℕ) → IsOutput meaning (lines_of (taken ++ rest)) whole status → BeginsWith whole front

@@ -1,12 +1,20 @@
-ghost use Rattle.std.specs.Prelude.{ℕ, ◌<◌, ◌^◌, Bool, List};
+ghost use Rattle.std.specs.Prelude.{◌≡◌, ℕ, ◌<◌, ◌^◌, Bool, List};
 ghost use Rattle.call_values.specs.declared.calls.Call.{Call};
 ghost use Rattle.call_values.specs.Calls.{IsCall};
 ghost use Rattle.slot_join.specs.declared.joined.Extra.{Extra};
 ghost use Rattle.dsc_texts.specs.Texts.{IsWholeOrAbsent};
 ghost use Rattle.dsc_files.specs.JoinLine.{JoinLine};
 ghost use Rattle.join_groups.specs.Output.{IsJoinText};
+ghost use Rattle.line_engine.specs.declared.faults.Fault.{Fault};
+ghost use Rattle.line_engine.specs.Lines.{Lines};
+ghost use Rattle.line_engine.specs.Faults.{IsFirstFault};
+ghost use Rattle.line_engine.specs.Output.{IsOutput};
+ghost use Rattle.line_engine.specs.Determined.{IsDetermined};
+ghost use Rattle.dsc_words.specs.declared.plans.Plan.{Plan};
+ghost use Rattle.dsc_cmd.specs.Plans.{meaning_of};
 ghost use Rattle.dsc_cmd.specs.Encoded.{IsHeardWhole, IsOfEncoded, TellsCall};
 
+use generated_join::made_text_is_one;
 use slot_join::{alike_facts_have_one_answer, transmissions_are_answered};
 
 /// The law that `join` gives back what `encode` wrote: the line that `encode` writes of a call is a line of join's input, and of a group
@@ -19,4 +27,18 @@ pub fn encoded_calls_are_reported()
 {
     alike_facts_have_one_answer();
     transmissions_are_answered();
+}
+
+/// The law that each command's input has one output: its lines ask for one text and status, and have one first fault. It does
+/// nothing.
+pub fn inputs_have_one_output()
+    ensures determined { (plan : Plan) → IsDetermined (meaning_of plan) }
+    ensures output { (plan : Plan) (lines : Lines) (a b : List ℕ) (s t : ℕ) → IsOutput (meaning_of plan) lines a s → IsOutput (meaning_of plan) lines b t → (a ≡ b) × (s ≡ t) }
+    ensures fault { (plan : Plan) (lines : Lines) (m n : ℕ) (a b : Fault) → IsFirstFault (meaning_of plan) lines m a → IsFirstFault (meaning_of plan) lines n b → (m ≡ n) × (a ≡ b) }
+{
+    join_groups::lines_determine_output();
+    encode_calls::lines_determine_output();
+    sentence_files::lines_determine_output();
+    traffic_replay::lines_determine_output();
+    made_text_is_one();
 }

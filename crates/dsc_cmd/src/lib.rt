@@ -10,7 +10,7 @@ pub use dsc_streams::{
     SureSource,
 };
 pub use dsc_words::Plan;
-pub use laws::encoded_calls_are_reported;
+pub use laws::{encoded_calls_are_reported, inputs_have_one_output};
 pub use running::run;
 pub use slot_join::{
     alike_facts_have_one_answer, intact_copies_report_the_call, sent_call_is_answered,

@@ -4,9 +4,10 @@ ghost use Rattle.line_engine.specs.Endings.{IsFinished, IsOfFault, IsBrokenOff, 
 ghost use Rattle.dsc_words.specs.Words.{IsInRange, IsPlan};
 ghost use Rattle.dsc_words.specs.declared.plans.Plan.TheVariants.{Join as joins, Make as makes};
 ghost use Rattle.dsc_words.specs.declared.plans.Plan.{Plan as Planned};
-ghost use Rattle.dsc_cmd.specs.Plans.{meaning_of, input_of, words_refused, IsQuietPlan, IsUnplanned, CutsOffWords, CutsOffPlan, TellsPlanFront, WritesSummary};
+ghost use Rattle.dsc_cmd.specs.Plans.{meaning_of, input_of, words_refused, IsQuietPlan, IsUnplanned, CutsOffWords, CutsOffPlan, TellsPlanFront, WritesSummary, WritesFrontOfOutput};
 ghost use Rattle.dsc_cmd.specs.Sent.{ReportsSent};
 
+use crate::laws::inputs_have_one_output;
 use crate::making::make;
 use dsc_streams::{Failed, Sink, Source, Status, write_all};
 use dsc_words::{Plan, PlanError, one_plan, plan_of};
@@ -163,6 +164,8 @@ pub fn run<R: Threads + Sync, S: Source, K: Sink, G: Gate>(
         → TellsFault (meaning_of plan) (input_of plan (S.left source.old)) (input_of plan (S.left source.new)) (K.written sink.old) (K.written sink.new) (K.flushed sink.new) result }
     ensures stopped { (plan : Planned) → IsPlan (map string_bytes words.now) plan → result ≡ 4
         → TellsSoFar (meaning_of plan) (input_of plan (S.left source.old)) (input_of plan (S.left source.new)) (K.written sink.old) (K.written sink.new) }
+    ensures front { (plan : Planned) → IsPlan (map string_bytes words.now) plan → IsBrokenOff result
+        → WritesFrontOfOutput (meaning_of plan) (input_of plan (S.left source.old)) (input_of plan (S.left source.new)) (K.written sink.old) (K.written sink.new) }
     ensures read_fault { result ≡ 4 → Rises (S.faults source.old) (S.faults source.new) }
     ensures write_fault { result ≡ 5 → Rises (K.faults sink.old) (K.faults sink.new) }
     ensures cut { result ≡ 5 → CutsOffWords (map string_bytes words.now) (K.written sink.old) (K.written sink.new)
@@ -188,6 +191,7 @@ pub fn run<R: Threads + Sync, S: Source, K: Sink, G: Gate>(
             alike_facts_have_one_answer();
             sent_call_is_answered();
             intact_copies_report_the_call();
+            inputs_have_one_output();
             execute(rt, alloc, plan, source, sink, gate)
         }
         Err(PlanError::Refused) => refuse(sink),

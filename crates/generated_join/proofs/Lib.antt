@@ -3,3 +3,4 @@ mod Groups
 mod Counting
 mod LineTexts
 mod JoinTexts
+mod OneSummary

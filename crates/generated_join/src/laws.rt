@@ -5,7 +5,9 @@ ghost use Rattle.join_groups.specs.Groups.{AreLines};
 ghost use Rattle.join_groups.specs.Output.{is_reported, IsJoinText};
 ghost use Rattle.generated_join.specs.declared.summary.Summary.{Summary as Numbers};
 ghost use Rattle.generated_join.specs.Generator.{generated, generated_texts};
-ghost use Rattle.generated_join.specs.Summary.{IsSummary};
+ghost use Rattle.generated_join.specs.Summary.{IsSummary, IsMade};
+
+use slot_join::one_answer;
 
 /// The law that the generated lines are lines of join's input, each of these bytes. It does nothing.
 pub fn generated_lines_are_read()
@@ -18,3 +20,10 @@ pub fn joins_end_so()
     ensures { (said : List JoinLine) (summary : Numbers) (is : IsSummary said summary)
         → (text : List ℕ) × IsJoinText said text (if list_all (λ one. is_reported one.answer) is.all then 0 else 1) }
 {}
+
+/// The law that `make n` has one text and status. It does nothing.
+pub fn made_text_is_one()
+    ensures { (n : ℕ) (a b : List ℕ) (s t : ℕ) → IsMade n a s → IsMade n b t → (a ≡ b) × (s ≡ t) }
+{
+    one_answer();
+}

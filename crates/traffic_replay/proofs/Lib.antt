@@ -5,3 +5,5 @@ mod Happened
 mod Beginnings
 mod Unique
 mod Receivers
+mod Fronts
+mod Determined

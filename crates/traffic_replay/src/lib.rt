@@ -3,6 +3,7 @@
 
 mod command;
 mod heard;
+mod laws;
 mod outcomes;
 mod replaying;
 mod stations;
@@ -11,4 +12,5 @@ mod steps;
 pub use act_texts::{put_act, put_refused};
 pub use civil_time::civil_minute;
 pub use command::Replay;
+pub use laws::lines_determine_output;
 pub use replaying::replay;

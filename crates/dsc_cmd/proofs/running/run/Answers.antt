@@ -3,7 +3,8 @@ use Rattle.dsc_words.specs.declared.plans.PlanError.{PlanError}
 use Rattle.dsc_words.specs.declared.plans.Plan.{Plan}
 use Rattle.dsc_words.specs.declared.plans.Plan.TheVariants.{Join, Make}
 use Rattle.line_engine.specs.Endings.{TellsWhole}
-use Rattle.dsc_cmd.specs.Plans.{meaning_of, input_of, IsQuietPlan}
+use Rattle.dsc_cmd.specs.Plans.{meaning_of, input_of, IsQuietPlan, WritesFrontOfOutput}
+use Rattle.dsc_cmd.proofs.FrontsOfOutput.{front_broken_off, front_none}
 use Rattle.dsc_cmd.proofs.MadeEndings.{summary_of_whole}
 use Rattle.dsc_cmd.proofs.SentGroups.{Laws, reports_sent}
 use Rattle.dsc_cmd.proofs.running.run.Goals as goal
@@ -58,3 +59,19 @@ returns-in-Ok-clause-answered g c = λ plan planned finished.
     subst (λ (plan : Plan). TellsWhole (meaning_of plan) (input_of plan (g.S.Source.left c.args.source.now)) (input_of plan (g.S.Source.left c.execute.new.source))
     (g.K.Sink.written c.args.sink.now) (g.K.Sink.written c.execute.new.sink) (g.K.Sink.flushed c.execute.new.sink) c.execute.result)
     (c.one_plan.ensures _ c.in-Ok.plan plan c.in-Ok.ensures.planned planned) (c.execute.ensures.whole finished)
+
+-- ---- a run that was broken off wrote a front of the output
+
+pub returns-in-Ok-clause-front : goal.returns-in-Ok-clause-front
+returns-in-Ok-clause-front g c = λ plan planned broken_off.
+    subst (λ (plan : Plan). WritesFrontOfOutput (meaning_of plan) (input_of plan (g.S.Source.left c.args.source.now)) (input_of plan (g.S.Source.left c.execute.new.source))
+    (g.K.Sink.written c.args.sink.now) (g.K.Sink.written c.execute.new.sink))
+    (c.one_plan.ensures _ c.in-Ok.plan plan c.in-Ok.ensures.planned planned)
+    (front_broken_off (meaning_of c.in-Ok.plan) (c.inputs_have_one_output.ensures.determined c.in-Ok.plan) _ _ _ _ c.execute.result broken_off
+    c.execute.ensures.stopped c.execute.ensures.cut c.execute.ensures.memory)
+
+pub returns-in-Err-Refused-clause-front : goal.returns-in-Err-Refused-clause-front
+returns-in-Err-Refused-clause-front g c = λ plan planned broken_off. absurd (c.in-Err-Refused.ensures.refused (ap (λ (e : PlanError). Err e) c.in-Err-Refused.field-0-is) plan planned)
+
+pub returns-in-Err-Memory-clause-front : goal.returns-in-Err-Memory-clause-front
+returns-in-Err-Memory-clause-front g c = λ plan planned broken_off. front_none (meaning_of plan) (input_of plan (g.S.Source.left c.args.source.now)) (g.K.Sink.written c.args.sink.now)

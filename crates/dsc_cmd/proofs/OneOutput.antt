@@ -1,0 +1,42 @@
+-- the lines of each command's input determine its output
+use Rattle.std.proofs.Common.{◌≡◌, ℕ, Bool, List, [], ◌++◌, sym, ap, ◌∙◌}
+use Rattle.line_engine.specs.Determined.{IsDetermined, BeginsWith}
+use Rattle.dsc_words.specs.declared.plans.Plan.{Plan}
+use Rattle.dsc_words.specs.declared.plans.Plan.TheVariants.{Join, Evidence, Encode, Sentences, Replay, Make}
+use Rattle.join_groups.specs.Output.{TellsAnswer, TellsEvidence}
+use Rattle.join_groups.specs.Meanings.{groups_meaning}
+use Rattle.encode_calls.specs.Encoding.{encode_meaning}
+use Rattle.sentence_files.specs.Telling.{sentences_meaning}
+use Rattle.traffic_replay.specs.Meaning.{replay_meaning}
+use Rattle.generated_join.specs.Summary.{IsMade}
+use Rattle.dsc_cmd.specs.Plans.{made_meaning, meaning_of}
+
+-- the laws of the commands' crates
+pub record Laws : Type 0 where
+  pub join : IsDetermined (groups_meaning TellsAnswer)
+  pub evidence : IsDetermined (groups_meaning TellsEvidence)
+  pub encode : (long : Bool) → IsDetermined (encode_meaning long)
+  pub sentences : IsDetermined sentences_meaning
+  pub replay : IsDetermined replay_meaning
+  pub made : (n : ℕ) (a b : List ℕ) (s t : ℕ) → IsMade n a s → IsMade n b t → (a ≡ b) × (s ≡ t)
+
+-- every text begins with nothing
+begins_empty : (text whole : List ℕ) → text ≡ [] → BeginsWith whole text
+begins_empty text whole e = (whole, ap (λ (t : List ℕ). t ++ whole) (sym e))
+
+made_determined : Laws → (n : ℕ) → IsDetermined (made_meaning n)
+made_determined laws n = record {
+  one_column = λ earlier line p q h k. absurd h;
+  one_text = λ lines a b none g h. g ∙ sym h;
+  grows = λ first later text whole none g h. begins_empty text whole g;
+  one_end = λ lines a b s t none g h. laws.made n a b s t g h;
+  ends = λ first later text whole status none g h. begins_empty text whole g;
+}
+
+pub plan_determined : Laws → (plan : Plan) → IsDetermined (meaning_of plan)
+plan_determined laws (Join workers) = laws.join
+plan_determined laws (Evidence workers) = laws.evidence
+plan_determined laws (Encode long) = laws.encode long
+plan_determined laws Sentences = laws.sentences
+plan_determined laws (Replay workers) = laws.replay
+plan_determined laws (Make n) = made_determined laws n

@@ -1,0 +1,185 @@
+-- what the first lines of a traffic file said, and their text
+use Rattle.std.proofs.Common.{◌≡◌, ℕ, Bool, true, List, [], ◌∷◌, ◌++◌, refl, sym, ◌∙◌, ap, subst, append_assoc, append-nil, ◌⊎◌, inl, inr}
+use Rattle.call_values.specs.declared.choices.Band.{Band}
+use Rattle.area_rules.specs.Rules.{Rules}
+use Rattle.line_engine.specs.Lines.{Lines}
+use Rattle.line_engine.specs.Determined.{BeginsWith}
+use Rattle.ship_station.specs.ShipRules.{ship_rules}
+use Rattle.coast_station.specs.CoastRules.{coast_rules}
+use Rattle.traffic_lines.specs.declared.lines.EventLine.{EventLine}
+use Rattle.traffic_lines.specs.declared.lines.Point.{Point}
+use Rattle.traffic_lines.specs.declared.lines.Point.TheVariants as point
+use Rattle.traffic_lines.specs.declared.lines.TrafficLine.TheVariants as line
+use Rattle.traffic_lines.specs.Lines.{MayStand}
+use Rattle.dsc_files.specs.JoinLine.{JoinLine, nothing, reception, evidence}
+use Rattle.dsc_files.specs.PointLine.{PointLine, joined, traffic, IsPointLine}
+use Rattle.traffic_replay.specs.Said.{Said, Kind, ship, coast, kind_of, identities_of, station_of, among_events, point_of, AreSaid}
+use Rattle.traffic_replay.specs.Happenings.{Taking, taking_ship, taking_coast, Happening, AreHappenings}
+use Rattle.traffic_replay.specs.Output.{history_of, text_of, all_accepted, written_behind}
+use Rattle.traffic_replay.specs.Meaning.{Tells, StationTells}
+use Rattle.traffic_replay.specs.inside.Progress.{IsBeforeEvents}
+
+-- behind an event or a line of receivers there are no further lines of the station's own
+among_never : (kind : Kind) → IsBeforeEvents (among_events kind) → ⊥
+among_never ship early = early
+among_never (coast band) early = early
+
+ship_early : (p : Point) (mmsi : ℕ) → MayStand p (line.Ship mmsi) → IsBeforeEvents p
+ship_early point.Station mmsi may = tt
+ship_early point.Base mmsi may = absurd may
+ship_early (point.Groups held) mmsi may = absurd may
+ship_early point.Ship mmsi may = absurd may
+ship_early point.Coast mmsi may = absurd may
+
+coast_early : (p : Point) (mmsi : ℕ) (band : Band) → MayStand p (line.Coast mmsi band) → IsBeforeEvents p
+coast_early point.Station mmsi band may = tt
+coast_early point.Base mmsi band may = absurd may
+coast_early (point.Groups held) mmsi band may = absurd may
+coast_early point.Ship mmsi band may = absurd may
+coast_early point.Coast mmsi band may = absurd may
+
+base_early : (p : Point) (second : ℕ) → MayStand p (line.Base second) → IsBeforeEvents p
+base_early point.Station second may = absurd may
+base_early point.Base second may = tt
+base_early (point.Groups held) second may = absurd may
+base_early point.Ship second may = absurd may
+base_early point.Coast second may = absurd may
+
+group_early : (p : Point) (mmsi : ℕ) → MayStand p (line.Group mmsi) → IsBeforeEvents p
+group_early point.Station mmsi may = absurd may
+group_early point.Base mmsi may = absurd may
+group_early (point.Groups held) mmsi may = tt
+group_early point.Ship mmsi may = absurd may
+group_early point.Coast mmsi may = absurd may
+
+-- in front of the first event nothing happened
+none_early : {What : Type 0} (taking : Taking What) (said : Said) (lines : Lines) → AreSaid said lines → IsBeforeEvents (point_of said) → AreHappenings taking said []
+none_early taking [] lines are early = refl
+none_early taking (joined nothing ∷ said) lines are early = none_early taking said are.0 are.4 early
+none_early taking (joined (reception group e) ∷ said) lines are early = absurd (among_never (kind_of said) early)
+none_early taking (joined (evidence group pairs) ∷ said) lines are early = absurd (among_never (kind_of said) early)
+none_early taking (traffic (line.Ship mmsi) ∷ said) lines are early = none_early taking said are.0 are.4 (ship_early (point_of said) mmsi are.3.0)
+none_early taking (traffic (line.Coast mmsi band) ∷ said) lines are early = none_early taking said are.0 are.4 (coast_early (point_of said) mmsi band are.3.0)
+none_early taking (traffic (line.Base second) ∷ said) lines are early = none_early taking said are.0 are.4 (base_early (point_of said) second are.3.0)
+none_early taking (traffic (line.Group mmsi) ∷ said) lines are early = none_early taking said are.0 are.4 (group_early (point_of said) mmsi are.3.0)
+none_early taking (traffic (line.Event at what) ∷ said) lines are early = absurd (among_never (kind_of said) early)
+
+-- a text that begins with that of what was said
+pub record IsBehind (kind : Kind) (said : Said) (whole : List ℕ) : Type 0 where
+  pub text : List ℕ
+  pub is_well : Bool
+  pub tells : StationTells kind said text is_well
+  pub begins : BeginsWith whole text
+
+tells_none : (kind : Kind) (said : Said) (lines : Lines) → AreSaid said lines → IsBeforeEvents (point_of said) → StationTells kind said [] true
+tells_none ship said lines are early = record { happened = []; are_happenings = none_early taking_ship said lines are early; text_is = refl; well_is = refl }
+tells_none (coast band) said lines are early = record { happened = []; are_happenings = none_early taking_coast said lines are early; text_is = refl; well_is = refl }
+
+-- every text begins with that of lines without an event
+behind_none : (kind : Kind) (said : Said) (lines : Lines) (whole : List ℕ) → AreSaid said lines → IsBeforeEvents (point_of said) → IsBehind kind said whole
+behind_none kind said lines whole are early = record { text = []; is_well = true; tells = tells_none kind said lines are early; begins = (whole, refl) }
+
+behind_same : (kind : Kind) (said : Said) (whole : List ℕ) (is_well : Bool) → StationTells kind said whole is_well → IsBehind kind said whole
+behind_same kind said whole is_well tells = record { text = whole; is_well = is_well; tells = tells; begins = ([], sym (append-nil whole)) }
+
+-- a line of receivers, or one that says nothing, gives no text
+without_joined : (kind : Kind) (l : JoinLine) (said : Said) (whole : List ℕ) (is_well : Bool) → StationTells kind (joined l ∷ said) whole is_well → StationTells kind said whole is_well
+without_joined ship l said whole is_well tells =
+    record { happened = tells.happened; are_happenings = tells.are_happenings; text_is = tells.text_is; well_is = tells.well_is }
+without_joined (coast band) l said whole is_well tells =
+    record { happened = tells.happened; are_happenings = tells.are_happenings; text_is = tells.text_is; well_is = tells.well_is }
+
+-- the text of an event stands behind that of the lines before it
+pub record IsLater {What : Type 0} (rules : Rules What) (taking : Taking What) (said : Said) (whole : List ℕ) : Type 0 where
+  pub text : List ℕ
+  pub is_well : Bool
+  pub tells : Tells rules taking said text is_well
+  pub begins : BeginsWith whole text
+
+without_event : {What : Type 0} (rules : Rules What) (taking : Taking What) (said : Said) (at : ℕ) (what : EventLine) (happened : List (Happening What)) (whole : List ℕ)
+    → AreHappenings taking (traffic (line.Event at what) ∷ said) happened → whole ≡ text_of rules happened → IsLater rules taking said whole
+without_event rules taking said at what [] whole are is = absurd are
+without_event rules taking said at what (h ∷ happened) whole are is = record {
+  text = text_of rules happened;
+  is_well = all_accepted rules happened;
+  tells = record { happened = happened; are_happenings = are.2; text_is = refl; well_is = refl };
+  begins = (written_behind rules (history_of rules happened) h.at h.outcome, is);
+}
+
+behind_event : (kind : Kind) (at : ℕ) (what : EventLine) (said : Said) (whole : List ℕ) (is_well : Bool) → StationTells kind (traffic (line.Event at what) ∷ said) whole is_well
+    → IsBehind kind said whole
+behind_event ship at what said whole is_well tells =
+    let l = without_event (ship_rules (identities_of said)) taking_ship said at what tells.happened whole tells.are_happenings tells.text_is in
+    record { text = l.text; is_well = l.is_well; tells = l.tells; begins = l.begins }
+behind_event (coast band) at what said whole is_well tells =
+    let l = without_event (coast_rules (station_of band said)) taking_coast said at what tells.happened whole tells.are_happenings tells.text_is in
+    record { text = l.text; is_well = l.is_well; tells = l.tells; begins = l.begins }
+
+-- the text of lines begins with that of all but the last
+one_less : (last : PointLine) (said : Said) (lines : Lines) (text whole : List ℕ) (is_well : Bool) → AreSaid said lines → IsPointLine (point_of said) last text
+    → StationTells (kind_of (last ∷ said)) (last ∷ said) whole is_well → IsBehind (kind_of said) said whole
+one_less (joined l) said lines text whole is_well are is tells = behind_same (kind_of said) said whole is_well (without_joined (kind_of said) l said whole is_well tells)
+one_less (traffic (line.Ship mmsi)) said lines text whole is_well are is tells = behind_none (kind_of said) said lines whole are (ship_early (point_of said) mmsi is.0)
+one_less (traffic (line.Coast mmsi band)) said lines text whole is_well are is tells = behind_none (kind_of said) said lines whole are (coast_early (point_of said) mmsi band is.0)
+one_less (traffic (line.Base second)) said lines text whole is_well are is tells = behind_none (kind_of said) said lines whole are (base_early (point_of said) second is.0)
+one_less (traffic (line.Group mmsi)) said lines text whole is_well are is tells = behind_none (kind_of said) said lines whole are (group_early (point_of said) mmsi is.0)
+one_less (traffic (line.Event at what)) said lines text whole is_well are is tells = behind_event (kind_of said) at what said whole is_well tells
+
+-- what the first lines said
+pub record IsFront (first : Lines) (whole : List ℕ) : Type 0 where
+  pub said : Said
+  pub are_said : AreSaid said first
+  pub behind : IsBehind (kind_of said) said whole
+
+-- the last line is the first lines' own, or one of the later ones
+no_more : (first later : Lines) → [] ≡ first ++ later → first ≡ []
+no_more [] later e = refl
+no_more (l ∷ first) later e = absurd (cc)
+
+tails : {x y : List ℕ} {xs ys : Lines} → x ∷ xs ≡ y ∷ ys → (x ≡ y) × (xs ≡ ys)
+tails e = (cc, cc)
+
+none_later : (first later : Lines) → first ++ later ≡ [] → later ≡ []
+none_later [] later e = e
+none_later (l ∷ first) later e = absurd (cc)
+
+last_of : (first later before : Lines) (text : List ℕ) → first ++ later ≡ before ++ text ∷ [] → (later ≡ []) ⊎ ((rest : Lines) × (before ≡ first ++ rest))
+last_of [] later before text e = inr (before, refl)
+last_of (l ∷ first) later [] text e = inl (none_later first later (tails e).1)
+last_of (l ∷ first) later (b ∷ before) text e =
+    elim (last_of first later before text (tails e).1) [
+      | inl none ↦ inl none
+      | inr rest ↦ inr (rest.0, ap (λ (h : List ℕ). h ∷ before) (sym (tails e).0) ∙ ap (λ (t : Lines). l ∷ t) rest.1)
+    ]
+
+begins_further : (whole middle text : List ℕ) → BeginsWith whole middle → BeginsWith middle text → BeginsWith whole text
+begins_further whole middle text a b = (b.0 ++ a.0, a.1 ∙ ap (λ (t : List ℕ). t ++ a.0) b.1 ∙ append_assoc text b.0 a.0)
+
+further : (first : Lines) (whole middle : List ℕ) → BeginsWith whole middle → IsFront first middle → IsFront first whole
+further first whole middle begins f = record {
+  said = f.said;
+  are_said = f.are_said;
+  behind =
+      record { text = f.behind.text; is_well = f.behind.is_well; tells = f.behind.tells; begins = begins_further whole middle f.behind.text begins f.behind.begins };
+}
+
+all_of : (said : Said) (lines first later : Lines) (whole : List ℕ) (is_well : Bool) → lines ≡ first ++ later → later ≡ [] → AreSaid said lines → StationTells (kind_of said) said whole is_well
+    → IsFront first whole
+all_of said lines first later whole is_well e none are tells = record {
+  said = said;
+  are_said = subst (AreSaid said) (e ∙ ap (λ (l : Lines). first ++ l) none ∙ append-nil first) are;
+  behind = behind_same (kind_of said) said whole is_well tells;
+}
+
+-- the text of lines begins with that of the first of them
+pub front_of : (said : Said) (lines first later : Lines) (whole : List ℕ) (is_well : Bool) → lines ≡ first ++ later → AreSaid said lines → StationTells (kind_of said) said whole is_well
+    → IsFront first whole
+front_of [] lines first later whole is_well e are tells =
+    record { said = []; are_said = no_more first later (sym are ∙ e); behind = behind_same ship [] whole is_well tells }
+front_of (last ∷ said) lines first later whole is_well e are tells =
+    elim (last_of first later are.0 are.1 (sym e ∙ are.2)) [
+      | inl none ↦ all_of (last ∷ said) lines first later whole is_well e none are tells
+      | inr rest ↦
+          let less = one_less last said are.0 are.1 whole is_well are.4 are.3 tells in
+          further first whole less.text less.begins (front_of said are.0 first rest.0 less.text less.is_well rest.1 are.4 less.tells)
+    ]
