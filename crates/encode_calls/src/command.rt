@@ -92,7 +92,7 @@ impl<D: Dots> Command for Encode<D> {
                 Ok(())
             }
             Err(LineFault::Column(n)) => Err(Refusal::Column(n)),
-            Err(LineFault::NoMemory) => Err(Refusal::Memory),
+            Err(LineFault::NoMemory) => unreachable!(),
         }
     }
 

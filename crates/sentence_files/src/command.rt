@@ -104,7 +104,7 @@ impl Command for Sentences {
                 Ok(())
             }
             Err(LineFault::Column(n)) => Err(Refusal::Column(n)),
-            Err(LineFault::NoMemory) => Err(Refusal::Memory),
+            Err(LineFault::NoMemory) => unreachable!(),
         }
     }
 
