@@ -47,6 +47,8 @@ impl Coast {
     /// casualty is open (`NoCasualty`); accepting on MF or HF without a delay (`NeedsDelay`); a call that the operator may not
     /// send (`NotSendable`); an answer to a number under which no call that was got is held (`NoSuchCall`); what would begin a
     /// seventeenth casualty or held call (`Full`).
+    // This and what gives acts stand in frames of their own, so that only those of one event's way lie on the stack.
+    #[inline(never)]
     pub fn step(&mut self, event: &CoastEvent) -> Result<Acts, StationRefusal>
         ensures answer { (who : Station) (h : History What) → Stands self.old who h → listed result ≡ answer_to (coast_rules who) h event.now.at event.now.what }
         ensures stands { (who : Station) (h : History What) → Stands self.old who h → Stands self.new who (continued (coast_rules who) h event.now.at event.now.what) }
@@ -62,6 +64,7 @@ impl Coast {
     }
 
     /// Does what is due at an event that isn't before the last accepted one.
+    #[inline(never)]
     fn handle(&mut self, at: u64, what: &CoastWhat) -> Result<Acts, StationRefusal>
         ensures answer { listed result ≡ answer_by self.old at what.now }
         ensures after { OnOk result (self.new ≡ afterwards self.old at what.now) }
@@ -78,6 +81,7 @@ impl Coast {
     }
 
     /// Accepts the alert of a ship, and acknowledges it where that is due at once.
+    #[inline(never)]
     fn accept(
         &mut self,
         at: u64,
@@ -108,6 +112,7 @@ impl Coast {
     }
 
     /// Acknowledges the alerts whose delay has passed, and then sends held calls again or gives them up.
+    #[inline(never)]
     fn tick(&mut self, at: u64) -> Acts
         ensures answer { Ok result.items ≡ answer_by self.old at What.Tick }
         ensures after { self.new ≡ afterwards self.old at What.Tick }
@@ -119,6 +124,7 @@ impl Coast {
     }
 
     /// Tells the alert of a ship on.
+    #[inline(never)]
     fn relay(&mut self, at: u64, mmsi: Mmsi, to: To, ask: bool) -> Result<Acts, StationRefusal>
         ensures answer { listed result ≡ answer_by self.old at (What.Relay mmsi to ask) }
         ensures after { OnOk result (self.new ≡ afterwards self.old at (What.Relay mmsi to ask)) }
@@ -134,6 +140,7 @@ impl Coast {
     }
 
     /// Sends a call of the operator.
+    #[inline(never)]
     fn send(&mut self, at: u64, call: &Call) -> Result<Acts, StationRefusal>
         ensures answer { listed result ≡ answer_by self.old at (What.Send call.now) }
         ensures after { OnOk result (self.new ≡ afterwards self.old at (What.Send call.now)) }
@@ -145,6 +152,7 @@ impl Coast {
     }
 
     /// Answers a call that was got.
+    #[inline(never)]
     fn answer(&mut self, at: u64, number: u8, accepts: bool) -> Result<Acts, StationRefusal>
         ensures answer { listed result ≡ answer_by self.old at (What.Answer number accepts) }
         ensures after { OnOk result (self.new ≡ afterwards self.old at (What.Answer number accepts)) }
@@ -156,6 +164,7 @@ impl Coast {
     }
 
     /// Hears a call, which is for the station where another station sent it and it reaches this one.
+    #[inline(never)]
     fn hear(&mut self, at: u64, call: &Call) -> Result<Acts, StationRefusal>
         ensures answer { listed result ≡ answer_by self.old at (What.Heard call.now) }
         ensures after { OnOk result (self.new ≡ afterwards self.old at (What.Heard call.now)) }
@@ -177,6 +186,7 @@ impl Coast {
     }
 
     /// Hears the alert of another station, which is for this one.
+    #[inline(never)]
     fn hear_alert(&mut self, at: u64, alert: &Casualty) -> Result<Acts, StationRefusal>
         requires { rules.is_for self.old.own (form.Alert alert.now) ≡ true }
         ensures answer { listed result ≡ answer_by self.old at (What.Heard (form.Alert alert.now)) }
@@ -189,6 +199,7 @@ impl Coast {
     }
 
     /// Hears that another station has acknowledged the alert of a ship: its casualty is closed.
+    #[inline(never)]
     fn hear_acknowledgement(&mut self, at: u64, from: Mmsi, casualty: &Casualty) -> Acts
         requires { rules.is_for self.old.own (form.Ack from casualty.now) ≡ true }
         ensures answer { Ok result.items ≡ answer_by self.old at (What.Heard (form.Ack from casualty.now)) }

@@ -16,6 +16,8 @@ use std::alloc::Global;
 
 /// The plan that the words are; the first of them is the program's name. `Refused` where they are none, and `Memory` where
 /// no memory was found to read them.
+// In a frame of its own: what `clap` builds doesn't lie on the stack while a command runs.
+#[inline(never)]
 pub fn plan_of(alloc: Global, words: &[String]) -> Result<Plan, PlanError>
     ensures planned { IfOk result (IsPlan (map string_bytes words.now)) }
     ensures range { IfOk result IsInRange }

@@ -69,6 +69,8 @@ impl Ship {
     /// (`NeedsDelay`); a cancel where no alert is on (`NoAlert`); a tick where an alert is on and no delay is held (`NeedsDelay`);
     /// a call that the operator may not send (`NotSendable`); an answer to a number under which no call that was got is held
     /// (`NoSuchCall`); a sent or heard call that must be held where no number is free (`Full`).
+    // This and what gives acts stand in frames of their own, so that only those of one event's way lie on the stack.
+    #[inline(never)]
     pub fn step(&mut self, event: &ShipEvent) -> Result<Acts, StationRefusal>
         ensures answer { (who : Identities) (h : History What) → Stands self.old who h → listed result ≡ answer_to (ship_rules who) h event.now.at event.now.what }
         ensures stands { (who : Identities) (h : History What) → Stands self.old who h → Stands self.new who (continued (ship_rules who) h event.now.at event.now.what) }
@@ -90,6 +92,7 @@ impl Ship {
         }
     }
 
+    #[inline(never)]
     fn keep_position(
         &mut self,
         at: u64,
@@ -106,6 +109,7 @@ impl Ship {
         Ok(ArrayVec::new())
     }
 
+    #[inline(never)]
     fn keep_delay(&mut self, at: u64, delay: AlertDelay) -> Result<Acts, StationRefusal>
         ensures answer { AnswersEvent self.old at (What.Delay delay) result }
         ensures goes_on { GoesOn self.old at (What.Delay delay) self.new }
@@ -120,6 +124,7 @@ impl Ship {
     }
 
     /// Begins an alert, with its first attempt.
+    #[inline(never)]
     fn alert(&mut self, at: u64, nature: Nature, comm: Comm) -> Result<Acts, StationRefusal>
         ensures answer { AnswersEvent self.old at (What.Alert nature comm) result }
         ensures goes_on { GoesOn self.old at (What.Alert nature comm) self.new }
@@ -139,6 +144,7 @@ impl Ship {
     }
 
     /// Ends the alert by hand.
+    #[inline(never)]
     fn cancel(&mut self, at: u64) -> Result<Acts, StationRefusal>
         ensures answer { AnswersEvent self.old at What.Cancel result }
         ensures goes_on { GoesOn self.old at What.Cancel self.new }
@@ -153,6 +159,7 @@ impl Ship {
     }
 
     /// Repeats the alert that is on, where its time has come, and then the held calls.
+    #[inline(never)]
     fn tick(&mut self, at: u64) -> Result<Acts, StationRefusal>
         ensures answer { AnswersEvent self.old at What.Tick result }
         ensures goes_on { GoesOn self.old at What.Tick self.new }
@@ -175,6 +182,7 @@ impl Ship {
     }
 
     /// Makes an attempt of the alert that is on, where at least the first delay has passed since the last attempt.
+    #[inline(never)]
     fn attempt_again(&mut self, at: u64) -> Acts
         ensures acts { result.items ≡ at_tick self.old.own (self.old.position, self.old.time) self.old.alert self.old.delays.items self.old.attempted_at at }
         ensures few { length result.items ≤ 1 }
@@ -194,6 +202,7 @@ impl Ship {
     }
 
     /// Sends a call that the operator gives.
+    #[inline(never)]
     fn send(&mut self, at: u64, call: &Call) -> Result<Acts, StationRefusal>
         ensures answer { AnswersEvent self.old at (What.Send call.now) result }
         ensures goes_on { GoesOn self.old at (What.Send call.now) self.new }
@@ -205,6 +214,7 @@ impl Ship {
     }
 
     /// Answers the call that was got under a number, as the operator accepts or declines it.
+    #[inline(never)]
     fn answer(&mut self, at: u64, number: u8, accepts: bool) -> Result<Acts, StationRefusal>
         ensures answer { AnswersEvent self.old at (What.Answer number accepts) result }
         ensures goes_on { GoesOn self.old at (What.Answer number accepts) self.new }
@@ -215,6 +225,7 @@ impl Ship {
         Ok(acts)
     }
 
+    #[inline(never)]
     fn hear(&mut self, at: u64, call: &Call) -> Result<Acts, StationRefusal>
         ensures answer { AnswersEvent self.old at (What.Heard call.now) result }
         ensures goes_on { GoesOn self.old at (What.Heard call.now) self.new }
@@ -246,6 +257,7 @@ impl Ship {
     }
 
     /// Hears a call for this ship that is neither a distress alert nor its acknowledgement.
+    #[inline(never)]
     fn hear_traffic(&mut self, at: u64, call: &Call) -> Result<Acts, StationRefusal>
         ensures answer { listed result ≡ refusal_or (heard_refusal self.old.held call.now)
             (heard_due self.old.own (Some (self.old.position, self.old.time)) self.old.held call.now) }
@@ -259,6 +271,7 @@ impl Ship {
     }
 
     /// Ends the alert that is on, where its acknowledgement names this ship.
+    #[inline(never)]
     fn hear_acknowledgement(&mut self, casualty: &Casualty) -> Acts
         ensures acts { result.items ≡ if is_some self.old.alert && (casualty.now.mmsi == self.old.own) then AlertEnded ∷ [] else [] }
         ensures ended { self.new ≡ record self.old { alert = if is_some self.old.alert && (casualty.now.mmsi == self.old.own) then None else self.old.alert } }

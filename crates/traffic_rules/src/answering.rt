@@ -35,6 +35,7 @@ pub fn answer(
 }
 
 /// The answer to a call, where there is one.
+#[inline(never)]
 fn reply(own: Mmsi, accepts: bool, call: &Call) -> Acts
     ensures { result.items ≡ answering.reply_to own accepts call.now }
 {

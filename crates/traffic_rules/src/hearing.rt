@@ -35,6 +35,7 @@ pub fn hear(
 }
 
 /// Tells of the distress of a relay, and holds the call under the least free number, unless an equal one is held as got.
+#[inline(never)]
 fn hear_question(held: &mut HeldCalls, call: &Call, at: u64) -> Result<Acts, StationRefusal>
     requires { IsTrue (hearing.is_question call.now) }
     ensures answer { listed result ≡ refusal_or (hearing.heard_refusal held.old call.now) (hearing.question_due held.old call.now) }
@@ -52,6 +53,7 @@ fn hear_question(held: &mut HeldCalls, call: &Call, at: u64) -> Result<Acts, Sta
 }
 
 /// Frees the least number of a sent call that an acknowledgement answers, or else shows the acknowledgement.
+#[inline(never)]
 fn hear_acknowledgement(held: &mut HeldCalls, call: &Call) -> Acts
     ensures acts { result.items ≡ hearing.answered_or_shown (hearing.answered_number held.old call.now) }
     ensures held { held.new ≡ freed_at (hearing.answered_number held.old call.now) held.old }
@@ -66,6 +68,7 @@ fn hear_acknowledgement(held: &mut HeldCalls, call: &Call) -> Acts
 }
 
 /// A relay tells of distress.
+#[inline(never)]
 fn distress_told(call: &Call) -> Acts
     ensures { result.items ≡ hearing.distress_told call.now }
 {
@@ -131,6 +134,7 @@ fn is_answered_by(call: &Call, place: &Option<Holding>) -> bool
 }
 
 /// What is due at once at a call that is neither a question nor an acknowledgement.
+#[inline(never)]
 fn at_once(own: Mmsi, place: Option<(Position, HourMinute)>, call: &Call) -> Acts
     ensures { result.items ≡ hearing.due_at_once own place call.now }
 {
