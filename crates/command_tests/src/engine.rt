@@ -58,7 +58,7 @@ impl Command for Echo {
 
 /// The law that lines determine what is said again of them. It does nothing.
 fn echoes_are_determined()
-    ensures { IsDetermined Echo.meaning }
+    ensures { IsDetermined ⟦<Echo as Command>⟧.meaning }
 {}
 
 /// Says at the end whether there was a line, and ends with 1 where there was one.
