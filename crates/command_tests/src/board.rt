@@ -90,6 +90,50 @@ fn two_seats_in_two_threads(rt: HostRuntime) -> Result<(), Fail> {
     Ok(())
 }
 
+/// What a look shows that comes after another thread's post: the one thread enters the gate behind its post, the other before its
+/// look, with a seat that posted and saw nothing.
+fn looked_behind_a_post<R: Threads + Sync>(
+    rt: &R,
+    alloc: Global,
+    gate: &Meeting,
+) -> Result<Sheet, AllocError> {
+    let (board, seat) = Board::<TwoFacts>::new(alloc)?;
+    let (one, other) = board.split(seat);
+    let shared = &board;
+    let posted = sheet_of(22);
+    let (_one, (_other, sheet)) = join(
+        rt,
+        move || -> Seat<TwoFacts>
+            requires { (one.table ≡ shared.now) × OnlyAllowed two_facts posted }
+        {
+            let one = shared.admit(one, &posted);
+            gate.enter(0);
+            one
+        },
+        move || -> (Seat<TwoFacts>, Sheet)
+            requires { other.table ≡ shared.now }
+        {
+            gate.enter(1);
+            shared.look(other)
+        },
+    );
+    Ok(sheet)
+}
+
+#[test]
+fn a_look_shows_what_another_thread_posted(rt: HostRuntime) -> Result<(), Fail> {
+    for _ in 0..10 {
+        let gate = Meeting::of(2);
+        let sheet = looked_behind_a_post(&rt, rt.alloc(), &gate)?;
+        assert_eq!(rt; gate.met(), 2);
+        for p in 0..64 {
+            let seen = if p == 8 { Seen::One(22) } else { Seen::None };
+            assert_eq!(rt; sheet.at(p), seen, "place {p}");
+        }
+    }
+    Ok(())
+}
+
 #[test]
 fn a_seat_dropped_on_the_way(rt: HostRuntime) -> Result<(), Fail> {
     let (board, seat) = Board::<TwoFacts>::new(rt.alloc())?;

@@ -17,7 +17,7 @@ use Rattle.receiver_pool.specs.Rule.{words_of, AreAllowed}
 use Rattle.receiver_pool.specs.Steps.{loaded_least, loaded_past}
 use Rattle.receiver_pool.specs.Seats.{IsResting}
 use Rattle.receiver_pool.specs.Looks.{lows_after}
-use Rattle.receiver_pool.specs.inside.Tells.{Changed, LoadsPastAt}
+use Rattle.receiver_pool.specs.inside.Tells.{Changed, IsPastFound}
 use Rattle.receiver_pool.specs.inside.Through.{LooksAt}
 
 -- a least and a greatest symbol, joined into a place of which nothing was kept
@@ -66,12 +66,12 @@ lows_none : (lows past : ℕ) → past ≡ 0 → lows ≡ lows_after lows past
 lows_none lows past none = ap (lows_after lows) (sym none)
 
 -- the greatest word was empty
-module _ (facts : List (ℕ × ℕ)) (p found : ℕ) (before after : View) (told : LoadsPastAt facts p before found after) where
+module _ (facts : List (ℕ × ℕ)) (p found : ℕ) (before after : View) (changed : Changed before p (loaded_past found (place_at before p)) after) (told : IsPastFound facts p before found) where
   here : place_at after p ≡ loaded_past found (place_at before p)
-  here = told.changed.here
+  here = changed.here
 
   pub changed_here : Changed before p (place_at after p) after
-  changed_here = record { here = refl; others = told.changed.others; share = told.changed.share; size = told.changed.size }
+  changed_here = record { here = refl; others = changed.others; share = changed.share; size = changed.size }
 
   pub nothing_looked : found ≡ 0 → IsResting (place_at before p).seen → LooksAt facts p (place_at before p) (place_at after p)
   nothing_looked none rest =
@@ -96,20 +96,20 @@ module _ (facts : List (ℕ × ℕ)) (p found : ℕ) (before after : View) (told
       sym (set-get_or sheet p seen.None) ∙ ap (set sheet p) (unseen ∙ sym is)
 
 -- both words were loaded
-module _ (facts : List (ℕ × ℕ)) (p past least : ℕ) (before mid after : View) (some_there : past ≡ 0 → ⊥) (first : LoadsPastAt facts p before past mid) (changed : Changed mid p (loaded_least least (place_at mid p)) after) where
+module _ (facts : List (ℕ × ℕ)) (p past least : ℕ) (before mid after : View) (some_there : past ≡ 0 → ⊥) (loaded : Changed before p (loaded_past past (place_at before p)) mid) (first : IsPastFound facts p before past) (changed : Changed mid p (loaded_least least (place_at mid p)) after) where
   whole : place_at after p ≡ loaded_least least (loaded_past past (place_at before p))
-  whole = changed.here ∙ ap (loaded_least least) first.changed.here
+  whole = changed.here ∙ ap (loaded_least least) loaded.here
 
   pub both_changed : Changed before p (place_at after p) after
   both_changed = record {
     here = refl;
-    others = λ q apart. changed.others q apart ∙ first.changed.others q apart;
-    share = changed.share ∙ first.changed.share;
-    size = changed.size ∙ first.changed.size;
+    others = λ q apart. changed.others q apart ∙ loaded.others q apart;
+    share = changed.share ∙ loaded.share;
+    size = changed.size ∙ loaded.size;
   }
 
   pub past_is : (place_at mid p).seen.past ≡ past
-  past_is = ap (λ (x : Place). x.seen.past) first.changed.here
+  past_is = ap (λ (x : Place). x.seen.past) loaded.here
 
   pub in_order : (0 < (place_at mid p).seen.past → least < (place_at mid p).seen.past) → (least < past) × (past ≤ 128)
   in_order met =
@@ -122,7 +122,7 @@ module _ (facts : List (ℕ × ℕ)) (p past least : ℕ) (before mid after : Vi
   pub both_looked : least ≤ (place_at mid p).seen.least → (0 < (place_at mid p).seen.past → least < (place_at mid p).seen.past) → (least < 128 → IsAllowed facts p least) → LooksAt facts p (place_at before p) (place_at after p)
   both_looked less met lawful =
       let c = place_at before p in
-      let same : (place_at mid p).seen.least ≡ c.seen.least = ap (λ (x : Place). x.seen.least) first.changed.here in
+      let same : (place_at mid p).seen.least ≡ c.seen.least = ap (λ (x : Place). x.seen.least) loaded.here in
       let more = first.no_less in
       let order = in_order met in
       subst (λ (x : Place). LooksAt facts p c x) (sym whole)

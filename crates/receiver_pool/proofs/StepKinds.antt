@@ -10,7 +10,7 @@ use Rattle.slot_evidence.specs.Allowed.{IsAllowed}
 use Rattle.receiver_pool.specs.Views.{Reach, Place, blank, View, place_at, blanks, spent}
 use Rattle.receiver_pool.specs.Rule.{words_of, Each, IsPlaceKept, IsKept}
 use Rattle.receiver_pool.specs.Steps.{posted_least, posted_past, loaded_least, loaded_past, uncounted, joined, joined_places, kept_half, new_half, both}
-use Rattle.receiver_pool.specs.inside.Tells.{Changed, posts_least, posts_past, LoadsLeast, LoadsPastAt, loads_past, weighs}
+use Rattle.receiver_pool.specs.inside.Tells.{Changed, posts_least, posts_past, loads_least, IsPastFound, loads_past, weighs}
 use Rattle.receiver_pool.proofs.Folds.{each_set, each_push, total_set, total_push, total_above}
 use Rattle.receiver_pool.proofs.OnePlace.{set_here_at, place_stays, least_posted, past_posted, least_loaded, past_loaded, half_comes, both_taken}
 
@@ -142,7 +142,7 @@ module _ (facts : List (ℕ × ℕ)) where
       )
 
   pub loads_least_keeps : (slots id : ℕ) (me : Me ℕ View) (p : ℕ) → p < 64 → 1 ≤ me.0.share
-      → Allows Rule slots id me p (λ n. n) (LoadsLeast facts (step slots p 0 0 none) me)
+      → Allows Rule slots id me p (λ n. n) (loads_least facts (step slots p 0 0 none) me)
   loads_least_keeps slots id me p below alive s kept homes at small =
       let n = slice_index s.words p in
       let c = loaded_least n (place_at me.0 p) in
@@ -156,13 +156,7 @@ module _ (facts : List (ℕ × ℕ)) where
         one_step s.words s.views id me.0 p c p n (words_of s.words p) kept at alive below
             (least_written s.words p n kept.size below) (λ q under apart. least_apart s.words p n q below apart)
             (least_loaded facts p (words_of s.words p) s.views id me.0 place at w (get_or-set_same me.0.places p c blank inside)),
-        record {
-          changed = with_changed me.0 p c inside;
-          no_slot = refl;
-          no_less = fits.seen_within.least;
-          met = fits.seen_met;
-          allowed = place.allowed.least;
-        },
+        (with_changed me.0 p c inside, record { no_less = fits.seen_within.least; met = fits.seen_met; allowed = place.allowed.least }, refl),
       )
 
   pub loads_past_keeps : (slots id : ℕ) (me : Me ℕ View) (p : ℕ) → p < 64 → 1 ≤ me.0.share
@@ -174,8 +168,7 @@ module _ (facts : List (ℕ × ℕ)) where
       let place = kept.places p below in
       let fits = place.fits id me.0 at in
       let inside = inside_view s.words s.views id me.0 p kept at below in
-      let told : LoadsPastAt facts p me.0 n w = record {
-        changed = with_changed me.0 p c inside;
+      let found : IsPastFound facts p me.0 n = record {
         no_less = fits.seen_within.past;
         least_allowed = (place.seen_allowed id me.0 at).least;
         allowed = place.allowed.greatest;
@@ -187,7 +180,7 @@ module _ (facts : List (ℕ × ℕ)) where
         one_step s.words s.views id me.0 p c (64 + p) n (words_of s.words p) kept at alive below
             (past_written s.words p n kept.size below) (λ q under apart. past_apart s.words p n q under apart)
             (past_loaded facts p (words_of s.words p) s.views id me.0 place at w (get_or-set_same me.0.places p c blank inside)),
-        ((λ q is under. let same : p ≡ q = omega arith in subst (λ (j : ℕ). LoadsPastAt facts j me.0 n w) same told), refl),
+        ((λ q is. let same : p ≡ q = omega arith in subst (λ (j : ℕ). Changed me.0 j (loaded_past n (place_at me.0 j)) w × IsPastFound facts j me.0 n) same (with_changed me.0 p c inside, found)), refl),
       )
 
   -- a load that changes nothing

@@ -1,10 +1,9 @@
 //! The board.
-ghost use Rattle.std.specs.Prelude.{◌≡◌, ℕ, ◌+◌, ◌<◌, ◌≤◌, IfOk, length};
+ghost use Rattle.std.specs.Prelude.{◌≡◌, ℕ, ◌+◌, ◌<◌, ◌≤◌, IfOk};
 ghost use Rattle.slot_evidence.specs.Facts.{Facts, no_facts, union};
 ghost use Rattle.slot_evidence.specs.Sheet.{IsEnds, seen_at};
 ghost use Rattle.slot_evidence.specs.Allowed.{OnlyAllowed};
-ghost use Rattle.receiver_pool.specs.Views.{no_reach, place_at, fresh, given_sheet, seen_sheet};
-ghost use Rattle.receiver_pool.specs.Rule.{words_of};
+ghost use Rattle.receiver_pool.specs.Views.{place_at, fresh, given_sheet, seen_sheet};
 ghost use Rattle.receiver_pool.specs.Steps.{admitted, uncounted, joined};
 ghost use Rattle.receiver_pool.specs.Looks.{IsLooked};
 
@@ -12,8 +11,7 @@ use crate::allowed::Allowed;
 use crate::looking::{look, taken};
 use crate::posting::post;
 use crate::seats::{Seat, WHOLE};
-use crate::steps::{Adds, Halves, Knowledge, Rule, Weighs};
-use atomic_table::Table;
+use crate::words::Words;
 use slot_evidence::{Sheet, sheet_is_lawful};
 use std::alloc::{AllocError, Global};
 use std::marker::Model;
@@ -22,32 +20,17 @@ use std::marker::Model;
 /// single steps on them and waits for no other. Contracts see a board as its table's name, which its seats have too.
 #[derive(Drop)]
 pub struct Board<A: Allowed> {
-    table: Table<u8, Knowledge, (), Rule<A>, Global>,
+    words: Words<A>,
 }
 
 impl<A: Allowed> Model for Board<A> {
-    ghost use Rattle.std.specs.Prelude.{◌≡◌};
     ghost use Rattle.atomic_table.specs.Seated.{TableId, table_id_coded};
 
     ghost Value = { TableId };
 
     ghost coded = { table_id_coded };
 
-    ghost view = { λ b. b.table.shared.table_id };
-
-    ghost invariant = { λ b. (b.table.shared.table_id.words ≡ 128) × (b.table.shared.table_id.slots ≡ 0) };
-}
-
-/// The words of an empty board.
-fn empty_words() -> [u64; 128]
-    ensures size { length result ≡ 128 }
-    ensures each { (p : ℕ) → p < 64 → words_of result p ≡ no_reach }
-{
-    let mut words = [0; 128];
-    for p in 0..64 {
-        words[p] = 128;
-    }
-    words
+    ghost view = { λ b. b.words };
 }
 
 impl<A: Allowed> Board<A> {
@@ -56,9 +39,8 @@ impl<A: Allowed> Board<A> {
         ensures seat { IfOk result (λ made. (made.1.table ≡ made.0) × (made.1.view ≡ fresh WHOLE)) }
         ensures empty { IfOk result (λ made. IsEnds no_facts (given_sheet made.1.view)) }
     {
-        let words = empty_words();
-        let (table, token) = Table::of_words(alloc, &words, &())?;
-        Ok((Board { table }, Seat::first(token)))
+        let (words, token) = Words::new(alloc)?;
+        Ok((Board { words }, Seat::first(token)))
     }
 
     /// Posts what a sheet keeps, the least symbol of each place before the greatest. Condition: it may be posted on this board.
@@ -84,7 +66,7 @@ impl<A: Allowed> Board<A> {
         ensures union { (F G : Facts) → IsEnds F (given_sheet seat.old.view) → IsEnds G sheet.now → IsEnds (union F G) (given_sheet seat.new.view) }
     {
         sheet_is_lawful(sheet);
-        post(&self.table.shared, &mut seat.token, sheet);
+        post(&self.words, &mut seat.token, sheet);
     }
 
     /// Makes two seats of one, with half of its share each and all that it knows. The new one has loaded nothing. Condition: a share of at least 2.
@@ -113,7 +95,7 @@ impl<A: Allowed> Board<A> {
         ensures new { (p : ℕ) → p < 64 → place_at result.view p ≡ uncounted (place_at seat.old.view p) }
         ensures given { (given_sheet seat.new.view ≡ given_sheet seat.old.view) × (given_sheet result.view ≡ given_sheet seat.old.view) }
     {
-        let token = self.table.shared.split_seat::<Halves>(&mut seat.token);
+        let token = self.words.split(&mut seat.token);
         let half = seat.share / 2;
         seat.share -= half;
         Seat::with_share(token, half)
@@ -140,8 +122,7 @@ impl<A: Allowed> Board<A> {
         ensures union { (F G : Facts) → IsEnds F (given_sheet seat.old.view) → IsEnds G (given_sheet other.view) → IsEnds (union F G) (given_sheet seat.new.view) }
     {
         let Seat { token, share, .. } = other;
-        self.table.shared.join_seat::<Adds>(&mut seat.token, token);
-        self.table.shared.load::<Weighs>(&mut seat.token, 0);
+        self.words.join(&mut seat.token, token);
         seat.share += share;
     }
 
@@ -155,7 +136,7 @@ impl<A: Allowed> Board<A> {
         ensures sheet { result.1 ≡ seen_sheet result.0.view }
         ensures allowed { OnlyAllowed A.facts result.1 }
     {
-        let sheet = look(&self.table.shared, &mut seat.token);
+        let sheet = look(&self.words, &mut seat.token);
         (seat, sheet)
     }
 
@@ -165,9 +146,9 @@ impl<A: Allowed> Board<A> {
         requires whole { seat.view.share ≡ WHOLE }
         ensures { result ≡ given_sheet seat.view }
     {
-        let Board { table } = self;
+        let Board { words } = self;
         let Seat { token, .. } = seat;
-        let closed = table.close_with(token);
+        let closed = words.close(token);
         let sheet = taken(&closed);
         closed.free();
         sheet

@@ -12,7 +12,6 @@ mod meeting;
 mod pools;
 mod posting;
 mod seats;
-mod steps;
 mod words;
 mod workers;
 

@@ -7,13 +7,11 @@ ghost use Rattle.slot_evidence.specs.Sheet.{seen_at};
 ghost use Rattle.receiver_pool.specs.Views.{place_at, kept_of, seen_sheet};
 ghost use Rattle.receiver_pool.specs.Rule.{words_of};
 ghost use Rattle.receiver_pool.specs.Seats.{IsResting, IsSeated};
-ghost use Rattle.receiver_pool.specs.Looks.{IsLooked};
 ghost use Rattle.receiver_pool.specs.inside.Tells.{Changed};
 ghost use Rattle.receiver_pool.specs.inside.Through.{Through, LooksAt};
 
 use crate::allowed::Allowed;
-use crate::steps::{Token, Words};
-use crate::words::{load_least, load_past};
+use crate::words::{Token, Words};
 use atomic_table::Closed;
 use slot_evidence::Sheet;
 use std::alloc::Global;
@@ -32,34 +30,32 @@ fn keep(sheet: &mut Sheet, p: u8, least: u64, past: u64)
 
 /// Loads the greatest word of a place, and behind it the least one where the greatest isn't empty.
 fn look_place<A: Allowed>(words: &Words<A>, token: &mut Token, sheet: &mut Sheet, p: u8)
-    requires table { (token.old.table_id ≡ words.now.table_id) × (words.now.table_id.words ≡ 128) }
+    requires table { token.old.table ≡ words.now }
     requires place { p < 64 }
-    requires alive { 1 ≤ token.old.me.0.share }
-    requires rest { IsResting (place_at token.old.me.0 p).seen }
+    requires alive { 1 ≤ token.old.view.share }
+    requires rest { IsResting (place_at token.old.view p).seen }
     requires size { length sheet.old ≡ 64 }
     requires unseen { seen_at sheet.old p ≡ seen.None }
-    ensures table { token.new.table_id ≡ token.old.table_id }
-    ensures no_slot { token.new.me.1 ≡ token.old.me.1 }
-    ensures place { Changed token.old.me.0 p (place_at token.new.me.0 p) token.new.me.0 }
-    ensures looked { LooksAt A.facts p (place_at token.old.me.0 p) (place_at token.new.me.0 p) }
-    ensures sheet { sheet.new ≡ slice_set sheet.old p (kept_of (place_at token.new.me.0 p).seen) }
+    ensures table { token.new.table ≡ token.old.table }
+    ensures place { Changed token.old.view p (place_at token.new.view p) token.new.view }
+    ensures looked { LooksAt A.facts p (place_at token.old.view p) (place_at token.new.view p) }
+    ensures sheet { sheet.new ≡ slice_set sheet.old p (kept_of (place_at token.new.view p).seen) }
 {
-    let past = load_past(words, token, p);
+    let past = words.load_past(token, p);
     if past == 0 {
         return;
     }
-    let least = load_least(words, token, p);
+    let least = words.load_least(token, p);
     keep(sheet, p, least, past);
 }
 
 /// Loads the words of each place, and answers what they say.
 pub(crate) fn look<A: Allowed>(words: &Words<A>, token: &mut Token) -> Sheet
-    requires table { (token.old.table_id ≡ words.now.table_id) × (words.now.table_id.words ≡ 128) }
-    requires seated { IsSeated token.old.me.0 }
-    ensures table { token.new.table_id ≡ token.old.table_id }
-    ensures no_slot { token.new.me.1 ≡ token.old.me.1 }
-    ensures places { Through (LooksAt A.facts) token.old.me.0 token.new.me.0 64 }
-    ensures sheet { result ≡ seen_sheet token.new.me.0 }
+    requires table { token.old.table ≡ words.now }
+    requires seated { IsSeated token.old.view }
+    ensures table { token.new.table ≡ token.old.table }
+    ensures places { Through (LooksAt A.facts) token.old.view token.new.view 64 }
+    ensures sheet { result ≡ seen_sheet token.new.view }
 {
     let mut sheet = Sheet::empty();
     for p in 0..64u8 {

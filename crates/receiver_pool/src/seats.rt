@@ -1,10 +1,10 @@
 //! The seat of one poster.
-ghost use Rattle.std.specs.Prelude.{◌≡◌, []};
+ghost use Rattle.std.specs.Prelude.{◌≡◌};
 ghost use Rattle.receiver_pool.specs.Views.{fresh};
 ghost use Rattle.receiver_pool.specs.Seats.{IsSeated};
 
 use crate::allowed::Allowed;
-use crate::steps::Token;
+use crate::words::Token;
 use std::marker::{Model, PhantomData};
 
 /// The share of a board's first seat.
@@ -20,14 +20,14 @@ pub struct Seat<A: Allowed> {
 }
 
 impl<A: Allowed> Model for Seat<A> {
-    ghost use Rattle.std.specs.Prelude.{◌≡◌, []};
+    ghost use Rattle.std.specs.Prelude.{◌≡◌};
     ghost use Rattle.receiver_pool.specs.Seats.{Held, IsSeated};
 
     ghost Value = { Held };
 
-    ghost view = { λ s. record { table = s.token.table_id; view = s.token.me.0 } };
+    ghost view = { λ s. s.token };
 
-    ghost invariant = { λ s. (s.share ≡ s.token.me.0.share) × IsSeated s.token.me.0 × (s.token.me.1 ≡ []) };
+    ghost invariant = { λ s. (s.share ≡ s.token.view.share) × IsSeated s.token.view };
 }
 
 impl<A: Allowed> Seat<A> {
@@ -40,9 +40,8 @@ impl<A: Allowed> Seat<A> {
 
     /// The first seat of a board.
     pub(crate) fn first(token: Token) -> Seat<A>
-        requires view { token.me.0 ≡ fresh WHOLE }
-        requires no_slot { token.me.1 ≡ [] }
-        ensures table { result.table ≡ token.table_id }
+        requires { token.view ≡ fresh WHOLE }
+        ensures table { result.table ≡ token.table }
         ensures view { result.view ≡ fresh WHOLE }
     {
         Seat::with_share(token, WHOLE)
@@ -50,11 +49,10 @@ impl<A: Allowed> Seat<A> {
 
     /// A seat with this share.
     pub(crate) fn with_share(token: Token, share: u32) -> Seat<A>
-        requires share { share ≡ token.me.0.share }
-        requires seated { IsSeated token.me.0 }
-        requires no_slot { token.me.1 ≡ [] }
-        ensures table { result.table ≡ token.table_id }
-        ensures view { result.view ≡ token.me.0 }
+        requires share { share ≡ token.view.share }
+        requires seated { IsSeated token.view }
+        ensures table { result.table ≡ token.table }
+        ensures view { result.view ≡ token.view }
     {
         Seat {
             token,

@@ -4,7 +4,7 @@ use mathlib.Core.Option.{none}
 use Rattle.atomic_table.specs.Table.{State, Me, step, Allows}
 use Rattle.receiver_pool.specs.Views.{View}
 use Rattle.receiver_pool.specs.Rule.{IsKept}
-use Rattle.receiver_pool.specs.inside.Tells.{posts_least, posts_past, LoadsLeast, loads_past}
+use Rattle.receiver_pool.specs.inside.Tells.{posts_least, posts_past, loads_least, loads_past}
 
 module _ (facts : List (ℕ × ℕ)) where
   abbrev pub Keeps : State ℕ View → Type 0
@@ -17,7 +17,7 @@ module _ (facts : List (ℕ × ℕ)) where
   MayRaise slots id me p n = Allows Keeps slots id me (64 + p) (λ word. max word n) (posts_past (step slots (64 + p) n 0 none) me)
 
   abbrev pub MayLoadLeast : ℕ → ℕ → Me ℕ View → ℕ → Type 0
-  MayLoadLeast slots id me p = Allows Keeps slots id me p (λ word. word) (LoadsLeast facts (step slots p 0 0 none) me)
+  MayLoadLeast slots id me p = Allows Keeps slots id me p (λ word. word) (loads_least facts (step slots p 0 0 none) me)
 
   abbrev pub MayLoadPast : ℕ → ℕ → Me ℕ View → ℕ → Type 0
   MayLoadPast slots id me p = Allows Keeps slots id me (64 + p) (λ word. word) (loads_past facts (step slots (64 + p) 0 0 none) me)

@@ -23,24 +23,27 @@ abbrev pub posts_past : Step ℕ → Me ℕ View → ℕ → Me ℕ View → Typ
 posts_past step before found after =
     ((p : ℕ) → step.word ≡ 64 + p → Changed before.0 p (posted_past step.first (place_at before.0 p)) after.0) × (after.1 ≡ before.1)
 
--- a least word was loaded: it is no greater than what the seat saw, and may be posted
-pub record LoadsLeast (facts : List (ℕ × ℕ)) (step : Step ℕ) (before : Me ℕ View) (found : ℕ) (after : Me ℕ View) : Type 0 where
-  pub changed : Changed before.0 step.word (loaded_least found (place_at before.0 step.word)) after.0
-  pub no_slot : after.1 ≡ before.1
-  pub no_less : found ≤ (place_at before.0 step.word).seen.least
-  pub met : 0 < (place_at before.0 step.word).seen.past → found < (place_at before.0 step.word).seen.past
-  pub allowed : found < 128 → IsAllowed facts step.word found
+-- what is found in the least word of a place is no greater than what the seat saw, and may be posted
+pub record IsLeastFound (facts : List (ℕ × ℕ)) (p : ℕ) (before : View) (found : ℕ) : Type 0 where
+  pub no_less : found ≤ (place_at before p).seen.least
+  pub met : 0 < (place_at before p).seen.past → found < (place_at before p).seen.past
+  pub allowed : found < 128 → IsAllowed facts p found
 
--- the greatest word of a place was loaded: it is no less than what the seat saw, and may be posted
-pub record LoadsPastAt (facts : List (ℕ × ℕ)) (p : ℕ) (before : View) (found : ℕ) (after : View) : Type 0 where
-  pub changed : Changed before p (loaded_past found (place_at before p)) after
+-- a least word was loaded
+abbrev pub loads_least : List (ℕ × ℕ) → Step ℕ → Me ℕ View → ℕ → Me ℕ View → Type 0
+loads_least facts step before found after =
+    Changed before.0 step.word (loaded_least found (place_at before.0 step.word)) after.0 × IsLeastFound facts step.word before.0 found × (after.1 ≡ before.1)
+
+-- what is found in the greatest word of a place is no less than what the seat saw, and may be posted
+pub record IsPastFound (facts : List (ℕ × ℕ)) (p : ℕ) (before : View) (found : ℕ) : Type 0 where
   pub no_less : (place_at before p).seen.past ≤ found
   pub least_allowed : (place_at before p).seen.least < 128 → IsAllowed facts p (place_at before p).seen.least
   pub allowed : (v : ℕ) → found ≡ suc v → IsAllowed facts p v
 
+-- the greatest word of a place was loaded
 abbrev pub loads_past : List (ℕ × ℕ) → Step ℕ → Me ℕ View → ℕ → Me ℕ View → Type 0
 loads_past facts step before found after =
-    ((p : ℕ) → step.word ≡ 64 + p → p < 64 → LoadsPastAt facts p before.0 found after.0) × (after.1 ≡ before.1)
+    ((p : ℕ) → step.word ≡ 64 + p → Changed before.0 p (loaded_past found (place_at before.0 p)) after.0 × IsPastFound facts p before.0 found) × (after.1 ≡ before.1)
 
 -- nothing changed, and no share passes the whole one
 abbrev pub weighs : Step ℕ → Me ℕ View → ℕ → Me ℕ View → Type 0

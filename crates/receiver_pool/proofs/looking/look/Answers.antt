@@ -9,11 +9,10 @@ pub loop-p-preserved : goal.loop-p-preserved
 loop-p-preserved g c =
     let was = c.loop-p.invariant in
     let one = c.look_place.ensures in
-    let now = c.look_place.new.token.me.0 in
+    let now = c.look_place.new.token.view in
     let k = c.loop-p.p in
     record {
       table = one.table ∙ was.table;
-      no_slot = one.no_slot ∙ was.no_slot;
       through =
           further (LooksAt g.A.Allowed.facts) _ _ now k (place_at now k) was.through one.place
           (subst (λ x. LooksAt g.A.Allowed.facts k x (place_at now k)) (was.through.above k (omega arith)) one.looked);
@@ -25,4 +24,4 @@ loop-p-preserved g c =
 pub returns-clause-sheet : goal.returns-clause-sheet
 returns-clause-sheet g c =
     let was = c.loop-p.invariant in
-    is_seen_sheet c.loop-p.sheet c.loop-p.token.me.0 was.size (was.through.size ∙ c.requires.seated.size) (λ p under. was.below p (omega arith))
+    is_seen_sheet c.loop-p.sheet c.loop-p.token.view was.size (was.through.size ∙ c.requires.seated.size) (λ p under. was.below p (omega arith))

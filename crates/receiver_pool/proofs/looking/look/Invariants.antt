@@ -7,10 +7,9 @@ use Rattle.receiver_pool.proofs.looking.look.Given as goal
 
 abbrev pub invariant-loop-p : goal.invariant-loop-p
 invariant-loop-p g l = record {
-  table : l.token.table_id ≡ l.initial.token.table_id;
-  no_slot : l.token.me.1 ≡ l.initial.token.me.1;
-  through : Through (LooksAt g.A.Allowed.facts) l.initial.token.me.0 l.token.me.0 l.p;
+  table : l.token.table ≡ l.initial.token.table;
+  through : Through (LooksAt g.A.Allowed.facts) l.initial.token.view l.token.view l.p;
   size : length l.sheet ≡ 64;
-  below : (p : ℕ) → p < l.p → seen_at l.sheet p ≡ kept_of (place_at l.token.me.0 p).seen;
+  below : (p : ℕ) → p < l.p → seen_at l.sheet p ≡ kept_of (place_at l.token.view p).seen;
   above : (p : ℕ) → l.p ≤ p → seen_at l.sheet p ≡ seen.None;
 }

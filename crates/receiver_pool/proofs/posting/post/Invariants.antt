@@ -6,7 +6,6 @@ use Rattle.receiver_pool.proofs.posting.post.Given as goal
 
 abbrev pub invariant-loop-p : goal.invariant-loop-p
 invariant-loop-p g l = record {
-  table : l.token.table_id ≡ l.initial.token.table_id;
-  no_slot : l.token.me.1 ≡ l.initial.token.me.1;
-  through : Through (λ p before after. after ≡ admitted (seen_at l.sheet p) before) l.initial.token.me.0 l.token.me.0 l.p;
+  table : l.token.table ≡ l.initial.token.table;
+  through : Through (λ p before after. after ≡ admitted (seen_at l.sheet p) before) l.initial.token.view l.token.view l.p;
 }

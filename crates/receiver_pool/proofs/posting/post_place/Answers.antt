@@ -18,7 +18,7 @@ post_ends-requires-in-Differ-clause-greatest g c lives last = c.requires.allowed
 
 pub returns-in-None-clause-place : goal.returns-in-None-clause-place
 returns-in-None-clause-place g c =
-    let before = place_at c.args.token.now.me.0 c.args.p in
+    let before = place_at c.args.token.now.view c.args.p in
     posted_as c.args.seen seen.None _ _ c.args.p before (unchanged _ c.args.p before refl) (nothing_admitted before c.requires.small.0 c.requires.small.1) c.in-None.is
 
 pub returns-in-One-clause-place : goal.returns-in-One-clause-place

@@ -8,6 +8,6 @@ use Rattle.receiver_pool.proofs.board.Board.admit_at.Goals as goal
 pub returns-clause-union : goal.returns-clause-union
 returns-clause-union g c =
     λ F G f h.
-    admit_ends c.args.sheet.now c.seat.inside.token.me.0 c.post.new.token.me.0 c.sheet_is_lawful.ensures c.seat.invariant.1 (c.post.ensures.places.size ∙ c.seat.invariant.1.size) c.post.ensures.places.below F G
+    admit_ends c.args.sheet.now c.seat.inside.token.view c.post.new.token.view c.sheet_is_lawful.ensures c.seat.invariant.1 (c.post.ensures.places.size ∙ c.seat.invariant.1.size) c.post.ensures.places.below F G
     (subst (λ (s : Held). IsEnds F (given_sheet s.view)) (sym c.seat.view_is) f)
     h

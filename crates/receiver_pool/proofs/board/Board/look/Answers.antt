@@ -8,4 +8,4 @@ pub returns-clause-allowed : goal.returns-clause-allowed
 returns-clause-allowed g c =
     let told = c.look-sheet.ensures in
     subst (λ (s : List Seen). OnlyAllowed g.A.Allowed.facts s) (sym told.sheet)
-    (sheet_allowed g.A.Allowed.facts c.look-sheet.new.token.me.0 (told.places.size ∙ c.seat.invariant.1.size) (λ p below. ((told.places.below p below).rest, (told.places.below p below).looked.allowed)))
+    (sheet_allowed g.A.Allowed.facts c.look-sheet.new.token.view (told.places.size ∙ c.seat.invariant.1.size) (λ p below. ((told.places.below p below).rest, (told.places.below p below).looked.allowed)))

@@ -5,4 +5,4 @@ use Rattle.receiver_pool.proofs.Rests.{fresh_seated}
 use Rattle.receiver_pool.proofs.seats.Seat.first.Goals as goal
 
 pub with_share-requires-clause-seated : goal.with_share-requires-clause-seated
-with_share-requires-clause-seated g c lives last = subst IsSeated (sym c.requires.view) (fresh_seated WHOLE (omega arith))
+with_share-requires-clause-seated g c lives last = subst IsSeated (sym c.requires) (fresh_seated WHOLE (omega arith))

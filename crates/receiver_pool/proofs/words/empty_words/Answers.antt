@@ -2,7 +2,7 @@ use Rattle.std.proofs.Common.{ℕ, ◌+◌, arith, inl, inr, length-set, ◌∙�
 use Rattle.std.proofs.lemmas.Bool.{cases_eq}
 use Rattle.std.proofs.lemmas.List.{get_or-set_same, get_or-set_other, length-replicate}
 use Rattle.receiver_pool.proofs.Rests.{zeros}
-use Rattle.receiver_pool.proofs.board.empty_words.Goals as goal
+use Rattle.receiver_pool.proofs.words.empty_words.Goals as goal
 
 pub loop-p-init : goal.loop-p-init
 loop-p-init c = record { size = length-replicate {A = ℕ} 128 0; least = λ p below. absurd (omega arith); past = λ p above. zeros 128 p }

@@ -1,5 +1,5 @@
 use Rattle.std.proofs.Common.{◌≡◌, ℕ, ◌<◌, ◌≤◌, length, slice_index}
-use Rattle.receiver_pool.proofs.board.empty_words.Given as goal
+use Rattle.receiver_pool.proofs.words.empty_words.Given as goal
 
 abbrev pub invariant-loop-p : goal.invariant-loop-p
 invariant-loop-p l = record {
