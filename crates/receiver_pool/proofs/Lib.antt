@@ -9,3 +9,6 @@ mod Core
 mod Unions
 mod Parts
 mod Entries
+mod Turning
+mod SeatRows
+mod Gathered

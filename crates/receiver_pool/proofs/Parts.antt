@@ -129,7 +129,7 @@ one_more workers worker index list e sheet is ends =
     ∙ ap (λ (x : List Element). part (is_turn workers worker (worker + 1)) list index p v || (is_turn workers worker (worker + 1) index && facts_of x p v)) is)
     ends)
 
-fold_twice : (f a b : Bool) → (f || a || (f || b)) ≡ (f || (a || b))
+pub fold_twice : (f a b : Bool) → (f || a || (f || b)) ≡ (f || (a || b))
 fold_twice true a b = refl
 fold_twice false a b = refl
 
@@ -149,11 +149,10 @@ all_by_one workers list sheet some_there ends = IsEnds-same _ _ sheet (λ p v. p
 pub same_sheets : (F G : ℕ → Facts) (sheets : List (List Seen)) (n : ℕ) → ((k p v : ℕ) → F k p v ≡ G k p v) → AreSheets F sheets n → AreSheets G sheets n
 same_sheets F G sheets n same are = record { count = are.count; each = λ k below. IsEnds-same (F k) (G k) _ (same k) (are.each k below) }
 
--- the sheet with one number is met, and the others stay
-pub met_at : (number : ℕ) (F : ℕ → Facts) (G : Facts) (old new : List (List Seen)) (shown met : List Seen) (n : ℕ) → number < length old → new ≡ set old number met
-    → ((F G : Facts) → IsEnds F (slice_index_or old number []) → IsEnds G shown → IsEnds (union F G) met) → IsEnds G shown → AreSheets F old n
-    → AreSheets (λ k. union (F k) (λ p v. number == k && G p v)) new n
-met_at number F G old new shown met n inside changed meets ends are = record {
+-- the sheet with one number changed, and the others stay
+pub turned_at : (number : ℕ) (F : ℕ → Facts) (G : Facts) (old new : List (List Seen)) (met : List Seen) (n : ℕ) → number < length old → new ≡ set old number met
+    → IsEnds (union (F number) G) met → AreSheets F old n → AreSheets (λ k. union (F k) (λ p v. number == k && G p v)) new n
+turned_at number F G old new met n inside changed ends are = record {
   count = ap length changed ∙ length-set old number met ∙ are.count;
   each = λ k below. elim (cases_eq k number) [
     | inl here ↦
@@ -161,7 +160,7 @@ met_at number F G old new shown met n inside changed meets ends are = record {
         (sym (ap (λ (s : List (List Seen)). slice_index_or s k []) changed ∙ ap (λ (j : ℕ). slice_index_or (set old number met) j []) here ∙ get_or-set_same old number met [] inside))
         (IsEnds-same _ _ met
         (λ p v. ap (λ (b : Bool). F k p v || (b && G p v)) (sym (eq-eqb number k (sym here))))
-        (meets (F k) G (subst (λ (j : ℕ). IsEnds (F k) (slice_index_or old j [])) here (are.each k below)) ends))
+        (subst (λ (j : ℕ). IsEnds (union (F j) G) met) (sym here) ends))
     | inr apart ↦
         subst (λ (s : List Seen). IsEnds (union (F k) (λ p v. number == k && G p v)) s)
         (sym (ap (λ (s : List (List Seen)). slice_index_or s k []) changed ∙ get_or-set_other old number k met [] apart))
@@ -170,6 +169,13 @@ met_at number F G old new shown met n inside changed meets ends are = record {
         (are.each k below))
   ];
 }
+
+-- it met another
+pub met_at : (number : ℕ) (F : ℕ → Facts) (G : Facts) (old new : List (List Seen)) (shown met : List Seen) (n : ℕ) → number < length old → new ≡ set old number met
+    → ((F G : Facts) → IsEnds F (slice_index_or old number []) → IsEnds G shown → IsEnds (union F G) met) → IsEnds G shown → AreSheets F old n
+    → AreSheets (λ k. union (F k) (λ p v. number == k && G p v)) new n
+met_at number F G old new shown met n inside changed meets ends are =
+    turned_at number F G old new met n inside changed (meets (F number) G (are.each number (omega (arith, are.count))) ends) are
 
 -- the sheet with one number is taken out
 pub taken_at : (number : ℕ) (F : ℕ → Facts) (old new : List (List Seen)) (blank : List Seen) (n : ℕ) → number < length old → new ≡ set old number blank → IsEnds no_facts blank → AreSheets F old n

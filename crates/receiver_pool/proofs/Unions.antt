@@ -1,13 +1,14 @@
 -- What a seat gave, as the sheet of a set of facts.
-use Rattle.std.proofs.Common.{◌≡◌, ℕ, ◌<◌, ◌≤◌, ◌||◌, Bool, cond, List, length, refl, arith, ap, sym, ◌∙◌, subst, inl, inr}
+use Rattle.std.proofs.Common.{◌≡◌, ℕ, ◌<◌, ◌≤◌, ◌&&◌, ◌||◌, Bool, true, false, cond, List, length, map, replicate, get_or, refl, arith, ap, sym, ◌∙◌, subst, inl, inr}
 use Rattle.std.proofs.lemmas.Bool.{cases_lt, eq-eqb, ne_eqb}
-use Rattle.std.proofs.lemmas.List.{get_or-map, get_or_past, length-map, ext_get_or}
+use Rattle.std.proofs.lemmas.List.{get_or-map, get_or_past, get_or-replicate, length-map, length-replicate, ext_get_or}
 use Rattle.slot_evidence.specs.declared.places.Seen.{Seen}
 use Rattle.slot_evidence.specs.declared.places.Seen.TheVariants as seen
 use Rattle.slot_evidence.specs.Facts.{Symbols, Facts, no_facts, union}
 use Rattle.slot_evidence.specs.Seen.{ShowsNone, IsSeen, IsLawful}
 use Rattle.slot_evidence.specs.Sheet.{IsSheet, IsEnds, seen_at}
-use Rattle.slot_evidence.proofs.PublicLaws.{order_met, edges_met, seen_edges, edges_seen, or_none-seen}
+use Rattle.slot_evidence.specs.TwoNumbers.{least_of}
+use Rattle.slot_evidence.proofs.PublicLaws.{IsEnds-same, order_met, edges_met, seen_edges, edges_seen, or_none-seen}
 use Rattle.receiver_pool.specs.Views.{Reach, united, reach_of, kept_of, Place, blank, View, place_at, fresh, given_sheet}
 use Rattle.receiver_pool.specs.Steps.{admitted, joined}
 use Rattle.receiver_pool.specs.Seats.{IsResting, IsSeated}
@@ -82,3 +83,41 @@ nothing_given share =
     ends_given no_facts (fresh share) blanks_long
     (λ p below. subst (λ (c : Place). IsSeen (no_facts p) (kept_of c.given)) (sym (place_blank p)) (λ v. refl))
     (λ p above v. refl)
+
+-- a sheet with the least symbols of the empty one keeps nothing
+none_kept : (x : Seen) → IsLawful x → least_of x ≡ 128 → x ≡ seen.None
+none_kept seen.None lawful is = refl
+none_kept (seen.One v) lawful is = absurd (omega (arith, lawful, is))
+none_kept (seen.Differ a b) lawful is = absurd (omega (arith, lawful, is))
+
+blank_least : (blank : List Seen) (p : ℕ) → p < 64 → blank ≡ replicate 64 seen.None → get_or (map least_of blank) p 0 ≡ 128
+blank_least blank p below is =
+    ap (λ (s : List Seen). get_or (map least_of s) p 0) is
+    ∙ get_or-map least_of (replicate 64 seen.None) p seen.None 0 (omega (arith, length-replicate 64 seen.None))
+    ∙ ap least_of (get_or-replicate 64 p seen.None seen.None below)
+
+pub left_true : (a b : Bool) → true ≡ (a && b) → true ≡ a
+left_true true b is = refl
+left_true false b is = is
+
+-- nothing is posted of it
+pub nothing_posted : (sheet blank given : List Seen) (F G : Facts) → IsSheet sheet → blank ≡ replicate 64 seen.None → map least_of sheet ≡ map least_of blank
+    → IsEnds F given → IsEnds G sheet → IsEnds (union F G) given
+nothing_posted sheet blank given F G lawful is same f g =
+    IsEnds-same F (union F G) given (λ p v. sym (or_nothing (F p v) (G p v) (none p v))) f
+  where
+    or_nothing : (a b : Bool) → b ≡ false → (a || b) ≡ a
+    or_nothing true b e = refl
+    or_nothing false b e = e
+
+    none : (p : ℕ) → ShowsNone (G p)
+    none p =
+        elim (cases_lt p 64) [
+          | inl below ↦
+              subst (λ (x : Seen). IsSeen (G p) x)
+              (none_kept (seen_at sheet p) (lawful.lawful p)
+              (sym (get_or-map least_of sheet p seen.None 0 (omega (arith, lawful.places)))
+              ∙ ap (λ (s : List ℕ). get_or s p 0) same ∙ blank_least blank p below is))
+              (g.each p)
+          | inr above ↦ beyond G sheet g p above
+        ]

@@ -2,4 +2,6 @@ pub mod May
 pub mod Tells
 pub mod Through
 pub mod Turns
+pub mod Numbers
+pub mod Rows
 pub mod Worked

@@ -1,15 +1,21 @@
 //! Receptions of many groups read by several workers, with one fork for them all.
-ghost use Rattle.std.specs.Prelude.{◌≡◌, ℕ, ◌+◌, ◌<◌, ◌≤◌, ◌&&◌, ◌==◌, not, All, IfOk, OnOk, length};
-ghost use Rattle.std.specs.Thread.{IsSync};
-ghost use Rattle.slot_evidence.specs.Facts.{Facts, facts_of, union};
+ghost use Rattle.std.specs.Prelude.{◌≡◌, ℕ, ◌+◌, ◌-◌, ◌<◌, ◌≤◌, ◌&&◌, ◌==◌, not, All, IfOk, length};
+ghost use Rattle.std.specs.Thread.{IsSync, IsSend};
+ghost use Rattle.slot_evidence.specs.Facts.{Facts, no_facts, union};
 ghost use Rattle.slot_evidence.specs.Sheet.{IsEnds};
-ghost use Rattle.receiver_pool.specs.Groups.{facts_of_group, AreSheets, AreShown, IsOneOf, IsShort, Shows};
-ghost use Rattle.receiver_pool.specs.inside.Turns.{is_turn, group_part};
+ghost use Rattle.receiver_pool.specs.Groups.{facts_of_group, AreSheets, IsShort, Shows};
+ghost use Rattle.receiver_pool.specs.inside.Turns.{is_turn};
+ghost use Rattle.receiver_pool.specs.inside.Numbers.{ArePlaces, place_part};
+ghost use Rattle.receiver_pool.specs.inside.Rows.{AreSeats, Sit};
 
+use crate::allowed::AllFacts;
+use crate::batch_groups::{entries_of, number_groups, shown_to};
+use crate::board::Board;
+use crate::boards::{boards_for, close_each, join_each, post_each, split_each};
 use crate::gate::Gate;
 use crate::heard::{Heard, Shown};
-use phasing::LONGEST;
-use slot_evidence::{Sheet, read_sheet};
+use crate::seats::{Seat, WHOLE};
+use slot_evidence::Sheet;
 use std::alloc::{AllocError, Global};
 use std::thread::{Threads, join};
 
@@ -33,86 +39,141 @@ pub fn take_at(sheets: &mut [Sheet], number: usize) -> Sheet
     sheet
 }
 
-/// Reads a reception where it is one's turn: what it shows is one entry more. One without an origin shows nothing, and makes none.
-fn take_heard(entries: &mut Vec<Shown>, heard: &Heard, mine: bool) -> Result<(), AllocError>
-    requires { length heard.now.reception ≤ LONGEST }
-    ensures facts { OnOk result ((F : ℕ → Facts) → AreShown F entries.old.items
-        → AreShown (λ k. union (F k) (λ p v. mine && (heard.now.group == k && facts_of heard.now.reception p v))) entries.new.items) }
-    ensures groups { OnOk result ((n : ℕ) → heard.now.group < n → All (IsOneOf n) entries.old.items → All (IsOneOf n) entries.new.items) }
-{
-    if !mine {
-        return Ok(());
-    }
-    let Some(sheet) = read_sheet(heard.reception.elements()) else {
-        return Ok(());
-    };
-    entries.push(Shown {
-        group: heard.group,
-        sheet,
-    })?;
-    Ok(())
-}
-
-/// What a worker's receptions show.
-fn shown_to(
+/// One worker: it enters the gate, joins its receptions, and posts what they showed of each group.
+fn work<G: Gate>(
     alloc: Global,
+    boards: &[Board<AllFacts>],
+    mut seats: Vec<Seat<AllFacts>>,
     batch: &[Heard],
+    places: &[usize],
     workers: u32,
     worker: u32,
-) -> Result<Vec<Shown>, AllocError>
+    gate: &G,
+) -> Result<Vec<Seat<AllFacts>>, AllocError>
     requires worker { worker < workers }
+    requires seats { Sit 1 boards.now seats.items }
     requires short { All IsShort batch.now }
-    ensures { IfOk result (λ v. Shows (group_part (is_turn workers worker (worker + 1)) batch.now (length batch.now)) batch.now v.items) }
+    requires places { ArePlaces (length batch.now) (length boards.now) places.now }
+    ensures { IfOk result (λ v. (share : ℕ) (F : ℕ → Facts) → AreSeats share F boards.now seats.items → AreSeats share (λ k. union (F k) (place_part (is_turn workers worker (worker + 1)) batch.now places.now (length batch.now) k)) boards.now v.items) }
 {
-    let mut entries = Vec::new(alloc);
-    for (index, heard) in batch.iter().enumerate() {
-        let mine = index % workers as usize == worker as usize;
-        take_heard(&mut entries, heard, mine)?;
-    }
-    Ok(entries)
+    gate.enter(worker);
+    let sheets = shown_to(alloc, batch, places, boards.len(), workers, worker)?;
+    post_each(boards, &mut seats, &sheets);
+    Ok(seats)
 }
 
-/// The workers from `low` on and below `high`, by halves of halves in threads of their own. Each enters the gate first thing.
+/// The workers from `low` on and below `high`, by halves of halves in threads of their own. Each has a seat of every board.
 #[cycle(groups)]
 fn fork_groups<R: Threads + Sync, G: Gate>(
     rt: &R,
     alloc: Global,
+    boards: &[Board<AllFacts>],
+    mut seats: Vec<Seat<AllFacts>>,
     batch: &[Heard],
+    places: &[usize],
     low: u32,
     high: u32,
     workers: u32,
     gate: &G,
-) -> Result<Vec<Shown>, AllocError>
+) -> Result<Vec<Seat<AllFacts>>, AllocError>
     requires sync { IsSync R.row × IsSync G.row }
     requires range { (low < high) × (high ≤ workers) }
+    requires seats { Sit (high - low) boards.now seats.items }
     requires short { All IsShort batch.now }
-    ensures { IfOk result (λ v. Shows (group_part (is_turn workers low high) batch.now (length batch.now)) batch.now v.items) }
+    requires places { ArePlaces (length batch.now) (length boards.now) places.now }
+    ensures { IfOk result (λ v. (share : ℕ) (F : ℕ → Facts) → AreSeats share F boards.now seats.items → AreSeats share (λ k. union (F k) (place_part (is_turn workers low high) batch.now places.now (length batch.now) k)) boards.now v.items) }
 {
     if high - low == 1 {
-        gate.enter(low);
-        return shown_to(alloc, batch, workers, low);
+        return work(alloc, boards, seats, batch, places, workers, low, gate);
     }
     let middle = low + (high - low).div_ceil(2);
+    let others = split_each(alloc, boards, &mut seats)?;
     let (first, second) = join(
         rt,
-        move || -> Result<Vec<Shown>, AllocError>
-            requires { IsSync R.row × IsSync G.row × ((low < middle) × (middle ≤ workers)) × All IsShort batch.now }
-            ensures { IfOk result (λ v. Shows (group_part (is_turn workers low middle) batch.entry.now (length batch.entry.now)) batch.entry.now v.items) }
-        { fork_groups(rt, alloc, batch, low, middle, workers, gate) },
-        move || -> Result<Vec<Shown>, AllocError>
-            requires { IsSync R.row × IsSync G.row × ((middle < high) × (high ≤ workers)) × All IsShort batch.now }
-            ensures { IfOk result (λ v. Shows (group_part (is_turn workers middle high) batch.entry.now (length batch.entry.now)) batch.entry.now v.items) }
-        { fork_groups(rt, alloc, batch, middle, high, workers, gate) },
+        move || -> Result<Vec<Seat<AllFacts>>, AllocError>
+            requires { IsSync R.row × IsSync G.row × ((low < middle) × (middle ≤ workers)) × Sit (middle - low) boards.now seats.items × All IsShort batch.now × ArePlaces (length batch.now) (length boards.now) places.now }
+            ensures { IfOk result (λ v. (share : ℕ) (F : ℕ → Facts) → AreSeats share F boards.entry.now seats.items → AreSeats share (λ k. union (F k) (place_part (is_turn workers low middle) batch.entry.now places.entry.now (length batch.entry.now) k)) boards.entry.now v.items) }
+        {
+            fork_groups(
+                rt, alloc, boards, seats, batch, places, low, middle, workers, gate,
+            )
+        },
+        move || -> Result<Vec<Seat<AllFacts>>, AllocError>
+            requires { IsSync R.row × IsSync G.row × ((middle < high) × (high ≤ workers)) × Sit (high - middle) boards.now others.items × All IsShort batch.now × ArePlaces (length batch.now) (length boards.now) places.now }
+            ensures { IfOk result (λ v. (share : ℕ) (F : ℕ → Facts) → AreSeats share F boards.entry.now others.items → AreSeats share (λ k. union (F k) (place_part (is_turn workers middle high) batch.entry.now places.entry.now (length batch.entry.now) k)) boards.entry.now v.items) }
+        {
+            fork_groups(
+                rt, alloc, boards, others, batch, places, middle, high, workers, gate,
+            )
+        },
     );
-    let mut entries = first?;
-    let mut others = second?;
-    entries.append(&mut others)?;
-    Ok(entries)
+    let mut joined = first?;
+    join_each(boards, &mut joined, second?);
+    Ok(joined)
 }
 
-/// What a batch of receptions shows: an entry with the number of its group for each that has an origin. 1 to 64 workers read them with
-/// one fork: worker w takes the receptions whose index leaves w when divided by their number. Each enters the gate once, first thing.
-/// With one worker nothing is forked. The error is want of memory.
+/// All workers. An empty thread comes first: a kernel may put the first new thread on the processor of the one that starts it, where it
+/// waits until that one has done its own share. The worker started behind it then has another processor, and begins at once.
+fn start_groups<R: Threads + Sync, G: Gate>(
+    rt: &R,
+    alloc: Global,
+    boards: &[Board<AllFacts>],
+    seats: Vec<Seat<AllFacts>>,
+    batch: &[Heard],
+    places: &[usize],
+    workers: u32,
+    gate: &G,
+) -> Result<Vec<Seat<AllFacts>>, AllocError>
+    requires sync { IsSync R.row × IsSync G.row }
+    requires workers { 1 ≤ workers }
+    requires seats { Sit workers boards.now seats.items }
+    requires short { All IsShort batch.now }
+    requires places { ArePlaces (length batch.now) (length boards.now) places.now }
+    ensures { IfOk result (λ v. (share : ℕ) (F : ℕ → Facts) → AreSeats share F boards.now seats.items → AreSeats share (λ k. union (F k) (place_part (is_turn workers 0 workers) batch.now places.now (length batch.now) k)) boards.now v.items) }
+{
+    let (_, joined) = join(
+        rt,
+        || {},
+        move || -> Result<Vec<Seat<AllFacts>>, AllocError>
+            requires { IsSync R.row × IsSync G.row × (1 ≤ workers) × Sit workers boards.now seats.items × All IsShort batch.now × ArePlaces (length batch.now) (length boards.now) places.now }
+            ensures { IfOk result (λ v. (share : ℕ) (F : ℕ → Facts) → AreSeats share F boards.entry.now seats.items → AreSeats share (λ k. union (F k) (place_part (is_turn workers 0 workers) batch.entry.now places.entry.now (length batch.entry.now) k)) boards.entry.now v.items) }
+        {
+            fork_groups(
+                rt, alloc, boards, seats, batch, places, 0, workers, workers, gate,
+            )
+        },
+    );
+    joined
+}
+
+/// What the batch shows of each of so many groups. With one worker there is no board, and nothing is forked.
+fn share_groups<R: Threads + Sync, G: Gate>(
+    rt: &R,
+    alloc: Global,
+    batch: &[Heard],
+    places: &[usize],
+    count: usize,
+    workers: u32,
+    gate: &G,
+) -> Result<Vec<Sheet>, AllocError>
+    requires workers { (1 ≤ workers) × (workers ≤ 64) }
+    requires short { All IsShort batch.now }
+    requires places { ArePlaces (length batch.now) count places.now }
+    ensures { IfOk result (λ v. AreSheets (place_part (is_turn workers 0 workers) batch.now places.now (length batch.now)) v.items count) }
+{
+    if workers == 1 {
+        gate.enter(0);
+        return shown_to(alloc, batch, places, count, 1, 0);
+    }
+    let (boards, seats) = boards_for(alloc, count)?;
+    let seats = start_groups(rt, alloc, &boards, seats, batch, places, workers, gate)?;
+    close_each(alloc, boards, seats)
+}
+
+/// What a batch of receptions shows: an entry for each group that it names, with what the batch showed of it. 1 to 64 workers read them
+/// with one fork: worker w takes the receptions whose index leaves w when divided by their number. Each enters the gate once, first
+/// thing, and posts what it read of each group on that group's board. With one worker nothing is forked, and there is no board. The error
+/// is want of memory.
 pub fn pool_groups<R: Threads + Sync, G: Gate>(
     rt: &R,
     alloc: Global,
@@ -124,18 +185,7 @@ pub fn pool_groups<R: Threads + Sync, G: Gate>(
     requires short { All IsShort batch.now }
     ensures { IfOk result (λ v. Shows (facts_of_group batch.now) batch.now v.items) }
 {
-    if workers == 1 {
-        return fork_groups(rt, alloc, batch, 0, 1, 1, gate);
-    }
-    // An empty thread comes first. A kernel may put the first new thread on the processor of the one that starts it, where it waits until
-    // that one has done its own share; the worker started behind it then has another processor, and begins at once.
-    let (_, entries) = join(
-        rt,
-        || {},
-        move || -> Result<Vec<Shown>, AllocError>
-            requires { IsSync R.row × IsSync G.row × ((1 ≤ workers) × (workers ≤ 64)) × All IsShort batch.now }
-            ensures { IfOk result (λ v. Shows (group_part (is_turn workers 0 workers) batch.entry.now (length batch.entry.now)) batch.entry.now v.items) }
-        { fork_groups(rt, alloc, batch, 0, workers, workers, gate) },
-    );
-    entries
+    let (groups, places) = number_groups(alloc, batch)?;
+    let sheets = share_groups(rt, alloc, batch, &places, groups.len(), workers, gate)?;
+    entries_of(alloc, &groups, &sheets)
 }

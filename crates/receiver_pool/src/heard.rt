@@ -9,7 +9,7 @@ pub struct Heard {
     pub reception: Reception,
 }
 
-/// What a reception showed, with the number of its group.
+/// What was shown of a group, with its number.
 #[derive(Clone, Copy, Debug, PartialEq, Eq)]
 pub struct Shown {
     pub group: usize,

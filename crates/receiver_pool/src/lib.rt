@@ -2,8 +2,10 @@
 #![tactic(auto)]
 
 mod allowed;
+mod batch_groups;
 mod batches;
 mod board;
+mod boards;
 mod gate;
 mod heard;
 mod laws;

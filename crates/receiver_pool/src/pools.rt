@@ -6,17 +6,18 @@ ghost use Rattle.slot_evidence.specs.Sheet.{IsEnds};
 ghost use Rattle.receiver_pool.specs.Views.{given_sheet};
 ghost use Rattle.receiver_pool.specs.inside.Turns.{is_turn, part};
 
-use crate::allowed::{AllFacts, all_facts_may_be_posted};
+use crate::allowed::AllFacts;
 use crate::board::Board;
+use crate::boards::post_sheet;
 use crate::gate::Gate;
 use crate::seats::Seat;
 use phasing::LONGEST;
-use slot_evidence::{Reception, Sheet, sheet_is_lawful, shown_by};
+use slot_evidence::{Reception, Sheet, shown_by};
 use std::alloc::{AllocError, Global};
 use std::thread::{Threads, join};
 
 /// Takes a reception into a sheet where it is one's turn.
-fn take_turn(sheet: &mut Sheet, heard: &Reception, mine: bool)
+pub(crate) fn take_turn(sheet: &mut Sheet, heard: &Reception, mine: bool)
     requires { length heard.now ≤ LONGEST }
     ensures { (F : Facts) → IsEnds F sheet.old → IsEnds (union F (λ p v. mine && facts_of heard.now p v)) sheet.new }
 {
@@ -42,7 +43,7 @@ fn heard_by(list: &[Reception], workers: u32, worker: u32) -> Sheet
 /// One worker: it enters the gate, joins its receptions, and posts what they showed.
 fn work<G: Gate>(
     board: &Board<AllFacts>,
-    seat: Seat<AllFacts>,
+    mut seat: Seat<AllFacts>,
     list: &[Reception],
     workers: u32,
     worker: u32,
@@ -57,9 +58,8 @@ fn work<G: Gate>(
 {
     gate.enter(worker);
     let sheet = heard_by(list, workers, worker);
-    all_facts_may_be_posted();
-    sheet_is_lawful(&sheet);
-    board.admit(seat, &sheet)
+    post_sheet(board, &mut seat, &sheet);
+    seat
 }
 
 /// The workers from `low` on and below `high`, by halves of halves in threads of their own.

@@ -1,0 +1,15 @@
+use Rattle.std.proofs.Common.{arith, ap, sym, subst}
+use Rattle.std.proofs.lemmas.List.{get_or_read}
+use Rattle.receiver_pool.specs.declared.heard.Heard.{Heard}
+use Rattle.receiver_pool.specs.inside.Turns.{nobody}
+use Rattle.receiver_pool.specs.inside.Numbers.{AreNumbered}
+use Rattle.receiver_pool.proofs.Gathered.{next_numbered}
+use Rattle.receiver_pool.proofs.batch_groups.number_groups.Goals as goal
+
+pub loop-heard-preserved : goal.loop-heard-preserved
+loop-heard-preserved c =
+    let i = c.loop-heard.heard-index in
+    let heard = c.heard-item.result in
+    let is = get_or_read c.args.batch.now i heard (omega arith) c.heard-item.is nobody in
+    subst (AreNumbered c.args.batch.now _ _) (sym c.in_ok-push.ensures.items)
+    (next_numbered c.args.batch.now i c.in_ok-place_of.field-0 heard.group _ _ c.loop-heard.places.items (omega arith) (ap (λ (h : Heard). h.group) is) c.in_ok-place_of.ensures c.loop-heard.invariant)

@@ -1,0 +1,43 @@
+-- The numbers that groups have within a batch. This project's own form.
+use Rattle.std.specs.Prelude.{◌≡◌, ℕ, ◌<◌, ◌≤◌, Bool, false, ◌&&◌, ◌||◌, ◌==◌, zero, suc, List, All, length, slice_index, slice_index_or}
+use Rattle.slot_evidence.specs.Facts.{Facts, facts_of}
+use Rattle.receiver_pool.specs.declared.heard.Heard.{Heard}
+use Rattle.receiver_pool.specs.Groups.{Belongs}
+use Rattle.receiver_pool.specs.inside.Turns.{taken, nobody}
+
+-- a group's number is below n
+abbrev pub IsBelow : ℕ → ℕ → Type 0
+IsBelow n group = group < n
+
+-- each of the first n receptions has a place, where its group stands, and no group stands there that the batch doesn't name
+pub record AreNumbered (batch : List Heard) (n : ℕ) (groups places : List ℕ) : Type 0 where
+  pub count : length places ≡ n
+  pub inside : (i : ℕ) → i < n → slice_index places i < length groups
+  pub same : (i : ℕ) → i < n → slice_index groups (slice_index places i) ≡ (slice_index_or batch i nobody).group
+  pub bounded : (m : ℕ) → All (Belongs m) batch → All (IsBelow m) groups
+
+-- a group stands at a place, where those known before stay, and it alone may have come
+pub record IsPlaced (group place : ℕ) (old new : List ℕ) : Type 0 where
+  pub inside : place < length new
+  pub here : slice_index new place ≡ group
+  pub longer : length old ≤ length new
+  pub kept : (k : ℕ) → k < length old → slice_index new k ≡ slice_index old k
+  pub bounded : (n : ℕ) → group < n → All (IsBelow n) old → All (IsBelow n) new
+
+-- each of n receptions has a place below count
+pub record ArePlaces (n count : ℕ) (places : List ℕ) : Type 0 where
+  pub long : length places ≡ n
+  pub inside : (i : ℕ) → i < n → slice_index places i < count
+
+-- what the reception with this index shows of the group at place k
+abbrev pub nth_at : List Heard → List ℕ → ℕ → ℕ → Facts
+nth_at batch places k index p v = slice_index places index == k && facts_of (slice_index_or batch index nobody).reception p v
+
+-- the facts of those of the first n receptions that are taken, of the group at place k
+abbrev pub place_part : (ℕ → Bool) → List Heard → List ℕ → ℕ → ℕ → Facts
+place_part takes batch places n k = taken takes (nth_at batch places k) n
+
+-- what the groups at the first m places show of group k
+abbrev pub gathered : List ℕ → (ℕ → Facts) → ℕ → ℕ → Facts
+gathered groups F zero k p v = false
+gathered groups F (suc m) k p v = gathered groups F m k p v || (slice_index groups m == k && F m p v)

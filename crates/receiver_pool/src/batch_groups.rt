@@ -1,0 +1,123 @@
+//! The groups of a batch: each has a number within it, by which workers find its sheet.
+ghost use Rattle.std.specs.Prelude.{◌≡◌, ℕ, ◌+◌, ◌<◌, ◌≤◌, All, IfOk, IfSome, length, slice_index};
+ghost use Rattle.slot_evidence.specs.Facts.{Facts, no_facts};
+ghost use Rattle.receiver_pool.specs.Groups.{AreSheets, AreShown, IsOneOf, IsShort};
+ghost use Rattle.receiver_pool.specs.inside.Turns.{is_turn};
+ghost use Rattle.receiver_pool.specs.inside.Numbers.{AreNumbered, ArePlaces, IsBelow, IsPlaced, gathered, place_part};
+
+use crate::boards::blank_sheets;
+use crate::heard::{Heard, Shown};
+use crate::pools::take_turn;
+use slot_evidence::Sheet;
+use std::alloc::{AllocError, Global};
+
+/// How many groups are remembered by where they stand. Of two with one remainder the search finds the other.
+const REMEMBERED: usize = 512;
+
+/// In place of the number of a group: none stands here yet.
+const NOWHERE: usize = usize::MAX;
+
+/// Where a group stands in a list.
+fn find(groups: &[usize], group: usize) -> Option<usize>
+    ensures { IfSome result (λ place. (place < length groups.now) × (slice_index groups.now place ≡ group)) }
+{
+    for (place, known) in groups.iter().enumerate() {
+        if *known == group {
+            return Some(place);
+        }
+    }
+    None
+}
+
+/// The number of a group within its batch. A new one gets the next.
+fn place_of(
+    groups: &mut Vec<usize>,
+    remembered: &mut [usize; 512],
+    group: usize,
+) -> Result<usize, AllocError>
+    ensures { IfOk result (λ place. IsPlaced group place groups.old.items groups.new.items) }
+{
+    let place = remembered[group % REMEMBERED];
+    if place < groups.len() && groups[place] == group {
+        return Ok(place);
+    }
+    if place != NOWHERE {
+        if let Some(place) = find(groups, group) {
+            remembered[group % REMEMBERED] = place;
+            return Ok(place);
+        }
+    }
+    let next = groups.len();
+    groups.push(group)?;
+    remembered[group % REMEMBERED] = next;
+    Ok(next)
+}
+
+/// The groups that a batch names, and of each reception where its group stands among them.
+pub(crate) fn number_groups(
+    alloc: Global,
+    batch: &[Heard],
+) -> Result<(Vec<usize>, Vec<usize>), AllocError>
+    ensures { IfOk result (λ made. AreNumbered batch.now (length batch.now) made.0.items made.1.items) }
+{
+    let mut groups = Vec::new(alloc);
+    let mut places = Vec::new(alloc);
+    let mut remembered = [NOWHERE; 512];
+    for heard in batch {
+        places.push(place_of(&mut groups, &mut remembered, heard.group)?)?;
+    }
+    Ok((groups, places))
+}
+
+/// Reads a worker's receptions into the sheets of their groups.
+fn read_into(sheets: &mut [Sheet], batch: &[Heard], places: &[usize], workers: u32, worker: u32)
+    requires worker { worker < workers }
+    requires short { All IsShort batch.now }
+    requires places { ArePlaces (length batch.now) (length sheets.old) places.now }
+    ensures { (n : ℕ) → AreSheets (λ k. no_facts) sheets.old n
+        → AreSheets (place_part (is_turn workers worker (worker + 1)) batch.now places.now (length batch.now)) sheets.new n }
+{
+    for (index, heard) in batch.iter().enumerate() {
+        let mine = index % workers as usize == worker as usize;
+        take_turn(&mut sheets[places[index]], &heard.reception, mine);
+    }
+}
+
+/// What a worker's receptions show of each of so many groups.
+pub(crate) fn shown_to(
+    alloc: Global,
+    batch: &[Heard],
+    places: &[usize],
+    count: usize,
+    workers: u32,
+    worker: u32,
+) -> Result<Vec<Sheet>, AllocError>
+    requires worker { worker < workers }
+    requires short { All IsShort batch.now }
+    requires places { ArePlaces (length batch.now) count places.now }
+    ensures { IfOk result (λ v. AreSheets (place_part (is_turn workers worker (worker + 1)) batch.now places.now (length batch.now)) v.items count) }
+{
+    let mut sheets = blank_sheets(alloc, count)?;
+    read_into(&mut sheets, batch, places, workers, worker);
+    Ok(sheets)
+}
+
+/// An entry for each group.
+pub(crate) fn entries_of(
+    alloc: Global,
+    groups: &[usize],
+    sheets: &[Sheet],
+) -> Result<Vec<Shown>, AllocError>
+    requires { length sheets.now ≡ length groups.now }
+    ensures { IfOk result (λ v. ((F : ℕ → Facts) → AreSheets F sheets.now (length groups.now) → AreShown (gathered groups.now F (length groups.now)) v.items)
+        × ((n : ℕ) → All (IsBelow n) groups.now → All (IsOneOf n) v.items)) }
+{
+    let mut entries = Vec::new(alloc);
+    for (k, group) in groups.iter().enumerate() {
+        entries.push(Shown {
+            group: *group,
+            sheet: sheets[k],
+        })?;
+    }
+    Ok(entries)
+}

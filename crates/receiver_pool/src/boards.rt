@@ -1,0 +1,135 @@
+//! A row of boards, one for each group of a batch, and a seat of each.
+ghost use Rattle.std.specs.Prelude.{◌≡◌, ℕ, ◌+◌, ◌-◌, ◌/◌, IfOk, length};
+ghost use Rattle.slot_evidence.specs.Facts.{Facts, no_facts, union};
+ghost use Rattle.slot_evidence.specs.Sheet.{IsEnds};
+ghost use Rattle.receiver_pool.specs.Views.{given_sheet};
+ghost use Rattle.receiver_pool.specs.Groups.{AreSheets};
+ghost use Rattle.receiver_pool.specs.inside.Rows.{AreSeats, Sit};
+
+use crate::allowed::{AllFacts, all_facts_may_be_posted};
+use crate::board::Board;
+use crate::seats::{Seat, WHOLE};
+use slot_evidence::{Sheet, sheet_is_lawful};
+use std::alloc::{AllocError, Global};
+
+/// So many boards, and the whole seat of each.
+pub(crate) fn boards_for(
+    alloc: Global,
+    count: usize,
+) -> Result<(Vec<Board<AllFacts>>, Vec<Seat<AllFacts>>), AllocError>
+    ensures count { IfOk result (λ made. length made.0.items ≡ count) }
+    ensures seats { IfOk result (λ made. AreSeats WHOLE (λ k. no_facts) made.0.items made.1.items) }
+{
+    let mut boards = Vec::new(alloc);
+    let mut seats = Vec::new(alloc);
+    for _ in 0..count {
+        let (board, seat) = Board::new(alloc)?;
+        boards.push(board)?;
+        seats.push(seat)?;
+    }
+    Ok((boards, seats))
+}
+
+/// Posts a sheet through a seat of its board. One that shows nothing is not posted.
+pub(crate) fn post_sheet(board: &Board<AllFacts>, seat: &mut Seat<AllFacts>, sheet: &Sheet)
+    requires { seat.old.table ≡ board.now }
+    ensures board { seat.new.table ≡ board.now }
+    ensures share { seat.new.view.share ≡ seat.old.view.share }
+    ensures ends { (F G : Facts) → IsEnds F (given_sheet seat.old.view) → IsEnds G sheet.now → IsEnds (union F G) (given_sheet seat.new.view) }
+{
+    sheet_is_lawful(sheet);
+    if *sheet == Sheet::empty() {
+        return;
+    }
+    all_facts_may_be_posted();
+    board.admit_at(seat, sheet);
+}
+
+/// Posts the sheet of each group on its board.
+pub(crate) fn post_each(boards: &[Board<AllFacts>], seats: &mut [Seat<AllFacts>], sheets: &[Sheet])
+    requires seats { Sit 1 boards.now seats.old }
+    requires sheets { (G : ℕ → Facts) × AreSheets G sheets.now (length boards.now) }
+    ensures { (share : ℕ) (F G : ℕ → Facts) → AreSeats share F boards.now seats.old → AreSheets G sheets.now (length boards.now)
+        → AreSeats share (λ k. union (F k) (G k)) boards.now seats.new }
+{
+    for (k, board) in boards.iter().enumerate() {
+        post_sheet(board, &mut seats[k], &sheets[k]);
+    }
+}
+
+/// Splits each seat, which keeps the one half.
+pub(crate) fn split_each(
+    alloc: Global,
+    boards: &[Board<AllFacts>],
+    seats: &mut [Seat<AllFacts>],
+) -> Result<Vec<Seat<AllFacts>>, AllocError>
+    requires { Sit 2 boards.now seats.old }
+    ensures { IfOk result (λ v. (share : ℕ) (F : ℕ → Facts) → AreSeats share F boards.now seats.old
+        → AreSeats (share - share / 2) F boards.now seats.new × AreSeats (share / 2) F boards.now v.items) }
+{
+    let mut others = Vec::new(alloc);
+    for (k, board) in boards.iter().enumerate() {
+        others.push(board.split_off(&mut seats[k]))?;
+    }
+    Ok(others)
+}
+
+/// Joins another seat of each board into the first.
+pub(crate) fn join_each(
+    boards: &[Board<AllFacts>],
+    seats: &mut [Seat<AllFacts>],
+    mut others: Vec<Seat<AllFacts>>,
+)
+    requires seats { Sit 1 boards.now seats.old }
+    requires others { Sit 1 boards.now others.items }
+    ensures { (share other : ℕ) (F G : ℕ → Facts) → AreSeats share F boards.now seats.old → AreSeats other G boards.now others.items
+        → AreSeats (share + other) (λ k. union (F k) (G k)) boards.now seats.new }
+{
+    while let Some(other) = others.pop() {
+        let k = others.len();
+        boards[k].join_into(&mut seats[k], other);
+    }
+}
+
+/// Closes each board with its whole seat: the sheets of what was posted on them.
+pub(crate) fn close_each(
+    alloc: Global,
+    boards: Vec<Board<AllFacts>>,
+    seats: Vec<Seat<AllFacts>>,
+) -> Result<Vec<Sheet>, AllocError>
+    requires { (F : ℕ → Facts) × AreSeats WHOLE F boards.items seats.items }
+    ensures { IfOk result (λ v. (F : ℕ → Facts) → AreSeats WHOLE F boards.items seats.items → AreSheets F v.items (length boards.items)) }
+{
+    let mut sheets = blank_sheets(alloc, boards.len())?;
+    close_into(&mut sheets, boards, seats);
+    Ok(sheets)
+}
+
+/// The same into sheets that are there.
+fn close_into(
+    sheets: &mut [Sheet],
+    mut boards: Vec<Board<AllFacts>>,
+    mut seats: Vec<Seat<AllFacts>>,
+)
+    requires seats { (F : ℕ → Facts) × AreSeats WHOLE F boards.items seats.items }
+    requires sheets { length sheets.old ≡ length boards.items }
+    ensures { (F : ℕ → Facts) → AreSeats WHOLE F boards.items seats.items → AreSheets F sheets.new (length boards.items) }
+{
+    while let Some(board) = boards.pop() {
+        let Some(seat) = seats.pop() else {
+            return;
+        };
+        sheets[boards.len()] = board.close(seat);
+    }
+}
+
+/// The sheets of so many groups that showed nothing.
+pub(crate) fn blank_sheets(alloc: Global, count: usize) -> Result<Vec<Sheet>, AllocError>
+    ensures { IfOk result (λ v. AreSheets (λ k. no_facts) v.items count) }
+{
+    let mut sheets = Vec::new(alloc);
+    for _ in 0..count {
+        sheets.push(Sheet::empty())?;
+    }
+    Ok(sheets)
+}
