@@ -16,7 +16,7 @@ const SUMMARIES: [(u16, u16, u16); 6] = [
 #[test]
 fn every_seventh_group_is_missing(rt: HostRuntime) -> Result<(), Fail> {
     for (groups, reported, missing) in SUMMARIES {
-        let summary = summary_of(&rt, rt.alloc(), groups, &Open)?;
+        let summary = summary_of(rt.alloc(), groups, &Open)?;
         let counts = Summary {
             groups,
             receptions: 4 * groups,
@@ -31,7 +31,7 @@ fn every_seventh_group_is_missing(rt: HostRuntime) -> Result<(), Fail> {
 
 #[test]
 fn four_lines(rt: HostRuntime) -> Result<(), Fail> {
-    let text = summary_of(&rt, rt.alloc(), 7, &Open)?.text();
+    let text = summary_of(rt.alloc(), 7, &Open)?.text();
     let lines = b"groups 7\nreceptions 28\nreported 6\nmissing 1\n";
     assert_eq!(rt; text.as_slice(), lines.as_slice());
     Ok(())

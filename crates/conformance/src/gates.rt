@@ -123,8 +123,8 @@ fn entries_are_counted(rt: HostRuntime) -> Result<(), Fail> {
             assert_eq!(rt; got, want, "{words} {count}");
         }
     }
-    // `make` reads nothing, and has one worker join each group.
-    for (words, want) in [("dsc make 1", (1, 0, 1)), ("dsc make 7", (7, 0, 7))] {
+    // `make` reads nothing, and has one worker, which enters before the first reception.
+    for (words, want) in [("dsc make 1", (1, 0, 1)), ("dsc make 7", (1, 0, 1))] {
         assert_eq!(rt;
             entries(&rt, alloc, words, Vec::new(alloc))?,
             want,

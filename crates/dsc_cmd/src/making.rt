@@ -13,7 +13,6 @@ use dsc_streams::{Failed, Sink, Status};
 use generated_join::{Summary, summary_of};
 use receiver_pool::Gate;
 use std::alloc::{AllocError, Global};
-use std::thread::Threads;
 
 /// The status of a join with this summary: 0 where a call was reported of every group, and else 1.
 fn status_of(summary: &Summary) -> Status
@@ -47,13 +46,7 @@ fn tell_summary<K: Sink>(groups: u16, summary: &Summary, sink: &mut K) -> Status
 
 /// Has one worker join so many generated groups, at most 1,000, and writes the summary. It ends with status 0 where a call was reported of
 /// every group, with 1 where not, with that of a write fault, or with 6, having written nothing, where there was no memory.
-pub(crate) fn make<R: Threads + Sync, K: Sink, G: Gate>(
-    rt: &R,
-    alloc: Global,
-    groups: u16,
-    sink: &mut K,
-    gate: &G,
-) -> Status
+pub(crate) fn make<K: Sink, G: Gate>(alloc: Global, groups: u16, sink: &mut K, gate: &G) -> Status
     requires { groups ≤ 1000 }
     ensures which { IsFinished result ⊎ (result ≡ 5) ⊎ (result ≡ 6) }
     ensures done { IsFinished result → WritesSummary groups (K.written sink.old) (K.written sink.new) (K.flushed sink.new) result }
@@ -64,7 +57,7 @@ pub(crate) fn make<R: Threads + Sync, K: Sink, G: Gate>(
     ensures unwritten { result ≡ 6 → sink.new ≡ sink.old }
     ensures told { Told (K.written sink.old) (K.written sink.new) }
 {
-    match summary_of(rt, alloc, groups, gate) {
+    match summary_of(alloc, groups, gate) {
         Ok(summary) => tell_summary(groups, &summary, sink),
         Err(AllocError) => Status::new(6),
     }

@@ -102,7 +102,7 @@ fn execute<R: Threads + Sync, S: Source, K: Sink, G: Gate>(
         Plan::Encode { long: true } => drive(alloc, Encode::new(alloc, LongDots), source, sink),
         Plan::Sentences => drive(alloc, Sentences::new(alloc), source, sink),
         Plan::Replay { workers } => replay(rt, alloc, source, sink, u32::from(workers), gate),
-        Plan::Make { groups } => make(rt, alloc, groups, sink, gate),
+        Plan::Make { groups } => make(alloc, groups, sink, gate),
     }
 }
 

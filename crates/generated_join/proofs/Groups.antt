@@ -1,9 +1,9 @@
 -- Which groups the generated lines name, and their facts: those of their own lines.
 use Rattle.std.proofs.Common.{◌≡◌, ℕ, ◌+◌, Bool, true, false, ◌&&◌, ◌||◌, ◌==◌, List, [], ◌∷◌, ◌++◌, flat_map, map, refl, sym, ap, ap₂, subst, ◌∙◌, arith}
-use Rattle.std.specs.List.{AllByRecursion, range_with_len}
+use Rattle.std.specs.List.{AllByRecursion, list_any, range_with_len}
 use Rattle.std.proofs.lemmas.List.Folds.{list_any-append}
 use Rattle.std.proofs.lemmas.List.FromFn.{map-range_with_len_more}
-use Rattle.slot_evidence.specs.Facts.{Facts, facts_of, facts_of_all}
+use Rattle.slot_evidence.specs.Facts.{Facts, no_facts, facts_of, facts_of_all, union}
 use Rattle.slot_join.specs.Answer.{IsAnswer}
 use Rattle.ten_unit.specs.declared.character.Element.{Element}
 use Rattle.dsc_files.specs.JoinLine.{reception}
@@ -98,6 +98,23 @@ unfolding facts_of_all group_facts
 shown_by_lines k [] p v = refl
 shown_by_lines k (j ∷ receivers) p v =
     ap₂ (λ (a b : Bool). a || b) (sym (ap (λ (b : Bool). b && facts_of (heard k j) p v) (same_number k))) (shown_by_lines k receivers p v)
+
+-- nobody heard the group yet
+pub none_heard : (k : ℕ) → no_facts ≡ facts_of_all (first_heard k 0)
+unfolding facts_of_all
+none_heard k = same_facts no_facts (facts_of_all (first_heard k 0)) (λ p v. refl)
+
+or_none : (a : Bool) → (a || false) ≡ a
+or_none true = refl
+or_none false = refl
+
+-- one receiver more
+pub one_more_heard : (k n : ℕ) → union (facts_of_all (first_heard k n)) (facts_of (heard k n)) ≡ facts_of_all (first_heard k (n + 1))
+unfolding facts_of_all
+one_more_heard k n = same_facts (union (facts_of_all (first_heard k n)) (facts_of (heard k n))) (facts_of_all (first_heard k (n + 1)))
+    (λ p v. ap (λ (b : Bool). facts_of_all (first_heard k n) p v || b) (sym (or_none (facts_of (heard k n) p v)))
+    ∙ sym (list_any-append (λ e. facts_of e p v) (first_heard k n) (heard k n ∷ []))
+    ∙ ap (λ (l : List (List Element)). list_any (λ e. facts_of e p v) l) (heard_more k n))
 
 pub all_shown : (k : ℕ) → facts_of_all (first_heard k 4) ≡ group_facts (lines_of_group k) k
 unfolding lines_of_group

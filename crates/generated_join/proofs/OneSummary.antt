@@ -9,7 +9,7 @@ use Rattle.join_groups.specs.Groups.{group_facts}
 use Rattle.join_groups.specs.Output.{is_reported}
 use Rattle.join_groups.proofs.PublicLaws.{same_rising}
 use Rattle.generated_join.specs.declared.summary.Summary.{Summary}
-use Rattle.generated_join.specs.Summary.{Answered, IsSummary, is_missing, is_reception, summary_text, IsMade}
+use Rattle.generated_join.specs.Summary.{Answered, IsSummary, is_missing, summary_text, IsMade}
 use Rattle.generated_join.specs.Generator.{generated}
 
 -- facts have one answer

@@ -8,49 +8,40 @@ use crate::alerts::alert;
 use crate::hearing::{RECEPTIONS, heard};
 use crate::summary::Summary;
 use encode_calls::slots_of;
-use receiver_pool::{Gate, pool};
-use slot_evidence::Reception;
+use receiver_pool::Gate;
+use slot_evidence::{Reception, Sheet, shown_by};
 use slot_join::{Extra, Joined, report};
 use std::alloc::{AllocError, Global};
-use std::thread::Threads;
 
 /// At most so many groups are generated.
 pub const MOST_MADE: u16 = 1000;
 
-/// The answer to a group: one worker joins its receptions, as `join` has it do, and the answer to its sheet is reported.
-fn answer_to<R: Threads + Sync, G: Gate>(
-    rt: &R,
-    alloc: Global,
-    group: u16,
-    gate: &G,
-) -> Result<Joined, AllocError>
+/// The answer to a group: what each of its receptions shows is met in one sheet, as one worker of `join` has it, and the answer to
+/// this is reported.
+fn answer_to(alloc: Global, group: u16) -> Result<Joined, AllocError>
     requires { group ≤ MOST_MADE }
     ensures { IfOk result (IsAnswer (group_facts (lines_of_group group) group)) }
 {
     let slots = slots_of(&alert(group), &Extra::Absent);
-    let mut receptions = Vec::new(alloc);
+    let mut sheet = Sheet::empty();
     for receiver in 0..RECEPTIONS {
         let elements = heard(alloc, group, receiver, &slots)?;
-        receptions.push(Reception::from(elements))?;
+        let shown = shown_by(&Reception::from(elements));
+        sheet.meet(&shown);
     }
-    let sheet = pool(rt, alloc, &receptions, 1, gate)?;
     Ok(report(&sheet))
 }
 
-/// The summary of the join of so many generated groups, at most 1,000, by one worker. It joins one group after another, and keeps four
-/// numbers of those that it is done with. The error is want of memory.
-pub fn summary_of<R: Threads + Sync, G: Gate>(
-    rt: &R,
-    alloc: Global,
-    groups: u16,
-    gate: &G,
-) -> Result<Summary, AllocError>
+/// The summary of the join of so many generated groups, at most 1,000, by one worker, which enters the gate once, before the first
+/// reception. It joins one group after another, and keeps four numbers of those that it is done with. The error is want of memory.
+pub fn summary_of<G: Gate>(alloc: Global, groups: u16, gate: &G) -> Result<Summary, AllocError>
     requires { groups ≤ MOST_MADE }
     ensures { IfOk result (IsSummary (generated groups)) }
 {
+    gate.enter(0);
     let mut summary = Summary::new();
     for group in 0..groups {
-        let answer = answer_to(rt, alloc, group, gate)?;
+        let answer = answer_to(alloc, group)?;
         summary = summary.with(&answer);
     }
     Ok(summary)

@@ -1,10 +1,7 @@
-use Rattle.std.proofs.Common.{◌≡◌, ◌≤◌, All, length}
-use Rattle.phasing.specs.declared.reception.TheConstants.{LONGEST}
+use Rattle.slot_evidence.specs.Facts.{facts_of_all}
+use Rattle.slot_evidence.specs.Sheet.{IsEnds}
 use Rattle.generated_join.proofs.Groups.{first_heard}
 use Rattle.generated_join.proofs.joining.answer_to.Given as goal
 
 abbrev pub invariant-loop-receiver : goal.invariant-loop-receiver
-invariant-loop-receiver g l = record {
-  are : l.receptions.items ≡ first_heard l.group l.receiver;
-  short : All (λ heard. length heard ≤ LONGEST) l.receptions.items;
-}
+invariant-loop-receiver l = IsEnds (facts_of_all (first_heard l.group l.receiver)) l.sheet
