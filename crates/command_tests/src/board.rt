@@ -240,18 +240,17 @@ fn are_all_short(batch: &[Heard]) -> bool
     batch.iter().all(|heard| heard.reception.elements().len() <= LONGEST as usize)
 }
 
-/// A batch of two groups: both receptions in group 1, and the second one in group 0 too.
+/// A batch of two groups, whose numbers are 512 apart: group 1 has both receptions, and group 513 the second one, which comes between.
 fn two_groups(alloc: Global) -> Result<Vec<Heard>, AllocError> {
     let mut batch = Vec::new(alloc);
+    for group in [1, 513] {
+        if let Some(reception) = two_receptions(alloc)?.pop() {
+            batch.push(Heard { group, reception })?;
+        }
+    }
     for reception in two_receptions(alloc)? {
         batch.push(Heard {
             group: 1,
-            reception,
-        })?;
-    }
-    if let Some(reception) = two_receptions(alloc)?.pop() {
-        batch.push(Heard {
-            group: 0,
             reception,
         })?;
     }
@@ -270,7 +269,7 @@ fn sheet_of_group(entries: &[Shown], group: usize) -> Sheet {
 }
 
 #[test]
-fn receptions_without_an_origin_make_no_entry(rt: HostRuntime) -> Result<(), Fail> {
+fn receptions_without_an_origin_show_nothing(rt: HostRuntime) -> Result<(), Fail> {
     let mut batch = Vec::new(rt.alloc());
     for group in [0, 1, 0] {
         batch.push(Heard {
@@ -281,7 +280,10 @@ fn receptions_without_an_origin_make_no_entry(rt: HostRuntime) -> Result<(), Fai
     assert!(rt; are_all_short(&batch));
     for workers in [1, 2, 64] {
         let entries = pool_groups(&rt, rt.alloc(), &batch, workers, &Open)?;
-        assert_eq!(rt; entries.len(), 0, "{workers} workers");
+        assert_eq!(rt; entries.len(), 2, "{workers} workers");
+        for entry in &entries {
+            assert_eq!(rt; entry.sheet, Sheet::empty(), "{workers} workers");
+        }
     }
     Ok(())
 }
@@ -294,15 +296,15 @@ fn groups_of_a_batch(rt: HostRuntime) -> Result<(), Fail> {
     let whole = one_by_one(&list);
     for workers in [1, 2, 3, 64] {
         let entries = pool_groups(&rt, rt.alloc(), &batch, workers, &Open)?;
-        assert_eq!(rt; entries.len(), 3);
-        let second = sheet_of_group(&entries, 0);
+        assert_eq!(rt; entries.len(), 2);
+        let second = sheet_of_group(&entries, 513);
         assert_eq!(rt; second.at(6), Seen::None);
         assert_eq!(rt; second.at(7), Seen::One(106));
         assert_eq!(rt; sheet_of_group(&entries, 1), whole, "{workers} workers");
     }
     let gate = Meeting::of(2);
     let entries = pool_groups(&rt, rt.alloc(), &batch, 2, &gate)?;
-    assert_eq!(rt; entries.len(), 3);
+    assert_eq!(rt; entries.len(), 2);
     assert_eq!(rt; gate.met(), 2);
     Ok(())
 }
