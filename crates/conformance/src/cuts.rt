@@ -46,17 +46,17 @@ fn is_phased(elements: &[u8], lead: usize) -> bool {
 fn answer(alloc: Global, heard: &[u8]) -> Result<Vec<u8>, AllocError> {
     let mut elements = vec![in alloc; b'-'; IN_FRONT]?;
     elements.extend_from_slice(heard)?;
-    let mut place = 0usize;
+    let mut place = 0u8;
     if let Some(lead) = (0..elements.len()).find(|lead| is_phased(&elements, *lead)) {
         for symbol in LIST {
-            let (dx, rx) = (12 + 2 * place, 17 + 2 * place);
+            let (dx, rx) = (12 + 2 * usize::from(place), 17 + 2 * usize::from(place));
             if !shows(&elements, lead, dx, symbol) && !shows(&elements, lead, rx, symbol) {
                 break;
             }
-            place += 1;
+            place = place.saturating_add(1);
         }
     }
-    if place == LIST.len() {
+    if usize::from(place) == LIST.len() {
         return Vec::from_slice(alloc, REPORTED.as_bytes());
     }
     let missing = format!(in alloc; "g0 missing {place}\n")?;
