@@ -41,22 +41,27 @@ fn is_phased(elements: &[u8], lead: usize) -> bool {
     (dx >= 2 && rx >= 1) || (rx >= 2 && dx >= 1) || rx >= 3
 }
 
+// The slot of a place among those that begin with this one: each second slot is of the same kind.
+fn slot(first: usize, place: usize) -> usize {
+    place.saturating_mul(2).saturating_add(first)
+}
+
 // The answer to a part of the alert, by the definitions: at the least phased origin each place shows what its two slots show,
 // and the first place of the list that shows nothing is missing.
 fn answer(alloc: Global, heard: &[u8]) -> Result<Vec<u8>, AllocError> {
     let mut elements = vec![in alloc; b'-'; IN_FRONT]?;
     elements.extend_from_slice(heard)?;
-    let mut place = 0u8;
+    let mut place = 0usize;
     if let Some(lead) = (0..elements.len()).find(|lead| is_phased(&elements, *lead)) {
         for symbol in LIST {
-            let (dx, rx) = (12 + 2 * usize::from(place), 17 + 2 * usize::from(place));
+            let (dx, rx) = (slot(12, place), slot(17, place));
             if !shows(&elements, lead, dx, symbol) && !shows(&elements, lead, rx, symbol) {
                 break;
             }
             place = place.saturating_add(1);
         }
     }
-    if usize::from(place) == LIST.len() {
+    if place == LIST.len() {
         return Vec::from_slice(alloc, REPORTED.as_bytes());
     }
     let missing = format!(in alloc; "g0 missing {place}\n")?;
