@@ -9,7 +9,7 @@ documents=$prefix/share/doc/dsc
 list_installed() (
     cd "$top" || exit
     echo "man/dsc.1 $prefix/share/man/man1"
-    for file in README.md docs/*.md docs/pictures/*.svg examples/* tools/cut_recording tools/split_groups; do
+    for file in README.md docs/*.md docs/pictures/*.svg examples/* tools/split_groups; do
         folder=$documents/$file
         echo "$file ${folder%/*}"
     done

@@ -14,7 +14,7 @@ use Rattle.area_rules.specs.declared.acts.Act.{Act}
 use Rattle.area_rules.specs.declared.acts.Act.TheVariants as act
 use Rattle.area_rules.specs.Histories.{Entry, History, does, since}
 use Rattle.area_rules.specs.Rules.{Legal, Follows}
-use Rattle.area_rules.proofs.PublicLaws.{legal_before}
+use Rattle.area_rules.proofs.PublicLaws.{follows_rules, legal_before}
 use Rattle.traffic_rules.specs.Hearing.{heard_due}
 use Rattle.traffic_rules.specs.Repeating.{repeats}
 use Rattle.coast_station.specs.declared.events.CoastWhat.{CoastWhat}
@@ -29,7 +29,7 @@ use Rattle.coast_station.proofs.Births.{by_test}
 use Rattle.coast_station.proofs.Identities.{is_among, AreApart, born_apart, open_born}
 use Rattle.coast_station.proofs.Listed.{listed_of, AreNamed}
 use Rattle.coast_station.proofs.Changes.{named, any_due}
-use Rattle.coast_station.proofs.Silence.{sendable_no_ack, sent_ends, relayed_ends, answered_ends, heard_ends, repeats_end, accepted_by_rules}
+use Rattle.coast_station.proofs.Silence.{sent_ends, relayed_ends, answered_ends, heard_ends, repeats_end}
 use Rattle.coast_station.proofs.Among.{Among, among_here, among_any, some_among}
 use Rattle.coast_station.proofs.Origins.{Origin, origin_of}
 use Rattle.coast_station.proofs.Behind.{HeardBehind, heard_behind, accepts_with}
@@ -45,7 +45,7 @@ a_minute d from at range passed = let long = range.0 in omega arith
 origin_in : (who : Station) (earlier : History CoastWhat) (sent : Entry CoastWhat) (from times : ℕ) (casualty : Casualty) → Follows (coast_rules who) sent earlier → Legal (coast_rules who) earlier
     → Among (act.Send (call.Ack from casualty) times) sent.acts → Origin who earlier sent.at sent.what casualty
 origin_in who earlier sent from times casualty follows legal among =
-    origin_of who earlier sent.at from times sent.what casualty legal (accepted_by_rules who sent earlier follows)
+    origin_of who earlier sent.at from times sent.what casualty legal (follows_rules (coast_rules who) sent earlier follows)
     (subst (λ (acts : List Act). Among (act.Send (call.Ack from casualty) times) acts) follows.acts among)
 
 origin_named : (who : Station) (h : History CoastWhat) (at : ℕ) (what : CoastWhat) (casualty : Casualty) (o : Origin who h at what casualty) → o.identity ≡ casualty.mmsi
@@ -219,8 +219,8 @@ due_once who h e m Tick is follows legal =
 due_once who h e m (Relay k to ask) is follows legal =
     silent_once m (due_at who h e.at (Relay k to ask)) (relayed_ends m who.own to ask (held h) (find_casualty k (open_casualties who.own h)))
 due_once who h e m (Send c) is follows legal =
-    let none = subst (λ (what : CoastWhat). (coast_rules who).refusal h what ≡ None) is (accepted_by_rules who e h follows) in
-    silent_once m (due_at who h e.at (Send c)) (sent_ends m (held h) c (sendable_no_ack who.own (held h) c m none))
+    let none = subst (λ (what : CoastWhat). (coast_rules who).refusal h what ≡ None) is (follows_rules (coast_rules who) e h follows) in
+    silent_once m (due_at who h e.at (Send c)) (sent_ends m who.own (held h) c none)
 due_once who h e m (Answer number accepts) is follows legal = silent_once m (due_at who h e.at (Answer number accepts)) (answered_ends m who.own (held h) number accepts)
 due_once who h e m (Heard c) is follows legal =
     by_test (is_for who.own c) (λ b. Once m (if b then at_call who.own (open_casualties who.own h) (held h) c else [])) (λ _. call_once who.own m h c) (λ _. tt)

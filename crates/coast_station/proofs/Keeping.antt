@@ -1,40 +1,38 @@
 -- what a coast station keeps after an event is what the history with this event tells
-use Rattle.std.proofs.Common.{◌≡◌, ℕ, ◌≤◌, ◌==◌, ◌&&◌, ◌||◌, not, Bool, true, false, if◌then◌else◌, Option, Some, None, is_some, is_none, Result, List, [], ◌∷◌, refl, sym, ◌∙◌, ap, subst}
+use Rattle.std.proofs.Common.{◌≡◌, ℕ, ◌≤◌, ◌==◌, ◌&&◌, ◌||◌, not, true, false, if◌then◌else◌, Option, Some, None, is_some, is_none, Result, List, [], ◌∷◌, refl, sym, ◌∙◌, ap, subst}
 use Rattle.std.proofs.Math.Bool.{or-false}
-use Rattle.std.proofs.lemmas.Bool.{false≢true, and_parts, not-true, eq-eqb}
+use Rattle.std.proofs.lemmas.Bool.{false≢true, and_parts, not-true}
 use Rattle.std.specs.Prelude.{OnOk, OnErr}
-use Rattle.arrayvec.specs.ArrayVec.{ArrayVec}
 use Rattle.call_values.specs.declared.calls.Call.{Call}
 use Rattle.call_values.specs.declared.calls.Call.TheVariants as call
-use Rattle.call_values.specs.declared.calls.Casualty.{Casualty}
 use Rattle.call_values.specs.declared.choices.Band.{Band}
-use Rattle.call_values.specs.declared.parts.To.{To}
 use Rattle.area_rules.specs.declared.acts.Act.{Act}
 use Rattle.area_rules.specs.declared.acts.Act.TheVariants as act
 use Rattle.area_rules.specs.declared.refusals.StationRefusal.{StationRefusal}
-use Rattle.area_rules.specs.declared.refusals.StationRefusal.TheVariants.{NoCasualty, NeedsDelay, NotSendable}
+use Rattle.area_rules.specs.declared.refusals.StationRefusal.TheVariants.{NoCasualty, NeedsDelay}
 use Rattle.area_rules.specs.Addressing.{is_for_coast}
 use Rattle.area_rules.specs.Histories.{History, last_moment}
 use Rattle.area_rules.specs.Holding.{Places}
-use Rattle.area_rules.specs.Rules.{listed, refusal_or, continued, Legal}
+use Rattle.area_rules.specs.Rules.{refusal_or, continued, Legal}
+use Rattle.traffic_rules.specs.Giving.{answer_with}
 use Rattle.traffic_rules.specs.Hearing.{heard_due}
 use Rattle.traffic_rules.specs.Repeating.{repeats}
-use Rattle.traffic_rules.specs.Sending.{send_refusal, send_due, refused_full}
-use Rattle.traffic_rules.proofs.PublicLaws.{AreQuiet, after_nothing, after_hearing_nothing, after_send, after_answer, after_ticking, after_heard}
+use Rattle.traffic_rules.specs.Sending.{send_due}
 use Rattle.coast_station.specs.declared.events.CoastWhat.{CoastWhat}
 use Rattle.coast_station.specs.declared.events.CoastWhat.TheVariants.{Accept, Tick, Relay, Send, Answer, Heard}
 use Rattle.coast_station.specs.declared.casualties.OpenCasualty.{OpenCasualty}
 use Rattle.coast_station.specs.declared.coasts.Coast.{Coast}
-use Rattle.coast_station.specs.Accepting.{waits, find_casualty, is_due_at_once, acknowledgement, accept_refusal, accept_due_of, acknowledgements_due}
+use Rattle.coast_station.specs.Accepting.{waits, find_casualty, is_due_at_once, acknowledgement, accept_refusal, accept_due_of}
 use Rattle.coast_station.specs.Casualties.{open_casualty, open_casualties}
-use Rattle.coast_station.specs.CoastRules.{Station, held, is_for, at_call, relay_refusal, relay_due_of, refusal_at_call, refusal_by, due_by, refusal_at, due_at, coast_rules}
-use Rattle.coast_station.specs.Events.{IsCoastWhat, alert_in, coast_occurs}
+use Rattle.coast_station.specs.CoastRules.{Station, held, is_for, at_call, refusal_by, due_by, refusal_at, due_at, coast_rules}
+use Rattle.coast_station.specs.Events.{IsCoastWhat, alert_in}
 use Rattle.coast_station.specs.Stands.{Keeps, Stands}
-use Rattle.coast_station.specs.inside.Afterwards.{after_accept_of, after_call, open_after, held_after_relay, held_after_call, held_after, answer_by, afterwards}
+use Rattle.coast_station.specs.inside.Afterwards.{after_accept_of, after_call, open_after, held_after, answer_by, afterwards}
 use Rattle.coast_station.specs.inside.Left.{without, replaced}
 use Rattle.coast_station.proofs.Births.{by_test, none_is_some}
 use Rattle.coast_station.proofs.Changes.{find_open, named, silent_open, closed_open, due_open, noted_open, accepted_open, accepted_before, acknowledged_open, tick_ends}
-use Rattle.coast_station.proofs.Silence.{sendable_no_ack, sent_ends, relayed_ends, answered_ends, heard_ends, acks_quiet, repeats_end}
+use Rattle.coast_station.proofs.HeldOn.{held_goes_on}
+use Rattle.coast_station.proofs.Silence.{sent_ends, relayed_ends, answered_ends, heard_ends, repeats_end}
 use Rattle.coast_station.proofs.Origins.{none_from}
 use Rattle.coast_station.proofs.Frame.{on_ok, on_err, goes_on}
 
@@ -52,19 +50,6 @@ needs_delay band k at cs x found accepted later =
     ∙ ap (λ b. if b && true then Some NeedsDelay else None) wait) ∙ accepted)))
     (λ _ _ at_once. false≢true (sym at_once))
     refl later
-
-accept_quiet : (own : ℕ) (band : Band) (at : ℕ) (delay : Option ℕ) (o : Option OpenCasualty) → AreQuiet (accept_due_of own band at delay o)
-accept_quiet own band at delay None = record { begin = λ k. refl; end = λ k. refl }
-accept_quiet own band at delay (Some x) =
-    by_test (is_some x.delay) (λ b. AreQuiet (if b then [] else (if is_due_at_once band at delay x then acknowledgement own x.alert ∷ [] else [])))
-    (λ _. record { begin = λ k. refl; end = λ k. refl })
-    (λ _. by_test (is_due_at_once band at delay x) (λ b. AreQuiet (if b then acknowledgement own x.alert ∷ [] else []))
-    (λ _. record { begin = λ k. refl; end = λ k. refl }) (λ _. record { begin = λ k. refl; end = λ k. refl }))
-
--- a relay may be sent where there is room to hold it
-pub relay_sendable : (own : ℕ) (places : Places) (to : To) (alert : Casualty) (ask : Bool) → send_refusal own places (call.Relay to own alert ask) ≡ refused_full ask places
-relay_sendable own places to alert true = ap (λ b. if b && true then refused_full true places else Some NotSendable) (eq-eqb own own refl)
-relay_sendable own places to alert false = ap (λ b. if b && true then refused_full false places else Some NotSendable) (eq-eqb own own refl)
 
 -- a call that isn't for the station is no other station's alert
 no_alert : (own : ℕ) (c : Call) → is_for own c ≡ false → alert_in own (Heard c) ≡ None
@@ -149,59 +134,11 @@ module _ (who : Station) (h : History CoastWhat) (at : ℕ) where
       (λ m. relayed_ends m who.own to ask (held h) (find_casualty k cs)) refl (λ m. refl)
   casualties_go_on (Send c) legal none =
       silent_open who.own (record { at = at; what = Send c; acts = send_due (held h) c }) h
-      (λ m. sent_ends m (held h) c (sendable_no_ack who.own (held h) c m none)) refl (λ m. refl)
+      (λ m. sent_ends m who.own (held h) c none) refl (λ m. refl)
   casualties_go_on (Answer number accepts) legal none =
       silent_open who.own (record { at = at; what = Answer number accepts; acts = due_at who h at (Answer number accepts) }) h
       (λ m. answered_ends m who.own (held h) number accepts) refl (λ m. refl)
   casualties_go_on (Heard c) legal none = call_open c
-
-  -- the held calls
-  relayed_held : (k : ℕ) (to : To) (ask : Bool) (o : Option OpenCasualty) → find_casualty k cs ≡ o → relay_refusal k ask cs (held h) ≡ None
-      → held (record { at = at; what = Relay k to ask; acts = relay_due_of who.own to ask (held h) o } ∷ h) ≡ held_after_relay who.own at to ask o (held h)
-  relayed_held k to ask None found none =
-      absurd (none_is_some (sym (sym (ap (λ (o : Option OpenCasualty). if is_none o then Some (NoCasualty k) else refused_full ask (held h)) found) ∙ none)))
-  relayed_held k to ask (Some x) found none =
-      let room : refused_full ask (held h) ≡ None =
-      sym (ap (λ (o : Option OpenCasualty). if is_none o then Some (NoCasualty k) else refused_full ask (held h)) found) ∙ none in
-      after_send coast_occurs (record { at = at; what = Relay k to ask; acts = relay_due_of who.own to ask (held h) (Some x) }) h who.own (call.Relay to who.own x.alert ask) refl refl
-      (relay_sendable who.own (held h) to x.alert ask ∙ room)
-
-  heard_held : (c : Call) → refusal_at_call cs (held h) c ≡ None
-      → held (record { at = at; what = Heard c; acts = at_call who.own cs (held h) c } ∷ h) ≡ held_after_call at c (held h)
-  heard_held (call.Alert alert) none =
-      after_hearing_nothing coast_occurs (record { at = at; what = Heard (call.Alert alert); acts = act.Distress alert ∷ [] }) h (call.Alert alert) refl
-      (record { begin = λ k. refl; end = λ k. refl })
-  heard_held (call.Ack from closed) none =
-      by_test (is_some (find_casualty closed.mmsi cs))
-      (λ b. held (record { at = at; what = Heard (call.Ack from closed); acts = if b then act.CasualtyClosed closed.mmsi ∷ [] else [] } ∷ h) ≡ held h)
-      (λ _. after_hearing_nothing coast_occurs (record { at = at; what = Heard (call.Ack from closed); acts = act.CasualtyClosed closed.mmsi ∷ [] }) h (call.Ack from closed) refl
-      (record { begin = λ k. refl; end = λ k. refl }))
-      (λ _. after_hearing_nothing coast_occurs (record { at = at; what = Heard (call.Ack from closed); acts = [] }) h (call.Ack from closed) refl
-      (record { begin = λ k. refl; end = λ k. refl }))
-  heard_held c none = after_heard coast_occurs (record { at = at; what = Heard c; acts = heard_due who.own None (held h) c }) h who.own None c refl refl none
-
-  call_held : (c : Call) → refusal_at who h (Heard c) ≡ None
-      → held (record { at = at; what = Heard c; acts = due_at who h at (Heard c) } ∷ h) ≡ held_after who at (Heard c) cs (held h)
-  call_held c none =
-      by_test (is_for who.own c)
-      (λ b. (if b then refusal_at_call cs (held h) c else None) ≡ None
-      → held (record { at = at; what = Heard c; acts = if b then at_call who.own cs (held h) c else [] } ∷ h) ≡ (if b then held_after_call at c (held h) else held h))
-      (λ _ accepted_so. heard_held c accepted_so)
-      (λ _ _. after_hearing_nothing coast_occurs (record { at = at; what = Heard c; acts = [] }) h c refl (record { begin = λ k. refl; end = λ k. refl }))
-      none
-
-  pub held_goes_on : (what : CoastWhat) → refusal_at who h what ≡ None
-      → held (record { at = at; what = what; acts = due_at who h at what } ∷ h) ≡ held_after who at what cs (held h)
-  held_goes_on (Accept k delay) none =
-      after_nothing coast_occurs (record { at = at; what = Accept k delay; acts = due_at who h at (Accept k delay) }) h refl
-      (accept_quiet who.own who.band at delay (find_casualty k cs))
-  held_goes_on Tick none =
-      after_ticking coast_occurs (record { at = at; what = Tick; acts = due_at who h at Tick }) h (acknowledgements_due who.own at cs) refl refl (acks_quiet who.own at cs)
-  held_goes_on (Relay k to ask) none = relayed_held k to ask (find_casualty k cs) refl none
-  held_goes_on (Send c) none = after_send coast_occurs (record { at = at; what = Send c; acts = send_due (held h) c }) h who.own c refl refl none
-  held_goes_on (Answer number accepts) none =
-      after_answer coast_occurs (record { at = at; what = Answer number accepts; acts = due_at who h at (Answer number accepts) }) h who.own number accepts refl refl none
-  held_goes_on (Heard c) none = call_held c none
 
 -- a station answers by what it keeps as its histories do
 pub answer_same : (who : Station) (h : History CoastWhat) (coast : Coast) (at : ℕ) (what : CoastWhat) → Keeps coast who h
@@ -231,11 +168,11 @@ keeps_afterwards who h old at what keeps legal none = record {
 }
 
 -- a station that is as it was after a refusal, and keeps this after an accepted event, stands for its history as this goes on
-pub goes : (who : Station) (h : History CoastWhat) (at : ℕ) (what : CoastWhat) (old new : Coast) (result : Result (ArrayVec Act) StationRefusal)
-    → last_moment h ≤ at → IsCoastWhat what → Stands old who h → listed result ≡ answer_by old at what
+pub goes : (who : Station) (h : History CoastWhat) (at : ℕ) (what : CoastWhat) (old new : Coast) (result : Result (Unit {0}) StationRefusal) (acts : List Act)
+    → last_moment h ≤ at → IsCoastWhat what → Stands old who h → answer_with result acts ≡ answer_by old at what
     → OnErr result (new ≡ old) → OnOk result (new ≡ afterwards old at what) → Stands new who (continued (coast_rules who) h at what)
-goes who h at what old new result late event stands answer same after =
-    goes_on (coast_rules who) h at what (λ (g : History CoastWhat). Keeps new who g) result late event stands.0 (answer ∙ answer_same who h old at what stands.1)
+goes who h at what old new result acts late event stands answer same after =
+    goes_on (coast_rules who) h at what (λ (g : History CoastWhat). Keeps new who g) result acts late event stands.0 (answer ∙ answer_same who h old at what stands.1)
     (on_err result (λ is. subst (λ (coast : Coast). Keeps coast who h) (sym is) stands.1) same)
     (λ none. on_ok result
     (λ is. subst (λ (coast : Coast). Keeps coast who (record { at = at; what = what; acts = due_at who h at what } ∷ h)) (sym is) (keeps_afterwards who h old at what stands.1 stands.0 none))

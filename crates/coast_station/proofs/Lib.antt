@@ -2,6 +2,8 @@ mod Births
 mod Identities
 mod Listed
 mod Changes
+mod HeldOn
+mod Sendings
 mod Silence
 mod Frame
 mod Among
@@ -11,4 +13,3 @@ mod Acknowledgements
 mod Places
 mod Keeping
 mod Traffic
-mod Sendings

@@ -20,7 +20,7 @@ use Rattle.coast_station.specs.Casualties.{ends, open_casualty, born, open_casua
 use Rattle.coast_station.specs.CoastRules.{Station, held, is_for, at_call, refusal_at, due_at, coast_rules}
 use Rattle.coast_station.proofs.Births.{by_test}
 use Rattle.coast_station.proofs.Changes.{find_open}
-use Rattle.coast_station.proofs.Silence.{sendable_no_ack, sent_ends, relayed_ends, answered_ends, heard_ends, repeats_end}
+use Rattle.coast_station.proofs.Silence.{sent_ends, relayed_ends, answered_ends, heard_ends, repeats_end}
 use Rattle.coast_station.proofs.Among.{Among, among_append, among_any, among_kept, among_mapped, among_listed}
 
 -- why an acknowledgement is sent at an event: its casualty's delay has passed, or it is accepted and acknowledged at once
@@ -101,7 +101,7 @@ origin_of who h at from times (Accept k delay) casualty legal none among =
 origin_of who h at from times (Relay k to ask) casualty legal none among =
     absurd (not_among from times casualty (due_at who h at (Relay k to ask)) (relayed_ends casualty.mmsi who.own to ask (held h) (find_casualty k (open_casualties who.own h))) among)
 origin_of who h at from times (Send c) casualty legal none among =
-    absurd (not_among from times casualty (due_at who h at (Send c)) (sent_ends casualty.mmsi (held h) c (sendable_no_ack who.own (held h) c casualty.mmsi none)) among)
+    absurd (not_among from times casualty (due_at who h at (Send c)) (sent_ends casualty.mmsi who.own (held h) c none) among)
 origin_of who h at from times (Answer number accepts) casualty legal none among =
     absurd (not_among from times casualty (due_at who h at (Answer number accepts)) (answered_ends casualty.mmsi who.own (held h) number accepts) among)
 origin_of who h at from times (Heard c) casualty legal none among =

@@ -11,6 +11,7 @@ use Rattle.area_rules.specs.declared.refusals.StationRefusal.TheVariants.{NoCasu
 use Rattle.area_rules.specs.Histories.{Entry, History}
 use Rattle.area_rules.specs.Holding.{Places}
 use Rattle.area_rules.specs.Rules.{Follows}
+use Rattle.area_rules.proofs.PublicLaws.{follows_rules}
 use Rattle.traffic_rules.specs.Occurrences.{is_tick}
 use Rattle.traffic_rules.specs.Sending.{refused_full}
 use Rattle.traffic_rules.specs.Sendings.{asking, sends, is_holding}
@@ -24,8 +25,7 @@ use Rattle.coast_station.specs.CoastRules.{Station, held, is_for, at_call, relay
 use Rattle.coast_station.specs.Events.{coast_occurs}
 use Rattle.coast_station.specs.inside.Afterwards.{held_after_relay, held_after_call, held_after}
 use Rattle.coast_station.proofs.Births.{by_test, none_is_some}
-use Rattle.coast_station.proofs.Keeping.{relay_sendable, held_goes_on}
-use Rattle.coast_station.proofs.Silence.{accepted_by_rules}
+use Rattle.coast_station.proofs.HeldOn.{relay_sendable, held_goes_on}
 
 module _ (is_such : Call → Bool) where
   -- an acknowledgement of an alert asks for none
@@ -50,7 +50,7 @@ module _ (is_such : Call → Bool) where
     cs = open_casualties who.own h
 
     relay_handles : (mmsi : ℕ) (to : To) (ask : Bool) (o : Option OpenCasualty) → find_casualty mmsi cs ≡ o → relay_refusal mmsi ask cs (held h) ≡ None
-        → Handles (asking is_such) false (relay_due_of who.own to ask (held h) o) (held h) (held_after_relay who.own at to ask o (held h))
+        → Handles who.own (asking is_such) false (relay_due_of who.own to ask (held h) o) (held h) (held_after_relay who.own at to ask o (held h))
     relay_handles mmsi to ask None found none =
         absurd (none_is_some (sym (sym (ap (λ (o : Option OpenCasualty). if is_none o then Some (NoCasualty mmsi) else refused_full ask (held h)) found) ∙ none)))
     relay_handles mmsi to ask (Some x) found none =
@@ -58,38 +58,38 @@ module _ (is_such : Call → Bool) where
         sym (ap (λ (o : Option OpenCasualty). if is_none o then Some (NoCasualty mmsi) else refused_full ask (held h)) found) ∙ none in
         handles_send is_such who.own (held h) (call.Relay to who.own x.alert ask) at (relay_sendable who.own (held h) to x.alert ask ∙ room)
 
-    call_handles : (c : Call) → Handles (asking is_such) false (at_call who.own cs (held h) c) (held h) (held_after_call at c (held h))
-    call_handles (call.Alert casualty) = handles_nothing (asking is_such) (act.Distress casualty ∷ []) (held h) refl
+    call_handles : (c : Call) → Handles who.own (asking is_such) false (at_call who.own cs (held h) c) (held h) (held_after_call at c (held h))
+    call_handles (call.Alert casualty) = handles_nothing who.own (asking is_such) (act.Distress casualty ∷ []) (held h) refl
     call_handles (call.Ack from casualty) =
         let told = is_some (find_casualty casualty.mmsi cs) in
-        handles_nothing (asking is_such) (if told then act.CasualtyClosed casualty.mmsi ∷ [] else []) (held h) (ack_none told casualty.mmsi)
+        handles_nothing who.own (asking is_such) (if told then act.CasualtyClosed casualty.mmsi ∷ [] else []) (held h) (ack_none told casualty.mmsi)
     call_handles c = handles_heard is_such who.own None (held h) c at
 
     heard_by : (c : Call) (for_it : Bool)
-        → Handles (asking is_such) false (if for_it then at_call who.own cs (held h) c else []) (held h) (if for_it then held_after_call at c (held h) else held h)
+        → Handles who.own (asking is_such) false (if for_it then at_call who.own cs (held h) c else []) (held h) (if for_it then held_after_call at c (held h) else held h)
     heard_by c true = call_handles c
-    heard_by c false = handles_nothing (asking is_such) [] (held h) refl
+    heard_by c false = handles_nothing who.own (asking is_such) [] (held h) refl
 
     due_handles : (what : CoastWhat) → refusal_at who h what ≡ None
-        → Handles (asking is_such) (is_tick (coast_occurs what)) (due_at who h at what) (held h) (held_after who at what cs (held h))
+        → Handles who.own (asking is_such) (is_tick (coast_occurs what)) (due_at who h at what) (held h) (held_after who at what cs (held h))
     due_handles (Accept mmsi delay) none =
-        handles_nothing (asking is_such) (due_at who h at (Accept mmsi delay)) (held h) (accept_none who.own who.band at delay (find_casualty mmsi cs))
+        handles_nothing who.own (asking is_such) (due_at who h at (Accept mmsi delay)) (held h) (accept_none who.own who.band at delay (find_casualty mmsi cs))
     due_handles Tick none =
         let silent = acks_none who.own (filter (is_due at) cs) in
-        handles_tick (asking is_such) (acknowledgements_due who.own at cs) at (held h) silent.0 silent.1
+        handles_tick who.own (asking is_such) (acknowledgements_due who.own at cs) at (held h) silent.0 silent.1
     due_handles (Relay mmsi to ask) none = relay_handles mmsi to ask (find_casualty mmsi cs) refl none
     due_handles (Send c) none = handles_send is_such who.own (held h) c at none
     due_handles (Answer number accepts) none = handles_answer is_such who.own (held h) number accepts
     due_handles (Heard c) none = heard_by c (is_for who.own c)
 
     entry_due_handles : (what : CoastWhat) → refusal_at who h what ≡ None
-        → Handles (asking is_such) (is_tick (coast_occurs what)) (due_at who h at what) (held h) (held (record { at = at; what = what; acts = due_at who h at what } ∷ h))
+        → Handles who.own (asking is_such) (is_tick (coast_occurs what)) (due_at who h at what) (held h) (held (record { at = at; what = what; acts = due_at who h at what } ∷ h))
     entry_due_handles what none =
-        subst (λ (places : Places). Handles (asking is_such) (is_tick (coast_occurs what)) (due_at who h at what) (held h) places)
+        subst (λ (places : Places). Handles who.own (asking is_such) (is_tick (coast_occurs what)) (due_at who h at what) (held h) places)
         (sym (held_goes_on who h at what none)) (due_handles what none)
 
   pub entry_handles : (who : Station) (e : Entry CoastWhat) (h : History CoastWhat) → Follows (coast_rules who) e h
-      → Handles (asking is_such) (is_tick (coast_occurs e.what)) e.acts (held h) (held (e ∷ h))
+      → Handles who.own (asking is_such) (is_tick (coast_occurs e.what)) e.acts (held h) (held (e ∷ h))
   entry_handles who e h follows =
-      subst (λ (acts : List Act). Handles (asking is_such) (is_tick (coast_occurs e.what)) acts (held h) (held (record { at = e.at; what = e.what; acts = acts } ∷ h)))
-      (sym follows.acts) (entry_due_handles who h e.at e.what (accepted_by_rules who e h follows))
+      subst (λ (acts : List Act). Handles who.own (asking is_such) (is_tick (coast_occurs e.what)) acts (held h) (held (record { at = e.at; what = e.what; acts = acts } ∷ h)))
+      (sym follows.acts) (entry_due_handles who h e.at e.what (follows_rules (coast_rules who) e h follows))

@@ -159,14 +159,14 @@ impl Casualties {
     }
 
     /// Acknowledges each casualty whose acknowledgement is due, in their order, and takes them out.
-    pub(crate) fn acknowledge_due(&mut self, own: Mmsi, at: u64) -> Acts
-        ensures acts { result.items ≡ accepting.acknowledgements_due own at self.old }
-        ensures room { length result.items ≤ 16 }
+    pub(crate) fn acknowledge_due(&mut self, own: Mmsi, at: u64, acts: &mut Acts)
+        requires { acts.old.items ≡ [] }
+        ensures acts { acts.new.items ≡ accepting.acknowledgements_due own at self.old }
+        ensures room { length acts.new.items ≤ 16 }
         ensures rest { self.new ≡ left.not_due at self.old }
     {
-        let acts = acknowledgements(&self.entries, own, at);
+        acknowledge(&self.entries, own, at, acts);
         self.entries = not_due(&self.entries, at);
-        acts
     }
 
     /// Where the casualty of this identity stands.
@@ -198,19 +198,18 @@ fn put_at(
     entries[place] = *casualty;
 }
 
-/// The acknowledgements that are due.
-fn acknowledgements(entries: &[OpenCasualty], own: Mmsi, at: u64) -> Acts
-    requires { length entries.now ≤ 16 }
-    ensures acts { result.items ≡ accepting.acknowledgements_due own at entries.now }
-    ensures room { length result.items ≤ 16 }
+/// Gives the acknowledgements that are due.
+fn acknowledge(entries: &[OpenCasualty], own: Mmsi, at: u64, acts: &mut Acts)
+    requires few { length entries.now ≤ 16 }
+    requires empty { acts.old.items ≡ [] }
+    ensures acts { acts.new.items ≡ accepting.acknowledgements_due own at entries.now }
+    ensures room { length acts.new.items ≤ 16 }
 {
-    let mut acts = ArrayVec::new();
     for casualty in entries {
         if casualty.is_due(at) {
-            put(&mut acts, acknowledgement(own, &casualty.alert));
+            put(acts, acknowledgement(own, &casualty.alert));
         }
     }
-    acts
 }
 
 /// The casualties whose acknowledgement isn't due.

@@ -1,6 +1,7 @@
-ghost use Rattle.std.specs.Prelude.{◌≡◌, ◌≤◌, true, [], Ok, OnOk, OnErr};
+ghost use Rattle.std.specs.Prelude.{◌≡◌, true, [], Ok, OnOk, OnErr};
 ghost use Rattle.area_rules.specs.Histories.{History};
 ghost use Rattle.area_rules.specs.Rules.{listed, answer_to, continued};
+ghost use Rattle.traffic_rules.specs.Giving.{answer_with};
 ghost use Rattle.call_values.specs.declared.calls.Call.TheVariants as form;
 ghost use Rattle.coast_station.specs.declared.events.CoastWhat.{CoastWhat as What};
 ghost use Rattle.coast_station.specs.Accepting as accepting;
@@ -11,10 +12,10 @@ ghost use Rattle.coast_station.specs.inside.Afterwards.{answer_by, afterwards};
 
 use crate::casualties::{Casualties, OpenCasualty, acknowledgement};
 use crate::events::{CoastEvent, CoastWhat};
-use area_rules::{Act, Acts, HeldCalls, StationRefusal, for_coast, single, time_back};
+use area_rules::{Act, Acts, HeldCalls, StationRefusal, for_coast, time_back};
 use arrayvec::ArrayVec;
 use call_values::{Band, Call, Casualty, CoastDelay, Mmsi, To};
-use traffic_rules::{answer, hear, repeat, send};
+use traffic_rules::{answer, give, hear, repeat, send};
 
 /// A coast station, which goes from event to event.
 #[derive(Drop)]
@@ -47,49 +48,68 @@ impl Coast {
     /// casualty is open (`NoCasualty`); accepting on MF or HF without a delay (`NeedsDelay`); a call that the operator may not
     /// send (`NotSendable`); an answer to a number under which no call that was got is held (`NoSuchCall`); what would begin a
     /// seventeenth casualty or held call (`Full`).
-    // This and what gives acts stand in frames of their own, so that only those of one event's way lie on the stack.
-    #[inline(never)]
     pub fn step(&mut self, event: &CoastEvent) -> Result<Acts, StationRefusal>
         ensures answer { (who : Station) (h : History What) → Stands self.old who h → listed result ≡ answer_to (coast_rules who) h event.now.at event.now.what }
         ensures stands { (who : Station) (h : History What) → Stands self.old who h → Stands self.new who (continued (coast_rules who) h event.now.at event.now.what) }
         ensures unchanged { OnErr result (self.new ≡ self.old) }
     {
+        let mut acts = ArrayVec::new();
+        self.step_into(event, &mut acts)?;
+        Ok(acts)
+    }
+
+    /// The same as `step`, with the acts in a list of the caller, which is cleared first. Where the event is refused, the list is
+    /// empty.
+    pub fn step_into(&mut self, event: &CoastEvent, acts: &mut Acts) -> Result<(), StationRefusal>
+        ensures answer { (who : Station) (h : History What) → Stands self.old who h
+            → answer_with result acts.new.items ≡ answer_to (coast_rules who) h event.now.at event.now.what }
+        ensures stands { (who : Station) (h : History What) → Stands self.old who h → Stands self.new who (continued (coast_rules who) h event.now.at event.now.what) }
+        ensures none { OnErr result (acts.new.items ≡ []) }
+        ensures unchanged { OnErr result (self.new ≡ self.old) }
+    {
+        acts.clear();
         match time_back(self.last, event.at) {
             Some(refusal) => Err(refusal),
             None => {
                 event.what.lawful();
-                self.handle(event.at, &event.what)
+                self.handle(event.at, &event.what, acts)
             }
         }
     }
 
     /// Does what is due at an event that isn't before the last accepted one.
-    #[inline(never)]
-    fn handle(&mut self, at: u64, what: &CoastWhat) -> Result<Acts, StationRefusal>
-        ensures answer { listed result ≡ answer_by self.old at what.now }
+    fn handle(&mut self, at: u64, what: &CoastWhat, acts: &mut Acts) -> Result<(), StationRefusal>
+        requires { acts.old.items ≡ [] }
+        ensures answer { answer_with result acts.new.items ≡ answer_by self.old at what.now }
         ensures after { OnOk result (self.new ≡ afterwards self.old at what.now) }
+        ensures none { OnErr result (acts.new.items ≡ []) }
         ensures unchanged { OnErr result (self.new ≡ self.old) }
     {
         match *what {
-            CoastWhat::Accept(mmsi, delay) => self.accept(at, mmsi, delay),
-            CoastWhat::Tick => Ok(self.tick(at)),
-            CoastWhat::Relay(mmsi, to, ask) => self.relay(at, mmsi, to, ask),
-            CoastWhat::Send(call) => self.send(at, &call),
-            CoastWhat::Answer(number, accepts) => self.answer(at, number, accepts),
-            CoastWhat::Heard(call) => self.hear(at, &call),
+            CoastWhat::Accept(mmsi, delay) => self.accept(at, mmsi, delay, acts),
+            CoastWhat::Tick => {
+                self.tick(at, acts);
+                Ok(())
+            }
+            CoastWhat::Relay(mmsi, to, ask) => self.relay(at, mmsi, to, ask, acts),
+            CoastWhat::Send(call) => self.send(at, &call, acts),
+            CoastWhat::Answer(number, accepts) => self.answer(at, number, accepts, acts),
+            CoastWhat::Heard(call) => self.hear(at, &call, acts),
         }
     }
 
     /// Accepts the alert of a ship, and acknowledges it where that is due at once.
-    #[inline(never)]
     fn accept(
         &mut self,
         at: u64,
         mmsi: Mmsi,
         delay: Option<CoastDelay>,
-    ) -> Result<Acts, StationRefusal>
-        ensures answer { listed result ≡ answer_by self.old at (What.Accept mmsi delay) }
+        acts: &mut Acts,
+    ) -> Result<(), StationRefusal>
+        requires { acts.old.items ≡ [] }
+        ensures answer { answer_with result acts.new.items ≡ answer_by self.old at (What.Accept mmsi delay) }
         ensures after { OnOk result (self.new ≡ afterwards self.old at (What.Accept mmsi delay)) }
+        ensures none { OnErr result (acts.new.items ≡ []) }
         ensures unchanged { OnErr result (self.new ≡ self.old) }
     {
         let Some(casualty) = self.casualties.find(mmsi) else {
@@ -100,118 +120,145 @@ impl Coast {
         }
         self.last = at;
         if casualty.delay.is_some() {
-            return Ok(ArrayVec::new());
+            return Ok(());
         }
         let accepted = OpenCasualty { delay, ..casualty };
         if is_due_at_once(self.band, &accepted, at) {
             self.casualties.close(mmsi);
-            return Ok(single(acknowledgement(self.own, &accepted.alert)));
+            give(acts, acknowledgement(self.own, &accepted.alert));
+            return Ok(());
         }
         self.casualties.replace(&accepted);
-        Ok(ArrayVec::new())
+        Ok(())
     }
 
     /// Acknowledges the alerts whose delay has passed, and then sends held calls again or gives them up.
-    #[inline(never)]
-    fn tick(&mut self, at: u64) -> Acts
-        ensures answer { Ok result.items ≡ answer_by self.old at What.Tick }
+    fn tick(&mut self, at: u64, acts: &mut Acts)
+        requires { acts.old.items ≡ [] }
+        ensures answer { Ok acts.new.items ≡ answer_by self.old at What.Tick }
         ensures after { self.new ≡ afterwards self.old at What.Tick }
     {
-        let mut acts = self.casualties.acknowledge_due(self.own, at);
-        repeat(&mut self.held, at, &mut acts);
+        self.casualties.acknowledge_due(self.own, at, acts);
+        repeat(&mut self.held, at, acts);
         self.last = at;
-        acts
     }
 
     /// Tells the alert of a ship on.
-    #[inline(never)]
-    fn relay(&mut self, at: u64, mmsi: Mmsi, to: To, ask: bool) -> Result<Acts, StationRefusal>
-        ensures answer { listed result ≡ answer_by self.old at (What.Relay mmsi to ask) }
+    fn relay(
+        &mut self,
+        at: u64,
+        mmsi: Mmsi,
+        to: To,
+        ask: bool,
+        acts: &mut Acts,
+    ) -> Result<(), StationRefusal>
+        requires { acts.old.items ≡ [] }
+        ensures answer { answer_with result acts.new.items ≡ answer_by self.old at (What.Relay mmsi to ask) }
         ensures after { OnOk result (self.new ≡ afterwards self.old at (What.Relay mmsi to ask)) }
+        ensures none { OnErr result (acts.new.items ≡ []) }
         ensures unchanged { OnErr result (self.new ≡ self.old) }
     {
         let Some(told) = self.casualties.find(mmsi) else {
             return Err(StationRefusal::NoCasualty(mmsi));
         };
         let relay = relay(self.own, to, &told.alert, ask);
-        let acts = send(&mut self.held, self.own, &relay, at)?;
+        send(&mut self.held, self.own, &relay, at, acts)?;
         self.last = at;
-        Ok(acts)
+        Ok(())
     }
 
     /// Sends a call of the operator.
-    #[inline(never)]
-    fn send(&mut self, at: u64, call: &Call) -> Result<Acts, StationRefusal>
-        ensures answer { listed result ≡ answer_by self.old at (What.Send call.now) }
+    fn send(&mut self, at: u64, call: &Call, acts: &mut Acts) -> Result<(), StationRefusal>
+        requires { acts.old.items ≡ [] }
+        ensures answer { answer_with result acts.new.items ≡ answer_by self.old at (What.Send call.now) }
         ensures after { OnOk result (self.new ≡ afterwards self.old at (What.Send call.now)) }
+        ensures none { OnErr result (acts.new.items ≡ []) }
         ensures unchanged { OnErr result (self.new ≡ self.old) }
     {
-        let acts = send(&mut self.held, self.own, call, at)?;
+        send(&mut self.held, self.own, call, at, acts)?;
         self.last = at;
-        Ok(acts)
+        Ok(())
     }
 
     /// Answers a call that was got.
-    #[inline(never)]
-    fn answer(&mut self, at: u64, number: u8, accepts: bool) -> Result<Acts, StationRefusal>
-        ensures answer { listed result ≡ answer_by self.old at (What.Answer number accepts) }
+    fn answer(
+        &mut self,
+        at: u64,
+        number: u8,
+        accepts: bool,
+        acts: &mut Acts,
+    ) -> Result<(), StationRefusal>
+        requires { acts.old.items ≡ [] }
+        ensures answer { answer_with result acts.new.items ≡ answer_by self.old at (What.Answer number accepts) }
         ensures after { OnOk result (self.new ≡ afterwards self.old at (What.Answer number accepts)) }
+        ensures none { OnErr result (acts.new.items ≡ []) }
         ensures unchanged { OnErr result (self.new ≡ self.old) }
     {
-        let acts = answer(&mut self.held, self.own, number, accepts)?;
+        answer(&mut self.held, self.own, number, accepts, acts)?;
         self.last = at;
-        Ok(acts)
+        Ok(())
     }
 
     /// Hears a call, which is for the station where another station sent it and it reaches this one.
-    #[inline(never)]
-    fn hear(&mut self, at: u64, call: &Call) -> Result<Acts, StationRefusal>
-        ensures answer { listed result ≡ answer_by self.old at (What.Heard call.now) }
+    fn hear(&mut self, at: u64, call: &Call, acts: &mut Acts) -> Result<(), StationRefusal>
+        requires { acts.old.items ≡ [] }
+        ensures answer { answer_with result acts.new.items ≡ answer_by self.old at (What.Heard call.now) }
         ensures after { OnOk result (self.new ≡ afterwards self.old at (What.Heard call.now)) }
+        ensures none { OnErr result (acts.new.items ≡ []) }
         ensures unchanged { OnErr result (self.new ≡ self.old) }
     {
         if !is_for(self.own, call) {
             self.last = at;
-            return Ok(ArrayVec::new());
+            return Ok(());
         }
         match *call {
-            Call::Alert(alert) => self.hear_alert(at, &alert),
-            Call::Ack { from, casualty } => Ok(self.hear_acknowledgement(at, from, &casualty)),
+            Call::Alert(alert) => self.hear_alert(at, &alert, acts),
+            Call::Ack { from, casualty } => {
+                self.hear_acknowledgement(at, from, &casualty, acts);
+                Ok(())
+            }
             _ => {
-                let acts = hear(&mut self.held, self.own, None, call, at)?;
+                hear(&mut self.held, self.own, None, call, at, acts)?;
                 self.last = at;
-                Ok(acts)
+                Ok(())
             }
         }
     }
 
     /// Hears the alert of another station, which is for this one.
-    #[inline(never)]
-    fn hear_alert(&mut self, at: u64, alert: &Casualty) -> Result<Acts, StationRefusal>
-        requires { rules.is_for self.old.own (form.Alert alert.now) ≡ true }
-        ensures answer { listed result ≡ answer_by self.old at (What.Heard (form.Alert alert.now)) }
+    fn hear_alert(
+        &mut self,
+        at: u64,
+        alert: &Casualty,
+        acts: &mut Acts,
+    ) -> Result<(), StationRefusal>
+        requires reaches { rules.is_for self.old.own (form.Alert alert.now) ≡ true }
+        requires empty { acts.old.items ≡ [] }
+        ensures answer { answer_with result acts.new.items ≡ answer_by self.old at (What.Heard (form.Alert alert.now)) }
         ensures after { OnOk result (self.new ≡ afterwards self.old at (What.Heard (form.Alert alert.now))) }
+        ensures none { OnErr result (acts.new.items ≡ []) }
         ensures unchanged { OnErr result (self.new ≡ self.old) }
     {
         self.casualties.note(alert, at)?;
         self.last = at;
-        Ok(single(Act::Distress(*alert)))
+        give(acts, Act::Distress(*alert));
+        Ok(())
     }
 
     /// Hears that another station has acknowledged the alert of a ship: its casualty is closed.
-    #[inline(never)]
-    fn hear_acknowledgement(&mut self, at: u64, from: Mmsi, casualty: &Casualty) -> Acts
-        requires { rules.is_for self.old.own (form.Ack from casualty.now) ≡ true }
-        ensures answer { Ok result.items ≡ answer_by self.old at (What.Heard (form.Ack from casualty.now)) }
+    fn hear_acknowledgement(&mut self, at: u64, from: Mmsi, casualty: &Casualty, acts: &mut Acts)
+        requires reaches { rules.is_for self.old.own (form.Ack from casualty.now) ≡ true }
+        requires empty { acts.old.items ≡ [] }
+        ensures answer { Ok acts.new.items ≡ answer_by self.old at (What.Heard (form.Ack from casualty.now)) }
         ensures after { self.new ≡ afterwards self.old at (What.Heard (form.Ack from casualty.now)) }
     {
         self.last = at;
         match self.casualties.find(casualty.mmsi) {
             Some(_) => {
                 self.casualties.close(casualty.mmsi);
-                single(Act::CasualtyClosed(casualty.mmsi))
+                give(acts, Act::CasualtyClosed(casualty.mmsi));
             }
-            None => ArrayVec::new(),
+            None => {}
         }
     }
 }

@@ -12,7 +12,7 @@ fn words_of(alloc: Global, line: &str) -> Result<Vec<String>, AllocError> {
 }
 
 /// Word lists, and the plan that each is.
-static PLANS: [(&str, Plan); 26] = [
+static PLANS: [(&str, Plan); 27] = [
     ("dsc|join", Plan::Join { workers: 1 }),
     ("dsc|evidence", Plan::Evidence { workers: 1 }),
     ("dsc|join|--workers|1", Plan::Join { workers: 1 }),
@@ -36,6 +36,7 @@ static PLANS: [(&str, Plan); 26] = [
     ("dsc|encode|--dots|200", Plan::Encode { long: true }),
     ("dsc|encode|--dots=200", Plan::Encode { long: true }),
     ("dsc|sentences", Plan::Sentences),
+    ("dsc|capture", Plan::Capture),
     ("dsc|replay", Plan::Replay { workers: 1 }),
     ("dsc|replay|--workers=64", Plan::Replay { workers: 64 }),
     // A command with a number.
@@ -45,7 +46,7 @@ static PLANS: [(&str, Plan); 26] = [
 ];
 
 /// Word lists that are no plan.
-static REFUSED: [&str; 73] = [
+static REFUSED: [&str; 76] = [
     // No command, or none that there is.
     "dsc",
     "",
@@ -110,6 +111,9 @@ static REFUSED: [&str; 73] = [
     "dsc|sentences|-h",
     "dsc|sentences|--",
     "dsc|sentences|",
+    "dsc|capture|--workers=2",
+    "dsc|capture|capture",
+    "dsc|capture|1",
     // Of the command with a number.
     "dsc|make",
     "dsc|make|",

@@ -122,6 +122,7 @@ fn lines_at_the_limit(rt: HostRuntime) -> Result<(), Fail> {
         "dsc encode",
         "dsc sentences",
         "dsc replay",
+        "dsc capture",
     ] {
         for (lines, want, status) in [
             (65_536, "", 0),

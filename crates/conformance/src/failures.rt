@@ -241,6 +241,17 @@ fn devices_fail_in_sentences(rt: HostRuntime) -> Result<(), Fail> {
     Ok(())
 }
 
+// Each kind of line of a stream. It has two starts, the first one before its first element, and lost elements between them.
+const STREAM: &str = "# a stream\n\ns YBYYYYYBBYBYYYBYYBYB\ns YBYYYYYBBY-\ns ---------YBYYYYYBBY\n\
+s YYYYBYYBBYYBYYYYYBBY";
+
+#[test]
+fn devices_fail_in_capture(rt: HostRuntime) -> Result<(), Fail> {
+    let alloc = rt.alloc();
+    try_failures(&rt, alloc, "dsc capture", STREAM, 1, false)?;
+    Ok(())
+}
+
 // Each kind of line of a ship's traffic file, with events that are refused and a group that isn't reported.
 const SHIP: &str =
     "# a ship\nstation ship 338158137\nbase 1714594740\ngroup 023380001\n\n0 position 1423108312\n0 delay 210000\n\

@@ -160,7 +160,7 @@ const FAULTS: [Run; 18] = [
 ];
 
 // Words that are no command.
-const REFUSED: [&str; 10] = [
+const REFUSED: [&str; 11] = [
     "dsc listen",
     "dsc join --",
     "dsc join --workers 0",
@@ -168,6 +168,7 @@ const REFUSED: [&str; 10] = [
     "dsc join evidence",
     "dsc encode --dots 30",
     "dsc sentences --dots 20",
+    "dsc capture --workers 2",
     "join",
     "dsc",
     "",

@@ -33,4 +33,6 @@ mod signals;
 #[cfg(test)]
 mod streams;
 #[cfg(test)]
+mod streams_captured;
+#[cfg(test)]
 mod workers;

@@ -1,14 +1,17 @@
 -- What `make` writes is what an empty input ends with.
-use Rattle.std.proofs.Common.{◌≡◌, ◌⊎◌, inl, inr, ℕ, Bool, List, [], ◌∷◌, ◌++◌, Option, Some, None, refl, sym, subst, append-nil}
-use Rattle.dsc_streams.specs.Streams.{Gains}
+use Rattle.std.proofs.Common.{◌≡◌, ◌≢◌, ◌⊎◌, inl, inr, ℕ, Bool, List, [], ◌∷◌, ◌++◌, Option, Some, None, refl, sym, ap, subst, append-nil, arith}
+use Rattle.dsc_streams.specs.declared.streams.Source
+use Rattle.dsc_streams.specs.declared.streams.Sink
+use Rattle.dsc_streams.specs.Streams.{Gains, Rises, Told}
 use Rattle.line_engine.specs.Lines.{Lines, lines_of}
 use Rattle.line_engine.specs.Meaning.{Meaning}
 use Rattle.line_engine.specs.Faults.{IsFaultless}
 use Rattle.line_engine.specs.Output.{IsWhole, Asks}
-use Rattle.line_engine.specs.Endings.{IsFinished, IsRest, TellsWhole, CutsOff, TellsFront}
-use Rattle.dsc_words.specs.declared.plans.Plan.TheVariants.{Join, Evidence, Encode, Sentences, Replay, Make}
+use Rattle.line_engine.specs.Endings.{IsFinished, IsOfFault, IsBrokenOff, IsRest, TellsWhole, CutsOff, TellsFront}
+use Rattle.line_engine.specs.Runs.{IsRun}
+use Rattle.dsc_words.specs.declared.plans.Plan.TheVariants.{Join, Evidence, Encode, Sentences, Replay, Make, Capture}
 use Rattle.generated_join.specs.Summary.{IsMade}
-use Rattle.dsc_cmd.specs.Plans.{made_meaning, WritesSummary, CutsOffSummary}
+use Rattle.dsc_cmd.specs.Plans.{made_meaning, source_of, WritesSummary, CutsOffSummary}
 
 -- there is no line in an empty list
 no_line : (earlier : Lines) (line : List ℕ) (later : Lines) → [] ≡ earlier ++ line ∷ later → ⊥
@@ -69,23 +72,6 @@ made_want n written = record {
   writes = record { front = []; back = []; text_is = refl; appended = gains_none written };
 }
 
--- ---- other plans make nothing
-
-pub join_is_not_make : {m n : ℕ} → Join m ≡ Make n → ⊥
-join_is_not_make e = cc
-
-pub evidence_is_not_make : {m n : ℕ} → Evidence m ≡ Make n → ⊥
-evidence_is_not_make e = cc
-
-pub encode_is_not_make : {long : Bool} {n : ℕ} → Encode long ≡ Make n → ⊥
-encode_is_not_make e = cc
-
-pub sentences_is_not_make : {n : ℕ} → Sentences ≡ Make n → ⊥
-sentences_is_not_make e = cc
-
-pub replay_is_not_make : {m n : ℕ} → Replay m ≡ Make n → ⊥
-replay_is_not_make e = cc
-
 -- ---- `make` ends with no other status
 
 abbrev pub IsMadeStatus : ℕ → Type 0
@@ -110,3 +96,75 @@ no_read_fault status (inr (inr a)) b = absurd (cc)
 pub no_cut : (status : ℕ) → IsFinished status → status ≡ 5 → ⊥
 no_cut status (inl a) b = absurd (cc)
 no_cut status (inr a) b = absurd (cc)
+
+broken_off_made : {status : ℕ} → IsMadeStatus status → IsBrokenOff status → (status ≡ 5) ⊎ (status ≡ 6)
+broken_off_made which (inl stopped) = absurd (no_read_fault _ which stopped)
+broken_off_made which (inr other) = other
+
+quiet_made : {status : ℕ} → IsMadeStatus status → (status ≡ 4) ⊎ (status ≡ 6) → status ≡ 6
+quiet_made which (inl stopped) = absurd (no_read_fault _ which stopped)
+quiet_made which (inr memory) = memory
+
+range_made : {status : ℕ} → IsMadeStatus status → IsFinished status ⊎ IsOfFault status ⊎ (status ≡ 4) ⊎ (status ≡ 5) ⊎ (status ≡ 6)
+range_made (inl finished) = inl finished
+range_made (inr (inl cut)) = inr (inr (inr (inl cut)))
+range_made (inr (inr memory)) = inr (inr (inr (inr memory)))
+
+-- `make` is a run over an empty input, which leaves its source alone
+pub made_run : {In Out : Type 0} (n : ℕ) (source : Source.Ghosts In) (sink : Sink.Ghosts Out) (from : In) (before after : Out) (status : ℕ)
+    → IsMadeStatus status
+    → (done : IsFinished status → WritesSummary n (sink.written before) (sink.written after) (sink.flushed after) status)
+    → (cut : status ≡ 5 → CutsOffSummary n (sink.written before) (sink.written after))
+    → (unflushed : status ≡ 5 → sink.flushed after ≡ sink.flushed before)
+    → (cause : status ≡ 5 → Rises (sink.faults before) (sink.faults after))
+    → (sound : status ≢ 5 → sink.faults after ≡ sink.faults before)
+    → (unwritten : status ≡ 6 → after ≡ before)
+    → Told (sink.written before) (sink.written after)
+    → IsRun (made_meaning n) (source_of (Make n) source) sink from from before after status
+made_run n source sink from before after status which done cut unflushed cause sound unwritten told = record {
+  whole = λ finished. made_whole n _ _ _ _ (done finished);
+  faulty = λ fault. absurd (no_fault status which fault);
+  stopped = λ stopped. absurd (no_read_fault status which stopped);
+  cut = λ is. made_cut n _ _ (cut is);
+  memory = λ memory.
+      subst (λ state. TellsFront (made_meaning n) (Some []) (Some []) (sink.written before) (sink.written state)) (sym (unwritten memory)) (made_want n (sink.written before));
+  unwritten = λ quiet halt. unwritten (quiet_made which halt);
+  unflushed = λ broken_off. elim (broken_off_made which broken_off) [
+    | inl is ↦ unflushed is
+    | inr memory ↦ ap (λ state. sink.flushed state) (unwritten memory)
+  ];
+  bounded = record { taken = []; lost = refl; within = omega arith };
+  read_cause = λ stopped. absurd (no_read_fault status which stopped);
+  read_sound = λ _. refl;
+  write_cause = cause;
+  write_sound = sound;
+  told = ((λ bytes is. ([], refl)), told);
+  range = range_made which;
+  completes = λ _ sinks. elim which [
+    | inl finished ↦ inl finished
+    | inr other ↦ elim other [
+      | inl is ↦ absurd (sinks (cause is))
+      | inr memory ↦ inr (inr memory)
+    ]
+  ];
+}
+
+-- ---- other plans make nothing
+
+pub join_is_not_make : {m n : ℕ} → Join m ≡ Make n → ⊥
+join_is_not_make e = cc
+
+pub evidence_is_not_make : {m n : ℕ} → Evidence m ≡ Make n → ⊥
+evidence_is_not_make e = cc
+
+pub encode_is_not_make : {long : Bool} {n : ℕ} → Encode long ≡ Make n → ⊥
+encode_is_not_make e = cc
+
+pub sentences_is_not_make : {n : ℕ} → Sentences ≡ Make n → ⊥
+sentences_is_not_make e = cc
+
+pub replay_is_not_make : {m n : ℕ} → Replay m ≡ Make n → ⊥
+replay_is_not_make e = cc
+
+pub capture_is_not_make : {n : ℕ} → Capture ≡ Make n → ⊥
+capture_is_not_make e = cc

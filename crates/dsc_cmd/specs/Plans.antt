@@ -1,5 +1,6 @@
 -- What a run of each command promises: this project's profile.
 use Rattle.std.specs.Prelude.{◌≡◌, ℕ, List, [], ◌++◌, Option, Some, codes}
+use Rattle.dsc_streams.specs.declared.streams.Source
 use Rattle.dsc_streams.specs.Streams.{Loses, Gains}
 use Rattle.line_engine.specs.Lines.{lines_of}
 use Rattle.line_engine.specs.Meaning.{Meaning, IsQuiet}
@@ -7,7 +8,7 @@ use Rattle.line_engine.specs.Output.{IsOutput}
 use Rattle.line_engine.specs.Determined.{BeginsWith}
 use Rattle.line_engine.specs.Endings.{IsRest, Writes, WritesFront, CutsOff, TellsFront}
 use Rattle.dsc_words.specs.declared.plans.Plan.{Plan}
-use Rattle.dsc_words.specs.declared.plans.Plan.TheVariants.{Join, Evidence, Encode, Sentences, Replay, Make}
+use Rattle.dsc_words.specs.declared.plans.Plan.TheVariants.{Join, Evidence, Encode, Sentences, Replay, Make, Capture}
 use Rattle.dsc_words.specs.Words.{IsPlan}
 use Rattle.join_groups.specs.Output.{TellsAnswer, TellsEvidence}
 use Rattle.join_groups.specs.Meanings.{groups_meaning}
@@ -15,6 +16,7 @@ use Rattle.encode_calls.specs.Encoding.{encode_meaning}
 use Rattle.sentence_files.specs.Telling.{sentences_meaning}
 use Rattle.traffic_replay.specs.Meaning.{replay_meaning}
 use Rattle.generated_join.specs.Summary.{IsMade}
+use Rattle.stream_capture.specs.Telling.{capture_meaning}
 
 -- what `make n` writes at the end, whatever the lines: the summary of the join of n generated groups
 abbrev pub made_meaning : ℕ → Meaning
@@ -26,7 +28,8 @@ made_meaning n = record {
 }
 
 -- what the lines of each command's input mean: of receptions and evidence, the answer of each group, or its ends; of calls, their transmissions;
--- of calls and sentences, the sentences of the calls and verdicts; of a traffic file, what its station does; `make` has no input
+-- of calls and sentences, the sentences of the calls and verdicts; of a traffic file, what its station does; of a stream, the answer at each of
+-- its starts; `make` has no input
 abbrev pub meaning_of : Plan → Meaning
 meaning_of (Join workers) = groups_meaning TellsAnswer
 meaning_of (Evidence workers) = groups_meaning TellsEvidence
@@ -34,11 +37,16 @@ meaning_of (Encode long) = encode_meaning long
 meaning_of Sentences = sentences_meaning
 meaning_of (Replay workers) = replay_meaning
 meaning_of (Make n) = made_meaning n
+meaning_of Capture = capture_meaning
 
 -- the input that a command has where this is left of the source: all of it, and no byte for `make`, which leaves the source alone
 abbrev pub input_of : Plan → Option (List ℕ) → Option (List ℕ)
 input_of (Make n) left = Some []
 input_of _ left = left
+
+-- the source as a plan's command has it: what is left of it is that command's input
+abbrev pub source_of : {In : Type 0} → Plan → Source.Ghosts In → Source.Ghosts In
+source_of plan source = record source { left = λ rest. input_of plan (source.left rest) }
 
 -- the commands that write nothing before their input's end
 abbrev pub IsQuietPlan : Plan → Type 0

@@ -40,5 +40,6 @@ pub fn inputs_have_one_output()
     encode_calls::lines_determine_output();
     sentence_files::lines_determine_output();
     traffic_replay::lines_determine_output();
+    stream_capture::lines_determine_output();
     made_text_is_one();
 }

@@ -46,6 +46,7 @@ fn tell_summary<K: Sink>(groups: u16, summary: &Summary, sink: &mut K) -> Status
 
 /// Has one worker join so many generated groups, at most 1,000, and writes the summary. It ends with status 0 where a call was reported of
 /// every group, with 1 where not, with that of a write fault, or with 6, having written nothing, where there was no memory.
+#[inline(never)]
 pub(crate) fn make<K: Sink, G: Gate>(alloc: Global, groups: u16, sink: &mut K, gate: &G) -> Status
     requires { groups ≤ 1000 }
     ensures which { IsFinished result ⊎ (result ≡ 5) ⊎ (result ≡ 6) }

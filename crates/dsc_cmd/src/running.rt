@@ -1,10 +1,12 @@
-ghost use Rattle.std.specs.Prelude.{◌≡◌, ◌⊎◌, ◌≤◌, ◌≢◌, ℕ, map, string_bytes, OnOk, OnErr};
+ghost use Rattle.std.specs.Prelude.{◌≡◌, ◌⊎◌, ◌≤◌, ◌≢◌, ℕ, [], map, string_bytes, OnOk, OnErr};
 ghost use Rattle.dsc_streams.specs.Streams.{Rises, Told};
 ghost use Rattle.line_engine.specs.Endings.{IsFinished, IsOfFault, IsBrokenOff, Writes, WritesFront, TellsWhole, TellsFault, TellsSoFar, TellsFront, CutsOff, TakesAtMost};
+ghost use Rattle.line_engine.specs.Runs.{IsRun};
 ghost use Rattle.dsc_words.specs.Words.{IsInRange, IsPlan};
 ghost use Rattle.dsc_words.specs.declared.plans.Plan.TheVariants.{Join as joins, Make as makes};
 ghost use Rattle.dsc_words.specs.declared.plans.Plan.{Plan as Planned};
-ghost use Rattle.dsc_cmd.specs.Plans.{meaning_of, input_of, words_refused, IsQuietPlan, IsUnplanned, CutsOffWords, CutsOffPlan, TellsPlanFront, WritesSummary, WritesFrontOfOutput};
+ghost use Rattle.dsc_cmd.specs.Plans.{meaning_of, input_of, source_of, words_refused, IsQuietPlan, IsUnplanned, CutsOffWords, CutsOffPlan, TellsPlanFront, WritesSummary, WritesFrontOfOutput};
+ghost use Rattle.stream_capture.specs.Telling.{capture_meaning};
 ghost use Rattle.dsc_cmd.specs.Sent.{ReportsSent};
 
 use crate::laws::inputs_have_one_output;
@@ -13,7 +15,7 @@ use dsc_streams::{Failed, Sink, Source, Status, write_all};
 use dsc_words::{Plan, PlanError, one_plan, plan_of};
 use encode_calls::{Encode, LongDots, ShortDots};
 use join_groups::{Answers, Ends, tell_groups};
-use line_engine::{MOST_TAKEN, drive};
+use line_engine::{Command, MOST_TAKEN, drive};
 use receiver_pool::Gate;
 use sentence_files::Sentences;
 use slot_evidence::ends_are_kept;
@@ -22,6 +24,7 @@ use slot_join::{
 };
 use std::alloc::Global;
 use std::thread::Threads;
+use stream_capture::Capturing;
 use traffic_replay::replay;
 
 /// Writes a text and flushes the sink.
@@ -53,6 +56,30 @@ fn refuse<K: Sink>(sink: &mut K) -> Status
     }
 }
 
+// Each command runs in a frame of its own: what one keeps on the stack isn't there while another runs.
+
+/// Drives a command.
+#[inline(never)]
+fn drive_alone<C: Command, S: Source, K: Sink>(
+    alloc: Global,
+    command: C,
+    source: &mut S,
+    sink: &mut K,
+) -> Status
+    requires { C.stands_for command [] [] }
+    ensures { IsRun C.meaning S.Source K.Sink source.old source.new sink.old sink.new result }
+{
+    drive(alloc, command, source, sink)
+}
+
+/// Runs `capture`, whose command holds a window of the stream.
+#[inline(never)]
+fn capture<S: Source, K: Sink>(alloc: Global, source: &mut S, sink: &mut K) -> Status
+    ensures { IsRun capture_meaning S.Source K.Sink source.old source.new sink.old sink.new result }
+{
+    drive(alloc, Capturing::new(), source, sink)
+}
+
 /// Runs the command of a plan.
 fn execute<R: Threads + Sync, S: Source, K: Sink, G: Gate>(
     rt: &R,
@@ -63,20 +90,9 @@ fn execute<R: Threads + Sync, S: Source, K: Sink, G: Gate>(
     gate: &G,
 ) -> Status
     requires { IsInRange plan }
-    ensures whole { IsFinished result → TellsWhole (meaning_of plan) (input_of plan (S.left source.old)) (input_of plan (S.left source.new)) (K.written sink.old) (K.written sink.new) (K.flushed sink.new) result }
-    ensures faulty { IsOfFault result → TellsFault (meaning_of plan) (input_of plan (S.left source.old)) (input_of plan (S.left source.new)) (K.written sink.old) (K.written sink.new) (K.flushed sink.new) result }
-    ensures stopped { result ≡ 4 → TellsSoFar (meaning_of plan) (input_of plan (S.left source.old)) (input_of plan (S.left source.new)) (K.written sink.old) (K.written sink.new) }
-    ensures cut { result ≡ 5 → CutsOff (meaning_of plan) (input_of plan (S.left source.old)) (input_of plan (S.left source.new)) (K.written sink.old) (K.written sink.new) }
-    ensures memory { result ≡ 6 → TellsFront (meaning_of plan) (input_of plan (S.left source.old)) (input_of plan (S.left source.new)) (K.written sink.old) (K.written sink.new) }
-    ensures unwritten { IsQuietPlan plan → (result ≡ 4) ⊎ (result ≡ 6) → sink.new ≡ sink.old }
-    ensures unflushed { IsBrokenOff result → K.flushed sink.new ≡ K.flushed sink.old }
+    ensures run { IsRun (meaning_of plan) (source_of plan S.Source) K.Sink source.old source.new sink.old sink.new result }
     ensures bounded { TakesAtMost (S.left source.old) (S.left source.new) MOST_TAKEN }
-    ensures read_cause { result ≡ 4 → Rises (S.faults source.old) (S.faults source.new) }
-    ensures read_sound { result ≢ 4 → S.faults source.new ≡ S.faults source.old }
-    ensures write_cause { result ≡ 5 → Rises (K.faults sink.old) (K.faults sink.new) }
-    ensures write_sound { result ≢ 5 → K.faults sink.new ≡ K.faults sink.old }
-    ensures told { Told (S.left source.old) (S.left source.new) × Told (K.written sink.old) (K.written sink.new) }
-    ensures range { IsFinished result ⊎ IsOfFault result ⊎ (result ≡ 4) ⊎ (result ≡ 5) ⊎ (result ≡ 6) }
+    ensures told { Told (S.left source.old) (S.left source.new) }
     ensures unread { (n : ℕ) → plan ≡ makes n → (source.new ≡ source.old) × (IsFinished result ⊎ (result ≡ 5) ⊎ (result ≡ 6)) }
 {
     match plan {
@@ -98,11 +114,12 @@ fn execute<R: Threads + Sync, S: Source, K: Sink, G: Gate>(
             u32::from(workers),
             gate,
         ),
-        Plan::Encode { long: false } => drive(alloc, Encode::new(alloc, ShortDots), source, sink),
-        Plan::Encode { long: true } => drive(alloc, Encode::new(alloc, LongDots), source, sink),
-        Plan::Sentences => drive(alloc, Sentences::new(alloc), source, sink),
+        Plan::Encode { long: false } => drive_alone(alloc, Encode::new(ShortDots), source, sink),
+        Plan::Encode { long: true } => drive_alone(alloc, Encode::new(LongDots), source, sink),
+        Plan::Sentences => drive_alone(alloc, Sentences::new(), source, sink),
         Plan::Replay { workers } => replay(rt, alloc, source, sink, u32::from(workers), gate),
         Plan::Make { groups } => make(alloc, groups, sink, gate),
+        Plan::Capture => capture(alloc, source, sink),
     }
 }
 
@@ -116,6 +133,7 @@ fn execute<R: Threads + Sync, S: Source, K: Sink, G: Gate>(
 /// | `encode [--dots D]` | for each line of a call the line of a reception that heard its whole transmission |
 /// | `sentences` | for each line of a call its DSC sentence, and the DSE sentence of its expansion; for each sentence a verdict |
 /// | `replay [--workers N]` | for each event line of a traffic file what the station does, or why it refuses the event |
+/// | `capture` | for each start of a stream of elements its origin and the answer to its facts |
 /// | `make N` | the summary of the join of N generated groups, of four receptions each; nothing is read |
 ///
 /// Of workers N is 1 to 64, and 1 where it isn't given; it changes no answer. Of groups N is 1 to 1,000. D is 20 or 200, and 20 where it isn't given.
@@ -123,7 +141,7 @@ fn execute<R: Threads + Sync, S: Source, K: Sink, G: Gate>(
 /// | Status | What it says |
 /// |---|---|
 /// | 0 | all was written: in `join` and `make` a call was reported of each group |
-/// | 1 | all was written, and some group has another answer; in `sentences` some sentence was refused; in `replay` some event was refused, or some heard group has another answer |
+/// | 1 | all was written, and some group has another answer; in `sentences` some sentence was refused; in `replay` some event was refused, or some heard group has another answer; in `capture` some start has another answer |
 /// | 2 | the words are no command: nothing was read, and `dsc: words refused` was written |
 /// | 3 | a line is ill-formed, and the line of this first fault was written, as `dsc: line 3 column 7` |
 /// | 4 | the source failed: what the lines so far gave was written |

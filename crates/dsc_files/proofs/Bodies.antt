@@ -1,16 +1,16 @@
 -- reading bodies of signs
-use Rattle.std.proofs.Common.{◌≡◌, ◌≢◌, ℕ, suc, ◌≤◌, ◌==◌, ◌||◌, true, false, List, [], ◌∷◌, ◌++◌, length, map, codes, Ok, Err, inl, inr, refl, sym, ◌∙◌, ap, subst, append-nil, arith}
+use Rattle.std.proofs.Common.{◌≡◌, ◌≢◌, ℕ, suc, ◌≤◌, ◌==◌, ◌||◌, true, false, List, [], ◌∷◌, ◌++◌, length, map, codes, Result, Ok, Err, IfOk, IfErr, inl, inr, refl, sym, ◌∙◌, ap, subst, append-nil, arith}
 use Rattle.std.specs.List.{list_all}
 use Rattle.std.proofs.lemmas.Bool.{or_cases, eqb-true, and_parts, and_from}
 use Rattle.ten_unit.specs.declared.character.Element.{Element}
 use Rattle.ten_unit.specs.declared.character.Element.TheVariants.{Y, B, Lost}
-use Rattle.line_grammar.specs.Tokens.{run, is_one_of}
+use Rattle.line_grammar.specs.Tokens.{run, is_one_of, IsToken}
 use Rattle.line_grammar.specs.Grammar.{Grammar, finish, word, none}
 use Rattle.line_grammar.specs.inside.Reading.{after, ended, read_token, read}
 use Rattle.line_grammar.specs.inside.Soundness.{is_sound}
 use Rattle.line_grammar.proofs.Chains.{after_list, run_list, word_missed, word_on, token_missed, token_on, end_missed, fault_within, both_miss, no_end}
 use Rattle.dsc_files.specs.JoinLine.{sign_of, body_text}
-use Rattle.dsc_files.specs.inside.Reading.{behind_blank, signs, element_of, IsBehindBlank}
+use Rattle.dsc_files.specs.inside.Reading.{behind_blank, blank_and_signs, signs, element_of, IsBehindBlank}
 
 -- signs and elements
 sign_again : (b : ℕ) → is_one_of (codes "YB-") b ≡ true → sign_of (element_of b) ≡ b
@@ -59,18 +59,20 @@ pub no_body : (bytes : List ℕ) → length bytes ≡ 0 → bytes ≡ body_text 
 no_body [] e = refl
 no_body (b ∷ bytes) e = absurd (omega (arith, e))
 
-pub checked_body : (bytes front : List ℕ) → after (codes " ") bytes ≡ Ok front → (length front ≡ 0 → ⊥) → list_all (is_one_of (codes "YB-")) front ≡ true → bytes ≡ body_text (map element_of front)
-checked_body bytes front h some all = body_of bytes front (λ (e : front ≡ []). some (ap length e)) all (after_list (codes " ") bytes front h)
+pub checked_signs : (bytes front : List ℕ) → after (codes " ") bytes ≡ Ok front → (length front ≡ 0 → ⊥) → list_all (is_one_of (codes "YB-")) front ≡ true
+    → (bytes ≡ codes " " ++ front) × IsToken (run (codes "YB-")) front
+checked_signs bytes front h some all = (after_list (codes " ") bytes front h, ((λ (e : front ≡ []). some (ap length e)), all))
 
 nothing_left : (back : List ℕ) → ended back ≡ Ok none → back ≡ []
 unfolding ended
 nothing_left [] e = refl
 nothing_left (b ∷ back) e = absurd (cc)
 
-pub run_body : (bytes rest front back : List ℕ) → after (codes " ") bytes ≡ Ok rest → read_token (run (codes "YB-")) rest ≡ Ok (front, back) → ended back ≡ Ok none → bytes ≡ body_text (map element_of front)
-run_body bytes rest front back h k m =
+pub run_signs : (bytes rest front back : List ℕ) → after (codes " ") bytes ≡ Ok rest → read_token (run (codes "YB-")) rest ≡ Ok (front, back) → ended back ≡ Ok none
+    → (bytes ≡ codes " " ++ front) × IsToken (run (codes "YB-")) front
+run_signs bytes rest front back h k m =
     let r = run_list (codes "YB-") rest front back refl k in
-    body_of bytes front r.1 r.2 (after_list (codes " ") bytes rest h ∙ ap (λ (l : List ℕ). codes " " ++ l) (r.0 ∙ ap (λ (l : List ℕ). front ++ l) (nothing_left back m) ∙ append-nil front))
+    (after_list (codes " ") bytes rest h ∙ ap (λ (l : List ℕ). codes " " ++ l) (r.0 ∙ ap (λ (l : List ℕ). front ++ l) (nothing_left back m) ∙ append-nil front), (r.1, r.2))
 
 -- where no body stands
 pub blank_missed : (rest : Grammar) (bytes : List ℕ) (left : ℕ) → is_sound rest ≡ true → (length bytes ≡ 0 → ⊥) → read (word (codes " ") rest) bytes ≡ Err left → read (behind_blank rest) bytes ≡ Err left
@@ -79,17 +81,24 @@ blank_missed rest (b ∷ bytes) left sound some h =
     let few : left ≤ suc (length bytes) = fault_within (word (codes " ") rest) (b ∷ bytes) left sound h in
     both_miss finish (word (codes " ") rest) (b ∷ bytes) (suc (length bytes)) left left (no_end b bytes) h (omega (arith, few))
 
-pub no_blank : (bytes : List ℕ) (left : ℕ) → (length bytes ≡ 0 → ⊥) → after (codes " ") bytes ≡ Err left → read (behind_blank signs) bytes ≡ Err left
-no_blank bytes left some h = blank_missed signs bytes left refl some (word_missed (codes " ") signs bytes left h)
+pub no_blank : (bytes : List ℕ) (left : ℕ) → after (codes " ") bytes ≡ Err left → read blank_and_signs bytes ≡ Err left
+no_blank bytes left h = word_missed (codes " ") signs bytes left h
 
-pub no_sign : (bytes rest : List ℕ) (left : ℕ) → (length bytes ≡ 0 → ⊥) → after (codes " ") bytes ≡ Ok rest → read_token (run (codes "YB-")) rest ≡ Err left → read (behind_blank signs) bytes ≡ Err left
-no_sign bytes rest left some h k = blank_missed signs bytes left refl some (word_on (codes " ") signs bytes rest left h (token_missed (run (codes "YB-")) finish rest left k))
+pub no_sign : (bytes rest : List ℕ) (left : ℕ) → after (codes " ") bytes ≡ Ok rest → read_token (run (codes "YB-")) rest ≡ Err left → read blank_and_signs bytes ≡ Err left
+no_sign bytes rest left h k = word_on (codes " ") signs bytes rest left h (token_missed (run (codes "YB-")) finish rest left k)
 
-pub no_line_end : (bytes rest front back : List ℕ) (left : ℕ) → (length bytes ≡ 0 → ⊥) → after (codes " ") bytes ≡ Ok rest → read_token (run (codes "YB-")) rest ≡ Ok (front, back) → ended back ≡ Err left
-    → read (behind_blank signs) bytes ≡ Err left
-no_line_end bytes rest front back left some h k m =
-    blank_missed signs bytes left refl some
-    (word_on (codes " ") signs bytes rest left h (token_on (run (codes "YB-")) finish rest front back left k (end_missed back left m)))
+pub no_line_end : (bytes rest front back : List ℕ) (left : ℕ) → after (codes " ") bytes ≡ Ok rest → read_token (run (codes "YB-")) rest ≡ Ok (front, back) → ended back ≡ Err left
+    → read blank_and_signs bytes ≡ Err left
+no_line_end bytes rest front back left h k m = word_on (codes " ") signs bytes rest left h (token_on (run (codes "YB-")) finish rest front back left k (end_missed back left m))
+
+-- an answer that says more
+pub ok_more : {A B : Type 0} {P Q : A → Type 0} → ((a : A) → P a → Q a) → (r : Result A B) → IfOk r P → IfOk r Q
+ok_more f (Ok a) h = f a h
+ok_more f (Err b) h = h
+
+pub err_more : {A B : Type 0} {P Q : B → Type 0} → ((b : B) → P b → Q b) → (r : Result A B) → IfErr r P → IfErr r Q
+err_more f (Ok a) h = h
+err_more f (Err b) h = f b h
 
 pub signs_behind_blank : IsBehindBlank signs
 unfolding read read_token

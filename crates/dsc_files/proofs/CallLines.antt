@@ -1,36 +1,51 @@
 -- the lines of files of calls, and of calls and sentences
-use Rattle.std.proofs.Common.{◌≡◌, ℕ, inl, inr, List, ◌∷◌}
+use Rattle.std.proofs.Common.{◌≡◌, ℕ, zero, suc, ◌≤◌, inl, inr, refl, sym, ap, ◌∙◌, subst, List, [], ◌∷◌, ◌++◌, take, codes, arith}
 use Rattle.call_values.specs.declared.calls.Call.{Call}
 use Rattle.slot_join.specs.declared.joined.Extra.{Extra}
+use Rattle.line_grammar.specs.Columns.{Begins, IsColumn}
 use Rattle.dsc_texts.specs.Texts.{IsCallText}
-use Rattle.dsc_files.specs.CallLine.{CallLine, nothing, call, IsCallLine}
-use Rattle.dsc_files.specs.SentenceLine.{SentenceLine, said, sentence, IsSentenceLine}
-use Rattle.dsc_files.proofs.Narrowing.{AreAt}
+use Rattle.dsc_files.specs.declared.calls.CallLine.{CallLine}
+use Rattle.dsc_files.specs.declared.calls.CallLine.TheVariants as line
+use Rattle.dsc_files.specs.declared.sentences.SentenceLine.{SentenceLine}
+use Rattle.dsc_files.specs.declared.sentences.SentenceLine.TheVariants.{Said, Sentence}
+use Rattle.dsc_files.specs.CallLine.{IsCallLine}
+use Rattle.dsc_files.specs.SentenceLine.{IsSentenceLine}
+use Rattle.dsc_files.proofs.Narrowing.{AreAt, column_of_kind}
 
 head : {xs ys : List ℕ} {x y : ℕ} → x ∷ xs ≡ y ∷ ys → x ≡ y
 head h = cc
 
 -- a line that begins with another byte than # says a call
 says_call : (b : ℕ) → (b ≡ 35 → ⊥) → (v : CallLine) (rest : List ℕ) → IsCallLine v (b ∷ rest) → (w : Call × Extra) × IsCallText w (b ∷ rest)
-says_call b other nothing rest (inl empty) = absurd (cc)
-says_call b other nothing rest (inr comment) = absurd (other (head comment.1))
-says_call b other (call c extra) rest is = ((c, extra), is)
+says_call b other line.Nothing rest (inl empty) = absurd (cc)
+says_call b other line.Nothing rest (inr comment) = absurd (other (head comment.1))
+says_call b other (line.Call c extra) rest is = ((c, extra), is)
 
 pub calls_in_calls : (b : ℕ) → (b ≡ 35 → ⊥) → AreAt b IsCallText IsCallLine
 calls_in_calls b other = record {
-  says = λ w. call w.0 w.1;
+  says = λ w. line.Call w.0 w.1;
   embeds = λ w text is. is;
   only = says_call b other;
 }
 
--- and in a file of sentences, where it doesn't begin with $ either
-says_call_too : (b : ℕ) → (b ≡ 35 → ⊥) → (b ≡ 36 → ⊥) → (v : SentenceLine) (rest : List ℕ) → IsSentenceLine v (b ∷ rest) → (w : Call × Extra) × IsCallText w (b ∷ rest)
-says_call_too b other another (said line) rest is = says_call b other line rest is
-says_call_too b other another (sentence bytes) rest is = absurd (another (head is.1.1))
+-- a line that doesn't begin with $ says what a line of calls says
+only_said : (b : ℕ) → (b ≡ 36 → ⊥) → (v : SentenceLine) (rest : List ℕ) → IsSentenceLine v (b ∷ rest) → (w : CallLine) × IsCallLine w (b ∷ rest)
+only_said b other (Said says) rest is = (says, is)
+only_said b other (Sentence bytes) rest is = absurd (other (head is.1.1))
 
-pub calls_in_sentences : (b : ℕ) → (b ≡ 35 → ⊥) → (b ≡ 36 → ⊥) → AreAt b IsCallText IsSentenceLine
-calls_in_sentences b other another = record {
-  says = λ w. said (call w.0 w.1);
+said_in_sentences : (b : ℕ) → (b ≡ 36 → ⊥) → AreAt b IsCallLine IsSentenceLine
+said_in_sentences b other = record {
+  says = λ w. Said w;
   embeds = λ w text is. is;
-  only = says_call_too b other another;
+  only = only_said b other;
 }
+
+-- the empty line is one, so that no column is 0
+counted : (text : List ℕ) (n : ℕ) → IsColumn IsCallLine text n → 1 ≤ n
+counted text zero h = absurd (h.at (omega arith) (record { value = line.Nothing; rest = []; whole = inl refl }))
+counted text (suc n) h = omega arith
+
+pub said_column : (text : List ℕ) (n : ℕ) → ((rest : List ℕ) → text ≡ 36 ∷ rest → ⊥) → IsColumn IsCallLine text n → IsColumn IsSentenceLine text n
+said_column [] n other h = absurd (h.is_none line.Nothing (inl refl))
+said_column (b ∷ rest) n other h =
+    column_of_kind b IsCallLine IsSentenceLine (said_in_sentences b (λ e. other rest (ap (λ k. k ∷ rest) e))) rest n (counted (b ∷ rest) n h) h

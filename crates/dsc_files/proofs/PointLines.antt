@@ -6,7 +6,8 @@ use Rattle.traffic_lines.specs.declared.lines.Point.{Point}
 use Rattle.traffic_lines.specs.declared.lines.TrafficLine.{TrafficLine}
 use Rattle.traffic_lines.specs.declared.lines.TrafficLine.TheVariants.{Ship, Coast, Base, Group, Event}
 use Rattle.traffic_lines.specs.Lines.{IsLineText, IsFirstByte, IsTrafficLine}
-use Rattle.dsc_files.specs.declared.lines.Line.{Line}
+use Rattle.dsc_files.specs.declared.join.JoinLine.{JoinLine as Got}
+use Rattle.dsc_files.specs.declared.traffic.PointLine.TheVariants as read_as
 use Rattle.dsc_files.specs.declared.lines.LineFault.{LineFault}
 use Rattle.dsc_files.specs.declared.lines.LineFault.TheVariants.{Column, NoMemory}
 use Rattle.dsc_files.specs.JoinLine.{JoinLine, nothing, reception, evidence, IsLine}
@@ -71,20 +72,26 @@ counted : (b : ℕ) (rest : List ℕ) (n : ℕ) → IsColumn IsLine (b ∷ rest)
 counted b rest zero h = absurd (h.at (omega arith) (record { value = nothing; rest = []; whole = inl refl }))
 counted b rest (suc n) h = omega arith
 
-joined_in_body : StationsBegin → (at : Point) (b : ℕ) (rest : List ℕ) (answer : Result Line LineFault) → IsBody at → (b ≡ 114) ⊎ (b ≡ 101)
-    → ReadsJoin (b ∷ rest) answer → ReadsAtPoint at (b ∷ rest) answer
-joined_in_body begin at b rest (Ok read) body which h = (joined h.0, ((may_in_body at h.0 body, h.1.0), h.1.1))
-joined_in_body begin at b rest (Err (Column n)) body which h =
+-- what was read of a line of join's input is what a line of a body says
+pub joined_line : (point : Point) (text : List ℕ) (read : Got) → IsBody point → ReadsJoin text (Ok read) → ReadsAtPoint point text (Ok (read_as.Joined read))
+joined_line point text read body h = (joined h.0, ((may_in_body point h.0 body, h.1.0), (read, (h.1.1, refl))))
+
+joined_column_at : StationsBegin → (at : Point) (b : ℕ) (rest : List ℕ) (n : ℕ) → IsBody at → (b ≡ 114) ⊎ (b ≡ 101) → IsColumn IsLine (b ∷ rest) n → IsColumn (IsPointLine at) (b ∷ rest) n
+joined_column_at begin at b rest n body which h =
     column_of_kind b IsLine (IsPointLine at)
     (record { says = joined; embeds = λ w text is. (may_in_body at w body, is); only = only_joined begin at b which })
     rest n (counted b rest n h) h
-joined_in_body begin at b rest (Err NoMemory) body which h = tt
 
-pub joined_read : StationsBegin → (at : Point) (text : List ℕ) (answer : Result Line LineFault) → IsBody at
-    → (b : ℕ) × (rest : List ℕ) × (text ≡ b ∷ rest) × ((b ≡ 114) ⊎ (b ≡ 101)) → ReadsJoin text answer → ReadsAtPoint at text answer
-joined_read begin at text answer body given h =
-    subst (λ (l : List ℕ). ReadsAtPoint at l answer) (sym given.2)
-    (joined_in_body begin at given.0 given.1 answer body given.3 (subst (λ (l : List ℕ). ReadsJoin l answer) given.2 h))
+joined_fault_at : StationsBegin → (at : Point) (b : ℕ) (rest : List ℕ) (fault : LineFault) → IsBody at → (b ≡ 114) ⊎ (b ≡ 101)
+    → ReadsJoin (b ∷ rest) (Err fault) → ReadsAtPoint at (b ∷ rest) (Err fault)
+joined_fault_at begin at b rest (Column n) body which h = joined_column_at begin at b rest n body which h
+joined_fault_at begin at b rest NoMemory body which h = tt
+
+pub joined_fault : StationsBegin → (at : Point) (text : List ℕ) (fault : LineFault) → IsBody at
+    → (b : ℕ) × (rest : List ℕ) × (text ≡ b ∷ rest) × ((b ≡ 114) ⊎ (b ≡ 101)) → ReadsJoin text (Err fault) → ReadsAtPoint at text (Err fault)
+joined_fault begin at text fault body given h =
+    subst (λ (l : List ℕ). ReadsAtPoint at l (Err fault)) (sym given.2)
+    (joined_fault_at begin at given.0 given.1 fault body given.3 (subst (λ (l : List ℕ). ReadsJoin l (Err fault)) given.2 h))
 
 -- other lines
 only_station : (at : Point) (b : ℕ) → IsStationsByte at b → (v : PointLine) (rest : List ℕ) → IsPointLine at v (b ∷ rest) → (w : TrafficLine) × IsTrafficLine at w (b ∷ rest)

@@ -11,8 +11,11 @@ use Rattle.dsc_files.specs.declared.lines.Line.{Line}
 use Rattle.dsc_files.specs.declared.lines.Line.TheVariants as got
 use Rattle.dsc_files.specs.declared.lines.LineFault.{LineFault}
 use Rattle.dsc_files.specs.declared.lines.LineFault.TheVariants as fault
-use Rattle.dsc_files.specs.CallLine.{CallLine, nothing, call, IsCallLine}
-use Rattle.dsc_files.specs.Lines.{ReadsCall}
+use Rattle.dsc_files.specs.declared.calls.CallLine.{CallLine}
+use Rattle.dsc_files.specs.declared.calls.CallLine.TheVariants as line
+use Rattle.dsc_files.specs.CallLine.{IsCallLine}
+use Rattle.dsc_files.specs.Lines.{ReadsLine}
+use Rattle.dsc_files.specs.declared.lines.FileKind.TheVariants as file
 
 abbrev pub ApartLaw : Type 0
 ApartLaw = (a b : Call) (x y : Extra) → IsCall a → IsCall b → IsWholeOrAbsent x → IsWholeOrAbsent y → reported_text a x ≡ reported_text b y → (a ≡ b) × (x ≡ y)
@@ -23,7 +26,7 @@ first_of [] = 35
 first_of (b ∷ rest) = b
 
 -- an empty line has none, and a comment begins with #
-says_nothing : (text : List ℕ) → IsCallLine nothing text → first_of text ≡ 35
+says_nothing : (text : List ℕ) → IsCallLine line.Nothing text → first_of text ≡ 35
 unfolding first_of
 says_nothing text (inl empty) = ap first_of empty
 says_nothing text (inr comment) = ap first_of comment.1
@@ -92,8 +95,8 @@ call_no_dollar : (c : Call) (x : Extra) (text : List ℕ) → text ≡ reported_
 call_no_dollar c x text is e = not_equal (letter_of c) 36 (is_no_dollar c) (sym (begins_so c x) ∙ ap first_of (sym is) ∙ e)
 
 no_dollar : (a : CallLine) (text : List ℕ) → IsCallLine a text → first_of text ≡ 36 → ⊥
-no_dollar nothing text is e = let same : 35 ≡ 36 = sym (says_nothing text is) ∙ e in omega (arith, same)
-no_dollar (call c x) text is e = call_no_dollar c x text is.1 e
+no_dollar line.Nothing text is e = let same : 35 ≡ 36 = sym (says_nothing text is) ∙ e in omega (arith, same)
+no_dollar (line.Call c x) text is e = call_no_dollar c x text is.1 e
 
 first_dollar : (rest : List ℕ) → first_of (codes "$" ++ rest) ≡ 36
 unfolding first_of
@@ -103,13 +106,13 @@ pub no_sentence : (a : CallLine) (text rest : List ℕ) → IsCallLine a text �
 no_sentence a text rest is e = no_dollar a text is (ap first_of e ∙ first_dollar rest)
 
 -- a call's text says a call
-pub no_empty : (c : Call) (x : Extra) → IsCallLine nothing (reported_text c x) → ⊥
+pub no_empty : (c : Call) (x : Extra) → IsCallLine line.Nothing (reported_text c x) → ⊥
 no_empty c x is = not_equal (letter_of c) 35 (is_letter c) (sym (begins_so c x) ∙ says_nothing (reported_text c x) is)
 
-pub call_is_read : ApartLaw → (c : Call) (x : Extra) (answer : Result Line LineFault) → IsCall c → IsWholeOrAbsent x → ReadsCall (reported_text c x) answer → answer ≡ Ok (got.Call c x)
-call_is_read apart c x (Err (fault.Column n)) is whole h = absurd (h.is_none (call c x) ((is, whole), refl))
+pub call_is_read : ApartLaw → (c : Call) (x : Extra) (answer : Result Line LineFault) → IsCall c → IsWholeOrAbsent x → ReadsLine file.Call (reported_text c x) answer → answer ≡ Ok (got.Call c x)
+call_is_read apart c x (Err (fault.Column n)) is whole h = absurd (h.is_none (line.Call c x) ((is, whole), refl))
 call_is_read apart c x (Err fault.NoMemory) is whole h = absurd h
-call_is_read apart c x (Ok read) is whole (nothing, (line, says)) = absurd (no_empty c x line)
-call_is_read apart c x (Ok read) is whole (call d y, (line, says)) =
-    let same = apart d c y x line.0.0 is line.0.1 whole (sym line.1) in
+call_is_read apart c x (Ok read) is whole (line.Nothing, (text, says)) = absurd (no_empty c x text)
+call_is_read apart c x (Ok read) is whole (line.Call d y, (text, says)) =
+    let same = apart d c y x text.0.0 is text.0.1 whole (sym text.1) in
     ap Ok (says ∙ ap (λ k. got.Call k y) same.0 ∙ ap (λ k. got.Call c k) same.1)

@@ -1,10 +1,11 @@
 -- What is read of a line: this project's profile.
-use Rattle.std.specs.Prelude.{◌≡◌, ℕ, ◌&&◌, ◌==◌, List, Result, Ok, Err}
+use Rattle.std.specs.Prelude.{◌≡◌, ℕ, ◌&&◌, ◌==◌, List, ◌∷◌, [], Result, Ok, Err}
 use Rattle.std.specs.List.{list_any}
+use Rattle.ten_unit.specs.declared.character.Element.{Element}
 use Rattle.slot_evidence.specs.declared.places.Seen.{Seen}
 use Rattle.slot_evidence.specs.Facts.{Facts}
 use Rattle.slot_evidence.specs.Sheet.{IsEnds}
-use Rattle.line_grammar.specs.Columns.{IsColumn}
+use Rattle.line_grammar.specs.Columns.{Spelling, IsColumn}
 use Rattle.traffic_lines.specs.declared.lines.Point.{Point}
 use Rattle.traffic_lines.specs.declared.lines.TrafficLine.{TrafficLine}
 use Rattle.traffic_lines.specs.declared.lines.TrafficLine.TheVariants.{Ship, Coast, Base, Group, Event}
@@ -14,9 +15,18 @@ use Rattle.dsc_files.specs.declared.lines.Line.{Line}
 use Rattle.dsc_files.specs.declared.lines.Line.TheVariants as line
 use Rattle.dsc_files.specs.declared.lines.LineFault.{LineFault}
 use Rattle.dsc_files.specs.declared.lines.LineFault.TheVariants as fault
+use Rattle.dsc_files.specs.declared.join.JoinLine.{JoinLine as Got}
+use Rattle.dsc_files.specs.declared.join.JoinLine.TheVariants as got
 use Rattle.dsc_files.specs.JoinLine.{JoinLine, nothing, reception, evidence, IsLine}
-use Rattle.dsc_files.specs.CallLine.{CallLine, nothing, call, IsCallLine}
-use Rattle.dsc_files.specs.SentenceLine.{SentenceLine, said, sentence, IsSentenceLine}
+use Rattle.dsc_files.specs.declared.traffic.PointLine.{PointLine as GotAtPoint}
+use Rattle.dsc_files.specs.declared.traffic.PointLine.TheVariants as at
+use Rattle.dsc_files.specs.declared.calls.CallLine.{CallLine}
+use Rattle.dsc_files.specs.declared.calls.CallLine.TheVariants as call
+use Rattle.dsc_files.specs.declared.sentences.SentenceLine.{SentenceLine}
+use Rattle.dsc_files.specs.declared.sentences.SentenceLine.TheVariants as sentence
+use Rattle.dsc_files.specs.CallLine.{IsCallLine}
+use Rattle.dsc_files.specs.SentenceLine.{IsSentenceLine}
+use Rattle.dsc_files.specs.StreamLine.{IsStreamLine}
 use Rattle.dsc_files.specs.PointLine.{PointLine, joined, traffic, IsPointLine}
 
 -- the facts of evidence: each pair's place showed its symbol
@@ -24,62 +34,82 @@ abbrev pub facts_of_pairs : List (ℕ × ℕ) → Facts
 facts_of_pairs pairs p v = list_any (λ pair. p == pair.0 && v == pair.1) pairs
 
 -- what was read is what the line says, with the sheet of its facts in the place of pairs
-abbrev pub Says : JoinLine → Line → Type 0
-Says nothing read = read ≡ line.Nothing
-Says (reception group e) read = read ≡ line.Reception group e
-Says (evidence group pairs) read = (sheet : List Seen) × ((read ≡ line.Evidence group sheet) × IsEnds (facts_of_pairs pairs) sheet)
+abbrev pub Says : JoinLine → Got → Type 0
+Says nothing read = read ≡ got.Nothing
+Says (reception group e) read = read ≡ got.Reception group e
+Says (evidence group pairs) read = (sheet : List Seen) × ((read ≡ got.Evidence group sheet) × IsEnds (facts_of_pairs pairs) sheet)
 
--- the answer for a line of join's input: what it says, or the column of bytes that are no line; want of memory may come at any line
-abbrev pub ReadsJoin : List ℕ → Result Line LineFault → Type 0
-ReadsJoin text (Ok read) = (says : JoinLine) × (IsLine says text × Says says read)
-ReadsJoin text (Err (fault.Column n)) = IsColumn IsLine text n
-ReadsJoin text (Err fault.NoMemory) = Unit {0}
+-- the answer for a line of these, for which memory may run out: what it says, or the column of bytes that are no such line; want of
+-- memory may come at any line
+abbrev pub ReadsWithRoom : {V W : Type 0} (L : Spelling V) (says : V → W → Type 0) → List ℕ → Result W LineFault → Type 0
+ReadsWithRoom {V = V} L says text (Ok read) = (line : V) × (L line text × says line read)
+ReadsWithRoom L says text (Err (fault.Column n)) = IsColumn L text n
+ReadsWithRoom L says text (Err fault.NoMemory) = Unit {0}
 
--- what was read of a line of calls is what it says
-abbrev pub SaysCall : CallLine → Line → Type 0
-SaysCall nothing read = read ≡ line.Nothing
-SaysCall (call c extra) read = read ≡ line.Call c extra
+-- the answer for a line of join's input
+abbrev pub ReadsJoin : List ℕ → Result Got LineFault → Type 0
+ReadsJoin text answer = ReadsWithRoom IsLine Says text answer
 
--- the answer for a line of calls: what it says, or the column of bytes that are no line
-abbrev pub ReadsCall : List ℕ → Result Line LineFault → Type 0
-ReadsCall text (Ok read) = (says : CallLine) × (IsCallLine says text × SaysCall says read)
-ReadsCall text (Err (fault.Column n)) = IsColumn IsCallLine text n
-ReadsCall text (Err fault.NoMemory) = ⊥
+-- what was read of a line of join's input
+abbrev pub line_of_join : Got → Line
+line_of_join got.Nothing = line.Nothing
+line_of_join (got.Reception group e) = line.Reception group e
+line_of_join (got.Evidence group sheet) = line.Evidence group sheet
 
--- what was read of a line of sentences is what it says
-abbrev pub SaysSentence : SentenceLine → Line → Type 0
-SaysSentence (said says) read = SaysCall says read
-SaysSentence (sentence bytes) read = read ≡ line.Sentence
+-- the answer for a line of these, of which nothing can run out: what it says, or the column of bytes that are no such line
+abbrev pub ReadsAlways : {W : Type 0} (L : Spelling W) (as_line : W → Line) → List ℕ → Result Line LineFault → Type 0
+ReadsAlways {W = W} L as_line text (Ok read) = (says : W) × (L says text × (read ≡ as_line says))
+ReadsAlways L as_line text (Err (fault.Column n)) = IsColumn L text n
+ReadsAlways L as_line text (Err fault.NoMemory) = ⊥
 
--- the answer for a line of sentences: what it says, or the column of bytes that are no line
-abbrev pub ReadsSentence : List ℕ → Result Line LineFault → Type 0
-ReadsSentence text (Ok read) = (says : SentenceLine) × (IsSentenceLine says text × SaysSentence says read)
-ReadsSentence text (Err (fault.Column n)) = IsColumn IsSentenceLine text n
-ReadsSentence text (Err fault.NoMemory) = ⊥
+-- what a line of calls says
+abbrev pub line_of_call : CallLine → Line
+line_of_call call.Nothing = line.Nothing
+line_of_call (call.Call c extra) = line.Call c extra
 
--- what was read of a station's line is what it says
-abbrev pub SaysTraffic : TrafficLine → Line → Type 0
-SaysTraffic (Ship mmsi) read = read ≡ line.Ship mmsi
-SaysTraffic (Coast mmsi band) read = read ≡ line.Coast mmsi band
-SaysTraffic (Base second) read = read ≡ line.Base second
-SaysTraffic (Group mmsi) read = read ≡ line.Group mmsi
-SaysTraffic (Event at what) read = read ≡ line.Event at what
+-- what a line of calls and sentences says
+abbrev pub line_of_sentence : SentenceLine → Line
+line_of_sentence (sentence.Said says) = line_of_call says
+line_of_sentence (sentence.Sentence bytes) = line.Sentence
+
+-- what was read is what the line says, as a line of any file
+abbrev pub IsTold : {V W : Type 0} (says : V → W → Type 0) (as_line : W → Line) → V → Line → Type 0
+IsTold {W = W} says as_line line read = (one : W) × (says line one × (read ≡ as_line one))
 
 -- what was read of a line of a traffic file is what it says
-abbrev pub SaysAtPoint : PointLine → Line → Type 0
-SaysAtPoint (joined says) read = Says says read
-SaysAtPoint (traffic says) read = SaysTraffic says read
+abbrev pub SaysAtPoint : PointLine → GotAtPoint → Type 0
+SaysAtPoint (joined says) read = (one : Got) × (Says says one × (read ≡ at.Joined one))
+SaysAtPoint (traffic says) read = read ≡ at.Traffic says
 
--- the answer for a line at this point of a traffic file: what it says, or the column of bytes that are no line of this point; want of
--- memory may come at any line
-abbrev pub ReadsAtPoint : Point → List ℕ → Result Line LineFault → Type 0
-ReadsAtPoint point text (Ok read) = (says : PointLine) × (IsPointLine point says text × SaysAtPoint says read)
-ReadsAtPoint point text (Err (fault.Column n)) = IsColumn (IsPointLine point) text n
-ReadsAtPoint point text (Err fault.NoMemory) = Unit {0}
+-- the answer for a line at this point of a traffic file
+abbrev pub ReadsAtPoint : Point → List ℕ → Result GotAtPoint LineFault → Type 0
+ReadsAtPoint point text answer = ReadsWithRoom (IsPointLine point) SaysAtPoint text answer
+
+-- what was read of a station's line, and of a line of a traffic file
+abbrev pub line_of_traffic : TrafficLine → Line
+line_of_traffic (Ship mmsi) = line.Ship mmsi
+line_of_traffic (Coast mmsi band) = line.Coast mmsi band
+line_of_traffic (Base second) = line.Base second
+line_of_traffic (Group mmsi) = line.Group mmsi
+line_of_traffic (Event moment what) = line.Event moment what
+
+abbrev pub line_of_point : GotAtPoint → Line
+line_of_point (at.Joined says) = line_of_join says
+line_of_point (at.Traffic says) = line_of_traffic says
+
+-- what a line of a stream says: nothing, or the elements that it adds
+abbrev pub line_of_stream : List Element → Line
+line_of_stream [] = line.Nothing
+line_of_stream (x ∷ e) = line.Stream (x ∷ e)
+
+-- the answer for a line of a stream
+abbrev pub ReadsStream : List ℕ → Result Line LineFault → Type 0
+ReadsStream text answer = ReadsWithRoom IsStreamLine (λ e read. read ≡ line_of_stream e) text answer
 
 -- the answer for a line of a file of this kind
 abbrev pub ReadsLine : FileKind → List ℕ → Result Line LineFault → Type 0
-ReadsLine kind.Join text answer = ReadsJoin text answer
-ReadsLine kind.Call text answer = ReadsCall text answer
-ReadsLine kind.Sentence text answer = ReadsSentence text answer
-ReadsLine (kind.Traffic point) text answer = ReadsAtPoint point text answer
+ReadsLine kind.Join text answer = ReadsWithRoom IsLine (IsTold Says line_of_join) text answer
+ReadsLine kind.Call text answer = ReadsAlways IsCallLine line_of_call text answer
+ReadsLine kind.Sentence text answer = ReadsAlways IsSentenceLine line_of_sentence text answer
+ReadsLine (kind.Traffic point) text answer = ReadsWithRoom (IsPointLine point) (IsTold SaysAtPoint line_of_point) text answer
+ReadsLine kind.Stream text answer = ReadsStream text answer

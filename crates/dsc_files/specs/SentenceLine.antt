@@ -1,13 +1,16 @@
--- The lines of files of sentences: this project's profile.
+-- The lines of files of calls and sentences: this project's profile.
 use Rattle.std.specs.Prelude.{◌≡◌, ℕ, List, ◌++◌, codes}
-use Rattle.dsc_files.specs.CallLine.{CallLine, IsCallLine}
-
--- what a line says: what a line of calls says; or a sentence, by its bytes
-pub data SentenceLine : Type 0 where
-  said : CallLine → SentenceLine
-  sentence : List ℕ → SentenceLine
+use Rattle.dsc_files.specs.declared.sentences.SentenceLine.{SentenceLine}
+use Rattle.dsc_files.specs.declared.sentences.SentenceLine.TheVariants.{Said, Sentence}
+use Rattle.dsc_files.specs.CallLine.{IsCallLine}
 
 -- the well-formed lines: those of files of calls, and whatever begins with $
 abbrev pub IsSentenceLine : SentenceLine → List ℕ → Type 0
-IsSentenceLine (said line) text = IsCallLine line text
-IsSentenceLine (sentence bytes) text = (text ≡ bytes) × ((rest : List ℕ) × (text ≡ codes "$" ++ rest))
+IsSentenceLine (Said line) text = IsCallLine line text
+IsSentenceLine (Sentence bytes) text = (text ≡ bytes.now) × ((rest : List ℕ) × (text ≡ codes "$" ++ rest))
+
+-- two lines say the same: what a line of calls says, or a sentence of the same bytes
+abbrev pub SayTheSame : SentenceLine → SentenceLine → Type 0
+SayTheSame (Said a) (Said b) = a ≡ b
+SayTheSame (Sentence a) (Sentence b) = a.now ≡ b.now
+SayTheSame _ _ = ⊥

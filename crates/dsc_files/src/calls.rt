@@ -1,55 +1,41 @@
-//! The lines of files of calls, and of calls and sentences.
+//! The lines of files of calls.
 ghost use Rattle.std.specs.Prelude.{◌≡◌, ◌≢◌, ◌∷◌, ℕ, List};
-ghost use Rattle.dsc_files.specs.Lines.{ReadsCall, ReadsSentence};
+ghost use Rattle.dsc_files.specs.CallLine.{IsCallLine};
+ghost use Rattle.dsc_files.specs.Readings.{Reads};
 
-use crate::lines::{Line, LineFault};
+use call_values::Call;
 use dsc_texts::read_call;
+use slot_join::Extra;
+
+/// What a line of a file of calls says.
+#[derive(Clone, Copy, Debug, PartialEq, Eq)]
+pub enum CallLine {
+    /// The line is empty or a comment.
+    Nothing,
+    /// A call, and what follows it, which is nothing or an expansion.
+    Call { call: Call, extra: Extra },
+}
 
 /// Reads a line that isn't empty and doesn't begin with `#`.
-fn whole_call(line: &[u8]) -> Result<Line, LineFault>
+fn whole_call(line: &[u8]) -> Result<CallLine, usize>
     requires { (b : ℕ) × (rest : List ℕ) × (line.now ≡ b ∷ rest) × (b ≢ 35) }
-    ensures { ReadsCall line.now result }
+    ensures { Reads IsCallLine line.now result }
 {
     match read_call(line) {
-        Ok((call, extra)) => Ok(Line::Call { call, extra }),
-        Err(n) => Err(LineFault::Column(n)),
+        Ok((call, extra)) => Ok(CallLine::Call { call, extra }),
+        Err(n) => Err(n),
     }
 }
 
-/// Reads one line of a file of calls.
-pub(crate) fn call_line(line: &[u8]) -> Result<Line, LineFault>
-    ensures { ReadsCall line.now result }
+/// Reads one line of a file of calls. An error is the column of bytes that are no such line.
+pub fn call_line(line: &[u8]) -> Result<CallLine, usize>
+    ensures { Reads IsCallLine line.now result }
 {
     let Some((first, _)) = line.split_first() else {
-        return Ok(Line::Nothing);
+        return Ok(CallLine::Nothing);
     };
     match *first {
-        b'#' => Ok(Line::Nothing),
+        b'#' => Ok(CallLine::Nothing),
         _ => whole_call(line),
-    }
-}
-
-/// Reads a call in a file of sentences: a line that isn't empty and begins with neither `#` nor `$`.
-fn call_among_sentences(line: &[u8]) -> Result<Line, LineFault>
-    requires { (b : ℕ) × (rest : List ℕ) × (line.now ≡ b ∷ rest) × (b ≢ 35) × (b ≢ 36) }
-    ensures { ReadsSentence line.now result }
-{
-    match read_call(line) {
-        Ok((call, extra)) => Ok(Line::Call { call, extra }),
-        Err(n) => Err(LineFault::Column(n)),
-    }
-}
-
-/// Reads one line of a file of sentences.
-pub(crate) fn sentence_line(line: &[u8]) -> Result<Line, LineFault>
-    ensures { ReadsSentence line.now result }
-{
-    let Some((first, _)) = line.split_first() else {
-        return Ok(Line::Nothing);
-    };
-    match *first {
-        b'#' => Ok(Line::Nothing),
-        b'$' => Ok(Line::Sentence),
-        _ => call_among_sentences(line),
     }
 }

@@ -5,13 +5,14 @@ ghost use Rattle.slot_evidence.specs.Sheet.{IsEnds};
 ghost use Rattle.line_grammar.specs.Grammar.{Grammar, word as behind};
 ghost use Rattle.line_grammar.specs.Repeats.{repeated};
 ghost use Rattle.line_grammar.specs.inside.Reading.{read};
-ghost use Rattle.dsc_files.specs.JoinLine.{JoinLine, IsLine, IsPair, pair_text};
+ghost use Rattle.dsc_files.specs.JoinLine.{JoinLine as Line, IsLine, IsPair, pair_text};
 ghost use Rattle.dsc_files.specs.Lines.{ReadsJoin, Says, facts_of_pairs};
 ghost use Rattle.dsc_files.specs.inside.Reading as reading;
 ghost use Rattle.dsc_files.specs.inside.Reading.{grouped};
 
 use crate::groups::group;
-use crate::lines::{Line, LineFault};
+use crate::join::JoinLine;
+use crate::lines::LineFault;
 use line_grammar::{column, free_number, word};
 use slot_evidence::Sheet;
 
@@ -44,17 +45,17 @@ fn pairs(bytes: &[u8]) -> Result<Sheet, usize>
 }
 
 /// What a line of evidence says, by the bytes behind its `e`. An error is how many bytes are left at the fault.
-fn evidence(bytes: &[u8]) -> Result<Line, usize>
-    ensures line { IfOk result (λ read. (says : JoinLine) × (IsLine says (101 ∷ bytes.now) × Says says read)) }
+fn evidence(bytes: &[u8]) -> Result<JoinLine, usize>
+    ensures line { IfOk result (λ read. (says : Line) × (IsLine says (101 ∷ bytes.now) × Says says read)) }
     ensures left { IfErr result (λ left. (n : ℕ) → length bytes.now < n → read (grouped (repeated reading.pair n)) bytes.now ≡ Err left) }
 {
     let (group, rest) = group(bytes)?;
     let sheet = pairs(rest)?;
-    Ok(Line::Evidence { group, sheet })
+    Ok(JoinLine::Evidence { group, sheet })
 }
 
 /// Reads evidence, which is this line behind its `e`.
-pub(crate) fn evidence_line(line: &[u8], rest: &[u8]) -> Result<Line, LineFault>
+pub(crate) fn evidence_line(line: &[u8], rest: &[u8]) -> Result<JoinLine, LineFault>
     requires { line.now ≡ 101 ∷ rest.now }
     ensures { ReadsJoin line.now result }
 {

@@ -7,9 +7,14 @@ ghost use Rattle.dsc_files.specs.declared.lines.Line.{Line};
 ghost use Rattle.dsc_files.specs.declared.lines.Line.TheVariants as line;
 ghost use Rattle.dsc_files.specs.declared.lines.LineFault.{LineFault};
 ghost use Rattle.dsc_files.specs.JoinLine.{JoinLine, IsLine};
-ghost use Rattle.dsc_files.specs.Lines.{ReadsCall};
-ghost use Rattle.dsc_files.specs.CallLine.{CallLine, IsCallLine};
-ghost use Rattle.dsc_files.specs.SentenceLine.{SentenceLine, IsSentenceLine};
+ghost use Rattle.dsc_files.specs.declared.lines.FileKind.TheVariants as kind;
+ghost use Rattle.dsc_files.specs.Lines.{ReadsLine};
+ghost use Rattle.dsc_files.specs.declared.calls.CallLine.{CallLine};
+ghost use Rattle.dsc_files.specs.declared.sentences.SentenceLine.{SentenceLine};
+ghost use Rattle.dsc_files.specs.CallLine.{IsCallLine};
+ghost use Rattle.dsc_files.specs.SentenceLine.{IsSentenceLine, SayTheSame};
+ghost use Rattle.ten_unit.specs.declared.character.Element.{Element};
+ghost use Rattle.dsc_files.specs.StreamLine.{IsStreamLine};
 ghost use Rattle.dsc_files.specs.PointLine.{PointLine, IsPointLine};
 ghost use Rattle.traffic_lines.specs.declared.lines.Point.{Point as At};
 
@@ -38,16 +43,21 @@ pub fn one_call_line()
 
 /// The law that a line of a file of calls and sentences says one thing. It does nothing.
 pub fn one_sentence_line()
-    ensures { (a b : SentenceLine) (text : List ℕ) → IsSentenceLine a text → IsSentenceLine b text → a ≡ b }
+    ensures { (a b : SentenceLine) (text : List ℕ) → IsSentenceLine a text → IsSentenceLine b text → SayTheSame a b }
 {
     texts_tell_calls_apart();
 }
+
+/// The law that a line of a stream adds one list of elements. It does nothing.
+pub fn one_stream_line()
+    ensures { (a b : List Element) (text : List ℕ) → IsStreamLine a text → IsStreamLine b text → a ≡ b }
+{}
 
 /// The law that of the text that `put_call` writes of a call and of the expansion behind it, reading a line of calls can answer
 /// nothing but this call and this expansion. It does nothing.
 pub fn written_calls_are_read()
     ensures { (call : Call) (extra : Extra) (answer : Result Line LineFault) → IsCall call → IsWholeOrAbsent extra
-        → ReadsCall (reported_text call extra) answer → answer ≡ Ok (line.Call call extra) }
+        → ReadsLine kind.Call (reported_text call extra) answer → answer ≡ Ok (line.Call call extra) }
 {
     texts_tell_calls_apart();
 }

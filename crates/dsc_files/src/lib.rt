@@ -9,16 +9,25 @@ mod laws;
 mod lines;
 mod reading;
 mod receptions;
+mod sentences;
+mod streams;
 mod traffic;
 
+pub use calls::{CallLine, call_line};
 pub use dsc_streams::{
     ByteSink, ByteSource, Failed, NoMemory, Sink, Source, Status, StdSink, StdSource, SureSink,
     SureSource, write_all,
 };
 pub use dsc_texts::{put_answer, put_answer_line, put_call};
+pub use join::{JoinLine, join_line};
 pub use laws::{
-    one_call_line, one_line, one_point_line, one_sentence_line, written_calls_are_read,
+    one_call_line, one_line, one_point_line, one_sentence_line, one_stream_line,
+    written_calls_are_read,
 };
 pub use lines::{FileKind, Line, LineFault};
 pub use reading::line_of;
-pub use traffic_lines::{EventLine, Point};
+pub use receptions::element_of;
+pub use sentences::{SentenceLine, sentence_line};
+pub use streams::stream_line;
+pub use traffic::{PointLine, point_line};
+pub use traffic_lines::{EventLine, Point, TrafficLine};

@@ -1,12 +1,17 @@
 ghost use Rattle.std.specs.Prelude.{◌≡◌};
+ghost use Rattle.dsc_files.specs.Lines.{line_of_call, line_of_join, line_of_point, line_of_sentence, line_of_traffic};
 ghost use Rattle.dsc_files.specs.declared.lines.LineFault.TheVariants.{NoMemory};
 
+use crate::calls::CallLine;
+use crate::join::JoinLine;
+use crate::sentences::SentenceLine;
+use crate::traffic::PointLine;
 use call_values::{Band, Call, Mmsi};
 use slot_evidence::{Reception, Sheet};
 use slot_join::Extra;
 use std::alloc::AllocError;
 use thiserror::Error;
-use traffic_lines::{EventLine, Point};
+use traffic_lines::{EventLine, Point, TrafficLine};
 
 /// Which lines a file has.
 #[derive(Clone, Copy, Debug, PartialEq, Eq)]
@@ -19,6 +24,8 @@ pub enum FileKind {
     Sentence,
     /// Traffic of a station, at this point.
     Traffic(Point),
+    /// Elements of one stream.
+    Stream,
 }
 
 /// What a line says.
@@ -44,6 +51,67 @@ pub enum Line {
     Group(Mmsi),
     /// So many milliseconds after the base this happens.
     Event { at: u32, what: EventLine },
+    /// The stream goes on with these elements, at least one.
+    Stream(Reception),
+}
+
+impl From<JoinLine> for Line {
+    ghost from_gives = { λ says line. line ≡ line_of_join says };
+
+    fn from(says: JoinLine) -> Line {
+        match says {
+            JoinLine::Nothing => Line::Nothing,
+            JoinLine::Reception { group, elements } => Line::Reception { group, elements },
+            JoinLine::Evidence { group, sheet } => Line::Evidence { group, sheet },
+        }
+    }
+}
+
+impl From<CallLine> for Line {
+    ghost from_gives = { λ says line. line ≡ line_of_call says };
+
+    fn from(says: CallLine) -> Line {
+        match says {
+            CallLine::Nothing => Line::Nothing,
+            CallLine::Call { call, extra } => Line::Call { call, extra },
+        }
+    }
+}
+
+impl From<&SentenceLine<'_>> for Line {
+    ghost from_gives = { λ says line. line ≡ line_of_sentence says.now };
+
+    fn from(says: &SentenceLine<'_>) -> Line {
+        match says {
+            SentenceLine::Said(says) => Line::from(*says),
+            SentenceLine::Sentence(_) => Line::Sentence,
+        }
+    }
+}
+
+impl From<TrafficLine> for Line {
+    ghost from_gives = { λ says line. line ≡ line_of_traffic says };
+
+    fn from(says: TrafficLine) -> Line {
+        match says {
+            TrafficLine::Ship(mmsi) => Line::Ship(mmsi),
+            TrafficLine::Coast(mmsi, band) => Line::Coast(mmsi, band),
+            TrafficLine::Base(second) => Line::Base(second),
+            TrafficLine::Group(mmsi) => Line::Group(mmsi),
+            TrafficLine::Event { at, what } => Line::Event { at, what },
+        }
+    }
+}
+
+impl From<PointLine> for Line {
+    ghost from_gives = { λ says line. line ≡ line_of_point says };
+
+    fn from(says: PointLine) -> Line {
+        match says {
+            PointLine::Joined(says) => Line::from(says),
+            PointLine::Traffic(says) => Line::from(says),
+        }
+    }
 }
 
 /// Why a line was not read.

@@ -1,8 +1,10 @@
 ghost use Rattle.dsc_files.specs.Lines.{ReadsLine};
 
-use crate::calls::{call_line, sentence_line};
+use crate::calls::call_line;
 use crate::join::join_line;
 use crate::lines::{FileKind, Line, LineFault};
+use crate::sentences::sentence_line;
+use crate::streams::added_line;
 use crate::traffic::point_line;
 use std::alloc::Global;
 
@@ -12,9 +14,22 @@ pub fn line_of(alloc: Global, kind: FileKind, bytes: &[u8]) -> Result<Line, Line
     ensures { ReadsLine kind bytes.now result }
 {
     match kind {
-        FileKind::Join => join_line(alloc, bytes),
-        FileKind::Call => call_line(bytes),
-        FileKind::Sentence => sentence_line(bytes),
-        FileKind::Traffic(point) => point_line(alloc, point, bytes),
+        FileKind::Join => match join_line(alloc, bytes) {
+            Ok(says) => Ok(Line::from(says)),
+            Err(fault) => Err(fault),
+        },
+        FileKind::Call => match call_line(bytes) {
+            Ok(says) => Ok(Line::from(says)),
+            Err(n) => Err(LineFault::Column(n)),
+        },
+        FileKind::Sentence => match sentence_line(bytes) {
+            Ok(says) => Ok(Line::from(&says)),
+            Err(n) => Err(LineFault::Column(n)),
+        },
+        FileKind::Traffic(point) => match point_line(alloc, point, bytes) {
+            Ok(says) => Ok(Line::from(says)),
+            Err(fault) => Err(fault),
+        },
+        FileKind::Stream => added_line(alloc, bytes),
     }
 }

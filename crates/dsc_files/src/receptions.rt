@@ -1,15 +1,17 @@
 //! Lines of receptions.
 ghost use Rattle.std.specs.Prelude.{◌≡◌, ◌∷◌, ◌++◌, ℕ, List, map, codes, IfOk, IfErr, Err};
 ghost use Rattle.std.specs.List.{list_all};
-ghost use Rattle.line_grammar.specs.Tokens.{is_one_of};
+ghost use Rattle.line_grammar.specs.Tokens as tokens;
+ghost use Rattle.line_grammar.specs.Tokens.{is_one_of, IsToken};
 ghost use Rattle.line_grammar.specs.inside.Reading.{read};
 ghost use Rattle.dsc_files.specs.JoinLine.{NamesGroup, body_text};
 ghost use Rattle.dsc_files.specs.Lines.{ReadsJoin};
 ghost use Rattle.dsc_files.specs.inside.Reading as reading;
-ghost use Rattle.dsc_files.specs.inside.Reading.{behind_blank, grouped};
+ghost use Rattle.dsc_files.specs.inside.Reading.{behind_blank, blank_and_signs, grouped};
 
 use crate::groups::group;
-use crate::lines::{Line, LineFault};
+use crate::join::JoinLine;
+use crate::lines::LineFault;
 use line_grammar::{column, end, run, word};
 use slot_evidence::Reception;
 use std::alloc::{AllocError, Global};
@@ -26,6 +28,20 @@ fn are_signs(bytes: &[u8]) -> bool
     are
 }
 
+/// A blank and signs, at least one, up to the line's end. An error is how many bytes are left at the fault.
+pub(crate) fn signs(bytes: &[u8]) -> Result<&[u8], usize>
+    ensures signs { IfOk result (λ signs. (bytes.now ≡ codes " " ++ signs.now) × IsToken (tokens.run (codes "YB-")) signs.now) }
+    ensures left { IfErr result (λ left. read blank_and_signs bytes.now ≡ Err left) }
+{
+    let signs = word(b" ", bytes)?;
+    if !signs.is_empty() && are_signs(signs) {
+        return Ok(signs);
+    }
+    let (signs, rest) = run(b"YB-", signs)?;
+    end(rest)?;
+    Ok(signs)
+}
+
 /// The signs of a body; none where the line ends. An error is how many bytes are left at the fault.
 fn body(bytes: &[u8]) -> Result<&[u8], usize>
     ensures signs { IfOk result (λ signs. bytes.now ≡ body_text (map reading.element_of signs.now)) }
@@ -34,13 +50,7 @@ fn body(bytes: &[u8]) -> Result<&[u8], usize>
     if bytes.is_empty() {
         return Ok(bytes);
     }
-    let signs = word(b" ", bytes)?;
-    if !signs.is_empty() && are_signs(signs) {
-        return Ok(signs);
-    }
-    let (signs, rest) = run(b"YB-", signs)?;
-    end(rest)?;
-    Ok(signs)
+    signs(bytes)
 }
 
 /// The group and the signs of a reception, behind its `r`. An error is how many bytes are left at the fault.
@@ -53,8 +63,8 @@ fn group_and_signs(bytes: &[u8]) -> Result<(u32, &[u8]), usize>
     Ok((group, signs))
 }
 
-/// The element of a sign.
-fn element_of(sign: u8) -> Element
+/// The element of a sign: `Y`, `B`, and a lost one for any other byte.
+pub fn element_of(sign: u8) -> Element
     ensures { result ≡ reading.element_of sign }
 {
     match sign {
@@ -72,21 +82,21 @@ fn list_of(alloc: Global, signs: &[u8]) -> Result<Vec<Element>, AllocError>
 }
 
 /// The elements of signs.
-fn elements_of(alloc: Global, signs: &[u8]) -> Result<Reception, AllocError>
+pub(crate) fn elements_of(alloc: Global, signs: &[u8]) -> Result<Reception, AllocError>
     ensures { IfOk result (λ elements. elements ≡ map reading.element_of signs.now) }
 {
     Ok(Reception::from(list_of(alloc, signs)?))
 }
 
 /// Reads a reception, which is this line behind its `r`.
-pub(crate) fn reception_line(alloc: Global, line: &[u8], rest: &[u8]) -> Result<Line, LineFault>
+pub(crate) fn reception_line(alloc: Global, line: &[u8], rest: &[u8]) -> Result<JoinLine, LineFault>
     requires { line.now ≡ 114 ∷ rest.now }
     ensures { ReadsJoin line.now result }
 {
     match group_and_signs(rest) {
         Ok((group, signs)) => {
             let elements = elements_of(alloc, signs)?;
-            Ok(Line::Reception { group, elements })
+            Ok(JoinLine::Reception { group, elements })
         }
         Err(left) => Err(LineFault::Column(column(line, left))),
     }

@@ -7,3 +7,4 @@ mod DseLaws
 mod DseAnswers
 mod DseAccepted
 mod Told
+mod HeardLines

@@ -3,5 +3,6 @@ pub mod Calls
 pub mod Dse
 pub mod Expansions
 pub mod Verdicts
+pub mod Heard
 pub mod CallSentences
 pub mod inside

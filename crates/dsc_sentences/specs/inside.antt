@@ -1,2 +1,3 @@
 pub mod DscReading
 pub mod DseReading
+pub mod Hearing

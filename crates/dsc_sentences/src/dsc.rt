@@ -1,6 +1,7 @@
 ghost use Rattle.std.specs.Prelude.{◌≡◌, ◌≤◌, IfSome, true};
 ghost use Rattle.sentence_frame.specs.Shapes.{is_among};
 ghost use Rattle.sentence_frame.specs.Texts.{IsDigits, IsUpToDigits};
+ghost use Rattle.dsc_sentences.specs.Dsc.{IsDsc};
 
 use arrayvec::ArrayVec;
 use call_values::End;
@@ -52,6 +53,14 @@ impl Model for DscSentence {
 }
 
 impl DscSentence {
+    /// All fields, whose values are lawful ones of a DSC sentence.
+    pub fn fields(&self) -> &DscFields
+        ensures value { result.now ≡ self.now }
+        ensures lawful { IsDsc self.now }
+    {
+        &self.fields
+    }
+
     /// The format specifier's last two digits: 12, 16, 14, 20 or 2.
     pub fn format(&self) -> u8
         ensures { result ≡ self.now.format }

@@ -11,6 +11,7 @@ mod dse_printing;
 mod dse_reading;
 mod expansions;
 mod fields;
+mod hearing;
 mod laws;
 mod printing;
 mod reading;
@@ -23,6 +24,7 @@ pub use dse::{DseFields, DseSentence, Flag};
 pub use dse_printing::print_dse;
 pub use dse_reading::read_dse;
 pub use expansions::of_expansion;
+pub use hearing::sentence_on;
 pub use laws::{
     sentences_are_read_back, texts_tell_sentences_apart, what_is_read_is_printed_again,
 };

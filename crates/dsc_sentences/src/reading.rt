@@ -48,7 +48,7 @@ fn read_fields(fields: &mut Cursor) -> Result<DscFields, SentenceRefusal>
 }
 
 /// The fields of the DSC sentence whose bytes these are; else the first refusal.
-fn fields_read(bytes: &[u8]) -> Result<DscFields, SentenceRefusal>
+pub(crate) fn fields_read(bytes: &[u8]) -> Result<DscFields, SentenceRefusal>
     ensures { inside.FieldsAnswer result bytes.now }
 {
     match fields_of(b"$CDDSC", &[11], bytes) {

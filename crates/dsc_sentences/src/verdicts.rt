@@ -1,15 +1,11 @@
-ghost use Rattle.std.specs.Prelude.{◌≡◌, ◌+◌, ◌≤◌, ◌++◌, ◌∷◌, [], length, decimal};
+ghost use Rattle.std.specs.Prelude.{◌≡◌, ◌+◌, ◌≤◌, ◌++◌, ◌∷◌, length, decimal};
 ghost use Rattle.arrayvec.specs.ArrayVec.{array_vec_len};
-ghost use Rattle.sentence_frame.specs.Refusals.{texts_of};
-ghost use Rattle.dsc_sentences.specs.Dsc.{dsc};
-ghost use Rattle.dsc_sentences.specs.Dse.{dse};
 ghost use Rattle.dsc_sentences.specs.Verdicts as verdicts;
 ghost use Rattle.sentence_frame.specs.declared.refusals.SentenceRefusal.TheVariants.{Checksum};
 
-use crate::dse_reading::read_dse;
-use crate::reading::read;
+use crate::hearing::sentence_on;
 use arrayvec::ArrayVec;
-use sentence_frame::{LONGEST_SENTENCE, SentenceRefusal, hexadecimal};
+use sentence_frame::{SentenceRefusal, hexadecimal};
 use text_pieces::{append, append_number};
 
 /// What is told of a sentence.
@@ -21,58 +17,10 @@ pub enum Verdict {
 
 /// What a line is told, which has no LF: one CR at its end is dropped, and CR LF are added. It is read as a DSE sentence where it begins
 /// with `$CDDSE`, and else as a DSC sentence.
-#[tactic(auto, unfolding(crate::specs::Verdicts::verdict_of))]
 pub fn verdict_on(line: &[u8]) -> Verdict
     ensures { result ≡ verdicts.verdict_of line.now }
 {
-    let text = without_return(line);
-    if text.len() > LONGEST_SENTENCE - 2 {
-        return Verdict::Refused(SentenceRefusal::TooLong(text.len() + 2));
-    }
-    let bytes = ended(text);
-    if line.starts_with(b"$CDDSE") {
-        told_as_dse(bytes.as_slice())
-    } else {
-        told_as_dsc(bytes.as_slice())
-    }
-}
-
-/// A line without one CR at its end.
-fn without_return(line: &[u8]) -> &[u8]
-    ensures { result.now ≡ verdicts.without_return line.now }
-{
-    match line.split_last() {
-        Some((b'\r', text)) => text,
-        _ => line,
-    }
-}
-
-/// A text with CR and LF.
-fn ended(text: &[u8]) -> ArrayVec<u8, LONGEST_SENTENCE>
-    requires { length text.now ≤ 80 }
-    ensures { result.items ≡ text.now ++ 13 ∷ 10 ∷ [] }
-{
-    let mut bytes = ArrayVec::new();
-    append(&mut bytes, text);
-    append(&mut bytes, b"\r\n");
-    bytes
-}
-
-/// What bytes are told that are read as a DSC sentence.
-fn told_as_dsc(bytes: &[u8]) -> Verdict
-    ensures { result ≡ verdicts.told (texts_of dsc bytes.now) }
-{
-    match read(bytes) {
-        Ok(_) => Verdict::Accepted,
-        Err(refusal) => Verdict::Refused(refusal),
-    }
-}
-
-/// What bytes are told that are read as a DSE sentence.
-fn told_as_dse(bytes: &[u8]) -> Verdict
-    ensures { result ≡ verdicts.told (texts_of dse bytes.now) }
-{
-    match read_dse(bytes) {
+    match sentence_on(line) {
         Ok(_) => Verdict::Accepted,
         Err(refusal) => Verdict::Refused(refusal),
     }

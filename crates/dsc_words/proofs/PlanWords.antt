@@ -15,7 +15,7 @@ use Rattle.dsc_words.specs.Words.{HasWorkers, IsDots, IsGroups, IsCommand, IsInR
 use Rattle.dsc_words.specs.inside.Asked.{IsAsked}
 use Rattle.dsc_words.specs.inside.CommandLine.{dsc, with_number, with_option}
 use Rattle.dsc_words.specs.declared.plans.Plan.{Plan}
-use Rattle.dsc_words.specs.declared.plans.Plan.TheVariants.{Join, Evidence, Encode, Sentences, Replay, Make}
+use Rattle.dsc_words.specs.declared.plans.Plan.TheVariants.{Join, Evidence, Encode, Sentences, Replay, Make, Capture}
 use Rattle.dsc_words.proofs.LongWords.{IsBare, IsName, none_is_some, same_text}
 use Rattle.dsc_words.proofs.Turns.{HasNoDashes}
 use Rattle.dsc_words.proofs.OptionTurns.{leaf}
@@ -203,11 +203,18 @@ has_replay = record { undashed = refl; met = refl; fault = λ ws. refl; rows = �
 has_encode : Has (codes "encode") (with_option (codes "encode") (codes "dots"))
 has_encode = record { undashed = refl; met = refl; fault = λ ws. refl; rows = λ ws. refl }
 
-has_sentences : Has (codes "sentences") (new_shape (codes "sentences"))
+-- the command of this name stands alone
+abbrev HasNoOption : Text → Type 0
+HasNoOption name = Has name (new_shape name)
+
+has_sentences : HasNoOption (codes "sentences")
 has_sentences = record { undashed = refl; met = refl; fault = λ ws. refl; rows = λ ws. refl }
 
 has_make : Has (codes "make") (with_number (codes "make"))
 has_make = record { undashed = refl; met = refl; fault = λ ws. refl; rows = λ ws. refl }
+
+has_capture : HasNoOption (codes "capture")
+has_capture = record { undashed = refl; met = refl; fault = λ ws. refl; rows = λ ws. refl }
 
 -- words that `clap` takes for what a plan asks are the plan
 pub asked_is_plan : (words : List Text) → HasNoDashes (drop 1 words) → fault_of dsc words ≡ [] → (found : Text) (rows : List Row) (plan : Plan)
@@ -223,6 +230,11 @@ asked_is_plan words undashed passes found rows plan gives asked =
         let got = option_entered name (codes "workers") has words e behind found rows gives asked.0 in
         (got.0, (got.1.0, got.1.1, subst (λ (g : Option Text). IsWorkers g n) got.1.2 asked.1))
 
+    alone : (name : Text) → HasNoOption name → (e : Enters words) → HasNoDashes e.rest → found ≡ name → (e.command ≡ name) × (e.rest ≡ [])
+    alone name has e behind asked =
+        let got = entered_as name (new_shape name) has words e found rows gives asked in
+        (got.0, alone_passes name e.rest behind got.1)
+
     go : (e : Enters words) → HasNoDashes e.rest → (plan : Plan) → IsAsked found (first_of (codes "number") rows) plan → IsCommand e.command e.rest plan
     go e behind (Join n) asked = with_workers (codes "join") has_join e behind n asked
     go e behind (Evidence n) asked = with_workers (codes "evidence") has_evidence e behind n asked
@@ -230,9 +242,8 @@ asked_is_plan words undashed passes found rows plan gives asked =
     go e behind (Encode long) asked =
         let got = option_entered (codes "encode") (codes "dots") has_encode words e behind found rows gives asked.0 in
         (got.0, (got.1.0, got.1.1, subst (λ (g : Option Text). IsDots g long) got.1.2 asked.1))
-    go e behind Sentences asked =
-        let got = entered_as (codes "sentences") (new_shape (codes "sentences")) has_sentences words e found rows gives asked in
-        (got.0, alone_passes (codes "sentences") e.rest behind got.1)
+    go e behind Sentences asked = alone (codes "sentences") has_sentences e behind asked
+    go e behind Capture asked = alone (codes "capture") has_capture e behind asked
     go e behind (Make n) asked =
         let got = entered_as (codes "make") (with_number (codes "make")) has_make words e found rows gives asked.0 in
         let passes = number_passes (codes "make") e.rest behind got.1 in
@@ -248,15 +259,19 @@ plan_is_taken words plan is = subst (λ (ws : List Text). Taken ws plan) (sym is
     with_workers name has plan word ws n asks (at, (given, words_are, workers)) =
         option_words_taken name (codes "workers") has workers_name plan is.name word ws given at words_are (workers_bare given n workers) (asks given workers)
 
+    alone : (name : Text) → HasNoOption name → (plan : Plan) (word : Text) (ws : List Text) → word ≡ name → ws ≡ [] → IsAsked name None plan → Taken (is.name ∷ word ∷ ws) plan
+    alone name has plan word ws at none asked =
+        subst (λ (xs : List Text). Taken (is.name ∷ word ∷ xs) plan) (sym none)
+        (command_taken name (new_shape name) has plan is.name word [] at tt (alone_taken name) asked)
+
     go : (word : Text) (ws : List Text) (plan : Plan) → IsCommand word ws plan → Taken (is.name ∷ word ∷ ws) plan
     go word ws (Join n) c = with_workers (codes "join") has_join (Join n) word ws n (λ given workers. (refl, workers)) c
     go word ws (Evidence n) c = with_workers (codes "evidence") has_evidence (Evidence n) word ws n (λ given workers. (refl, workers)) c
     go word ws (Replay n) c = with_workers (codes "replay") has_replay (Replay n) word ws n (λ given workers. (refl, workers)) c
     go word ws (Encode long) (at, (given, words_are, dots)) =
         option_words_taken (codes "encode") (codes "dots") has_encode dots_name (Encode long) is.name word ws given at words_are (dots_bare given long dots) (refl, dots)
-    go word ws Sentences (at, none) =
-        subst (λ (xs : List Text). Taken (is.name ∷ word ∷ xs) Sentences) (sym none)
-        (command_taken (codes "sentences") (new_shape (codes "sentences")) has_sentences Sentences is.name word [] at tt (alone_taken (codes "sentences")) refl)
+    go word ws Sentences (at, none) = alone (codes "sentences") has_sentences Sentences word ws at none refl
+    go word ws Capture (at, none) = alone (codes "capture") has_capture Capture word ws at none refl
     go word ws (Make n) (at, (text, words_are, number)) =
         let taken = number_taken (codes "make") text (number_bare 1000 n text (omega arith) number) in
         subst (λ (xs : List Text). Taken (is.name ∷ word ∷ xs) (Make n)) (sym words_are)
@@ -273,6 +288,7 @@ plan_in_range words plan is = go is.rest plan is.is_command
     go ws Sentences c = tt
     go ws (Replay n) c = workers_in_range ws n c.1
     go ws (Make n) c = (c.1.2.1, c.1.2.2)
+    go ws Capture c = tt
 
 -- the plan that a command and its option's text ask for, where they ask for one
 abbrev plan_at : Text → Option Text → Option Plan
@@ -282,13 +298,15 @@ plan_at name given =
     else (if bytes_eq name (codes "encode") then Some (Encode (long_at given))
     else (if bytes_eq name (codes "sentences") then Some Sentences
     else (if bytes_eq name (codes "replay") then Some (Replay (workers_at given))
-    else (if bytes_eq name (codes "make") then Some (Make (groups_at given)) else None)))))
+    else (if bytes_eq name (codes "make") then Some (Make (groups_at given))
+    else (if bytes_eq name (codes "capture") then Some Capture else None))))))
 
 asked_at : (name : Text) (given : Option Text) (plan : Plan) → IsAsked name given plan → plan_at name given ≡ Some plan
 asked_at name given (Join n) (is, workers) = ap (λ c. plan_at c given) is ∙ ap (λ k. Some (Join k)) (workers_are given n workers)
 asked_at name given (Evidence n) (is, workers) = ap (λ c. plan_at c given) is ∙ ap (λ k. Some (Evidence k)) (workers_are given n workers)
 asked_at name given (Encode long) (is, dots) = ap (λ c. plan_at c given) is ∙ ap (λ b. Some (Encode b)) (long_is_at given long dots)
 asked_at name given Sentences is = ap (λ c. plan_at c given) is
+asked_at name given Capture is = ap (λ c. plan_at c given) is
 asked_at name given (Replay n) (is, workers) = ap (λ c. plan_at c given) is ∙ ap (λ k. Some (Replay k)) (workers_are given n workers)
 asked_at name given (Make n) (is, groups) = ap (λ c. plan_at c given) is ∙ ap (λ k. Some (Make k)) (groups_are given n groups)
 

@@ -17,6 +17,7 @@ pub fn command_line<'a>(alloc: Global) -> Result<Command<'a>, AllocError>
     let program = program.subcommand(Command::new(alloc, "sentences"))?;
     let program = program.subcommand(with_option(alloc, "replay", "workers")?)?;
     let program = program.subcommand(with_number(alloc, "make")?)?;
+    let program = program.subcommand(Command::new(alloc, "capture"))?;
     Ok(program)
 }
 

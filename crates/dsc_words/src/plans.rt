@@ -19,6 +19,8 @@ pub enum Plan {
     Replay { workers: u8 },
     /// `make N`: how the receptions of N generated groups are joined. 1 to 1,000 groups.
     Make { groups: u16 },
+    /// `capture`: every call of a stream of elements.
+    Capture,
 }
 
 /// Why words gave no plan.

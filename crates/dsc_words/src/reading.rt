@@ -90,6 +90,7 @@ fn asked(command: &str, given: Option<&str>) -> Option<Plan>
         "make" => Some(Plan::Make {
             groups: groups(given)?,
         }),
+        "capture" => Some(Plan::Capture),
         _ => None,
     }
 }

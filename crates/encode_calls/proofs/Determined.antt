@@ -1,12 +1,12 @@
 -- lines of calls determine what is written of them
-use Rattle.std.proofs.Common.{◌≡◌, ℕ, suc, Bool, List, [], ◌∷◌, ◌++◌, refl, sym, ap, ◌∙◌, append_assoc}
-use Rattle.call_values.specs.declared.calls.Call.{Call}
-use Rattle.slot_join.specs.declared.joined.Extra.{Extra}
+use Rattle.std.proofs.Common.{◌≡◌, ℕ, ◌+◌, Bool, List, [], ◌∷◌, ◌++◌, length, refl, sym, ap, ◌∙◌}
 use Rattle.line_engine.specs.Lines.{Lines}
 use Rattle.line_engine.specs.Determined.{IsDetermined, BeginsWith}
-use Rattle.dsc_files.specs.CallLine.{CallLine, nothing, call, IsCallLine}
+use Rattle.dsc_files.specs.declared.calls.CallLine.{CallLine}
+use Rattle.dsc_files.specs.CallLine.{IsCallLine}
 use Rattle.dsc_files.proofs.PublicLaws.{one_column}
-use Rattle.encode_calls.specs.Encoding.{AreCallLines, calls_of, encoded_line, encoded, IsEncoding, encode_meaning}
+use Rattle.encode_calls.specs.Encoding.{AreCallLines, calls_of, encoded, IsEncoding, encode_meaning}
+use Rattle.encode_calls.proofs.Encoded.{calls_append, encoded_append}
 
 -- a line says one thing
 abbrev pub OneCallLine : Type 0
@@ -40,33 +40,18 @@ split (s ∷ said) (l ∷ first) later are =
     let rest = split said first later are.1 in
     record { front = s ∷ rest.front; back = rest.back; list = ap (λ (w : List CallLine). s ∷ w) rest.list; are_first = (are.0, rest.are_first) }
 
-calls_append : (a b : List CallLine) → calls_of (a ++ b) ≡ calls_of a ++ calls_of b
-calls_append [] b = refl
-calls_append (nothing ∷ a) b = calls_append a b
-calls_append (call c extra ∷ a) b = ap (λ (l : List (Call × Extra)). (c, extra) ∷ l) (calls_append a b)
-
--- the lines of further calls stand behind those of the first
-encoded_append : (long : Bool) (number : ℕ) (a b : List (Call × Extra)) → (back : List ℕ) × (encoded long number (a ++ b) ≡ encoded long number a ++ back)
-unfolding encoded
-encoded_append long number [] b = (encoded long number b, refl)
-encoded_append long number (c ∷ a) b =
-    let rest = encoded_append long (suc number) a b in (
-      rest.0,
-      ap (λ (l : List ℕ). encoded_line long number c ++ l) rest.1
-          ∙ sym (append_assoc (encoded_line long number c) (encoded long (suc number) a) rest.0),
-    )
-
 begins : OneCallLine → (long : Bool) (first later : Lines) (text whole : List ℕ) → IsEncoding long first text → IsEncoding long (first ++ later) whole → BeginsWith whole text
 begins one long first later text whole g h =
     let parts = split h.said first later h.are_lines in
-    let more = encoded_append long 0 (calls_of parts.front) (calls_of parts.back) in
+    let front_calls = calls_of parts.front in
+    let back = encoded long (0 + length front_calls) (calls_of parts.back) in
     let front : text ≡ encoded long 0 (calls_of parts.front) = same_text one long first text (encoded long 0 (calls_of parts.front)) g (record { said = parts.front; are_lines = parts.are_first; text_is = refl }) in (
-      more.0,
+      back,
       h.text_is
           ∙ ap (λ (s : List CallLine). encoded long 0 (calls_of s)) parts.list
           ∙ ap (encoded long 0) (calls_append parts.front parts.back)
-          ∙ more.1
-          ∙ ap (λ (t : List ℕ). t ++ more.0) (sym front),
+          ∙ encoded_append long 0 front_calls (calls_of parts.back)
+          ∙ ap (λ (t : List ℕ). t ++ back) (sym front),
     )
 
 pub encoding_determined : OneCallLine → (long : Bool) → IsDetermined (encode_meaning long)

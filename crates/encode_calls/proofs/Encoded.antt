@@ -1,15 +1,34 @@
 -- what the command has encoded, one line further
-use Rattle.std.proofs.Common.{◌≡◌, ℕ, suc, ◌+◌, ◌≤◌, Bool, List, [], ◌∷◌, ◌++◌, length, refl, sym, ap, ◌∙◌, arith, append_assoc, append-nil, length-append}
+use Rattle.std.proofs.Common.{◌≡◌, ℕ, suc, ◌+◌, ◌≤◌, Bool, List, [], ◌∷◌, ◌++◌, length, refl, sym, ap, ◌∙◌, arith, append_assoc, length-append}
 use Rattle.call_values.specs.declared.calls.Call.{Call}
 use Rattle.slot_join.specs.declared.joined.Extra.{Extra}
 use Rattle.line_engine.specs.Lines.{Lines}
-use Rattle.dsc_files.specs.CallLine.{CallLine, nothing, call, IsCallLine}
+use Rattle.dsc_files.specs.declared.calls.CallLine.{CallLine}
+use Rattle.dsc_files.specs.declared.calls.CallLine.TheVariants as line
+use Rattle.dsc_files.specs.CallLine.{IsCallLine}
 use Rattle.encode_calls.specs.Encoding.{AreCallLines, calls_of, encoded_line, encoded}
-use Rattle.encode_calls.specs.inside.Progress.{HasEncoded}
+use Rattle.encode_calls.specs.inside.Progress.{HasEncoded, IsLawful}
 
 pub none_encoded : (long : Bool) → HasEncoded long 0 [] []
 unfolding encoded
 none_encoded long = record { said = []; are_lines = tt; text_is = refl; count_is = refl }
+
+pub calls_append : (a b : List CallLine) → calls_of (a ++ b) ≡ calls_of a ++ calls_of b
+calls_append [] b = refl
+calls_append (line.Nothing ∷ a) b = calls_append a b
+calls_append (line.Call c extra ∷ a) b = ap (λ (l : List (Call × Extra)). (c, extra) ∷ l) (calls_append a b)
+
+-- the lines of further calls stand behind those of the first, and are numbered on
+pub encoded_append : (long : Bool) (number : ℕ) (a b : List (Call × Extra)) → encoded long number (a ++ b) ≡ encoded long number a ++ encoded long (number + length a) b
+unfolding encoded
+encoded_append long number [] b =
+    let here : number ≡ number + 0 = omega arith in
+    ap (λ (n : ℕ). encoded long n b) here
+encoded_append long number (c ∷ a) b =
+    let next : suc number + length a ≡ number + suc (length a) = omega arith in
+    ap (λ (l : List ℕ). encoded_line long number c ++ l) (encoded_append long (suc number) a b)
+    ∙ sym (append_assoc (encoded_line long number c) (encoded long (suc number) a) (encoded long (suc number + length a) b))
+    ∙ ap (λ (n : ℕ). (encoded_line long number c ++ encoded long (suc number) a) ++ encoded long n b) next
 
 are_more : (said : List CallLine) (lines : Lines) (w : CallLine) (text : List ℕ) → AreCallLines said lines → IsCallLine w text → AreCallLines (said ++ w ∷ []) (lines ++ text ∷ [])
 are_more [] [] w text are is = (is, tt)
@@ -17,64 +36,31 @@ are_more [] (t ∷ lines) w text are is = absurd are
 are_more (s ∷ said) [] w text are is = absurd are
 are_more (s ∷ said) (t ∷ lines) w text are is = (are.0, are_more said lines w text are.1 is)
 
-nothing_more : (said : List CallLine) → calls_of (said ++ nothing ∷ []) ≡ calls_of said
-nothing_more [] = refl
-nothing_more (nothing ∷ said) = nothing_more said
-nothing_more (call c extra ∷ said) = ap (λ (l : List (Call × Extra)). (c, extra) ∷ l) (nothing_more said)
-
-call_more : (said : List CallLine) (c : Call) (extra : Extra) → calls_of (said ++ call c extra ∷ []) ≡ calls_of said ++ (c, extra) ∷ []
-call_more [] c extra = refl
-call_more (nothing ∷ said) c extra = call_more said c extra
-call_more (call d other ∷ said) c extra = ap (λ (l : List (Call × Extra)). (d, other) ∷ l) (call_more said c extra)
-
-encoded_more : (long : Bool) (number : ℕ) (calls : List (Call × Extra)) (c : Call × Extra) → encoded long number (calls ++ c ∷ []) ≡ encoded long number calls ++ encoded_line long (number + length calls) c
-unfolding encoded
-encoded_more long number [] c =
-    let here : number ≡ number + 0 = omega arith in
-    append-nil (encoded_line long number c) ∙ ap (λ (n : ℕ). encoded_line long n c) here
-encoded_more long number (d ∷ calls) c =
-    let next : suc number + length calls ≡ number + suc (length calls) = omega arith in
-    ap (λ (l : List ℕ). encoded_line long number d ++ l) (encoded_more long (suc number) calls c)
-    ∙ sym (append_assoc (encoded_line long number d) (encoded long (suc number) calls) (encoded_line long (suc number + length calls) c))
-    ∙ ap (λ (n : ℕ). (encoded_line long number d ++ encoded long (suc number) calls) ++ encoded_line long n c) next
-
--- a line that says nothing
-pub nothing_encoded : (long : Bool) (count : ℕ) (lines : Lines) (text line : List ℕ) → HasEncoded long count lines text → IsCallLine nothing line → HasEncoded long count (lines ++ line ∷ []) text
-nothing_encoded long count lines text line h is = record {
-  said = h.said ++ nothing ∷ [];
-  are_lines = are_more h.said lines nothing line h.are_lines is;
-  text_is = h.text_is ∙ ap (encoded long 0) (sym (nothing_more h.said));
-  count_is = h.count_is ∙ ap length (sym (nothing_more h.said));
-}
-
--- a line that says a call
-pub call_encoded : (long : Bool) (count : ℕ) (lines : Lines) (text line : List ℕ) (c : Call) (extra : Extra)
-    → HasEncoded long count lines text → IsCallLine (call c extra) line → HasEncoded long (count + 1) (lines ++ line ∷ []) (text ++ encoded_line long count (c, extra))
-call_encoded long count lines text line c extra h is = record {
-  said = h.said ++ call c extra ∷ [];
-  are_lines = are_more h.said lines (call c extra) line h.are_lines is;
-  text_is =
-      let counted : count ≡ length (calls_of h.said) = h.count_is in
-      let numbered : count ≡ 0 + length (calls_of h.said) = omega (arith, counted) in
-      ap (λ (n : ℕ). text ++ encoded_line long n (c, extra)) numbered
-      ∙ ap (λ (t : List ℕ). t ++ encoded_line long (0 + length (calls_of h.said)) (c, extra)) h.text_is
-      ∙ sym (encoded_more long 0 (calls_of h.said) (c, extra))
-      ∙ ap (encoded long 0) (sym (call_more h.said c extra));
-  count_is =
-      let counted : count ≡ length (calls_of h.said) = h.count_is in
-      let more : length (calls_of h.said ++ (c, extra) ∷ []) ≡ length (calls_of h.said) + 1 = length-append (calls_of h.said) ((c, extra) ∷ []) in
-      let sum : count + 1 ≡ length (calls_of h.said ++ (c, extra) ∷ []) = omega (arith, counted, more) in
-      sum ∙ ap length (sym (call_more h.said c extra));
-}
+-- a line more
+pub more_encoded : (long : Bool) (count : ℕ) (lines : Lines) (text one : List ℕ) (w : CallLine) → HasEncoded long count lines text → IsCallLine w one
+    → HasEncoded long (count + length (calls_of (w ∷ []))) (lines ++ one ∷ []) (text ++ encoded long count (calls_of (w ∷ [])))
+more_encoded long count lines text one w h is =
+    let calls = calls_of h.said in
+    let more = calls_of (w ∷ []) in
+    let counted : count ≡ length calls = h.count_is in
+    let numbered : count ≡ 0 + length calls = omega (arith, counted) in record {
+      said = h.said ++ w ∷ [];
+      are_lines = are_more h.said lines w one h.are_lines is;
+      text_is = ap (λ (n : ℕ). text ++ encoded long n more) numbered
+          ∙ ap (λ (t : List ℕ). t ++ encoded long (0 + length calls) more) h.text_is
+          ∙ sym (encoded_append long 0 calls more)
+          ∙ ap (encoded long 0) (sym (calls_append h.said (w ∷ [])));
+      count_is = ap (λ (n : ℕ). n + length more) counted ∙ sym (length-append calls more) ∙ ap length (sym (calls_append h.said (w ∷ [])));
+    }
 
 calls_few : (said : List CallLine) (lines : Lines) → AreCallLines said lines → length (calls_of said) ≤ length lines
 calls_few [] [] are = omega arith
 calls_few [] (t ∷ lines) are = absurd are
 calls_few (s ∷ said) [] are = absurd are
-calls_few (nothing ∷ said) (t ∷ lines) are =
+calls_few (line.Nothing ∷ said) (t ∷ lines) are =
     let few = calls_few said lines are.1 in
     omega (arith, few)
-calls_few (call c extra ∷ said) (t ∷ lines) are =
+calls_few (line.Call c extra ∷ said) (t ∷ lines) are =
     let few = calls_few said lines are.1 in
     omega (arith, few)
 
@@ -83,3 +69,8 @@ pub few_encoded : (long : Bool) (count : ℕ) (lines : Lines) (text : List ℕ) 
 few_encoded long count lines text h =
     let counted : count ≡ length (calls_of h.said) = h.count_is in
     omega (arith, counted, calls_few h.said lines h.are_lines)
+
+-- what a line says has an expansion whole or not at all
+pub line_lawful : (says : CallLine) (text : List ℕ) → IsCallLine says text → IsLawful says
+line_lawful line.Nothing text is = tt
+line_lawful (line.Call c extra) text is = is.0.1

@@ -1,5 +1,4 @@
 mod SignTable
 mod Bodies
 mod Encoded
-mod Sayings
 mod Determined

@@ -6,21 +6,23 @@ use Rattle.line_grammar.specs.Columns.{IsColumn}
 use Rattle.line_engine.specs.Lines.{Lines}
 use Rattle.line_engine.specs.Meaning.{Meaning}
 use Rattle.dsc_files.specs.JoinLine.{body_text}
-use Rattle.dsc_files.specs.CallLine.{CallLine, nothing, call, IsCallLine}
+use Rattle.dsc_files.specs.declared.calls.CallLine.{CallLine}
+use Rattle.dsc_files.specs.declared.calls.CallLine.TheVariants as line
+use Rattle.dsc_files.specs.CallLine.{IsCallLine}
 use Rattle.encode_calls.specs.Transmissions.{transmitted}
 
 -- the lines say these, one by one
 abbrev pub AreCallLines : List CallLine → Lines → Type 0
 AreCallLines [] [] = Unit {0}
 AreCallLines [] (text ∷ lines) = ⊥
-AreCallLines (line ∷ said) [] = ⊥
-AreCallLines (line ∷ said) (text ∷ lines) = IsCallLine line text × AreCallLines said lines
+AreCallLines (one ∷ said) [] = ⊥
+AreCallLines (one ∷ said) (text ∷ lines) = IsCallLine one text × AreCallLines said lines
 
 -- the calls among them, in turn
 abbrev pub calls_of : List CallLine → List (Call × Extra)
 calls_of [] = []
-calls_of (nothing ∷ said) = calls_of said
-calls_of (call c extra ∷ said) = (c, extra) ∷ calls_of said
+calls_of (line.Nothing ∷ said) = calls_of said
+calls_of (line.Call c extra ∷ said) = (c, extra) ∷ calls_of said
 
 -- the reception line of a call: its group has the call's number
 unfoldable pub encoded_line : Bool → ℕ → Call × Extra → List ℕ

@@ -1,14 +1,11 @@
-ghost use Rattle.std.specs.Prelude.{◌≡◌, ◌<◌, ◌++◌, ◌∷◌, Bool, true, false, List, ℕ, [], OnOk};
-ghost use Rattle.line_engine.specs.Lines.{Lines};
-ghost use Rattle.dsc_files.specs.CallLine.{CallLine, IsCallLine};
-ghost use Rattle.dsc_files.specs.Lines.{SaysCall};
-ghost use Rattle.encode_calls.specs.Encoding.{encode_meaning};
+ghost use Rattle.std.specs.Prelude.{◌≡◌, ◌<◌, ◌+◌, ◌++◌, ◌∷◌, Bool, true, false, length, [], OnOk};
+ghost use Rattle.encode_calls.specs.Encoding.{calls_of, encode_meaning, encoded};
 ghost use Rattle.encode_calls.specs.inside.Progress.{HasEncoded, IsLawful};
 
 use crate::lines::append_line;
-use dsc_files::{FileKind, Line, LineFault, Status, line_of};
+use dsc_files::{CallLine, Status, call_line};
 use line_engine::{Command, MOST_LINES, Refusal};
-use std::alloc::{AllocError, Global};
+use std::alloc::AllocError;
 
 /// The length of a dot pattern (ITU-R M.493, dot pattern).
 pub trait Dots: Drop {
@@ -47,36 +44,33 @@ impl Dots for LongDots {
 /// The command that writes the line of a reception for each call, which heard its whole transmission.
 #[derive(Drop)]
 pub struct Encode<D: Dots> {
-    alloc: Global,
     pub(crate) count: u32,
     dots: D,
 }
 
 impl<D: Dots> Encode<D> {
     /// The command before its first line.
-    pub fn new(alloc: Global, dots: D) -> Encode<D>
+    pub fn new(dots: D) -> Encode<D>
         ensures { HasEncoded D.long result.count [] [] }
     {
-        Encode {
-            alloc,
-            count: 0,
-            dots,
-        }
+        Encode { count: 0, dots }
     }
 
     /// Appends what a line of calls gives.
-    fn encode(&mut self, read: &Line, out: &mut Vec<u8>) -> Result<(), AllocError>
+    fn encode(&mut self, says: &CallLine, out: &mut Vec<u8>) -> Result<(), AllocError>
         requires few { self.old.count < MOST_LINES }
-        requires lawful { IsLawful read.now }
-        ensures { OnOk result ((says : CallLine) (line : List ℕ) (lines : Lines) (text : List ℕ) → IsCallLine says line → SaysCall says read.now
-            → HasEncoded D.long self.old.count lines (text ++ out.old.items) → HasEncoded D.long self.new.count (lines ++ line ∷ []) (text ++ out.new.items)) }
+        requires lawful { IsLawful says.now }
+        ensures text { OnOk result (out.new.items ≡ out.old.items ++ encoded D.long self.old.count (calls_of (says.now ∷ []))) }
+        ensures count { OnOk result (self.new.count ≡ self.old.count + length (calls_of (says.now ∷ []))) }
     {
-        let Line::Call { call, extra } = read else {
-            return Ok(());
-        };
-        append_line(out, D::is_long(), self.count, call, extra)?;
-        self.count += 1;
-        Ok(())
+        match says {
+            CallLine::Nothing => Ok(()),
+            CallLine::Call { call, extra } => {
+                append_line(out, D::is_long(), self.count, call, extra)?;
+                self.count += 1;
+                Ok(())
+            }
+        }
     }
 }
 
@@ -86,13 +80,12 @@ impl<D: Dots> Command for Encode<D> {
     ghost stands_for = { λ command lines text. HasEncoded D.long command.count lines text };
 
     fn take(&mut self, line: &[u8], out: &mut Vec<u8>) -> Result<(), Refusal> {
-        match line_of(self.alloc, FileKind::Call, line) {
-            Ok(read) => {
-                self.encode(&read, out)?;
+        match call_line(line) {
+            Ok(says) => {
+                self.encode(&says, out)?;
                 Ok(())
             }
-            Err(LineFault::Column(n)) => Err(Refusal::Column(n)),
-            Err(LineFault::NoMemory) => unreachable!(),
+            Err(n) => Err(Refusal::Column(n)),
         }
     }
 

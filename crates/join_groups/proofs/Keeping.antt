@@ -9,8 +9,8 @@ use Rattle.slot_evidence.specs.Sheet.{IsEnds}
 use Rattle.ten_unit.specs.declared.character.Element.{Element}
 use Rattle.dsc_files.specs.JoinLine.{JoinLine, nothing, reception, evidence, IsLine, body_text, sign_of}
 use Rattle.dsc_files.specs.Lines.{Says, facts_of_pairs}
-use Rattle.dsc_files.specs.declared.lines.Line.{Line}
-use Rattle.dsc_files.specs.declared.lines.Line.TheVariants as got
+use Rattle.dsc_files.specs.declared.join.JoinLine.{JoinLine as Got}
+use Rattle.dsc_files.specs.declared.join.JoinLine.TheVariants as got
 use Rattle.join_groups.specs.declared.groups.Groups.{Groups}
 use Rattle.join_groups.specs.Groups.{names, is_named, facts_of_line, group_facts}
 use Rattle.join_groups.specs.Holds.{IsFull, Holds, number_in, named_with, facts_with}
@@ -73,7 +73,7 @@ brings_full said line group named b =
     }
 
 -- a line of at most 4,200 bytes has no more elements
-pub short_read : (says : JoinLine) (read : Line) (text : List ℕ) → IsLine says text → Says says read → length text ≤ 4200 → IsShort read
+pub short_read : (says : JoinLine) (read : Got) (text : List ℕ) → IsLine says text → Says says read → length text ≤ 4200 → IsShort read
 short_read nothing read text is says few = λ group e this. absurd (two (sym says ∙ this))
   where
     two : {group : ℕ} {e : List Element} → got.Nothing ≡ got.Reception group e → ⊥
@@ -140,13 +140,14 @@ says_evidence (evidence g pairs) group sheet is =
     parts : {group g : ℕ} {sheet other : List Seen} → got.Evidence group sheet ≡ got.Evidence g other → (group ≡ g) × (sheet ≡ other)
     parts h = (cc, cc)
 
--- a line of which neither a reception nor evidence was read says nothing
-pub says_nothing : (said : List JoinLine) (line : JoinLine) (read : Line) (groups : Groups) → Keeps groups said
-    → ((group : ℕ) (e : List Element) → read ≡ got.Reception group e → ⊥) → ((group : ℕ) (sheet : List Seen) → read ≡ got.Evidence group sheet → ⊥)
-    → Says line read → (BringsTooMany said line → ⊥) × Keeps groups (said ++ line ∷ [])
-says_nothing said (reception g heard) read groups keeps no_reception no_evidence is = absurd (no_reception g heard is)
-says_nothing said (evidence g pairs) read groups keeps no_reception no_evidence is = absurd (no_evidence g is.0 is.1.0)
-says_nothing said nothing read groups keeps no_reception no_evidence is = (
+-- a line of which nothing was read leaves all as it was
+pub says_nothing : (said : List JoinLine) (line : JoinLine) (groups : Groups) → Keeps groups said → Says line got.Nothing → (BringsTooMany said line → ⊥) × Keeps groups (said ++ line ∷ [])
+says_nothing said (reception g heard) groups keeps is = absurd (cc)
+says_nothing said (evidence g pairs) groups keeps is = absurd (two is.1.0)
+  where
+    two : {g : ℕ} {sheet : List Seen} → got.Nothing ≡ got.Evidence g sheet → ⊥
+    two h = cc
+says_nothing said nothing groups keeps is = (
   λ b. (let never : false ≡ true = b.named in absurd cc),
   holds_same (number_in groups) groups.sheets.items groups.batch.items (is_named said) (is_named (said ++ nothing ∷ [])) (group_facts said) (group_facts (said ++ nothing ∷ []))
       (λ k. sym (named_of_others said nothing k refl)) (λ k p v. sym (ap (λ (F : Facts). F p v) (facts_of_others said nothing k refl))) keeps,

@@ -3,7 +3,6 @@ ghost use Rattle.line_engine.specs.Lines.{Lines};
 ghost use Rattle.line_engine.specs.Commands.{IsTakenBehind, IsRefusedBehind, KeepsText, StandsBelow};
 ghost use Rattle.line_engine.specs.Endings.{IsFinished};
 ghost use Rattle.dsc_files.specs.JoinLine.{JoinLine};
-ghost use Rattle.receiver_pool.specs.Joining.{JoinsBatches};
 ghost use Rattle.join_groups.specs.Groups.{AreLines};
 ghost use Rattle.join_groups.specs.Meanings.{groups_meaning};
 ghost use Rattle.join_groups.specs.inside.Kept.{StandsFor};
@@ -14,21 +13,21 @@ use crate::telling::{Teller, tell_all};
 use dsc_files::one_line;
 use dsc_streams::Status;
 use line_engine::{Command, Refusal};
-use receiver_pool::{Heard, Shown, Workers};
+use receiver_pool::Joiner;
 use std::alloc::{AllocError, Global};
 
 /// The command that tells of each group once its lines are all known: `join` by answers, `evidence` by ends. Workers join its receptions.
 #[derive(Drop)]
-pub struct TellGroups<J, T: Teller> {
+pub struct TellGroups<W: Joiner, T: Teller> {
     alloc: Global,
-    workers: Workers<J>,
+    workers: W,
     groups: Groups,
     teller: T,
 }
 
-impl<J: Drop + Fn(&[Heard]) -> Result<Vec<Shown>, AllocError>, T: Teller> TellGroups<J, T> {
+impl<W: Joiner, T: Teller> TellGroups<W, T> {
     /// The command before its first line.
-    pub fn new(alloc: Global, workers: Workers<J>, teller: T) -> TellGroups<J, T>
+    pub fn new(alloc: Global, workers: W, teller: T) -> TellGroups<W, T>
         ensures groups { StandsFor result.groups [] [] }
         ensures workers { result.workers ≡ workers }
     {
@@ -41,11 +40,10 @@ impl<J: Drop + Fn(&[Heard]) -> Result<Vec<Shown>, AllocError>, T: Teller> TellGr
     }
 }
 
-impl<J: Drop + Fn(&[Heard]) -> Result<Vec<Shown>, AllocError>, T: Teller> Command
-    for TellGroups<J, T> {
+impl<W: Joiner, T: Teller> Command for TellGroups<W, T> {
     ghost meaning = { groups_meaning T.tells };
 
-    ghost stands_for = { λ command lines text. JoinsBatches (J.pre command.workers.join) (J.post command.workers.join) × StandsFor command.groups lines text };
+    ghost stands_for = { λ command lines text. W.can_join command.workers × StandsFor command.groups lines text };
 
     fn take(&mut self, line: &[u8], _out: &mut Vec<u8>) -> Result<(), Refusal> {
         one_line();

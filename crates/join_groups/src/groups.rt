@@ -1,12 +1,11 @@
 ghost use Rattle.std.specs.Prelude.{◌≡◌, ◌≢◌, ◌⊎◌, ℕ, ◌+◌, ◌<◌, ◌≤◌, Bool, false, nat_le, length, [], Some, IfOk, IfErr, OnOk};
 ghost use Rattle.slot_evidence.specs.Facts.{Facts, facts_of, no_facts};
 ghost use Rattle.slot_evidence.specs.Sheet.{IsEnds};
-ghost use Rattle.receiver_pool.specs.Joining.{JoinsBatches};
 ghost use Rattle.join_groups.specs.Holds.{Holds, HoldsSome, IsFull, named_with, facts_with, facts_without, number_in};
 
 use line_engine::Refusal;
 use phasing::LONGEST;
-use receiver_pool::{Heard, Shown, Workers, meet_at, take_at};
+use receiver_pool::{Heard, Joiner, meet_at, take_at};
 use slot_evidence::{Reception, Sheet};
 use std::alloc::{AllocError, Global};
 use std::collections::BTreeMap;
@@ -92,15 +91,15 @@ impl Groups {
 
     /// Takes in what a receiver heard of a group, at most 1,000,000 elements: at once where one worker works alone, and else in a batch,
     /// which is joined when it is full. A group too many leaves all as it was.
-    pub fn hear<J: Drop + Fn(&[Heard]) -> Result<Vec<Shown>, AllocError>>(
+    pub fn hear<W: Joiner>(
         &mut self,
-        workers: &Workers<J>,
+        workers: &W,
         group: u32,
         heard: Reception,
     ) -> Result<(), Refusal>
         requires short { length heard ≤ LONGEST }
         requires ready { HoldsSome self.old }
-        requires joins { JoinsBatches (J.pre workers.now.join) (J.post workers.now.join) }
+        requires joins { W.can_join workers.now }
         ensures ok { OnOk result ((named : ℕ → Bool) (F : ℕ → Facts) → Holds self.old named F
             → (IsFull named group → ⊥) × Holds self.new (named_with group named) (facts_with group (facts_of heard) F)) }
         ensures err { IfErr result (λ refusal. (refusal ≡ Refusal.Memory) ⊎ ((named : ℕ → Bool) (F : ℕ → Facts) → Holds self.old named F
@@ -147,12 +146,9 @@ impl Groups {
     }
 
     /// Ends the batch: the workers join its receptions into the sheets of their groups.
-    pub fn close_batch<J: Drop + Fn(&[Heard]) -> Result<Vec<Shown>, AllocError>>(
-        &mut self,
-        workers: &Workers<J>,
-    ) -> Result<(), AllocError>
+    pub fn close_batch<W: Joiner>(&mut self, workers: &W) -> Result<(), AllocError>
         requires ready { HoldsSome self.old }
-        requires joins { JoinsBatches (J.pre workers.now.join) (J.post workers.now.join) }
+        requires joins { W.can_join workers.now }
         ensures holds { OnOk result ((named : ℕ → Bool) (F : ℕ → Facts) → Holds self.old named F → Holds self.new named F) }
         ensures empty { OnOk result (self.new.batch.items ≡ []) }
     {

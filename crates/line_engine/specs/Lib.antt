@@ -4,6 +4,7 @@ pub mod Faults
 pub mod Commands
 pub mod Output
 pub mod Endings
+pub mod Runs
 pub mod Determined
 pub mod Said
 pub mod Saying

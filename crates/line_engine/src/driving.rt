@@ -3,6 +3,7 @@ ghost use Rattle.dsc_streams.specs.Streams.{Rises, Told};
 ghost use Rattle.line_engine.specs.declared.halts.Halt.TheVariants as halts;
 ghost use Rattle.line_engine.specs.Meaning.{IsQuiet};
 ghost use Rattle.line_engine.specs.Endings.{IsFinished, IsOfFault, IsBrokenOff, TakesAtMost, TellsWhole, TellsFault, TellsSoFar, CutsOff, TellsFront};
+ghost use Rattle.line_engine.specs.Runs.{IsRun};
 ghost use Rattle.line_engine.specs.inside.Progress.{RunsThrough, RunsInto};
 
 use crate::bounds::MOST_TAKEN;
@@ -47,21 +48,8 @@ fn take_input<C: Command, S: Source, K: Sink>(
     }
 }
 
-/// Reads a source to its end and gives its lines to a command, one after the other; writes what the command gives,
-/// and the line of the first fault; and ends with a status.
-///
-/// What is given is written before each read, and as soon as 64 KiB of it are pending. A fault is told as soon as its line is known.
-/// One buffer of 128 KiB, an open line and the pending text are kept of an input, however long it is.
-///
-/// | Status | What it says |
-/// |---|---|
-/// | 0, 1 | the command ended its input, and all it gave was written and flushed |
-/// | 3 | a line is ill-formed, and the line of this first fault was written behind what the lines before it gave |
-/// | 4 | the source failed: what the lines so far gave was written |
-/// | 5 | the sink failed: a front of the text may have been written |
-/// | 6 | there was no memory: a front of what the lines so far gave may have been written |
-/// | 7 | a limit was passed, and the line of this first fault was written behind what the lines before it gave |
-pub fn drive<C: Command, S: Source, K: Sink>(
+/// Gives the lines of a source to a command, and tells each part of the run's promise.
+fn run_lines<C: Command, S: Source, K: Sink>(
     alloc: Global,
     command: C,
     source: &mut S,
@@ -72,12 +60,12 @@ pub fn drive<C: Command, S: Source, K: Sink>(
     // What was written, by the status.
     ensures whole { IsFinished result → TellsWhole C.meaning (S.left source.old) (S.left source.new) (K.written sink.old) (K.written sink.new) (K.flushed sink.new) result }
     ensures faulty { IsOfFault result → TellsFault C.meaning (S.left source.old) (S.left source.new) (K.written sink.old) (K.written sink.new) (K.flushed sink.new) result }
-    ensures read_fault { result ≡ 4 → TellsSoFar C.meaning (S.left source.old) (S.left source.new) (K.written sink.old) (K.written sink.new) }
-    ensures write_fault { result ≡ 5 → CutsOff C.meaning (S.left source.old) (S.left source.new) (K.written sink.old) (K.written sink.new) }
+    ensures stopped { result ≡ 4 → TellsSoFar C.meaning (S.left source.old) (S.left source.new) (K.written sink.old) (K.written sink.new) }
+    ensures cut { result ≡ 5 → CutsOff C.meaning (S.left source.old) (S.left source.new) (K.written sink.old) (K.written sink.new) }
     ensures memory { result ≡ 6 → TellsFront C.meaning (S.left source.old) (S.left source.new) (K.written sink.old) (K.written sink.new) }
 
     // A command that gives nothing before its input's end leaves the sink alone until then.
-    ensures quiet { IsQuiet C.meaning → (result ≡ 4) ⊎ (result ≡ 6) → sink.new ≡ sink.old }
+    ensures unwritten { IsQuiet C.meaning → (result ≡ 4) ⊎ (result ≡ 6) → sink.new ≡ sink.old }
 
     // Nothing is flushed but at the end of a run that isn't broken off.
     ensures unflushed { IsBrokenOff result → K.flushed sink.new ≡ K.flushed sink.old }
@@ -109,4 +97,30 @@ pub fn drive<C: Command, S: Source, K: Sink>(
         Err(Halt::Write) => Status::new(5),
         Err(Halt::Memory) => Status::new(6),
     }
+}
+
+/// Reads a source to its end and gives its lines to a command, one after the other; writes what the command gives,
+/// and the line of the first fault; and ends with a status.
+///
+/// What is given is written before each read, and as soon as 64 KiB of it are pending. A fault is told as soon as its line is known.
+/// One buffer of 128 KiB, an open line and the pending text are kept of an input, however long it is.
+///
+/// | Status | What it says |
+/// |---|---|
+/// | 0, 1 | the command ended its input, and all it gave was written and flushed |
+/// | 3 | a line is ill-formed, and the line of this first fault was written behind what the lines before it gave |
+/// | 4 | the source failed: what the lines so far gave was written |
+/// | 5 | the sink failed: a front of the text may have been written |
+/// | 6 | there was no memory: a front of what the lines so far gave may have been written |
+/// | 7 | a limit was passed, and the line of this first fault was written behind what the lines before it gave |
+pub fn drive<C: Command, S: Source, K: Sink>(
+    alloc: Global,
+    command: C,
+    source: &mut S,
+    sink: &mut K,
+) -> Status
+    requires { C.stands_for command [] [] }
+    ensures { IsRun C.meaning S.Source K.Sink source.old source.new sink.old sink.new result }
+{
+    run_lines(alloc, command, source, sink)
 }

@@ -8,6 +8,7 @@ mod Dots
 mod EarlyLeads
 mod Kept
 mod LateStarts
+mod Near
 mod WholeCalls
 mod TooShort
 mod Words

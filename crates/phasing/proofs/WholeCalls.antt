@@ -1,18 +1,17 @@
 -- what is sent of a call has its origin behind the dots, and each slot shows there what was sent
-use Rattle.std.proofs.Common.{◌≡◌, ℕ, zero, suc, ◌+◌, ◌-◌, ◌*◌, ◌<◌, ◌≤◌, ◌==◌, inl, inr, Bool, true, false, List, [], ◌∷◌, ◌++◌, length, get_or, take, drop, Some, refl, arith, ap, sym, subst, ◌∙◌, length-append}
+use Rattle.std.proofs.Common.{◌≡◌, ℕ, zero, suc, ◌+◌, ◌-◌, ◌*◌, ◌<◌, ◌≤◌, ◌==◌, inr, Bool, true, false, List, [], ◌∷◌, ◌++◌, length, get_or, take, drop, Some, refl, arith, ap, sym, subst, ◌∙◌, length-append}
 use Rattle.std.specs.List.{list_any, flat_map}
 use Rattle.std.proofs.lemmas.List.{length-take}
 use Rattle.std.proofs.Math.Seq.{drop-append-add, take-append_seam}
-use Rattle.ten_unit.specs.declared.character.Element.{Element}
 use Rattle.ten_unit.specs.declared.character.Element.TheVariants.{Lost}
 use Rattle.ten_unit.specs.Word.{is_word, word_of}
 use Rattle.phasing.specs.Slot.{shows}
 use Rattle.phasing.specs.Origin.{is_phased, lead_of}
 use Rattle.phasing.specs.Sent.{dots, dot_count, sent}
-use Rattle.phasing.specs.Start.{start_symbols, formats, IsIntactStart}
+use Rattle.phasing.specs.Start.{start_symbols, formats}
 use Rattle.phasing.proofs.Dots.{length-dots}
-use Rattle.phasing.proofs.Kept.{IsKept, IsWordAt, length-word, shown, kept_phased}
-use Rattle.phasing.proofs.LateStarts.{length-start, same_start, found}
+use Rattle.phasing.proofs.Kept.{length-word, shown, kept_phased}
+use Rattle.phasing.proofs.LateStarts.{same_start, found}
 
 length-words : (slots : List ℕ) → length (flat_map word_of slots) ≡ 10 * length slots
 length-words [] = refl

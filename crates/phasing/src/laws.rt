@@ -4,6 +4,7 @@ ghost use Rattle.ten_unit.specs.declared.character.Element.{Element};
 ghost use Rattle.phasing.specs.Origin.{is_phased, lead_of, origin_of};
 ghost use Rattle.phasing.specs.Sent.{dot_count, sent};
 ghost use Rattle.phasing.specs.Slot.{shows};
+ghost use Rattle.phasing.specs.inside.Places.{element_at};
 ghost use Rattle.phasing.specs.Start.{start_symbols, formats, IsIntactStart};
 
 use crate::reception::{LAST_LEAD, LONGEST};
@@ -38,4 +39,11 @@ pub fn whole_calls_are_found()
     ensures lead { (slots : List ℕ) (long : Bool) (format : ℕ) → list_any (λ f. f == format) formats ≡ true → take 16 slots ≡ start_symbols format → lead_of (sent slots long) ≡ Some (dot_count long + 150) }
     ensures slots { (slots : List ℕ) (long : Bool) (slot : ℕ) → slot < length slots → shows (sent slots long) (dot_count long + 150) slot (slice_index slots slot) ≡ true }
     ensures length { (slots : List ℕ) (long : Bool) → length (sent slots long) ≡ dot_count long + 10 * length slots }
+{}
+
+/// The law that the ten elements of a slot decide what it shows, and the 160 from an origin on whether it is phased, whatever
+/// stands around them. It does nothing.
+pub fn elements_decide()
+    ensures slot { (e f : List Element) (q r s v : ℕ) → ((i : ℕ) → i < 10 → element_at e (q + 10 * s + i) ≡ element_at f (r + 10 * s + i)) → shows e q s v ≡ shows f r s v }
+    ensures lead { (e f : List Element) (q r : ℕ) → ((i : ℕ) → i < 160 → element_at e (q + i) ≡ element_at f (r + i)) → is_phased e q ≡ is_phased f r }
 {}

@@ -4,6 +4,7 @@
 mod counting;
 mod laws;
 mod marking;
+mod one_lead;
 mod phase;
 #[cfg(test)]
 mod plain;
@@ -12,9 +13,11 @@ mod sending;
 mod window;
 
 pub use laws::{
-    late_starts_are_found, limits, none_past_the_end, origin_is_least, whole_calls_are_found,
+    elements_decide, late_starts_are_found, limits, none_past_the_end, origin_is_least,
+    whole_calls_are_found,
 };
-pub use phase::{lead, origin};
+pub use one_lead::phased;
+pub use phase::{first_phased, lead, origin};
 pub use reception::{LAST_LEAD, LONGEST, slot_symbol};
 pub use sending::transmission;
 pub use window::planes_from;

@@ -1,4 +1,4 @@
-use crate::{LONGEST, lead, origin, plain, slot_symbol, transmission};
+use crate::{LONGEST, first_phased, lead, origin, phased, plain, slot_symbol, transmission};
 use dsc_symbols::worked::ALERT_SLOTS;
 use std::alloc::{AllocError, Global};
 use std::test::Fail;
@@ -53,6 +53,10 @@ fn an_alert_from_slot_9_on(rt: HostRuntime) -> Result<(), Fail> {
     assert_eq!(rt; origin(&elements), Some(-90));
     assert_eq!(rt; slot_symbol(&elements, 60, 8), None);
     assert_eq!(rt; slot_symbol(&elements, 60, 9), Some(107));
+    assert!(rt; phased(&elements, -90));
+    assert!(rt; !phased(&elements, -89));
+    assert!(rt; !phased(&elements, 1_000_000));
+    assert_eq!(rt; first_phased(&elements), 430);
     Ok(())
 }
 
@@ -100,6 +104,15 @@ fn is_found_alike(e: &[Element]) -> bool {
     e.len() <= LONGEST && lead(e) == plain::lead(e) && origin(e) == plain::origin(e)
 }
 
+/// Whether the search from the first element on and the test of one origin after another find the same.
+fn is_first_alike(e: &[Element]) -> bool {
+    if e.len() > LONGEST {
+        return false;
+    }
+    let first = first_phased(e) as i32;
+    (0..e.len() as i32).all(|o| o > first || phased(e, o) == (o == first))
+}
+
 /// An alert behind dots, which begins later and later: its lead is each from 350 down to 0, and so at each edge of a
 /// block. Then one that ends earlier and earlier, from 720 elements down to none.
 #[test]
@@ -144,6 +157,7 @@ fn two_alerts_in_noise(rt: HostRuntime) -> Result<(), Fail> {
         elements.extend_from_slice(&received(rt.alloc(), 20, &ALERT_SLOTS[..16], &lost)?)?;
         elements.extend_from_slice(&received(rt.alloc(), 7, &ALERT_SLOTS, &[0, 3])?)?;
         assert!(rt; is_found_alike(&elements), "turn {turn}");
+        assert!(rt; is_first_alike(&elements), "turn {turn}");
     }
     assert!(rt; is_found_alike(&noise(rt.alloc(), 4198, 1)?));
     Ok(())

@@ -6,6 +6,7 @@ ghost use Rattle.receiver_pool.specs.inside.Turns.{is_turn};
 ghost use Rattle.receiver_pool.specs.inside.Numbers.{AreNumbered, ArePlaces, IsBelow, IsPlaced, gathered, place_part};
 
 use crate::boards::blank_sheets;
+use crate::gate::Entered;
 use crate::heard::{Heard, Shown};
 use crate::pools::take_turn;
 use slot_evidence::Sheet;
@@ -85,6 +86,7 @@ fn read_into(sheets: &mut [Sheet], batch: &[Heard], places: &[usize], workers: u
 
 /// What a worker's receptions show of each of so many groups.
 pub(crate) fn shown_to(
+    _entered: &Entered,
     alloc: Global,
     batch: &[Heard],
     places: &[usize],

@@ -12,7 +12,7 @@ use crate::allowed::AllFacts;
 use crate::batch_groups::{entries_of, number_groups, shown_to};
 use crate::board::Board;
 use crate::boards::{boards_for, close_each, join_each, post_each, split_each};
-use crate::gate::Gate;
+use crate::gate::{Gate, enter};
 use crate::heard::{Heard, Shown};
 use crate::seats::{Seat, WHOLE};
 use slot_evidence::Sheet;
@@ -56,8 +56,16 @@ fn work<G: Gate>(
     requires places { ArePlaces (length batch.now) (length boards.now) places.now }
     ensures { IfOk result (λ v. (share : ℕ) (F : ℕ → Facts) → AreSeats share F boards.now seats.items → AreSeats share (λ k. union (F k) (place_part (is_turn workers worker (worker + 1)) batch.now places.now (length batch.now) k)) boards.now v.items) }
 {
-    gate.enter(worker);
-    let sheets = shown_to(alloc, batch, places, boards.len(), workers, worker)?;
+    let entered = enter(gate, worker);
+    let sheets = shown_to(
+        &entered,
+        alloc,
+        batch,
+        places,
+        boards.len(),
+        workers,
+        worker,
+    )?;
     post_each(boards, &mut seats, &sheets);
     Ok(seats)
 }
@@ -162,8 +170,8 @@ fn share_groups<R: Threads + Sync, G: Gate>(
     ensures { IfOk result (λ v. AreSheets (place_part (is_turn workers 0 workers) batch.now places.now (length batch.now)) v.items count) }
 {
     if workers == 1 {
-        gate.enter(0);
-        return shown_to(alloc, batch, places, count, 1, 0);
+        let entered = enter(gate, 0);
+        return shown_to(&entered, alloc, batch, places, count, 1, 0);
     }
     let (boards, seats) = boards_for(alloc, count)?;
     let seats = start_groups(rt, alloc, &boards, seats, batch, places, workers, gate)?;

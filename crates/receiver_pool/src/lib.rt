@@ -27,4 +27,4 @@ pub use meeting::Meeting;
 pub use pools::pool;
 pub use seats::{Seat, WHOLE};
 pub use slot_evidence::Reception;
-pub use workers::Workers;
+pub use workers::{Joiner, Workers};

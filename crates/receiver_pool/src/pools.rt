@@ -9,7 +9,7 @@ ghost use Rattle.receiver_pool.specs.inside.Turns.{is_turn, part};
 use crate::allowed::AllFacts;
 use crate::board::Board;
 use crate::boards::post_sheet;
-use crate::gate::Gate;
+use crate::gate::{Entered, Gate, enter};
 use crate::seats::Seat;
 use phasing::LONGEST;
 use slot_evidence::{Reception, Sheet, shown_by};
@@ -27,7 +27,7 @@ pub(crate) fn take_turn(sheet: &mut Sheet, heard: &Reception, mine: bool)
 }
 
 /// The sheet of a worker's receptions: those whose index leaves its number when divided by that of all workers.
-fn heard_by(list: &[Reception], workers: u32, worker: u32) -> Sheet
+fn heard_by(_entered: &Entered, list: &[Reception], workers: u32, worker: u32) -> Sheet
     requires worker { worker < workers }
     requires short { All (λ heard. length heard ≤ LONGEST) list.now }
     ensures { IsEnds (part (is_turn workers worker (worker + 1)) list.now (length list.now)) result }
@@ -56,8 +56,8 @@ fn work<G: Gate>(
     ensures share { result.view.share ≡ seat.view.share }
     ensures ends { (F : Facts) → IsEnds F (given_sheet seat.view) → IsEnds (union F (part (is_turn workers worker (worker + 1)) list.now (length list.now))) (given_sheet result.view) }
 {
-    gate.enter(worker);
-    let sheet = heard_by(list, workers, worker);
+    let entered = enter(gate, worker);
+    let sheet = heard_by(&entered, list, workers, worker);
     post_sheet(board, &mut seat, &sheet);
     seat
 }
@@ -116,8 +116,8 @@ pub fn pool<R: Threads + Sync, G: Gate>(
     ensures { IfOk result (λ sheet. IsEnds (facts_of_all list.now) sheet) }
 {
     if workers == 1 {
-        gate.enter(0);
-        return Ok(heard_by(list, 1, 0));
+        let entered = enter(gate, 0);
+        return Ok(heard_by(&entered, list, 1, 0));
     }
     let (board, seat) = Board::new(alloc)?;
     let seat = fork(rt, &board, seat, list, 0, workers, workers, gate);

@@ -11,6 +11,23 @@ use phasing::LONGEST;
 use slot_evidence::{Reception, Sheet, shown_by};
 use std::alloc::AllocError;
 
+/// Those who join receptions into the sheets of their groups.
+pub trait Joiner: Drop {
+    /// Their way of joining batches joins them.
+    ghost can_join: { Self → Type 0 };
+
+    /// What a reception shows, where one worker works alone. Several wait for a batch.
+    fn read_alone(&self, heard: &Reception) -> Option<Sheet>
+        requires { length heard.now ≤ LONGEST }
+        ensures { IfSome result (λ sheet. IsEnds (facts_of heard.now) sheet) };
+
+    /// Joins a batch of receptions into the sheets of their groups. The error is want of memory.
+    fn join_into(&self, sheets: &mut [Sheet], batch: &[Heard]) -> Result<(), AllocError>
+        requires joins { can_join self.now }
+        requires belong { All (Belongs (length sheets.old)) batch.now }
+        ensures { OnOk result ((F : ℕ → Facts) (n : ℕ) → AreSheets F sheets.old n → AreSheets (λ k. union (F k) (facts_of_group batch.now k)) sheets.new n) };
+}
+
 /// Those who join receptions: one worker, who joins each at once, or several, who read batches by this function, as `pool_groups` does.
 #[derive(Drop)]
 pub struct Workers<J> {
@@ -18,7 +35,7 @@ pub struct Workers<J> {
     pub join: J,
 }
 
-impl<J: Drop + Fn(&[Heard]) -> Result<Vec<Shown>, AllocError>> Workers<J> {
+impl<J: Drop> Workers<J> {
     /// So many workers.
     pub fn new(workers: u32, join: J) -> Workers<J>
         ensures { result.join ≡ join }
@@ -28,12 +45,12 @@ impl<J: Drop + Fn(&[Heard]) -> Result<Vec<Shown>, AllocError>> Workers<J> {
             join,
         }
     }
+}
 
-    /// What a reception shows, where one worker works alone. Several wait for a batch.
-    pub fn read_alone(&self, heard: &Reception) -> Option<Sheet>
-        requires { length heard.now ≤ LONGEST }
-        ensures { IfSome result (λ sheet. IsEnds (facts_of heard.now) sheet) }
-    {
+impl<J: Drop + Fn(&[Heard]) -> Result<Vec<Shown>, AllocError>> Joiner for Workers<J> {
+    ghost can_join = { λ workers. JoinsBatches (J.pre workers.join) (J.post workers.join) };
+
+    fn read_alone(&self, heard: &Reception) -> Option<Sheet> {
         if self.are_several {
             None
         } else {
@@ -41,12 +58,7 @@ impl<J: Drop + Fn(&[Heard]) -> Result<Vec<Shown>, AllocError>> Workers<J> {
         }
     }
 
-    /// Joins a batch of receptions into the sheets of their groups. The error is want of memory.
-    pub fn join_into(&self, sheets: &mut [Sheet], batch: &[Heard]) -> Result<(), AllocError>
-        requires joins { JoinsBatches (J.pre self.now.join) (J.post self.now.join) }
-        requires belong { All (Belongs (length sheets.old)) batch.now }
-        ensures { OnOk result ((F : ℕ → Facts) (n : ℕ) → AreSheets F sheets.old n → AreSheets (λ k. union (F k) (facts_of_group batch.now k)) sheets.new n) }
-    {
+    fn join_into(&self, sheets: &mut [Sheet], batch: &[Heard]) -> Result<(), AllocError> {
         let entries = (self.join)(batch)?;
         meet_entries(sheets, &entries);
         Ok(())

@@ -1,33 +1,48 @@
 -- lines of calls and sentences determine what is written of them
-use Rattle.std.proofs.Common.{◌≡◌, ℕ, if◌then◌else◌, List, [], ◌∷◌, ◌++◌, flat_map, refl, sym, ap, ◌∙◌}
+use Rattle.std.proofs.Common.{◌≡◌, ℕ, Bool, ◌&&◌, if◌then◌else◌, List, [], ◌∷◌, ◌++◌, flat_map, refl, sym, ap, ◌∙◌}
 use Rattle.std.specs.List.{list_all}
 use Rattle.std.proofs.lemmas.Grind.{flat_map-append}
 use Rattle.line_engine.specs.Lines.{Lines}
 use Rattle.line_engine.specs.Determined.{IsDetermined, BeginsWith}
-use Rattle.dsc_files.specs.SentenceLine.{SentenceLine, IsSentenceLine}
+use Rattle.dsc_files.specs.declared.sentences.SentenceLine.{SentenceLine}
+use Rattle.dsc_files.specs.declared.sentences.SentenceLine.TheVariants.{Said, Sentence}
+use Rattle.dsc_files.specs.SentenceLine.{IsSentenceLine, SayTheSame}
+use Rattle.dsc_sentences.specs.Verdicts.{verdict_of, verdict_text}
 use Rattle.dsc_files.proofs.PublicLaws.{one_column}
-use Rattle.sentence_files.specs.Telling.{AreSentenceLines, line_text, is_well, IsTold, EndsSo, sentences_meaning}
+use Rattle.sentence_files.specs.Telling.{AreSentenceLines, call_sentences, is_accepted, line_text, is_well, IsTold, EndsSo, sentences_meaning}
 
 -- a line says one thing
 abbrev pub OneSentenceLine : Type 0
-OneSentenceLine = (a b : SentenceLine) (text : List ℕ) → IsSentenceLine a text → IsSentenceLine b text → a ≡ b
+OneSentenceLine = (a b : SentenceLine) (text : List ℕ) → IsSentenceLine a text → IsSentenceLine b text → SayTheSame a b
 
-same_said : OneSentenceLine → (a b : List SentenceLine) (lines : Lines) → AreSentenceLines a lines → AreSentenceLines b lines → a ≡ b
-same_said one [] [] lines x y = refl
-same_said one [] (t ∷ b) [] x y = absurd y
-same_said one [] (t ∷ b) (l ∷ lines) x y = absurd x
-same_said one (s ∷ a) [] [] x y = absurd x
-same_said one (s ∷ a) [] (l ∷ lines) x y = absurd y
-same_said one (s ∷ a) (t ∷ b) [] x y = absurd x
-same_said one (s ∷ a) (t ∷ b) (l ∷ lines) x y =
-    ap (λ (w : SentenceLine). w ∷ a) (one s t l x.0 y.0) ∙ ap (λ (w : List SentenceLine). t ∷ w) (same_said one a b lines x.1 y.1)
+-- lines that say the same give the same
+same_line : (a b : SentenceLine) → SayTheSame a b → (line_text a ≡ line_text b) × (is_well a ≡ is_well b)
+same_line (Said a) (Said b) h = (ap call_sentences h, refl)
+same_line (Said a) (Sentence c) h = absurd h
+same_line (Sentence c) (Said a) h = absurd h
+same_line (Sentence c) (Sentence d) h = (ap (λ (l : List ℕ). verdict_text (verdict_of l) ++ 10 ∷ []) h, ap (λ (l : List ℕ). is_accepted (verdict_of l)) h)
+
+same_given : OneSentenceLine → (a b : List SentenceLine) (lines : Lines) → AreSentenceLines a lines → AreSentenceLines b lines
+    → (flat_map line_text a ≡ flat_map line_text b) × (list_all is_well a ≡ list_all is_well b)
+same_given one [] [] lines x y = (refl, refl)
+same_given one [] (t ∷ b) [] x y = absurd y
+same_given one [] (t ∷ b) (l ∷ lines) x y = absurd x
+same_given one (s ∷ a) [] [] x y = absurd x
+same_given one (s ∷ a) [] (l ∷ lines) x y = absurd y
+same_given one (s ∷ a) (t ∷ b) [] x y = absurd x
+same_given one (s ∷ a) (t ∷ b) (l ∷ lines) x y =
+    let here = same_line s t (one s t l x.0 y.0) in
+    let rest = same_given one a b lines x.1 y.1 in (
+      ap (λ (w : List ℕ). w ++ flat_map line_text a) here.0 ∙ ap (λ (w : List ℕ). line_text t ++ w) rest.0,
+      ap (λ (w : Bool). w && list_all is_well a) here.1 ∙ ap (λ (w : Bool). is_well t && w) rest.1,
+    )
 
 same_text : OneSentenceLine → (lines : Lines) (a b : List ℕ) → IsTold lines a → IsTold lines b → a ≡ b
-same_text one lines a b g h = g.text_is ∙ ap (flat_map line_text) (same_said one g.said h.said lines g.are_lines h.are_lines) ∙ sym h.text_is
+same_text one lines a b g h = g.text_is ∙ (same_given one g.said h.said lines g.are_lines h.are_lines).0 ∙ sym h.text_is
 
 same_status : OneSentenceLine → (lines : Lines) (a b : List ℕ) (s t : ℕ) → EndsSo lines a s → EndsSo lines b t → s ≡ t
 same_status one lines a b s t g h =
-    g.status_is ∙ ap (λ (l : List SentenceLine). if list_all is_well l then 0 else 1) (same_said one g.said h.said lines g.are_lines h.are_lines) ∙ sym h.status_is
+    g.status_is ∙ ap (λ (well : Bool). if well then 0 else 1) (same_given one g.said h.said lines g.are_lines h.are_lines).1 ∙ sym h.status_is
 
 -- what is told of a whole input
 told_of : (lines : Lines) (text : List ℕ) (status : ℕ) → EndsSo lines text status → IsTold lines text

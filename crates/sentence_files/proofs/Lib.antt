@@ -1,3 +1,2 @@
 mod Told
-mod Sayings
 mod Determined

@@ -1,15 +1,11 @@
 -- what the command has told, one line further
-use Rattle.std.proofs.Common.{◌≡◌, ℕ, Bool, true, false, not, ◌&&◌, ◌||◌, List, [], ◌∷◌, ◌++◌, flat_map, refl, sym, ap, subst, ◌∙◌, append-nil}
+use Rattle.std.proofs.Common.{◌≡◌, ℕ, Bool, true, false, not, ◌&&◌, ◌||◌, List, [], ◌∷◌, ◌++◌, flat_map, refl, sym, ap, ◌∙◌, append-nil}
 use Rattle.std.specs.List.{list_all}
 use Rattle.std.proofs.lemmas.Grind.{flat_map-append}
 use Rattle.line_engine.specs.Lines.{Lines}
-use Rattle.call_values.specs.declared.calls.Call.{Call}
-use Rattle.slot_join.specs.declared.joined.Extra.{Extra}
-use Rattle.dsc_files.specs.CallLine.{nothing, call}
-use Rattle.dsc_files.specs.SentenceLine.{SentenceLine, said, sentence, IsSentenceLine}
-use Rattle.dsc_sentences.specs.CallSentences.{sentences_of}
-use Rattle.dsc_sentences.specs.Verdicts.{verdict_of}
-use Rattle.sentence_files.specs.Telling.{AreSentenceLines, expansion_in, is_accepted, line_text, is_well}
+use Rattle.dsc_files.specs.declared.sentences.SentenceLine.{SentenceLine}
+use Rattle.dsc_files.specs.SentenceLine.{IsSentenceLine}
+use Rattle.sentence_files.specs.Telling.{AreSentenceLines, line_text, is_well}
 use Rattle.sentence_files.specs.inside.Progress.{HasTold}
 
 pub none_told : HasTold false [] []
@@ -50,28 +46,3 @@ more_told refused lines text line w h is = record {
     both true b = refl
     both false true = refl
     both false false = refl
-
--- a line that is well leaves the flag
-pub well_told : (refused : Bool) (lines : Lines) (text line : List ℕ) (w : SentenceLine) → is_well w ≡ true → HasTold refused lines text → IsSentenceLine w line
-    → HasTold refused (lines ++ line ∷ []) (text ++ line_text w)
-well_told refused lines text line w well h is =
-    subst (λ (b : Bool). HasTold b (lines ++ line ∷ []) (text ++ line_text w)) (ap (λ (b : Bool). refused || not b) well ∙ same refused) (more_told refused lines text line w h is)
-  where
-    same : (b : Bool) → (b || false) ≡ b
-    same true = refl
-    same false = refl
-
-pub nothing_told : (refused : Bool) (lines : Lines) (text line : List ℕ) → HasTold refused lines text → IsSentenceLine (said nothing) line → HasTold refused (lines ++ line ∷ []) text
-unfolding line_text is_well
-nothing_told refused lines text line h is =
-    subst (λ (t : List ℕ). HasTold refused (lines ++ line ∷ []) t) (append-nil text) (well_told refused lines text line (said nothing) refl h is)
-
-pub call_told : (refused : Bool) (lines : Lines) (text line : List ℕ) (c : Call) (extra : Extra) → HasTold refused lines text → IsSentenceLine (said (call c extra)) line
-    → HasTold refused (lines ++ line ∷ []) (text ++ sentences_of c (expansion_in extra))
-unfolding line_text is_well
-call_told refused lines text line c extra h is = well_told refused lines text line (said (call c extra)) refl h is
-
-pub sentence_told : (refused : Bool) (lines : Lines) (text line : List ℕ) → HasTold refused lines text → IsSentenceLine (sentence line) line
-    → HasTold (refused || not (is_accepted (verdict_of line))) (lines ++ line ∷ []) (text ++ line_text (sentence line))
-unfolding is_well
-sentence_told refused lines text line h is = more_told refused lines text line (sentence line) h is

@@ -7,8 +7,11 @@ use Rattle.slot_join.specs.declared.joined.Extra.TheVariants.{Absent, Whole, Bro
 use Rattle.line_grammar.specs.Columns.{IsColumn}
 use Rattle.line_engine.specs.Lines.{Lines}
 use Rattle.line_engine.specs.Meaning.{Meaning}
-use Rattle.dsc_files.specs.CallLine.{nothing, call}
-use Rattle.dsc_files.specs.SentenceLine.{SentenceLine, said, sentence, IsSentenceLine}
+use Rattle.dsc_files.specs.declared.calls.CallLine.{CallLine}
+use Rattle.dsc_files.specs.declared.calls.CallLine.TheVariants as line
+use Rattle.dsc_files.specs.declared.sentences.SentenceLine.{SentenceLine}
+use Rattle.dsc_files.specs.declared.sentences.SentenceLine.TheVariants.{Said, Sentence}
+use Rattle.dsc_files.specs.SentenceLine.{IsSentenceLine}
 use Rattle.dsc_sentences.specs.declared.verdicts.Verdict.{Verdict}
 use Rattle.dsc_sentences.specs.declared.verdicts.Verdict.TheVariants.{Accepted, Refused}
 use Rattle.dsc_sentences.specs.CallSentences.{sentences_of}
@@ -18,8 +21,8 @@ use Rattle.dsc_sentences.specs.Verdicts.{verdict_of, verdict_text}
 abbrev pub AreSentenceLines : List SentenceLine → Lines → Type 0
 AreSentenceLines [] [] = Unit {0}
 AreSentenceLines [] (text ∷ lines) = ⊥
-AreSentenceLines (line ∷ all) [] = ⊥
-AreSentenceLines (line ∷ all) (text ∷ lines) = IsSentenceLine line text × AreSentenceLines all lines
+AreSentenceLines (one ∷ all) [] = ⊥
+AreSentenceLines (one ∷ all) (text ∷ lines) = IsSentenceLine one text × AreSentenceLines all lines
 
 -- the expansion behind a call, where one is there
 abbrev pub expansion_in : Extra → Option Sets
@@ -31,16 +34,20 @@ abbrev pub is_accepted : Verdict → Bool
 is_accepted Accepted = true
 is_accepted (Refused refusal) = false
 
--- what a line gives: nothing; the sentences of a call, each with CR and LF; or the verdict on a sentence, with LF
-unfoldable pub line_text : SentenceLine → List ℕ
-line_text (said nothing) = []
-line_text (said (call c extra)) = sentences_of c (expansion_in extra)
-line_text (sentence bytes) = verdict_text (verdict_of bytes) ++ 10 ∷ []
+-- what a line of calls gives: nothing; or the sentences of a call, each with CR and LF
+abbrev pub call_sentences : CallLine → List ℕ
+call_sentences line.Nothing = []
+call_sentences (line.Call c extra) = sentences_of c (expansion_in extra)
+
+-- what a line gives: what a line of calls does; or the verdict on a sentence, with LF
+abbrev pub line_text : SentenceLine → List ℕ
+line_text (Said says) = call_sentences says
+line_text (Sentence bytes) = verdict_text (verdict_of bytes.now) ++ 10 ∷ []
 
 -- a line is no sentence that is refused
-unfoldable pub is_well : SentenceLine → Bool
-is_well (said line) = true
-is_well (sentence bytes) = is_accepted (verdict_of bytes)
+abbrev pub is_well : SentenceLine → Bool
+is_well (Said says) = true
+is_well (Sentence bytes) = is_accepted (verdict_of bytes.now)
 
 -- what these lines give, one behind the other
 pub record IsTold (lines : Lines) (text : List ℕ) : Type 0 where

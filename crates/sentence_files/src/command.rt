@@ -1,24 +1,19 @@
-ghost use Rattle.std.specs.Prelude.{◌≡◌, ◌||◌, ◌++◌, ◌∷◌, not, List, ℕ, [], OnOk};
-ghost use Rattle.line_engine.specs.Lines.{Lines};
-ghost use Rattle.dsc_files.specs.SentenceLine.{SentenceLine, sentence, IsSentenceLine};
-ghost use Rattle.dsc_files.specs.Lines.{SaysSentence};
-ghost use Rattle.dsc_sentences.specs.Verdicts.{verdict_of};
+ghost use Rattle.std.specs.Prelude.{◌≡◌, ◌||◌, ◌++◌, ◌∷◌, not, [], OnOk};
+ghost use Rattle.dsc_sentences.specs.Verdicts.{verdict_of, verdict_text};
 ghost use Rattle.dsc_sentences.specs.CallSentences.{sentences_of};
-ghost use Rattle.sentence_files.specs.Telling.{expansion_in, is_accepted, line_text, sentences_meaning};
+ghost use Rattle.sentence_files.specs.Telling.{call_sentences, expansion_in, is_accepted, is_well, line_text, sentences_meaning};
 ghost use Rattle.sentence_files.specs.inside.Progress.{HasTold};
 
-use call_values::Call;
-use dsc_files::{FileKind, Line, LineFault, Status, line_of};
+use dsc_files::{CallLine, SentenceLine, Status, sentence_line};
 use dsc_sentences::{Verdict, put_sentences, put_verdict, verdict_on};
 use expansion::Expansion;
 use line_engine::{Command, Refusal};
 use slot_join::Extra;
-use std::alloc::{AllocError, Global};
+use std::alloc::AllocError;
 
 /// The command that writes the sentences of each call, and a verdict on each sentence.
 #[derive(Drop)]
 pub struct Sentences {
-    alloc: Global,
     pub(crate) refused: bool,
 }
 
@@ -42,31 +37,33 @@ fn is_accepted(verdict: &Verdict) -> bool
     }
 }
 
-/// Appends the sentences of a call and of the expansion behind it.
-fn append_sentences(out: &mut Vec<u8>, call: &Call, extra: &Extra) -> Result<(), AllocError>
-    ensures { OnOk result (out.new.items ≡ out.old.items ++ sentences_of call.now (expansion_in extra.now)) }
+/// Appends the sentences of what a line of calls says: those of a call and of the expansion behind it.
+fn append_sentences(out: &mut Vec<u8>, says: &CallLine) -> Result<(), AllocError>
+    ensures { OnOk result (out.new.items ≡ out.old.items ++ call_sentences says.now) }
 {
-    out.extend_from_slice(&put_sentences(call, &expansion_in(extra)))?;
-    Ok(())
+    match says {
+        CallLine::Nothing => Ok(()),
+        CallLine::Call { call, extra } => {
+            out.extend_from_slice(&put_sentences(call, &expansion_in(extra)))?;
+            Ok(())
+        }
+    }
 }
 
 impl Sentences {
     /// The command before its first line.
-    pub fn new(alloc: Global) -> Sentences
+    pub fn new() -> Sentences
         ensures { HasTold result.refused [] [] }
     {
-        Sentences {
-            alloc,
-            refused: false,
-        }
+        Sentences { refused: false }
     }
 
     /// Appends the verdict on a sentence.
-    fn judge(&mut self, line: &[u8], out: &mut Vec<u8>) -> Result<(), AllocError>
-        ensures text { OnOk result (out.new.items ≡ out.old.items ++ line_text (sentence line.now)) }
-        ensures refused { OnOk result (self.new.refused ≡ (self.old.refused || not (is_accepted (verdict_of line.now)))) }
+    fn judge(&mut self, sentence: &[u8], out: &mut Vec<u8>) -> Result<(), AllocError>
+        ensures text { OnOk result (out.new.items ≡ out.old.items ++ (verdict_text (verdict_of sentence.now) ++ 10 ∷ [])) }
+        ensures refused { OnOk result (self.new.refused ≡ (self.old.refused || not (is_accepted (verdict_of sentence.now)))) }
     {
-        let verdict = verdict_on(line);
+        let verdict = verdict_on(sentence);
         out.extend_from_slice(&put_verdict(&verdict))?;
         out.push(b'\n')?;
         self.refused |= !is_accepted(&verdict);
@@ -74,20 +71,13 @@ impl Sentences {
     }
 
     /// Appends what a line gives.
-    fn tell(&mut self, read: &Line, line: &[u8], out: &mut Vec<u8>) -> Result<(), AllocError>
-        ensures { OnOk result ((says : SentenceLine) (lines : Lines) (text : List ℕ) → IsSentenceLine says line.now → SaysSentence says read.now
-            → HasTold self.old.refused lines (text ++ out.old.items) → HasTold self.new.refused (lines ++ line.now ∷ []) (text ++ out.new.items)) }
+    fn tell(&mut self, says: &SentenceLine<'_>, out: &mut Vec<u8>) -> Result<(), AllocError>
+        ensures text { OnOk result (out.new.items ≡ out.old.items ++ line_text says.now) }
+        ensures refused { OnOk result (self.new.refused ≡ (self.old.refused || not (is_well says.now))) }
     {
-        match read {
-            Line::Call { call, extra } => {
-                append_sentences(out, call, extra)?;
-                Ok(())
-            }
-            Line::Sentence => {
-                self.judge(line, out)?;
-                Ok(())
-            }
-            _ => Ok(()),
+        match says {
+            SentenceLine::Said(says) => append_sentences(out, says),
+            SentenceLine::Sentence(sentence) => self.judge(sentence, out),
         }
     }
 }
@@ -98,13 +88,12 @@ impl Command for Sentences {
     ghost stands_for = { λ command lines text. HasTold command.refused lines text };
 
     fn take(&mut self, line: &[u8], out: &mut Vec<u8>) -> Result<(), Refusal> {
-        match line_of(self.alloc, FileKind::Sentence, line) {
-            Ok(read) => {
-                self.tell(&read, line, out)?;
+        match sentence_line(line) {
+            Ok(says) => {
+                self.tell(&says, out)?;
                 Ok(())
             }
-            Err(LineFault::Column(n)) => Err(Refusal::Column(n)),
-            Err(LineFault::NoMemory) => unreachable!(),
+            Err(n) => Err(Refusal::Column(n)),
         }
     }
 

@@ -14,4 +14,7 @@ pub use fields::{
 };
 pub use frames::{LONGEST_SENTENCE, fields_of, next_text};
 pub use refusals::SentenceRefusal;
-pub use writing::{begun, close, hexadecimal, put, put_digits, put_number, put_perhaps_digits};
+pub use writing::{
+    append_digit_text, append_fixed_number, begun, close, hexadecimal, put, put_digits, put_number,
+    put_perhaps_digits,
+};

@@ -30,13 +30,13 @@ pub fn put(out: &mut ArrayVec<u8, LONGEST_SENTENCE>, text: &[u8])
 
 /// Appends the last so many decimal digits of a number, zeros in front included.
 #[tactic(auto, unfolding(line_grammar::specs::Shapes::digits))]
-fn append_number(out: &mut ArrayVec<u8, LONGEST_SENTENCE>, width: usize, number: u32)
-    requires { array_vec_len out.old + width ≤ 82 }
+pub fn append_fixed_number<const N: usize>(out: &mut ArrayVec<u8, N>, width: usize, number: u32)
+    requires { array_vec_len out.old + width ≤ N }
     ensures items { out.new.items ≡ out.old.items ++ digits width number }
     ensures len { array_vec_len out.new ≡ array_vec_len out.old + width }
 {
     if width > 0 {
-        append_number(out, width - 1, number / 10);
+        append_fixed_number(out, width - 1, number / 10);
         out.push(b'0' + (number % 10) as u8);
     }
 }
@@ -48,12 +48,12 @@ pub fn put_number(out: &mut ArrayVec<u8, LONGEST_SENTENCE>, width: usize, number
     ensures len { array_vec_len out.new ≡ array_vec_len out.old + 1 + width }
 {
     append(out, b",");
-    append_number(out, width, number);
+    append_fixed_number(out, width, number);
 }
 
 /// Appends digits in decimal.
-fn append_digits(out: &mut ArrayVec<u8, LONGEST_SENTENCE>, digits: &[u8])
-    requires room { array_vec_len out.old + length digits.now ≤ 82 }
+pub fn append_digit_text<const N: usize>(out: &mut ArrayVec<u8, N>, digits: &[u8])
+    requires room { array_vec_len out.old + length digits.now ≤ N }
     requires digits { AreDigits digits.now }
     ensures items { out.new.items ≡ out.old.items ++ digit_text digits.now }
     ensures len { array_vec_len out.new ≡ array_vec_len out.old + length digits.now }
@@ -71,7 +71,7 @@ pub fn put_digits(out: &mut ArrayVec<u8, LONGEST_SENTENCE>, digits: &[u8])
     ensures len { array_vec_len out.new ≡ array_vec_len out.old + 1 + length digits.now }
 {
     append(out, b",");
-    append_digits(out, digits);
+    append_digit_text(out, digits);
 }
 
 /// Appends a comma, and digits where there are some.
@@ -86,7 +86,7 @@ pub fn put_perhaps_digits<const N: usize>(
 {
     append(out, b",");
     if let Some(digits) = digits {
-        append_digits(out, digits);
+        append_digit_text(out, digits);
     }
 }
 

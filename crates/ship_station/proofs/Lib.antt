@@ -7,3 +7,4 @@ mod Endings
 mod Attempts
 mod Sendings
 mod Sent
+mod Silence

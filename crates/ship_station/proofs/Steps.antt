@@ -1,14 +1,14 @@
 -- a ship that keeps what a history with an accepted event more tells stands for it
 use Rattle.std.proofs.Common.{◌≡◌, ℕ, ◌≤◌, ◌==◌, Bool, false, Option, Some, None, is_some, Result, Ok, Err, List, ◌∷◌, length, if◌then◌else◌, refl, sym, ◌∙◌, ap, subst}
 use Rattle.std.specs.Prelude.{OnOk, OnErr}
-use Rattle.arrayvec.specs.ArrayVec.{ArrayVec}
 use Rattle.area_rules.specs.declared.acts.Act.{Act}
 use Rattle.area_rules.specs.declared.refusals.StationRefusal.{StationRefusal}
 use Rattle.area_rules.specs.declared.refusals.StationRefusal.TheVariants.{AlertActive, NeedsDelay}
 use Rattle.area_rules.specs.Histories.{Entry, History, last_moment}
-use Rattle.area_rules.specs.Rules.{listed, refusal_or, answer_to, continued, Legal}
+use Rattle.area_rules.specs.Rules.{refusal_or, answer_to, continued, Legal}
 use Rattle.area_rules.specs.Moments.{time_back}
 use Rattle.area_rules.proofs.PublicLaws.{in_time, refused_on_time, answer_accepted, continued_accepted, continued_refused, legal_continued, refusal_of, acts_of}
+use Rattle.traffic_rules.specs.Giving.{answer_with}
 use Rattle.traffic_rules.specs.Occurrences.{other}
 use Rattle.traffic_rules.proofs.PublicLaws.{AreQuiet, after_nothing}
 use Rattle.ship_station.specs.declared.events.ShipWhat.{ShipWhat}
@@ -44,17 +44,17 @@ pub answer_on_time : (who : Identities) (h : History ShipWhat) (at : ℕ) (what 
 answer_on_time who h at what late = ap (λ (r : Option StationRefusal). refusal_or r (due_at who h at what)) (refused_on_time (ship_rules who) h at what late)
 
 -- a ship that is as it was after a refusal, and keeps what is told after an accepted event, goes on as its history does
-pub goes : (who : Identities) (h : History ShipWhat) (at : ℕ) (what : ShipWhat) (old new : Ship) (result : Result (ArrayVec Act) StationRefusal)
-    → last_moment h ≤ at → IsShipWhat what → Stands old who h → listed result ≡ refusal_or (refusal_at who h what) (due_at who h at what)
+pub goes : (who : Identities) (h : History ShipWhat) (at : ℕ) (what : ShipWhat) (old new : Ship) (result : Result (Unit {0}) StationRefusal) (acts : List Act)
+    → last_moment h ≤ at → IsShipWhat what → Stands old who h → answer_with result acts ≡ refusal_or (refusal_at who h what) (due_at who h at what)
     → OnErr result (new ≡ old)
     → (refusal_at who h what ≡ None → OnOk result (Keeps new who (record { at = at; what = what; acts = due_at who h at what } ∷ h)))
     → Stands new who (continued (ship_rules who) h at what)
-goes who h at what old new (Err refusal) late event stands answer same keeps =
+goes who h at what old new (Err refusal) acts late event stands answer same keeps =
     let is = refused_on_time (ship_rules who) h at what late ∙ refusal_of (refusal_at who h what) (due_at who h at what) refusal answer in
     subst (λ (g : History ShipWhat). Stands new who g) (sym (continued_refused (ship_rules who) h at what refusal is))
     (subst (λ (ship : Ship). Stands ship who h) (sym same) stands)
-goes who h at what old new (Ok acts) late event stands answer same keeps =
-    let none = (acts_of (refusal_at who h what) (due_at who h at what) acts.items answer).0 in
+goes who h at what old new (Ok done) acts late event stands answer same keeps =
+    let none = (acts_of (refusal_at who h what) (due_at who h at what) acts answer).0 in
     accepted who h at what (due_at who h at what) new late event stands.0 none refl (keeps none)
 
 -- an event that mentions no held call

@@ -22,10 +22,10 @@ use Rattle.ship_station.specs.ShipRules.{Identities, attempt, at_tick, at_call}
 use Rattle.ship_station.specs.Stands.{Keeps}
 
 pub attempts_missed : Misses is_attempt
-attempts_missed = record { sent = λ c. refl; shown = refl; held = λ n. refl; answered = λ n. refl; gave_up = λ n. refl; distress = λ c. refl }
+attempts_missed = record { sent = λ c is. refl; shown = refl; held = λ n. refl; answered = λ n. refl; gave_up = λ n. refl; distress = λ c. refl }
 
 pub ends_missed : Misses is_end
-ends_missed = record { sent = λ c. refl; shown = refl; held = λ n. refl; answered = λ n. refl; gave_up = λ n. refl; distress = λ c. refl }
+ends_missed = record { sent = λ c is. refl; shown = refl; held = λ n. refl; answered = λ n. refl; gave_up = λ n. refl; distress = λ c. refl }
 
 -- a call for the ship that is neither an alert nor its acknowledgement
 pub traffic_due : (own : ℕ) (place : Whereabouts) (is_on : Bool) (places : Places) (c : Call) → ((x : Casualty) → c ≡ call.Alert x → ⊥) → ((f : ℕ) (x : Casualty) → c ≡ call.Ack f x → ⊥)

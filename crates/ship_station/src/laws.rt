@@ -4,7 +4,7 @@ ghost use Rattle.area_rules.specs.declared.acts.Act.{Act};
 ghost use Rattle.area_rules.specs.declared.acts.Act.TheVariants as act;
 ghost use Rattle.area_rules.specs.Histories.{Entry, History, does, NoneIs};
 ghost use Rattle.area_rules.specs.Rules.{Legal};
-ghost use Rattle.traffic_rules.specs.Sendings.{asking, is_alert, times_held, times_sent, times_sent_again};
+ghost use Rattle.traffic_rules.specs.Sendings.{asking, is_alert, sends, times_held, times_sent, times_sent_again};
 ghost use Rattle.ship_station.specs.declared.events.ShipWhat.{ShipWhat};
 ghost use Rattle.ship_station.specs.Attempted.{IsAttempted};
 ghost use Rattle.ship_station.specs.Events.{ship_occurs, begins_alert, MayEndAlert};
@@ -18,6 +18,13 @@ use call_values::bounds::SHORTEST_ALERT_DELAY;
 pub fn no_attempt_after_an_end()
     ensures { (who : Identities) (later earlier : History ShipWhat) (ended : Entry ShipWhat) → Legal (ship_rules who) (later ++ ended ∷ earlier)
         → IsTrue (does is_end ended) → NoneIs begins_alert later → NoneIs (does is_attempt) later }
+{}
+
+/// The law that after the end of its distress alert a ship sends no distress alert, however often in a row, before the next event that
+/// begins one, in every legal history. It does nothing.
+pub fn no_alert_after_an_end()
+    ensures { (who : Identities) (later earlier : History ShipWhat) (ended : Entry ShipWhat) → Legal (ship_rules who) (later ++ ended ∷ earlier)
+        → IsTrue (does is_end ended) → NoneIs begins_alert later → NoneIs (does (sends is_alert)) later }
 {}
 
 /// The law that a distress alert ends only at a cancel, or where a distress acknowledgement that names the ship is heard, in

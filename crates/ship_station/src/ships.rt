@@ -1,4 +1,4 @@
-ghost use Rattle.std.specs.Prelude.{◌≡◌, ◌≤◌, ◌==◌, ◌&&◌, not, [], ◌∷◌, length, drop, is_some, if◌then◌else◌, OnOk, OnErr};
+ghost use Rattle.std.specs.Prelude.{◌≡◌, ◌≤◌, ◌==◌, ◌&&◌, not, [], ◌∷◌, length, drop, is_some, if◌then◌else◌, Ok, OnOk, OnErr};
 ghost use Rattle.std.specs.List.{list_any};
 ghost use Rattle.area_rules.specs.Addressing.{is_for_ship};
 ghost use Rattle.call_values.specs.Views.{sender_of};
@@ -8,6 +8,7 @@ ghost use Rattle.ship_station.specs.Past.{is_attempt};
 ghost use Rattle.area_rules.specs.declared.acts.Act.TheVariants.{AlertEnded};
 ghost use Rattle.area_rules.specs.Histories.{History};
 ghost use Rattle.area_rules.specs.Rules.{listed, refusal_or, answer_to, continued};
+ghost use Rattle.traffic_rules.specs.Giving.{answer_with};
 ghost use Rattle.ship_station.specs.declared.events.ShipWhat.{ShipWhat as What};
 ghost use Rattle.ship_station.specs.ShipRules.{Identities, attempt, at_tick, ship_rules};
 ghost use Rattle.ship_station.specs.Stands.{Stands};
@@ -16,10 +17,10 @@ ghost use Rattle.ship_station.specs.inside.Handling.{AnswersEvent, GoesOn};
 use crate::alerts::OwnAlert;
 use crate::events::{ShipEvent, ShipWhat};
 use crate::groups::Groups;
-use area_rules::{Act, Acts, HeldCalls, StationRefusal, for_ship, has_passed, single, time_back};
+use area_rules::{Act, Acts, HeldCalls, StationRefusal, for_ship, has_passed, time_back};
 use arrayvec::ArrayVec;
 use call_values::{AlertDelay, Call, Casualty, Comm, HourMinute, Mmsi, Nature, Position};
-use traffic_rules::{answer, hear, repeat, send};
+use traffic_rules::{answer, give, hear, repeat, send};
 
 /// How many times in a row a distress alert is sent at an attempt.
 const CALLS_OF_AN_ATTEMPT: u8 = 5;
@@ -69,49 +70,56 @@ impl Ship {
     /// (`NeedsDelay`); a cancel where no alert is on (`NoAlert`); a tick where an alert is on and no delay is held (`NeedsDelay`);
     /// a call that the operator may not send (`NotSendable`); an answer to a number under which no call that was got is held
     /// (`NoSuchCall`); a sent or heard call that must be held where no number is free (`Full`).
-    // This and what gives acts stand in frames of their own, so that only those of one event's way lie on the stack.
-    #[inline(never)]
     pub fn step(&mut self, event: &ShipEvent) -> Result<Acts, StationRefusal>
         ensures answer { (who : Identities) (h : History What) → Stands self.old who h → listed result ≡ answer_to (ship_rules who) h event.now.at event.now.what }
         ensures stands { (who : Identities) (h : History What) → Stands self.old who h → Stands self.new who (continued (ship_rules who) h event.now.at event.now.what) }
         ensures unchanged { OnErr result (self.new ≡ self.old) }
     {
+        let mut acts = ArrayVec::new();
+        self.step_into(event, &mut acts)?;
+        Ok(acts)
+    }
+
+    /// The same as `step`, with the acts in a list of the caller, which is cleared first. Where the event is refused, the list is
+    /// empty.
+    pub fn step_into(&mut self, event: &ShipEvent, acts: &mut Acts) -> Result<(), StationRefusal>
+        ensures answer { (who : Identities) (h : History What) → Stands self.old who h
+            → answer_with result acts.new.items ≡ answer_to (ship_rules who) h event.now.at event.now.what }
+        ensures stands { (who : Identities) (h : History What) → Stands self.old who h → Stands self.new who (continued (ship_rules who) h event.now.at event.now.what) }
+        ensures none { OnErr result (acts.new.items ≡ []) }
+        ensures unchanged { OnErr result (self.new ≡ self.old) }
+    {
         event.what.lawful();
+        acts.clear();
         if let Some(refusal) = time_back(self.last, event.at) {
             return Err(refusal);
         }
         match event.what {
-            ShipWhat::Position(position, time) => self.keep_position(event.at, position, time),
+            ShipWhat::Position(position, time) => {
+                self.keep_position(event.at, position, time);
+                Ok(())
+            }
             ShipWhat::Delay(delay) => self.keep_delay(event.at, delay),
-            ShipWhat::Alert(nature, comm) => self.alert(event.at, nature, comm),
-            ShipWhat::Cancel => self.cancel(event.at),
-            ShipWhat::Tick => self.tick(event.at),
-            ShipWhat::Send(call) => self.send(event.at, &call),
-            ShipWhat::Answer(number, accepts) => self.answer(event.at, number, accepts),
-            ShipWhat::Heard(call) => self.hear(event.at, &call),
+            ShipWhat::Alert(nature, comm) => self.alert(event.at, nature, comm, acts),
+            ShipWhat::Cancel => self.cancel(event.at, acts),
+            ShipWhat::Tick => self.tick(event.at, acts),
+            ShipWhat::Send(call) => self.send(event.at, &call, acts),
+            ShipWhat::Answer(number, accepts) => self.answer(event.at, number, accepts, acts),
+            ShipWhat::Heard(call) => self.hear(event.at, &call, acts),
         }
     }
 
-    #[inline(never)]
-    fn keep_position(
-        &mut self,
-        at: u64,
-        position: Position,
-        time: HourMinute,
-    ) -> Result<Acts, StationRefusal>
-        ensures answer { AnswersEvent self.old at (What.Position position time) result }
+    fn keep_position(&mut self, at: u64, position: Position, time: HourMinute)
+        ensures answer { AnswersEvent self.old at (What.Position position time) (Ok []) }
         ensures goes_on { GoesOn self.old at (What.Position position time) self.new }
-        ensures unchanged { OnErr result (self.new ≡ self.old) }
     {
         self.last = at;
         self.position = position;
         self.time = time;
-        Ok(ArrayVec::new())
     }
 
-    #[inline(never)]
-    fn keep_delay(&mut self, at: u64, delay: AlertDelay) -> Result<Acts, StationRefusal>
-        ensures answer { AnswersEvent self.old at (What.Delay delay) result }
+    fn keep_delay(&mut self, at: u64, delay: AlertDelay) -> Result<(), StationRefusal>
+        ensures answer { AnswersEvent self.old at (What.Delay delay) (answer_with result []) }
         ensures goes_on { GoesOn self.old at (What.Delay delay) self.new }
         ensures unchanged { OnErr result (self.new ≡ self.old) }
     {
@@ -120,14 +128,21 @@ impl Ship {
         }
         self.last = at;
         self.delays.push(delay.number());
-        Ok(ArrayVec::new())
+        Ok(())
     }
 
     /// Begins an alert, with its first attempt.
-    #[inline(never)]
-    fn alert(&mut self, at: u64, nature: Nature, comm: Comm) -> Result<Acts, StationRefusal>
-        ensures answer { AnswersEvent self.old at (What.Alert nature comm) result }
+    fn alert(
+        &mut self,
+        at: u64,
+        nature: Nature,
+        comm: Comm,
+        acts: &mut Acts,
+    ) -> Result<(), StationRefusal>
+        requires { acts.old.items ≡ [] }
+        ensures answer { AnswersEvent self.old at (What.Alert nature comm) (answer_with result acts.new.items) }
         ensures goes_on { GoesOn self.old at (What.Alert nature comm) self.new }
+        ensures none { OnErr result (acts.new.items ≡ []) }
         ensures unchanged { OnErr result (self.new ≡ self.old) }
     {
         if self.alert.is_some() {
@@ -140,14 +155,16 @@ impl Ship {
         self.last = at;
         self.alert = Some(alert);
         self.attempted_at = at;
-        Ok(single(self.attempt(&alert)))
+        give(acts, self.attempt(&alert));
+        Ok(())
     }
 
     /// Ends the alert by hand.
-    #[inline(never)]
-    fn cancel(&mut self, at: u64) -> Result<Acts, StationRefusal>
-        ensures answer { AnswersEvent self.old at What.Cancel result }
+    fn cancel(&mut self, at: u64, acts: &mut Acts) -> Result<(), StationRefusal>
+        requires { acts.old.items ≡ [] }
+        ensures answer { AnswersEvent self.old at What.Cancel (answer_with result acts.new.items) }
         ensures goes_on { GoesOn self.old at What.Cancel self.new }
+        ensures none { OnErr result (acts.new.items ≡ []) }
         ensures unchanged { OnErr result (self.new ≡ self.old) }
     {
         if self.alert.is_none() {
@@ -155,23 +172,25 @@ impl Ship {
         }
         self.last = at;
         self.alert = None;
-        Ok(single(Act::AlertEnded))
+        give(acts, Act::AlertEnded);
+        Ok(())
     }
 
     /// Repeats the alert that is on, where its time has come, and then the held calls.
-    #[inline(never)]
-    fn tick(&mut self, at: u64) -> Result<Acts, StationRefusal>
-        ensures answer { AnswersEvent self.old at What.Tick result }
+    fn tick(&mut self, at: u64, acts: &mut Acts) -> Result<(), StationRefusal>
+        requires { acts.old.items ≡ [] }
+        ensures answer { AnswersEvent self.old at What.Tick (answer_with result acts.new.items) }
         ensures goes_on { GoesOn self.old at What.Tick self.new }
+        ensures none { OnErr result (acts.new.items ≡ []) }
         ensures unchanged { OnErr result (self.new ≡ self.old) }
     {
         if self.lacks_delay() {
             return Err(StationRefusal::NeedsDelay);
         }
         self.last = at;
-        let mut acts = self.attempt_again(at);
-        repeat(&mut self.held, at, &mut acts);
-        Ok(acts)
+        self.attempt_again(at, acts);
+        repeat(&mut self.held, at, acts);
+        Ok(())
     }
 
     /// Whether an alert is on and no delay is held.
@@ -182,69 +201,80 @@ impl Ship {
     }
 
     /// Makes an attempt of the alert that is on, where at least the first delay has passed since the last attempt.
-    #[inline(never)]
-    fn attempt_again(&mut self, at: u64) -> Acts
-        ensures acts { result.items ≡ at_tick self.old.own (self.old.position, self.old.time) self.old.alert self.old.delays.items self.old.attempted_at at }
-        ensures few { length result.items ≤ 1 }
-        ensures attempted { self.new.attempted_at ≡ if list_any is_attempt result.items then at else self.old.attempted_at }
-        ensures delays { self.new.delays.items ≡ if list_any is_attempt result.items then drop 1 self.old.delays.items else self.old.delays.items }
+    fn attempt_again(&mut self, at: u64, acts: &mut Acts)
+        requires { acts.old.items ≡ [] }
+        ensures acts { acts.new.items ≡ at_tick self.old.own (self.old.position, self.old.time) self.old.alert self.old.delays.items self.old.attempted_at at }
+        ensures few { length acts.new.items ≤ 1 }
+        ensures attempted { self.new.attempted_at ≡ if list_any is_attempt acts.new.items then at else self.old.attempted_at }
+        ensures delays { self.new.delays.items ≡ if list_any is_attempt acts.new.items then drop 1 self.old.delays.items else self.old.delays.items }
         ensures others { self.new ≡ record self.old { attempted_at = self.new.attempted_at; delays = self.new.delays } }
     {
         let Some(alert) = self.alert else {
-            return ArrayVec::new();
+            return;
         };
         if self.delays.is_empty() || !has_passed(self.delays[0].into(), self.attempted_at, at) {
-            return ArrayVec::new();
+            return;
         }
         self.delays.remove(0);
         self.attempted_at = at;
-        single(self.attempt(&alert))
+        give(acts, self.attempt(&alert));
     }
 
     /// Sends a call that the operator gives.
-    #[inline(never)]
-    fn send(&mut self, at: u64, call: &Call) -> Result<Acts, StationRefusal>
-        ensures answer { AnswersEvent self.old at (What.Send call.now) result }
+    fn send(&mut self, at: u64, call: &Call, acts: &mut Acts) -> Result<(), StationRefusal>
+        requires { acts.old.items ≡ [] }
+        ensures answer { AnswersEvent self.old at (What.Send call.now) (answer_with result acts.new.items) }
         ensures goes_on { GoesOn self.old at (What.Send call.now) self.new }
+        ensures none { OnErr result (acts.new.items ≡ []) }
         ensures unchanged { OnErr result (self.new ≡ self.old) }
     {
-        let acts = send(&mut self.held, self.own, call, at)?;
+        send(&mut self.held, self.own, call, at, acts)?;
         self.last = at;
-        Ok(acts)
+        Ok(())
     }
 
     /// Answers the call that was got under a number, as the operator accepts or declines it.
-    #[inline(never)]
-    fn answer(&mut self, at: u64, number: u8, accepts: bool) -> Result<Acts, StationRefusal>
-        ensures answer { AnswersEvent self.old at (What.Answer number accepts) result }
+    fn answer(
+        &mut self,
+        at: u64,
+        number: u8,
+        accepts: bool,
+        acts: &mut Acts,
+    ) -> Result<(), StationRefusal>
+        requires { acts.old.items ≡ [] }
+        ensures answer { AnswersEvent self.old at (What.Answer number accepts) (answer_with result acts.new.items) }
         ensures goes_on { GoesOn self.old at (What.Answer number accepts) self.new }
+        ensures none { OnErr result (acts.new.items ≡ []) }
         ensures unchanged { OnErr result (self.new ≡ self.old) }
     {
-        let acts = answer(&mut self.held, self.own, number, accepts)?;
+        answer(&mut self.held, self.own, number, accepts, acts)?;
         self.last = at;
-        Ok(acts)
+        Ok(())
     }
 
-    #[inline(never)]
-    fn hear(&mut self, at: u64, call: &Call) -> Result<Acts, StationRefusal>
-        ensures answer { AnswersEvent self.old at (What.Heard call.now) result }
+    fn hear(&mut self, at: u64, call: &Call, acts: &mut Acts) -> Result<(), StationRefusal>
+        requires { acts.old.items ≡ [] }
+        ensures answer { AnswersEvent self.old at (What.Heard call.now) (answer_with result acts.new.items) }
         ensures goes_on { GoesOn self.old at (What.Heard call.now) self.new }
+        ensures none { OnErr result (acts.new.items ≡ []) }
         ensures unchanged { OnErr result (self.new ≡ self.old) }
     {
         if !self.is_for_this(call) {
             self.last = at;
-            return Ok(ArrayVec::new());
+            return Ok(());
         }
         match *call {
             Call::Alert(casualty) => {
                 self.last = at;
-                Ok(single(Act::Distress(casualty)))
+                give(acts, Act::Distress(casualty));
+                Ok(())
             }
             Call::Ack { casualty, .. } => {
                 self.last = at;
-                Ok(self.hear_acknowledgement(&casualty))
+                self.hear_acknowledgement(&casualty, acts);
+                Ok(())
             }
-            _ => self.hear_traffic(at, call),
+            _ => self.hear_traffic(at, call, acts),
         }
     }
 
@@ -257,30 +287,29 @@ impl Ship {
     }
 
     /// Hears a call for this ship that is neither a distress alert nor its acknowledgement.
-    #[inline(never)]
-    fn hear_traffic(&mut self, at: u64, call: &Call) -> Result<Acts, StationRefusal>
-        ensures answer { listed result ≡ refusal_or (heard_refusal self.old.held call.now)
+    fn hear_traffic(&mut self, at: u64, call: &Call, acts: &mut Acts) -> Result<(), StationRefusal>
+        requires { acts.old.items ≡ [] }
+        ensures answer { answer_with result acts.new.items ≡ refusal_or (heard_refusal self.old.held call.now)
             (heard_due self.old.own (Some (self.old.position, self.old.time)) self.old.held call.now) }
         ensures held { OnOk result (self.new ≡ record self.old { last = at; held = after_hearing self.old.held call.now at }) }
+        ensures none { OnErr result (acts.new.items ≡ []) }
         ensures unchanged { OnErr result (self.new ≡ self.old) }
     {
         let place = (self.position, self.time);
-        let acts = hear(&mut self.held, self.own, Some(place), call, at)?;
+        hear(&mut self.held, self.own, Some(place), call, at, acts)?;
         self.last = at;
-        Ok(acts)
+        Ok(())
     }
 
     /// Ends the alert that is on, where its acknowledgement names this ship.
-    #[inline(never)]
-    fn hear_acknowledgement(&mut self, casualty: &Casualty) -> Acts
-        ensures acts { result.items ≡ if is_some self.old.alert && (casualty.now.mmsi == self.old.own) then AlertEnded ∷ [] else [] }
+    fn hear_acknowledgement(&mut self, casualty: &Casualty, acts: &mut Acts)
+        requires { acts.old.items ≡ [] }
+        ensures acts { acts.new.items ≡ if is_some self.old.alert && (casualty.now.mmsi == self.old.own) then AlertEnded ∷ [] else [] }
         ensures ended { self.new ≡ record self.old { alert = if is_some self.old.alert && (casualty.now.mmsi == self.old.own) then None else self.old.alert } }
     {
         if self.alert.is_some() && casualty.mmsi.number() == self.own.number() {
             self.alert = None;
-            single(Act::AlertEnded)
-        } else {
-            ArrayVec::new()
+            give(acts, Act::AlertEnded);
         }
     }
 

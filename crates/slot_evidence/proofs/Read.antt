@@ -7,6 +7,7 @@ use Rattle.ten_unit.specs.inside.Symbol.{IsSymbol}
 use Rattle.time_diversity.specs.Slots.{dx_slot, rx_slot}
 use Rattle.phasing.specs.Slot.{slot, shows}
 use Rattle.phasing.specs.Origin.{lead_of}
+use Rattle.slot_evidence.specs.declared.places.Seen.{Seen}
 use Rattle.slot_evidence.specs.Facts.{Symbols, facts_at, facts_of}
 use Rattle.slot_evidence.specs.Sheet.{IsEnds}
 use Rattle.slot_evidence.specs.TwoNumbers.{AreInOrder}
@@ -59,13 +60,16 @@ kept_read e lead dx rx leasts pasts read =
     (order_symbol (slice_index dx p) (read.even p (omega arith)).within)
     (order_symbol (slice_index rx (p + 2)) (read.odd (p + 2) (omega arith)).within))))
 
-pub ends_read : (e : List Element) (lead : ℕ) (dx rx leasts pasts : List ℕ) → Some lead ≡ lead_of e → AreRead e lead dx rx leasts pasts → IsEnds (facts_of e) (seen_of leasts pasts)
-unfolding facts_of
-ends_read e lead dx rx leasts pasts origin read =
-    subst (λ (o : Option ℕ). IsEnds (facts_at e o) (seen_of leasts pasts)) origin
-    (ends_from (facts_at e (Some lead)) leasts pasts (kept_read e lead dx rx leasts pasts read)
+pub ends_read : (e : List Element) (lead : ℕ) (dx rx leasts pasts : List ℕ) → AreRead e lead dx rx leasts pasts → IsEnds (facts_at e (Some lead)) (seen_of leasts pasts)
+ends_read e lead dx rx leasts pasts read =
+    ends_from (facts_at e (Some lead)) leasts pasts (kept_read e lead dx rx leasts pasts read)
     (λ p inside.
     subst (λ (n : ℕ). IsEdges (facts_at e (Some lead) p) n (slice_index pasts p)) (sym (read.least p inside))
     (subst (λ (n : ℕ). IsEdges (facts_at e (Some lead) p) (min (slice_index dx p) (slice_index rx (p + 2))) n) (sym (read.past p inside))
     (place_edges e lead p _ _ inside (read.even p (omega arith)) (rx_read e lead dx rx leasts pasts read p inside))))
-    (λ p v past. no_place _ _ (le-ltb p 64 past)))
+    (λ p v past. no_place _ _ (le-ltb p 64 past))
+
+-- at the lead of the origin the facts are the reception's
+pub origin_facts : (e : List Element) (lead : ℕ) (s : List Seen) → Some lead ≡ lead_of e → IsEnds (facts_at e (Some lead)) s → IsEnds (facts_of e) s
+unfolding facts_of
+origin_facts e lead s origin ends = subst (λ (o : Option ℕ). IsEnds (facts_at e o) s) origin ends

@@ -1,13 +1,13 @@
 ghost use Rattle.std.specs.Prelude.{◌≡◌, ℕ, ◌+◌, ◌<◌, ◌≤◌, ◌↔◌, min, max, length, Some, IfSome, IsNone, slice_index};
 ghost use Rattle.phasing.specs.Origin.{lead_of};
-ghost use Rattle.slot_evidence.specs.Facts.{facts_of};
+ghost use Rattle.slot_evidence.specs.Facts.{facts_at, facts_of};
 ghost use Rattle.slot_evidence.specs.inside.Kept.{past_symbol};
 ghost use Rattle.slot_evidence.specs.Sheet.{IsEnds};
 
 use crate::receptions::Reception;
 use crate::sheets::Sheet;
 use crate::slots::{Shown, read_slots};
-use phasing::{LONGEST, lead};
+use phasing::{LAST_LEAD, LONGEST, lead};
 use ten_unit::Element;
 
 /// The number after a symbol, and 0 after none, which is 128.
@@ -41,19 +41,30 @@ fn pasts_of(shown: &Shown) -> [u8; 64]
     pasts
 }
 
+/// The sheet of what a reception shows at a lead: of each place below 64 what its DX slot and its RX slot show at the origin
+/// `lead - 150` (ITU-R M.493, time diversity), phased or not. The lead is 40 or later.
+///
+/// It reads the slots' symbols six slots a step, and then the least and the greatest of each place's two, sixteen places a
+/// step.
+pub fn sheet_at(e: &[Element], lead: u32) -> Sheet
+    requires length { length e.now ≤ LONGEST }
+    requires begun { 40 ≤ lead }
+    requires lead { lead ≤ LAST_LEAD }
+    ensures { IsEnds (facts_at e.now (Some lead)) result }
+{
+    let shown = read_slots(e, lead);
+    Sheet::of_numbers(leasts_of(&shown), pasts_of(&shown))
+}
+
 /// The sheet of a reception's facts: of each place below 64 what its DX slot and its RX slot show
 /// at the origin (ITU-R M.493, time diversity). `None` comes exactly where the reception has no origin.
-///
-/// Behind the origin it reads the slots' symbols six slots a step, and then the least and the greatest of each place's
-/// two, sixteen places a step.
 pub fn read_sheet(e: &[Element]) -> Option<Sheet>
     requires { length e.now ≤ LONGEST }
     ensures some { IfSome result (λ s. IsEnds (facts_of e.now) s) }
     ensures none { IsNone result ↔ (lead_of e.now ≡ None) }
 {
     let lead = lead(e)?;
-    let shown = read_slots(e, lead);
-    Some(Sheet::of_numbers(leasts_of(&shown), pasts_of(&shown)))
+    Some(sheet_at(e, lead))
 }
 
 /// The sheet of what a receiver heard: it is empty where no origin is found.

@@ -1,4 +1,4 @@
-use crate::worked::{casualty, mmsi, nothing, sent};
+use crate::worked::{casualty, mmsi, nothing, sent, unplaced};
 use area_rules::{Act, Acts, StationRefusal, put, single};
 use arrayvec::ArrayVec;
 use call_values::{Call, Casualty, Category, CoastDelay, Kind, To};
@@ -49,6 +49,29 @@ fn acknowledged(casualty: Casualty) -> Result<Acts, Fail> {
 
 fn distress(casualty: Casualty) -> Acts {
     single(Act::Distress(casualty))
+}
+
+#[test]
+fn one_list_takes_the_acts_of_every_event(rt: HostRuntime) -> Result<(), Fail> {
+    let ship = unplaced(SHIP)?;
+    let mut coast = Coast::new(mmsi(COAST)?, Band::Vhf);
+    let mut acts = ArrayVec::new();
+    let unknown = Err(StationRefusal::NoCasualty(mmsi(OTHER_SHIP)?));
+    let rows = [
+        (0, heard(ship), Ok(()), single(Act::Distress(ship))),
+        (1, accept(OTHER_SHIP, 60_000)?, unknown, nothing()),
+        (2, accept(SHIP, 60_000)?, Ok(()), acknowledged(ship)?),
+        (3, CoastWhat::Tick, Ok(()), nothing()),
+    ];
+    for (at, what, want, given) in rows {
+        assert_eq!(rt;
+            coast.step_into(&CoastEvent { at, what }, &mut acts),
+            want,
+            "at {at}"
+        );
+        assert_eq!(rt; acts, given, "at {at}");
+    }
+    Ok(())
 }
 
 #[test]

@@ -1,4 +1,4 @@
-use crate::worked::{and, casualty, nothing, sent};
+use crate::worked::{and, casualty, nothing, sent, unplaced};
 use area_rules::{Act, Acts, StationRefusal, single};
 use call_values::{
     AlertDelay, Area, Call, Casualty, Category, End, Field, First, HourMinute, Kind, Message, Mmsi,
@@ -44,6 +44,30 @@ fn attempt(casualty: Casualty) -> Acts {
         call: Call::Alert(casualty),
         times: 5,
     })
+}
+
+#[test]
+fn one_list_takes_the_acts_of_every_event(rt: HostRuntime) -> Result<(), Fail> {
+    let own = unplaced(OWN)?;
+    let alert = ShipWhat::Alert(own.nature, own.comm);
+    let mut ship = ship(OWN)?;
+    let mut acts = Acts::new();
+    let rows = [
+        (0, delay(210_000)?, Ok(()), nothing()),
+        (0, alert, Ok(()), attempt(own)),
+        (1, alert, Err(StationRefusal::AlertActive), nothing()),
+        (2, ShipWhat::Cancel, Ok(()), single(Act::AlertEnded)),
+        (3, ShipWhat::Tick, Ok(()), nothing()),
+    ];
+    for (at, what, want, given) in rows {
+        assert_eq!(rt;
+            ship.step_into(&ShipEvent { at, what }, &mut acts),
+            want,
+            "at {at}"
+        );
+        assert_eq!(rt; acts, given, "at {at}");
+    }
+    Ok(())
 }
 
 #[test]

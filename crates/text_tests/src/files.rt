@@ -91,6 +91,41 @@ fn receptions_have_elements(rt: HostRuntime) -> Result<(), Fail> {
     Ok(())
 }
 
+// Lines that are none of a stream, and the column at which each is ill-formed.
+const STREAM_COLUMNS: [(&str, usize); 7] = [
+    ("x", 1),
+    ("r YB", 1),
+    ("s", 2),
+    ("sY", 2),
+    ("s ", 3),
+    ("s YX", 4),
+    ("s Y ", 4),
+];
+
+#[test]
+fn lines_of_streams_add_elements(rt: HostRuntime) -> Result<(), Fail> {
+    for (text, column) in STREAM_COLUMNS {
+        let Err(fault) = line_of(rt.alloc(), FileKind::Stream, text.as_bytes()) else {
+            return Err("a line")?;
+        };
+        assert_eq!(rt; fault, LineFault::Column(column), "{text}");
+    }
+    for text in ["", "#", "# s YB"] {
+        let Line::Nothing = line_of(rt.alloc(), FileKind::Stream, text.as_bytes())? else {
+            return Err("elements")?;
+        };
+    }
+    let Line::Stream(elements) = line_of(rt.alloc(), FileKind::Stream, b"s YB-")? else {
+        return Err("no elements")?;
+    };
+    let wanted = [Element::Y, Element::B, Element::Lost];
+    assert_eq!(rt; elements.elements().len(), wanted.len());
+    for (element, wanted) in elements.elements().iter().zip(wanted) {
+        assert_eq!(rt; *element, wanted);
+    }
+    Ok(())
+}
+
 #[test]
 fn evidence_has_pairs(rt: HostRuntime) -> Result<(), Fail> {
     let text = b"e g9 63:127 0:120 8:22 8:14 8:14 8:17";

@@ -14,8 +14,10 @@ use Rattle.traffic_lines.specs.Lines.{IsShipEvent, IsCoastEvent}
 use Rattle.traffic_replay.specs.declared.outcomes.Unreported.{Unreported}
 use Rattle.traffic_replay.specs.Said.{Said, base_of}
 use Rattle.traffic_replay.specs.HeardGroups.{hears, facts_since_heard}
-use Rattle.traffic_replay.specs.Happenings.{Taking, ship_event, coast_event, heard_as, ComesOf}
-use Rattle.traffic_replay.specs.Output.{answer_lines, unreported_line}
+use Rattle.station_lines.specs.Events.{ship_event, coast_event}
+use Rattle.traffic_replay.specs.Happenings.{Taking, heard_as, ComesOf}
+use Rattle.station_lines.specs.Answers.{answer_lines}
+use Rattle.traffic_replay.specs.Output.{unreported_line}
 use Rattle.traffic_replay.specs.inside.Happens.{Happens}
 
 comes_plain : {What : Type 0} (taking : Taking What) (said : Said) (at : ℕ) (what : EventLine) (event : What) → ((group : ℕ) → what ≡ line.Heard group → ⊥)

@@ -1,55 +1,21 @@
 -- What happens at the event lines of a traffic file: this project's profile.
-use Rattle.std.specs.Prelude.{◌≡◌, ℕ, Option, Some, None, Result, Ok, Err, List, [], ◌∷◌}
+use Rattle.std.specs.Prelude.{◌≡◌, ℕ, Option, Some, Result, Ok, Err, List, [], ◌∷◌}
 use Rattle.call_values.specs.declared.calls.Call.{Call}
-use Rattle.call_values.specs.declared.positions.Fix.{Fix}
 use Rattle.slot_join.specs.declared.joined.Joined.{Joined}
 use Rattle.slot_join.specs.declared.joined.Joined.TheVariants.{Reported, Missing, Differ, Outside, Check}
 use Rattle.slot_join.specs.Answer.{IsAnswer}
-use Rattle.civil_time.specs.CivilTime.{second_of, hour_of, minute_of}
 use Rattle.traffic_lines.specs.declared.lines.EventLine.{EventLine}
-use Rattle.traffic_lines.specs.declared.lines.EventLine.TheVariants.{Position, Delay, Alert, Cancel, Tick, Send, Answer, Hear, Heard, Accept, Relay}
+use Rattle.traffic_lines.specs.declared.lines.EventLine.TheVariants.{Heard}
 use Rattle.traffic_lines.specs.declared.lines.TrafficLine.TheVariants.{Event}
 use Rattle.ship_station.specs.declared.events.ShipWhat.{ShipWhat}
 use Rattle.ship_station.specs.declared.events.ShipWhat.TheVariants as ship
 use Rattle.coast_station.specs.declared.events.CoastWhat.{CoastWhat}
 use Rattle.coast_station.specs.declared.events.CoastWhat.TheVariants as coast
+use Rattle.station_lines.specs.Events.{ship_event, coast_event}
 use Rattle.dsc_files.specs.PointLine.{traffic}
 use Rattle.traffic_replay.specs.declared.outcomes.Unreported.{Unreported}
 use Rattle.traffic_replay.specs.Said.{Said, base_of}
 use Rattle.traffic_replay.specs.HeardGroups.{facts_since_heard}
-
--- the time of a position: the hour and the minute in UTC of its line's moment, and none where the position is unknown
-abbrev pub time_of : (base at : ℕ) → Option Fix → Option (ℕ × ℕ)
-time_of base at (Some fix) = Some (hour_of (second_of base at), minute_of (second_of base at))
-time_of base at None = None
-
--- the event at a ship that an event line gives of itself
-abbrev pub ship_event : (base at : ℕ) → EventLine → Option ShipWhat
-ship_event base at (Position place) = Some (ship.Position place (time_of base at place))
-ship_event base at (Delay delay) = Some (ship.Delay delay)
-ship_event base at (Alert nature comm) = Some (ship.Alert nature comm)
-ship_event base at Cancel = Some ship.Cancel
-ship_event base at Tick = Some ship.Tick
-ship_event base at (Send call) = Some (ship.Send call)
-ship_event base at (Answer number accepts) = Some (ship.Answer number accepts)
-ship_event base at (Hear call) = Some (ship.Heard call)
-ship_event base at (Heard group) = None
-ship_event base at (Accept mmsi delay) = None
-ship_event base at (Relay mmsi to ask) = None
-
--- the event at a coast station that an event line gives of itself
-abbrev pub coast_event : (base at : ℕ) → EventLine → Option CoastWhat
-coast_event base at (Accept mmsi delay) = Some (coast.Accept mmsi delay)
-coast_event base at Tick = Some coast.Tick
-coast_event base at (Relay mmsi to ask) = Some (coast.Relay mmsi to ask)
-coast_event base at (Send call) = Some (coast.Send call)
-coast_event base at (Answer number accepts) = Some (coast.Answer number accepts)
-coast_event base at (Hear call) = Some (coast.Heard call)
-coast_event base at (Heard group) = None
-coast_event base at (Position place) = None
-coast_event base at (Delay delay) = None
-coast_event base at (Alert nature comm) = None
-coast_event base at Cancel = None
 
 -- what comes of the answer to a heard group: its call is heard; or the group isn't reported, and that is no event
 abbrev pub heard_as : {What : Type 0} → (Call → What) → (group : ℕ) → Joined → Result What Unreported

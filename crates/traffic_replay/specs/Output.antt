@@ -1,33 +1,16 @@
 -- What a replay writes, over the rules of a station: this project's profile.
 use Rattle.std.specs.Prelude.{ℕ, Bool, true, false, ◌&&◌, is_ok, Result, Ok, Err, List, [], ◌∷◌, ◌++◌}
-use Rattle.std.specs.List.{flat_map}
-use Rattle.area_rules.specs.declared.acts.Act.{Act}
-use Rattle.area_rules.specs.declared.refusals.StationRefusal.{StationRefusal}
 use Rattle.area_rules.specs.Histories.{History}
 use Rattle.area_rules.specs.Rules.{Rules, answer_to, continued}
 use Rattle.act_texts.specs.Moments.{at_moment}
-use Rattle.act_texts.specs.ActTexts.{act_text}
-use Rattle.act_texts.specs.RefusalTexts.{refusal_text}
+use Rattle.station_lines.specs.Answers.{answer_lines}
 use Rattle.dsc_texts.specs.Texts.{answer_text}
 use Rattle.traffic_replay.specs.declared.outcomes.Unreported.{Unreported}
 use Rattle.traffic_replay.specs.Happenings.{Happening}
 
--- the line of an act
-unfoldable pub act_line : (at : ℕ) → Act → List ℕ
-act_line at act = act_text at act ++ 10 ∷ []
-
--- the line of a refusal
-unfoldable pub refusal_line : (at : ℕ) → StationRefusal → List ℕ
-refusal_line at refusal = refusal_text at refusal ++ 10 ∷ []
-
 -- the line of a group that isn't reported: the moment stands in front of its answer
 unfoldable pub unreported_line : (at : ℕ) → Unreported → List ℕ
 unreported_line at unreported = at_moment at (answer_text unreported.group unreported.answer ++ 10 ∷ [])
-
--- the lines of what a station answers: one for each act in order, or that of the refusal
-abbrev pub answer_lines : (at : ℕ) → Result (List Act) StationRefusal → List ℕ
-answer_lines at (Ok acts) = flat_map (act_line at) acts
-answer_lines at (Err refusal) = refusal_line at refusal
 
 module _ {What : Type 0} (rules : Rules What) where
   -- the history behind what happens: an event is put last unless it is refused, and a group that isn't reported is no event

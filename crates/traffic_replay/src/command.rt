@@ -1,31 +1,35 @@
 ghost use Rattle.std.specs.Prelude.{◌≡◌, ◌⊎◌, ◌∷◌, ◌++◌, ◌≤◌, ◌<◌, ℕ, List, [], length, OnOk, IfErr};
 ghost use Rattle.line_engine.specs.Commands.{KeepsText};
-ghost use Rattle.dsc_files.specs.PointLine.{PointLine, joined, traffic};
-ghost use Rattle.dsc_files.specs.JoinLine.{JoinLine};
-ghost use Rattle.dsc_files.specs.Lines.{SaysAtPoint};
+ghost use Rattle.dsc_files.specs.PointLine.{PointLine as Line, joined, traffic};
+ghost use Rattle.dsc_files.specs.JoinLine.{JoinLine as ReceiverLine};
+ghost use Rattle.dsc_files.specs.Lines.{Says, SaysAtPoint};
 ghost use Rattle.traffic_lines.specs.declared.lines.Point.TheVariants as At;
 ghost use Rattle.traffic_lines.specs.declared.lines.TrafficLine.TheVariants as station;
 ghost use Rattle.slot_evidence.specs.Facts.{Facts, facts_of};
 ghost use Rattle.slot_evidence.specs.Sheet.{IsEnds};
-ghost use Rattle.receiver_pool.specs.Joining.{JoinsBatches};
 ghost use Rattle.join_groups.specs.Holds.{HoldsSome};
 ghost use Rattle.join_groups.specs.Meanings.{BringsTooMany};
 ghost use Rattle.traffic_replay.specs.Said.{Said};
 ghost use Rattle.traffic_replay.specs.HeardGroups.{of_receivers};
 ghost use Rattle.traffic_replay.specs.Meaning.{replay_meaning};
-ghost use Rattle.traffic_replay.specs.inside.Progress.{Keeps, StandsFor, IsAmongGroups, IsEventAt, IsReady, IsShown, BringsGroup};
+ghost use Rattle.traffic_replay.specs.inside.Progress.{Keeps, StandsFor, IsAmongGroups, IsEventAt, IsReady, IsReadyFor, IsShort, IsShown, BringsGroup};
 ghost use Rattle.traffic_replay.specs.inside.Gives.{gives_text};
 
 use crate::stations::Station;
 use crate::steps::{happen_at_coast, happen_at_ship};
+use area_rules::Acts;
+use arrayvec::ArrayVec;
 use call_values::bounds::LAST_BASE;
 use call_values::{Band, Mmsi};
 use coast_station::Coast;
-use dsc_files::{EventLine, FileKind, Line, LineFault, Point, Status, line_of, one_point_line};
+use dsc_files::{
+    EventLine, JoinLine, LineFault, Point, PointLine, Status, TrafficLine, one_point_line,
+    point_line,
+};
 use join_groups::Groups;
 use line_engine::{Command, Refusal};
 use phasing::LONGEST;
-use receiver_pool::{Heard, Shown, Workers};
+use receiver_pool::Joiner;
 use ship_station::Ship;
 use slot_evidence::{Reception, Sheet};
 use std::alloc::{AllocError, Global};
@@ -45,6 +49,8 @@ pub struct Replay {
     pub(crate) heard: Groups,
     /// No event was refused, and each heard group was reported.
     pub(crate) is_well: bool,
+    /// What the station did at the last event; one list serves every event.
+    acts: Acts,
 }
 
 impl Replay {
@@ -62,45 +68,79 @@ impl Replay {
             station: Station::Ship(Ship::new(nobody, &[])),
             heard: Groups::new(alloc),
             is_well: true,
+            acts: ArrayVec::new(),
         }
     }
 
     /// Takes a line that was read.
-    fn take_read<J: Drop + Fn(&[Heard]) -> Result<Vec<Shown>, AllocError>>(
+    fn take_read<W: Joiner>(
         &mut self,
-        workers: &Workers<J>,
-        read: Line,
+        workers: &W,
+        read: PointLine,
         out: &mut Vec<u8>,
     ) -> Result<(), Refusal>
         requires ready { IsReady self.old read }
-        requires joins { JoinsBatches (J.pre workers.now.join) (J.post workers.now.join) }
-        ensures ok { OnOk result ((said : Said) (says : PointLine) (text : List ℕ) → Keeps self.old said (text ++ out.old.items) → SaysAtPoint says read
+        requires joins { W.can_join workers.now }
+        ensures ok { OnOk result ((said : Said) (says : Line) (text : List ℕ) → Keeps self.old said (text ++ out.old.items) → SaysAtPoint says read
             → (BringsGroup said says → ⊥) × Keeps self.new (says ∷ said) (text ++ out.new.items)) }
-        ensures err { IfErr result (λ refusal. (refusal ≡ Refusal.Memory) ⊎ ((said : Said) (says : PointLine) (text : List ℕ)
+        ensures err { IfErr result (λ refusal. (refusal ≡ Refusal.Memory) ⊎ ((said : Said) (says : Line) (text : List ℕ)
             → Keeps self.old said (text ++ out.old.items) → SaysAtPoint says read → (refusal ≡ Refusal.TooManyGroups) × BringsGroup said says)) }
         ensures unsaid { IfErr result (λ refusal. KeepsText refusal out.old.items out.new.items) }
     {
         match read {
-            Line::Ship(mmsi) => {
+            PointLine::Joined(says) => self.take_joined(workers, says),
+            PointLine::Traffic(says) => self.take_traffic(workers, &says, out),
+        }
+    }
+
+    /// Takes a line of receivers, or one that says nothing.
+    fn take_joined<W: Joiner>(&mut self, workers: &W, read: JoinLine) -> Result<(), Refusal>
+        requires short { IsShort read }
+        requires ready { HoldsSome self.old.heard }
+        requires joins { W.can_join workers.now }
+        ensures ok { OnOk result ((said : Said) (line : ReceiverLine) (text : List ℕ) → Keeps self.old said text → Says line read
+            → (BringsTooMany (of_receivers said) line → ⊥) × Keeps self.new (joined line ∷ said) text) }
+        ensures err { IfErr result (λ refusal. (refusal ≡ Refusal.Memory) ⊎ ((said : Said) (line : ReceiverLine) (text : List ℕ) → Keeps self.old said text
+            → Says line read → (refusal ≡ Refusal.TooManyGroups) × BringsTooMany (of_receivers said) line)) }
+    {
+        match read {
+            JoinLine::Nothing => Ok(()),
+            JoinLine::Reception { group, elements } => self.hear(workers, group, elements),
+            JoinLine::Evidence { group, sheet } => self.meet(group, &sheet),
+        }
+    }
+
+    /// Takes a line of the station.
+    fn take_traffic<W: Joiner>(
+        &mut self,
+        workers: &W,
+        says: &TrafficLine,
+        out: &mut Vec<u8>,
+    ) -> Result<(), Refusal>
+        requires ready { IsReadyFor self.old says.now }
+        requires joins { W.can_join workers.now }
+        ensures ok { OnOk result ((said : Said) (text : List ℕ) → Keeps self.old said (text ++ out.old.items)
+            → Keeps self.new (traffic says.now ∷ said) (text ++ out.new.items)) }
+        ensures err { IfErr result (λ refusal. refusal ≡ Refusal.Memory) }
+    {
+        match *says {
+            TrafficLine::Ship(mmsi) => {
                 self.name_ship(mmsi);
                 Ok(())
             }
-            Line::Coast(mmsi, band) => {
+            TrafficLine::Coast(mmsi, band) => {
                 self.name_coast(mmsi, band);
                 Ok(())
             }
-            Line::Base(second) => {
+            TrafficLine::Base(second) => {
                 self.name_base(second);
                 Ok(())
             }
-            Line::Group(mmsi) => self.name_group(mmsi),
-            Line::Reception { group, elements } => self.hear(workers, group, elements),
-            Line::Evidence { group, sheet } => self.meet(group, &sheet),
-            Line::Event { at, what } => {
+            TrafficLine::Group(mmsi) => self.name_group(mmsi),
+            TrafficLine::Event { at, what } => {
                 self.happen(workers, at, &what, out)?;
                 Ok(())
             }
-            Line::Nothing | Line::Call { .. } | Line::Sentence => Ok(()),
         }
     }
 
@@ -153,9 +193,9 @@ impl Replay {
     /// Takes in what a line showed of its group.
     fn meet(&mut self, group: u32, shown: &Sheet) -> Result<(), Refusal>
         requires { HoldsSome self.old.heard }
-        ensures ok { OnOk result ((said : Said) (line : JoinLine) (G : Facts) (text : List ℕ) → Keeps self.old said text → IsShown line group G → IsEnds G shown.now
+        ensures ok { OnOk result ((said : Said) (line : ReceiverLine) (G : Facts) (text : List ℕ) → Keeps self.old said text → IsShown line group G → IsEnds G shown.now
             → (BringsTooMany (of_receivers said) line → ⊥) × Keeps self.new (joined line ∷ said) text) }
-        ensures err { IfErr result (λ refusal. (refusal ≡ Refusal.Memory) ⊎ ((said : Said) (line : JoinLine) (G : Facts) (text : List ℕ) → Keeps self.old said text
+        ensures err { IfErr result (λ refusal. (refusal ≡ Refusal.Memory) ⊎ ((said : Said) (line : ReceiverLine) (G : Facts) (text : List ℕ) → Keeps self.old said text
             → IsShown line group G → (refusal ≡ Refusal.TooManyGroups) × BringsTooMany (of_receivers said) line)) }
     {
         match self.heard.meet(group, shown) {
@@ -168,18 +208,13 @@ impl Replay {
     }
 
     /// Takes in what a receiver heard of its group.
-    fn hear<J: Drop + Fn(&[Heard]) -> Result<Vec<Shown>, AllocError>>(
-        &mut self,
-        workers: &Workers<J>,
-        group: u32,
-        heard: Reception,
-    ) -> Result<(), Refusal>
+    fn hear<W: Joiner>(&mut self, workers: &W, group: u32, heard: Reception) -> Result<(), Refusal>
         requires short { length heard ≤ LONGEST }
         requires ready { HoldsSome self.old.heard }
-        requires joins { JoinsBatches (J.pre workers.now.join) (J.post workers.now.join) }
-        ensures ok { OnOk result ((said : Said) (line : JoinLine) (text : List ℕ) → Keeps self.old said text → IsShown line group (facts_of heard)
+        requires joins { W.can_join workers.now }
+        ensures ok { OnOk result ((said : Said) (line : ReceiverLine) (text : List ℕ) → Keeps self.old said text → IsShown line group (facts_of heard)
             → (BringsTooMany (of_receivers said) line → ⊥) × Keeps self.new (joined line ∷ said) text) }
-        ensures err { IfErr result (λ refusal. (refusal ≡ Refusal.Memory) ⊎ ((said : Said) (line : JoinLine) (G : Facts) (text : List ℕ) → Keeps self.old said text
+        ensures err { IfErr result (λ refusal. (refusal ≡ Refusal.Memory) ⊎ ((said : Said) (line : ReceiverLine) (G : Facts) (text : List ℕ) → Keeps self.old said text
             → IsShown line group G → (refusal ≡ Refusal.TooManyGroups) × BringsTooMany (of_receivers said) line)) }
     {
         match self.heard.hear(workers, group, heard) {
@@ -192,29 +227,32 @@ impl Replay {
     }
 
     /// Goes through what happens at a moment, and appends what is written of it.
-    fn happen<J: Drop + Fn(&[Heard]) -> Result<Vec<Shown>, AllocError>>(
+    fn happen<W: Joiner>(
         &mut self,
-        workers: &Workers<J>,
+        workers: &W,
         at: u32,
         what: &EventLine,
         out: &mut Vec<u8>,
     ) -> Result<(), AllocError>
         requires heard { HoldsSome self.old.heard }
-        requires joins { JoinsBatches (J.pre workers.now.join) (J.post workers.now.join) }
+        requires joins { W.can_join workers.now }
         requires within { self.old.base ≤ LAST_BASE }
         requires event { IsEventAt self.old.station what.now }
         ensures { OnOk result ((said : Said) (text : List ℕ) → Keeps self.old said (text ++ out.old.items)
             → Keeps self.new (traffic (station.Event at what.now) ∷ said) (text ++ out.new.items)) }
     {
         self.point = self.station.among_events();
+        let heard = &mut self.heard;
+        let acts = &mut self.acts;
         match &mut self.station {
             Station::Ship(ship) => {
-                let heard = &mut self.heard;
-                self.is_well &= happen_at_ship(ship, heard, workers, self.base, at, what, out)?;
+                self.is_well &= happen_at_ship(
+                    ship, heard, workers, self.base, at, what, acts, out,
+                )?;
                 Ok(())
             }
             Station::Coast(coast) => {
-                self.is_well &= happen_at_coast(coast, &mut self.heard, workers, at, what, out)?;
+                self.is_well &= happen_at_coast(coast, heard, workers, at, what, acts, out)?;
                 Ok(())
             }
         }
@@ -223,14 +261,14 @@ impl Replay {
 
 /// The command that replays a traffic file. Workers join the receptions of its groups.
 #[derive(Drop)]
-pub struct Replaying<J> {
-    workers: Workers<J>,
+pub struct Replaying<W: Joiner> {
+    workers: W,
     replay: Replay,
 }
 
-impl<J: Drop + Fn(&[Heard]) -> Result<Vec<Shown>, AllocError>> Replaying<J> {
+impl<W: Joiner> Replaying<W> {
     /// The command before its first line.
-    pub fn new(alloc: Global, workers: Workers<J>) -> Replaying<J>
+    pub fn new(alloc: Global, workers: W) -> Replaying<W>
         ensures replay { StandsFor result.replay [] [] }
         ensures workers { result.workers ≡ workers }
     {
@@ -241,18 +279,14 @@ impl<J: Drop + Fn(&[Heard]) -> Result<Vec<Shown>, AllocError>> Replaying<J> {
     }
 }
 
-impl<J: Drop + Fn(&[Heard]) -> Result<Vec<Shown>, AllocError>> Command for Replaying<J> {
+impl<W: Joiner> Command for Replaying<W> {
     ghost meaning = { replay_meaning };
 
-    ghost stands_for = { λ command lines text. JoinsBatches (J.pre command.workers.join) (J.post command.workers.join) × StandsFor command.replay lines text };
+    ghost stands_for = { λ command lines text. W.can_join command.workers × StandsFor command.replay lines text };
 
     fn take(&mut self, line: &[u8], out: &mut Vec<u8>) -> Result<(), Refusal> {
         one_point_line();
-        match line_of(
-            self.replay.alloc,
-            FileKind::Traffic(self.replay.point),
-            line,
-        ) {
+        match point_line(self.replay.alloc, self.replay.point, line) {
             Ok(read) => self.replay.take_read(&self.workers, read, out),
             Err(LineFault::Column(n)) => Err(Refusal::Column(n)),
             Err(LineFault::NoMemory) => Err(Refusal::Memory),

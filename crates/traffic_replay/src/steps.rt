@@ -1,7 +1,6 @@
 ghost use Rattle.std.specs.Prelude.{◌≡◌, ◌<◌, ◌≤◌, ◌∷◌, ◌++◌, ℕ, false, is_ok, length, OnOk, IfOk};
-ghost use Rattle.std.specs.List.{flat_map};
 ghost use Rattle.area_rules.specs.Histories.{History};
-ghost use Rattle.area_rules.specs.Rules.{listed, answer_to, continued};
+ghost use Rattle.area_rules.specs.Rules.{answer_to, continued};
 ghost use Rattle.ship_station.specs.declared.events.ShipWhat.{ShipWhat as AtShip};
 ghost use Rattle.ship_station.specs.ShipRules.{Identities, ship_rules};
 ghost use Rattle.ship_station.specs.Stands.{Stands as ShipStands};
@@ -11,57 +10,27 @@ ghost use Rattle.coast_station.specs.Stands.{Stands as CoastStands};
 ghost use Rattle.traffic_lines.specs.declared.lines.TrafficLine.TheVariants as line;
 ghost use Rattle.traffic_lines.specs.Lines.{IsShipEvent, IsCoastEvent};
 ghost use Rattle.dsc_files.specs.PointLine.{traffic};
-ghost use Rattle.receiver_pool.specs.Joining.{JoinsBatches};
 ghost use Rattle.join_groups.specs.Holds.{HoldsSome};
 ghost use Rattle.traffic_replay.specs.Said.{Said, base_of};
 ghost use Rattle.traffic_replay.specs.Happenings.{taking_ship, taking_coast};
-ghost use Rattle.traffic_replay.specs.Output.{act_line, refusal_line, unreported_line, answer_lines};
+ghost use Rattle.station_lines.specs.Answers.{answer_lines};
+ghost use Rattle.traffic_replay.specs.Output.{unreported_line};
 ghost use Rattle.traffic_replay.specs.inside.Happens.{Happens};
 ghost use Rattle.traffic_replay.specs.inside.Kept.{KeepsGroups};
 
 use crate::heard::hear;
-use crate::outcomes::{Unreported, coast_event, heard_call, ship_event};
-use act_texts::{put_act, put_refused};
-use area_rules::{Act, Acts, StationRefusal};
+use crate::outcomes::{Unreported, heard_call};
+use area_rules::Acts;
 use call_values::bounds::LAST_BASE;
 use coast_station::{Coast, CoastEvent, CoastWhat};
 use dsc_files::EventLine;
 use dsc_texts::put_answer_line;
 use itoa::Buffer;
 use join_groups::{Groups, MOST_IN_BATCH};
-use receiver_pool::{Heard, Shown, Workers};
+use receiver_pool::Joiner;
 use ship_station::{Ship, ShipEvent, ShipWhat};
+use station_lines::{append_answer, coast_event, ship_event};
 use std::alloc::AllocError;
-
-/// Appends the line of an act.
-#[tactic(auto, unfolding(crate::specs::Output::act_line))]
-fn append_act(out: &mut Vec<u8>, at: u32, act: &Act) -> Result<(), AllocError>
-    ensures { OnOk result (out.new.items ≡ out.old.items ++ act_line at act.now) }
-{
-    out.extend_from_slice(&put_act(at, act))?;
-    out.extend_from_slice(b"\n")?;
-    Ok(())
-}
-
-/// Appends the lines of acts.
-fn append_acts(out: &mut Vec<u8>, at: u32, acts: &[Act]) -> Result<(), AllocError>
-    ensures { OnOk result (out.new.items ≡ out.old.items ++ flat_map (act_line at) acts.now) }
-{
-    for act in acts {
-        append_act(out, at, act)?;
-    }
-    Ok(())
-}
-
-/// Appends the line of a refusal.
-#[tactic(auto, unfolding(crate::specs::Output::refusal_line))]
-fn append_refusal(out: &mut Vec<u8>, at: u32, refusal: &StationRefusal) -> Result<(), AllocError>
-    ensures { OnOk result (out.new.items ≡ out.old.items ++ refusal_line at refusal.now) }
-{
-    out.extend_from_slice(&put_refused(at, refusal))?;
-    out.extend_from_slice(b"\n")?;
-    Ok(())
-}
 
 /// Appends the line of a heard group that isn't reported, and tells that no event was accepted.
 #[tactic(auto, unfolding(crate::specs::Output::unreported_line))]
@@ -80,32 +49,12 @@ fn append_unreported(
     Ok(false)
 }
 
-/// Appends the lines of what a station answers, and tells whether it accepted the event.
-fn append_answer(
-    out: &mut Vec<u8>,
-    at: u32,
-    answer: &Result<Acts, StationRefusal>,
-) -> Result<bool, AllocError>
-    ensures lines { OnOk result (out.new.items ≡ out.old.items ++ answer_lines at (listed answer.now)) }
-    ensures accepted { IfOk result (λ accepted. accepted ≡ is_ok (listed answer.now)) }
-{
-    match answer {
-        Ok(acts) => {
-            append_acts(out, at, acts)?;
-            Ok(true)
-        }
-        Err(refusal) => {
-            append_refusal(out, at, refusal)?;
-            Ok(false)
-        }
-    }
-}
-
 /// Gives the ship an event, appends the lines of what it answers, and tells whether it accepted the event.
 fn step_ship(
     ship: &mut Ship,
     at: u32,
     what: ShipWhat,
+    acts: &mut Acts,
     out: &mut Vec<u8>,
 ) -> Result<bool, AllocError>
     ensures stands { OnOk result ((who : Identities) (h : History AtShip) → ShipStands ship.old who h → ShipStands ship.new who (continued (ship_rules who) h at what)) }
@@ -117,7 +66,8 @@ fn step_ship(
         at: u64::from(at),
         what,
     };
-    let accepted = append_answer(out, at, &ship.step(&event))?;
+    let answer = ship.step_into(&event, acts);
+    let accepted = append_answer(out, at, &answer, acts)?;
     Ok(accepted)
 }
 
@@ -126,6 +76,7 @@ fn step_coast(
     coast: &mut Coast,
     at: u32,
     what: CoastWhat,
+    acts: &mut Acts,
     out: &mut Vec<u8>,
 ) -> Result<bool, AllocError>
     ensures stands { OnOk result ((who : Station) (h : History AtCoast) → CoastStands coast.old who h → CoastStands coast.new who (continued (coast_rules who) h at what)) }
@@ -137,24 +88,26 @@ fn step_coast(
         at: u64::from(at),
         what,
     };
-    let accepted = append_answer(out, at, &coast.step(&event))?;
+    let answer = coast.step_into(&event, acts);
+    let accepted = append_answer(out, at, &answer, acts)?;
     Ok(accepted)
 }
 
 /// Goes through what happens at an event line of a ship's file: appends what is written of it, and tells whether an event
 /// was accepted.
-pub(crate) fn happen_at_ship<J: Drop + Fn(&[Heard]) -> Result<Vec<Shown>, AllocError>>(
+pub(crate) fn happen_at_ship<W: Joiner>(
     ship: &mut Ship,
     groups: &mut Groups,
-    workers: &Workers<J>,
+    workers: &W,
     base: u64,
     at: u32,
     what: &EventLine,
+    acts: &mut Acts,
     out: &mut Vec<u8>,
 ) -> Result<bool, AllocError>
     requires within { base ≤ LAST_BASE }
     requires heard { HoldsSome groups.old }
-    requires joins { JoinsBatches (J.pre workers.now.join) (J.post workers.now.join) }
+    requires joins { W.can_join workers.now }
     requires event { IsShipEvent what.now }
     ensures kept { OnOk result ((said : Said) → KeepsGroups groups.old said → KeepsGroups groups.new (traffic (line.Event at what.now) ∷ said)) }
     ensures few { OnOk result (length groups.old.batch.items < MOST_IN_BATCH → length groups.new.batch.items < MOST_IN_BATCH) }
@@ -165,14 +118,14 @@ pub(crate) fn happen_at_ship<J: Drop + Fn(&[Heard]) -> Result<Vec<Shown>, AllocE
     if let EventLine::Heard(group) = *what {
         let answer = hear(groups, workers, group)?;
         let accepted = match heard_call(group, &answer) {
-            Ok(call) => step_ship(ship, at, ShipWhat::Heard(call), out)?,
+            Ok(call) => step_ship(ship, at, ShipWhat::Heard(call), acts, out)?,
             Err(unreported) => append_unreported(out, at, &unreported)?,
         };
         return Ok(accepted);
     }
     match ship_event(base, at, what) {
         Some(event) => {
-            let accepted = step_ship(ship, at, event, out)?;
+            let accepted = step_ship(ship, at, event, acts, out)?;
             Ok(accepted)
         }
         None => unreachable!(),
@@ -180,16 +133,17 @@ pub(crate) fn happen_at_ship<J: Drop + Fn(&[Heard]) -> Result<Vec<Shown>, AllocE
 }
 
 /// The same at an event line of a coast station's file.
-pub(crate) fn happen_at_coast<J: Drop + Fn(&[Heard]) -> Result<Vec<Shown>, AllocError>>(
+pub(crate) fn happen_at_coast<W: Joiner>(
     coast: &mut Coast,
     groups: &mut Groups,
-    workers: &Workers<J>,
+    workers: &W,
     at: u32,
     what: &EventLine,
+    acts: &mut Acts,
     out: &mut Vec<u8>,
 ) -> Result<bool, AllocError>
     requires heard { HoldsSome groups.old }
-    requires joins { JoinsBatches (J.pre workers.now.join) (J.post workers.now.join) }
+    requires joins { W.can_join workers.now }
     requires event { IsCoastEvent what.now }
     ensures kept { OnOk result ((said : Said) → KeepsGroups groups.old said → KeepsGroups groups.new (traffic (line.Event at what.now) ∷ said)) }
     ensures few { OnOk result (length groups.old.batch.items < MOST_IN_BATCH → length groups.new.batch.items < MOST_IN_BATCH) }
@@ -200,14 +154,14 @@ pub(crate) fn happen_at_coast<J: Drop + Fn(&[Heard]) -> Result<Vec<Shown>, Alloc
     if let EventLine::Heard(group) = *what {
         let answer = hear(groups, workers, group)?;
         let accepted = match heard_call(group, &answer) {
-            Ok(call) => step_coast(coast, at, CoastWhat::Heard(call), out)?,
+            Ok(call) => step_coast(coast, at, CoastWhat::Heard(call), acts, out)?,
             Err(unreported) => append_unreported(out, at, &unreported)?,
         };
         return Ok(accepted);
     }
     match coast_event(what) {
         Some(event) => {
-            let accepted = step_coast(coast, at, event, out)?;
+            let accepted = step_coast(coast, at, event, acts, out)?;
             Ok(accepted)
         }
         None => unreachable!(),

@@ -12,8 +12,8 @@ use Rattle.area_rules.specs.Holding.{Places, with_place, sent_at}
 use Rattle.area_rules.specs.Moments.{has_passed}
 use Rattle.traffic_rules.specs.HeldTold.{answer_wait, is_sent}
 use Rattle.traffic_rules.specs.Repeating.{repeated, ticked, repeats}
-use Rattle.traffic_rules.specs.Sending.{asks}
 use Rattle.traffic_rules.specs.Sendings.{sends, times_by, times_in}
+use Rattle.traffic_rules.specs.TrafficActs.{IsSentSuch, AreSentSuch}
 
 module _ (p : Call → Bool) where
   -- such a call that was sent once is held
@@ -87,33 +87,27 @@ module _ (p : Call → Bool) where
       let rest = none_in acts parts.1 in
       omega arith
 
--- a call that is held as sent asks for an acknowledgement
-abbrev pub IsAsking : Option Holding → Type 0
-IsAsking None = Unit {0}
-IsAsking (Some x) = is_sent x.side ≡ true → asks x.call ≡ true
+-- what is held as sent is such a call still, after a place is set and after a tick
+module _ (q : Call → Bool) where
+  set_such : (places : Places) (i : ℕ) (o : Option Holding) → IsSentSuch q o → AreSentSuch q places → AreSentSuch q (slice_set places i o)
+  set_such [] i o new are = are
+  set_such (x ∷ places) zero o new are = (new, are.1)
+  set_such (x ∷ places) (suc i) o new are = (are.0, set_such places i o new are.1)
 
-abbrev pub AreAsking : Places → Type 0
-AreAsking [] = Unit {0}
-AreAsking (o ∷ places) = IsAsking o × AreAsking places
+  pub placed_such : (places : Places) (n : ℕ) (o : Option Holding) → IsSentSuch q o → AreSentSuch q places → AreSentSuch q (with_place places n o)
+  placed_such places zero o new are = are
+  placed_such places (suc i) o new are = set_such places i o new are
 
-set_asking : (places : Places) (i : ℕ) (o : Option Holding) → IsAsking o → AreAsking places → AreAsking (slice_set places i o)
-set_asking [] i o new are = are
-set_asking (x ∷ places) zero o new are = (new, are.1)
-set_asking (x ∷ places) (suc i) o new are = (are.0, set_asking places i o new are.1)
+  ticked_by : (late once : Bool) (at : ℕ) (x : Holding) → IsSentSuch q (Some x)
+      → IsSentSuch q (if late then (if once then sent_at at (Some x) else None) else Some x)
+  ticked_by true true at x is = is
+  ticked_by true false at x is = tt
+  ticked_by false once at x is = is
 
-pub placed_asking : (places : Places) (n : ℕ) (o : Option Holding) → IsAsking o → AreAsking places → AreAsking (with_place places n o)
-placed_asking places zero o new are = are
-placed_asking places (suc i) o new are = set_asking places i o new are
+  one_such : (at : ℕ) (o : Option Holding) → IsSentSuch q o → IsSentSuch q (ticked at o)
+  one_such at None is = tt
+  one_such at (Some x) is = ticked_by (is_sent x.side && has_passed answer_wait x.at at) (x.times == 1) at x is
 
-ticked_by : (late once : Bool) (at : ℕ) (x : Holding) → IsAsking (Some x) → IsAsking (if late then (if once then sent_at at (Some x) else None) else Some x)
-ticked_by true true at x is = is
-ticked_by true false at x is = tt
-ticked_by false once at x is = is
-
-one_asking : (at : ℕ) (o : Option Holding) → IsAsking o → IsAsking (ticked at o)
-one_asking at None is = tt
-one_asking at (Some x) is = ticked_by (is_sent x.side && has_passed answer_wait x.at at) (x.times == 1) at x is
-
-pub ticked_asking : (at : ℕ) (places : Places) → AreAsking places → AreAsking (map (ticked at) places)
-ticked_asking at [] are = tt
-ticked_asking at (o ∷ places) are = (one_asking at o are.0, ticked_asking at places are.1)
+  pub ticked_such : (at : ℕ) (places : Places) → AreSentSuch q places → AreSentSuch q (map (ticked at) places)
+  ticked_such at [] are = tt
+  ticked_such at (o ∷ places) are = (one_such at o are.0, ticked_such at places are.1)

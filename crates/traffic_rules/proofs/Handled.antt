@@ -26,21 +26,23 @@ use Rattle.traffic_rules.specs.Answering.{reply_to, reply_due_to, answer_due}
 use Rattle.traffic_rules.specs.Repeating.{is_overdue, repeated, repeats}
 use Rattle.traffic_rules.specs.Hearing.{Whereabouts, is_question, is_got, distress_told, question_due, answered_number, answered_or_shown, position_told, due_at_once, heard_due}
 use Rattle.traffic_rules.specs.Sendings.{asking, sends, is_holding, times_in, sends_and_holds, times_held, times_sent, times_sent_again}
+use Rattle.traffic_rules.specs.TrafficActs.{AreSentSuch}
 use Rattle.traffic_rules.specs.After.{held_at, freed_at, after_sending, after_answering, after_tick, after_question, after_hearing}
-use Rattle.traffic_rules.proofs.Counts.{waiting, times_append, all_sent_again, placed, none_in, AreAsking, placed_asking, ticked_asking}
+use Rattle.traffic_rules.proofs.Counts.{waiting, times_append, all_sent_again, placed, none_in, placed_such, ticked_such}
+use Rattle.traffic_rules.proofs.Plain.{may_be_sent}
 use Rattle.traffic_rules.proofs.HeldLists.{nothing_held}
 
 -- one call in the acts is sent and held
 abbrev pub one_held : (sends_one holds_one : Bool) → ℕ
 one_held sends_one holds_one = if sends_one && holds_one then 1 else 0
 
--- what is sent at an event is held as it is sent, or it was sent before, at a tick; and what is held as sent asks for an acknowledgement
-pub record Handles (p : Call → Bool) (tick : Bool) (acts : List Act) (before after : Places) : Type 0 where
+-- what is sent at an event is held as it is sent, or it was sent before, at a tick; and what is held as sent may be sent by an operator
+pub record Handles (own : ℕ) (p : Call → Bool) (tick : Bool) (acts : List Act) (before after : Places) : Type 0 where
   pub first : times_in p acts ≡ one_held (list_any (sends p) acts) (list_any is_holding acts) + (if tick then times_in p acts else 0)
   pub again : (if tick then times_in p acts else 0) + waiting p after ≤ waiting p before + one_held (list_any (sends p) acts) (list_any is_holding acts)
-  pub asks_still : AreAsking before → AreAsking after
+  pub may_still : AreSentSuch (is_sendable own) before → AreSentSuch (is_sendable own) after
 
-module _ (p : Call → Bool) where
+module _ (own : ℕ) (p : Call → Bool) where
   silent_first : (t : ℕ) (s holds : Bool) → t ≡ 0 → s ≡ false → t ≡ one_held s holds + 0
   silent_first t true holds zeroth none = absurd (false≢true (sym none))
   silent_first t false holds zeroth none = zeroth
@@ -50,27 +52,27 @@ module _ (p : Call → Bool) where
   silent_again before after false holds none less = omega arith
 
   -- acts that send no such call
-  pub handles_silent : (acts : List Act) (before after : Places) → list_any (sends p) acts ≡ false → waiting p after ≤ waiting p before → (AreAsking before → AreAsking after)
-      → Handles p false acts before after
+  pub handles_silent : (acts : List Act) (before after : Places) → list_any (sends p) acts ≡ false → waiting p after ≤ waiting p before → (AreSentSuch (is_sendable own) before → AreSentSuch (is_sendable own) after)
+      → Handles own p false acts before after
   handles_silent acts before after none less still = record {
     first = silent_first (times_in p acts) (list_any (sends p) acts) (list_any is_holding acts) (none_in p acts none) none;
     again = silent_again (waiting p before) (waiting p after) (list_any (sends p) acts) (list_any is_holding acts) none less;
-    asks_still = still;
+    may_still = still;
   }
 
   -- and leave what is held
-  pub handles_nothing : (acts : List Act) (places : Places) → list_any (sends p) acts ≡ false → Handles p false acts places places
+  pub handles_nothing : (acts : List Act) (places : Places) → list_any (sends p) acts ≡ false → Handles own p false acts places places
   handles_nothing acts places none = handles_silent acts places places none (omega arith) (λ are. are)
 
-  got_at : (o : Option ℕ) (places : Places) (call : Call) (at : ℕ) → (waiting p (held_at o places call Got at) ≤ waiting p places) × (AreAsking places → AreAsking (held_at o places call Got at))
+  got_at : (o : Option ℕ) (places : Places) (call : Call) (at : ℕ) → (waiting p (held_at o places call Got at) ≤ waiting p places) × (AreSentSuch (is_sendable own) places → AreSentSuch (is_sendable own) (held_at o places call Got at))
   got_at None places call at = (omega arith, λ are. are)
   got_at (Some n) places call at =
       let set = placed p places n (Some (newly_held call Got at)) in
-      (omega arith, λ are. placed_asking places n (Some (newly_held call Got at)) (λ sent. absurd (false≢true sent)) are)
+      (omega arith, λ are. placed_such (is_sendable own) places n (Some (newly_held call Got at)) (λ sent. absurd (false≢true sent)) are)
 
-  freed : (o : Option ℕ) (places : Places) → (waiting p (freed_at o places) ≤ waiting p places) × (AreAsking places → AreAsking (freed_at o places))
+  freed : (o : Option ℕ) (places : Places) → (waiting p (freed_at o places) ≤ waiting p places) × (AreSentSuch (is_sendable own) places → AreSentSuch (is_sendable own) (freed_at o places))
   freed None places = (omega arith, λ are. are)
-  freed (Some n) places = let set = placed p places n None in (omega arith, λ are. placed_asking places n None tt are)
+  freed (Some n) places = let set = placed p places n None in (omega arith, λ are. placed_such (is_sendable own) places n None tt are)
 
   tick_first : (t : ℕ) (s holds : Bool) → holds ≡ false → t ≡ one_held s holds + t
   tick_first t s true none = absurd (false≢true (sym none))
@@ -98,17 +100,17 @@ repeats_hold at n (o ∷ places) =
     ∙ ap (λ (b : Bool). b || list_any is_holding (repeats at (suc n) places)) (one_holds at n o) ∙ repeats_hold at (suc n) places
 
 -- a tick, with acts in front that send no such call
-pub handles_tick : (p : Call → Bool) (front : List Act) (at : ℕ) (places : Places) → list_any (sends p) front ≡ false → list_any is_holding front ≡ false
-    → Handles p true (front ++ repeats at 1 places) places (after_tick places at)
-handles_tick p front at places none none_held =
+pub handles_tick : (own : ℕ) (p : Call → Bool) (front : List Act) (at : ℕ) (places : Places) → list_any (sends p) front ≡ false → list_any is_holding front ≡ false
+    → Handles own p true (front ++ repeats at 1 places) places (after_tick places at)
+handles_tick own p front at places none none_held =
     let acts = front ++ repeats at 1 places in
     let holds = list_any-append is_holding front (repeats at 1 places)
     ∙ ap (λ (b : Bool). b || list_any is_holding (repeats at 1 places)) none_held ∙ repeats_hold at 1 places in
     record {
-      first = tick_first p (times_in p acts) (list_any (sends p) acts) (list_any is_holding acts) holds;
-      again = tick_again p (times_in p acts) (times_in p front) (times_in p (repeats at 1 places)) (waiting p places) (waiting p (after_tick places at))
+      first = tick_first own p (times_in p acts) (list_any (sends p) acts) (list_any is_holding acts) holds;
+      again = tick_again own p (times_in p acts) (times_in p front) (times_in p (repeats at 1 places)) (waiting p places) (waiting p (after_tick places at))
           (list_any (sends p) acts) (list_any is_holding acts) holds (times_append p front (repeats at 1 places)) (none_in p front none) (all_sent_again p at 1 places);
-      asks_still = ticked_asking at places;
+      may_still = ticked_such (is_sendable own) at places;
     }
 
 some_is_none : (r : StationRefusal) → Some r ≡ None → ⊥
@@ -140,11 +142,11 @@ module _ (is_such : Call → Bool) where
       ∙ ap (λ (b : Bool). b || list_any (sends counted) (if is_got places call then [] else held_under_least (first_free places))) (told_none call)
       ∙ got_none (is_got places call) (first_free places)
 
-  question_by : (got : Bool) (places : Places) (call : Call) (at : ℕ)
+  question_by : (own : ℕ) (got : Bool) (places : Places) (call : Call) (at : ℕ)
       → (waiting counted (if got then places else held_at (first_free places) places call Got at) ≤ waiting counted places)
-      × (AreAsking places → AreAsking (if got then places else held_at (first_free places) places call Got at))
-  question_by true places call at = (omega arith, λ are. are)
-  question_by false places call at = got_at counted (first_free places) places call at
+      × (AreSentSuch (is_sendable own) places → AreSentSuch (is_sendable own) (if got then places else held_at (first_free places) places call Got at))
+  question_by own true places call at = (omega arith, λ are. are)
+  question_by own false places call at = got_at own counted (first_free places) places call at
 
   shown_none : (o : Option ℕ) → list_any (sends counted) (answered_or_shown o) ≡ false
   shown_none None = refl
@@ -163,19 +165,19 @@ module _ (is_such : Call → Bool) where
   at_once_none own place _ = refl
 
   heard_by : (own : ℕ) (place : Option Whereabouts) (places : Places) (call : Call) (at : ℕ) (asked acked : Bool)
-      → Handles counted false (if asked then question_due places call else (if acked then answered_or_shown (answered_number places call) else due_at_once own place call)) places
+      → Handles own counted false (if asked then question_due places call else (if acked then answered_or_shown (answered_number places call) else due_at_once own place call)) places
       (if asked then after_question places call at else (if acked then freed_at (answered_number places call) places else places))
   heard_by own place places call at true acked =
-      let less = question_by (is_got places call) places call at in
-      handles_silent counted (question_due places call) places (after_question places call at) (question_none places call) less.0 less.1
+      let less = question_by own (is_got places call) places call at in
+      handles_silent own counted (question_due places call) places (after_question places call at) (question_none places call) less.0 less.1
   heard_by own place places call at false true =
-      let less = freed counted (answered_number places call) places in
-      handles_silent counted _ places _ (shown_none (answered_number places call)) less.0 less.1
-  heard_by own place places call at false false = handles_nothing counted _ places (at_once_none own place call)
+      let less = freed own counted (answered_number places call) places in
+      handles_silent own counted _ places _ (shown_none (answered_number places call)) less.0 less.1
+  heard_by own place places call at false false = handles_nothing own counted _ places (at_once_none own place call)
 
   -- a call is heard
   pub handles_heard : (own : ℕ) (place : Option Whereabouts) (places : Places) (call : Call) (at : ℕ)
-      → Handles counted false (heard_due own place places call) places (after_hearing places call at)
+      → Handles own counted false (heard_due own place places call) places (after_hearing places call at)
   handles_heard own place places call at = heard_by own place places call at (is_question call) (acknowledges call)
 
   reply_none : (own : ℕ) (accepts : Bool) (call : Call) → list_any (sends counted) (reply_to own accepts call) ≡ false
@@ -190,10 +192,10 @@ module _ (is_such : Call → Bool) where
   replied_none own accepts (Some x) = reply_none own accepts x.call
 
   -- a call is answered or declined
-  pub handles_answer : (own : ℕ) (places : Places) (number : ℕ) (accepts : Bool) → Handles counted false (answer_due own places number accepts) places (after_answering places number)
+  pub handles_answer : (own : ℕ) (places : Places) (number : ℕ) (accepts : Bool) → Handles own counted false (answer_due own places number accepts) places (after_answering places number)
   handles_answer own places number accepts =
       let set = placed counted places number None in
-      handles_silent counted _ places _ (replied_none own accepts (place_of places number)) (omega arith) (λ are. placed_asking places number None tt are)
+      handles_silent own counted _ places _ (replied_none own accepts (place_of places number)) (omega arith) (λ are. placed_such (is_sendable own) places number None tt are)
 
   held_first : (c : Bool) → (if c then 1 else 0) + (0 + 0) ≡ one_held (c || (false || false)) true + 0
   held_first true = refl
@@ -203,17 +205,17 @@ module _ (is_such : Call → Bool) where
   held_again before after true less = omega arith
   held_again before after false less = omega arith
 
-  send_by : (places : Places) (call : Call) (at : ℕ) (a : Bool) (o : Option ℕ) → asks call ≡ a → (a && is_none o) ≡ false
-      → Handles counted false (Send call 1 ∷ (if a then held_under_least o else [])) places (if a then held_at o places call Sent at else places)
-  send_by places call at false o is room = handles_nothing counted (Send call 1 ∷ []) places (ap (λ (b : Bool). (b && is_such call) || false) is)
-  send_by places call at true None is room = absurd (false≢true (sym room))
-  send_by places call at true (Some n) is room =
+  send_by : (own : ℕ) (places : Places) (call : Call) (at : ℕ) (a : Bool) (o : Option ℕ) → asks call ≡ a → is_sendable own call ≡ true → (a && is_none o) ≡ false
+      → Handles own counted false (Send call 1 ∷ (if a then held_under_least o else [])) places (if a then held_at o places call Sent at else places)
+  send_by own places call at false o is may room = handles_nothing own counted (Send call 1 ∷ []) places (ap (λ (b : Bool). (b && is_such call) || false) is)
+  send_by own places call at true None is may room = absurd (false≢true (sym room))
+  send_by own places call at true (Some n) is may room =
       let new = newly_held call Sent at in
       let set = placed counted places n (Some new) in
       record {
         first = held_first (counted call);
         again = held_again (waiting counted places) _ (counted call) set;
-        asks_still = λ are. placed_asking places n (Some new) (λ _. is) are;
+        may_still = λ are. placed_such (is_sendable own) places n (Some new) (λ _. may) are;
       }
 
   room_of : (must : Bool) (o : Option ℕ) → (if must && is_none o then Some Full else None) ≡ None → (must && is_none o) ≡ false
@@ -223,13 +225,13 @@ module _ (is_such : Call → Bool) where
 
   -- an operator's call is sent
   pub handles_send : (own : ℕ) (places : Places) (call : Call) (at : ℕ) → send_refusal own places call ≡ None
-      → Handles counted false (send_due places call) places (after_sending places call at)
+      → Handles own counted false (send_due places call) places (after_sending places call at)
   handles_send own places call at none =
-      send_by places call at (asks call) (first_free places) refl (room_of (asks call) (first_free places) (sendable (is_sendable own call) _ none))
+      send_by own places call at (asks call) (first_free places) refl (may_be_sent own places call none) (room_of (asks call) (first_free places) (sendable (is_sendable own call) _ none))
 
-none_ask : (n : ℕ) → AreAsking (replicate n None)
-none_ask zero = tt
-none_ask (suc n) = (tt, none_ask n)
+none_such : (q : Call → Bool) (n : ℕ) → AreSentSuch q (replicate n None)
+none_such q zero = tt
+none_such q (suc n) = (tt, none_such q n)
 
 if_more : (b : Bool) (n : ℕ) → (if b then suc n else n) ≡ (if b then 1 else 0) + n
 if_more true n = omega arith
@@ -241,8 +243,8 @@ sum_first t one tick sent held again here rest = omega arith
 sum_again : (tick after before one again held : ℕ) → tick + after ≤ before + one → again + before ≤ held → (tick + again) + after ≤ one + held
 sum_again tick after before one again held here rest = omega arith
 
-module _ {What : Type 0} (occurs : What → Occurrence) (rules : Rules What) (is_such : Call → Bool)
-    (each : (e : Entry What) (h : History What) → Follows rules e h → Handles (asking is_such) (is_tick (occurs e.what)) e.acts (all_held occurs h) (all_held occurs (e ∷ h))) where
+module _ {What : Type 0} (occurs : What → Occurrence) (rules : Rules What) (own : ℕ) (is_such : Call → Bool)
+    (each : (e : Entry What) (h : History What) → Follows rules e h → Handles own (asking is_such) (is_tick (occurs e.what)) e.acts (all_held occurs h) (all_held occurs (e ∷ h))) where
   -- what was sent again and what waits was held as it was sent
   pub sent_again_or_waits : (h : History What) → Legal rules h → times_sent_again occurs (asking is_such) h + waiting (asking is_such) (all_held occurs h) ≤ times_held (asking is_such) h
   sent_again_or_waits [] legal = subst (λ (places : Places). 0 + waiting (asking is_such) places ≤ 0) (sym (nothing_held occurs)) (omega arith)
@@ -266,7 +268,7 @@ module _ {What : Type 0} (occurs : What → Occurrence) (rules : Rules What) (is
   pub again_at_most : (h : History What) → Legal rules h → times_sent_again occurs (asking is_such) h ≤ times_held (asking is_such) h
   again_at_most h legal = less_of _ (waiting (asking is_such) (all_held occurs h)) _ (sent_again_or_waits h legal)
 
-  -- what is held as sent asks for an acknowledgement
-  pub held_ask : (h : History What) → Legal rules h → AreAsking (all_held occurs h)
-  held_ask [] legal = subst (λ (places : Places). AreAsking places) (sym (nothing_held occurs)) (none_ask MOST_HELD)
-  held_ask (e ∷ h) legal = (each e h legal.0).asks_still (held_ask h legal.1)
+  -- what is held as sent may be sent by an operator
+  pub held_sendable : (h : History What) → Legal rules h → AreSentSuch (is_sendable own) (all_held occurs h)
+  held_sendable [] legal = subst (λ (places : Places). AreSentSuch (is_sendable own) places) (sym (nothing_held occurs)) (none_such (is_sendable own) MOST_HELD)
+  held_sendable (e ∷ h) legal = (each e h legal.0).may_still (held_sendable h legal.1)

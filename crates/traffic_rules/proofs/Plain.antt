@@ -1,7 +1,6 @@
--- acts that send no distress alert, and each call once
-use Rattle.std.proofs.Common.{◌≡◌, ℕ, suc, ◌==◌, ◌&&◌, Bool, true, false, Option, Some, None, List, [], ◌∷◌, ◌++◌, if◌then◌else◌, refl}
-use Rattle.std.proofs.lemmas.Bool.{false≢true}
-use Rattle.std.specs.List.{AllByRecursion}
+-- acts by the rules of traffic send such calls alone, each once
+use Rattle.std.proofs.Common.{◌≡◌, ℕ, suc, ◌==◌, ◌&&◌, ◌||◌, Bool, true, false, Option, Some, None, List, [], ◌∷◌, ◌++◌, if◌then◌else◌, refl, ap}
+use Rattle.std.proofs.lemmas.Bool.{eq-eqb}
 use Rattle.call_values.specs.declared.calls.Call.{Call}
 use Rattle.call_values.specs.declared.calls.Call.TheVariants.{Alert, Ack, Relay, Individual, Service}
 use Rattle.call_values.specs.declared.choices.Category.{Category}
@@ -14,112 +13,121 @@ use Rattle.area_rules.specs.declared.refusals.StationRefusal.TheVariants.{NotSen
 use Rattle.area_rules.specs.Holding.{Places, place_of, first_free}
 use Rattle.area_rules.specs.Moments.{has_passed}
 use Rattle.traffic_rules.specs.HeldTold.{answer_wait, is_sent}
-use Rattle.traffic_rules.specs.Sending.{asks, acknowledges, held_under_least, send_refusal, send_due}
+use Rattle.traffic_rules.specs.Sending.{asks, acknowledges, is_sendable, held_under_least, send_refusal, send_due}
 use Rattle.traffic_rules.specs.Answering.{reply_to, reply_due_to, answer_due}
 use Rattle.traffic_rules.specs.Repeating.{repeated, repeats}
 use Rattle.traffic_rules.specs.Hearing.{Whereabouts, is_question, is_got, distress_told, question_due, answered_number, answered_or_shown, position_told, due_at_once, heard_due}
-use Rattle.traffic_rules.specs.Sendings.{is_alert}
-use Rattle.traffic_rules.proofs.Counts.{IsAsking, AreAsking}
+use Rattle.traffic_rules.specs.TrafficActs.{is_reply, is_of_traffic, AreTrafficActs, IsSentSuch, AreSentSuch}
 
--- what an act sends is no distress alert, and is sent once
-abbrev pub IsPlain : Act → Type 0
-IsPlain (Send call times) = (is_alert call ≡ false) × (times ≡ 1)
-IsPlain _ = Unit {0}
+module _ (q : Call → Bool) where
+  both : (xs ys : List Act) → AreTrafficActs q xs → AreTrafficActs q ys → AreTrafficActs q (xs ++ ys)
+  both [] ys first last = last
+  both (x ∷ xs) ys first last = (first.0, both xs ys first.1 last)
 
-abbrev pub ArePlain : List Act → Type 0
-ArePlain acts = AllByRecursion IsPlain acts
+  repeated_by : (n : ℕ) (x : Holding) (sent passed once : Bool) → is_sent x.side ≡ sent → IsSentSuch q (Some x)
+      → AreTrafficActs q (if sent && passed then (if once then Send x.call 1 ∷ [] else GaveUp n ∷ []) else [])
+  repeated_by n x true true true sent is = ((is sent, refl), tt)
+  repeated_by n x true true false sent is = (tt, tt)
+  repeated_by n x true false once sent is = tt
+  repeated_by n x false passed once sent is = tt
 
-plain_append : (xs ys : List Act) → ArePlain xs → ArePlain ys → ArePlain (xs ++ ys)
-plain_append [] ys first last = last
-plain_append (x ∷ xs) ys first last = (first.0, plain_append xs ys first.1 last)
+  one_repeated : (at n : ℕ) (o : Option Holding) → IsSentSuch q o → AreTrafficActs q (repeated at n o)
+  one_repeated at n None is = tt
+  one_repeated at n (Some x) is = repeated_by n x (is_sent x.side) (has_passed answer_wait x.at at) (x.times == 1) refl is
 
-asks_no_alert : (call : Call) → asks call ≡ true → is_alert call ≡ false
-asks_no_alert (Alert casualty) is = absurd (false≢true is)
-asks_no_alert _ is = refl
+  -- at a tick
+  pub plain_repeats : (at n : ℕ) (places : Places) → AreSentSuch q places → AreTrafficActs q (repeats at n places)
+  plain_repeats at n [] are = tt
+  plain_repeats at n (o ∷ places) are = both (repeated at n o) (repeats at (suc n) places) (one_repeated at n o are.0) (plain_repeats at (suc n) places are.1)
 
-plain_by : (n : ℕ) (x : Holding) (sent passed once : Bool) → is_sent x.side ≡ sent → IsAsking (Some x)
-    → ArePlain (if sent && passed then (if once then Send x.call 1 ∷ [] else GaveUp n ∷ []) else [])
-plain_by n x true true true sent is = ((asks_no_alert x.call (is sent), refl), tt)
-plain_by n x true true false sent is = (tt, tt)
-plain_by n x true false once sent is = tt
-plain_by n x false passed once sent is = tt
+  least : (o : Option ℕ) → AreTrafficActs q (held_under_least o)
+  least None = tt
+  least (Some n) = (tt, tt)
 
-plain_repeated : (at n : ℕ) (o : Option Holding) → IsAsking o → ArePlain (repeated at n o)
-plain_repeated at n None is = tt
-plain_repeated at n (Some x) is = plain_by n x (is_sent x.side) (has_passed answer_wait x.at at) (x.times == 1) refl is
+  held_or_not : (a : Bool) (o : Option ℕ) → AreTrafficActs q (if a then held_under_least o else [])
+  held_or_not true o = least o
+  held_or_not false o = tt
 
--- at a tick
-pub plain_repeats : (at n : ℕ) (places : Places) → AreAsking places → ArePlain (repeats at n places)
-plain_repeats at n [] are = tt
-plain_repeats at n (o ∷ places) are =
-    plain_append (repeated at n o) (repeats at (suc n) places) (plain_repeated at n o are.0) (plain_repeats at (suc n) places are.1)
+  got_or_held : (got : Bool) (o : Option ℕ) → AreTrafficActs q (if got then [] else held_under_least o)
+  got_or_held true o = tt
+  got_or_held false o = least o
 
-plain_least : (o : Option ℕ) → ArePlain (held_under_least o)
-plain_least None = tt
-plain_least (Some n) = (tt, tt)
+  -- where a call is sent
+  pub plain_send : (places : Places) (call : Call) → q call ≡ true → AreTrafficActs q (send_due places call)
+  plain_send places call is = ((is, refl), held_or_not (asks call) (first_free places))
 
+  module _ (own : ℕ) (replies : (call : Call) → is_reply own call ≡ true → q call ≡ true) where
+    reply : (accepts : Bool) (call : Call) → AreTrafficActs q (reply_to own accepts call)
+    reply true (Individual to category from first second message end) = ((replies _ (eq-eqb own own refl), refl), tt)
+    reply false (Individual to category from first second message end) = ((replies _ (eq-eqb own own refl), refl), tt)
+    reply true (Relay to from casualty ask) = ((replies _ (eq-eqb own own refl), refl), tt)
+    reply true _ = tt
+    reply false _ = tt
+
+    replied : (accepts : Bool) (o : Option Holding) → AreTrafficActs q (reply_due_to own accepts o)
+    replied accepts None = tt
+    replied accepts (Some x) = reply accepts x.call
+
+    -- where a call is answered or declined
+    pub plain_answer : (places : Places) (number : ℕ) (accepts : Bool) → AreTrafficActs q (answer_due own places number accepts)
+    plain_answer places number accepts = replied accepts (place_of places number)
+
+    told : (call : Call) → AreTrafficActs q (distress_told call)
+    told (Relay to from casualty ask) = (tt, tt)
+    told _ = tt
+
+    shown_or : (o : Option ℕ) → AreTrafficActs q (answered_or_shown o)
+    shown_or None = (tt, tt)
+    shown_or (Some n) = (tt, tt)
+
+    position_or : (place : Option Whereabouts) (to : ℕ) (category : Category) → AreTrafficActs q (position_told own place to category)
+    position_or None to category = (tt, tt)
+    position_or (Some place) to category = ((replies _ (eq-eqb own own refl), refl), tt)
+
+    at_once : (place : Option Whereabouts) (call : Call) → AreTrafficActs q (due_at_once own place call)
+    at_once place (Alert casualty) = tt
+    at_once place (Ack from casualty) = tt
+    at_once place (Relay to from casualty ask) = (tt, tt)
+    at_once place (Service to category from (Test reply)) = ((replies _ (eq-eqb own own refl), refl), tt)
+    at_once place (Service to category from AskPosition) = position_or place from category
+    at_once place _ = (tt, tt)
+
+    heard_by : (place : Option Whereabouts) (places : Places) (call : Call) (asked acked : Bool)
+        → AreTrafficActs q (if asked then question_due places call else (if acked then answered_or_shown (answered_number places call) else due_at_once own place call))
+    heard_by place places call true acked =
+        both (distress_told call) (if is_got places call then [] else held_under_least (first_free places)) (told call)
+        (got_or_held (is_got places call) (first_free places))
+    heard_by place places call false true = shown_or (answered_number places call)
+    heard_by place places call false false = at_once place call
+
+    -- where a call is heard
+    pub plain_heard : (place : Option Whereabouts) (places : Places) (call : Call) → AreTrafficActs q (heard_due own place places call)
+    plain_heard place places call = heard_by place places call (is_question call) (acknowledges call)
+
+-- a call that is sent and not refused may be sent
 some_is_none : (r : StationRefusal) → Some r ≡ None → ⊥
 some_is_none r h = cc
 
-sendable_no_alert : (own : ℕ) (places : Places) (call : Call) → send_refusal own places call ≡ None → is_alert call ≡ false
-sendable_no_alert own places (Alert casualty) none = absurd (some_is_none NotSendable none)
-sendable_no_alert own places _ none = refl
+sent_by : (s : Bool) (r : Option StationRefusal) → (if s then r else Some NotSendable) ≡ None → s ≡ true
+sent_by true r none = refl
+sent_by false r none = absurd (some_is_none NotSendable none)
 
-plain_held : (a : Bool) (o : Option ℕ) → ArePlain (if a then held_under_least o else [])
-plain_held true o = plain_least o
-plain_held false o = tt
+pub may_be_sent : (own : ℕ) (places : Places) (call : Call) → send_refusal own places call ≡ None → is_sendable own call ≡ true
+may_be_sent own places call none = sent_by (is_sendable own call) _ none
 
-plain_got : (got : Bool) (o : Option ℕ) → ArePlain (if got then [] else held_under_least o)
-plain_got true o = tt
-plain_got false o = plain_least o
+-- a call that may be sent, and a reply, are of traffic
+pub sendable_of_traffic : (own : ℕ) (call : Call) → is_sendable own call ≡ true → is_of_traffic own call ≡ true
+sendable_of_traffic own call is = ap (λ (b : Bool). b || is_reply own call) is
 
--- where an operator's call is sent
-pub plain_send : (own : ℕ) (places : Places) (call : Call) → send_refusal own places call ≡ None → ArePlain (send_due places call)
-plain_send own places call none = ((sendable_no_alert own places call none, refl), plain_held (asks call) (first_free places))
+either : (a b : Bool) → b ≡ true → (a || b) ≡ true
+either true b is = refl
+either false b is = is
 
-plain_reply : (own : ℕ) (accepts : Bool) (call : Call) → ArePlain (reply_to own accepts call)
-plain_reply own true (Individual to category from first second message end) = ((refl, refl), tt)
-plain_reply own false (Individual to category from first second message end) = ((refl, refl), tt)
-plain_reply own true (Relay to from casualty ask) = ((refl, refl), tt)
-plain_reply own true _ = tt
-plain_reply own false _ = tt
+pub reply_of_traffic : (own : ℕ) (call : Call) → is_reply own call ≡ true → is_of_traffic own call ≡ true
+reply_of_traffic own call is = either (is_sendable own call) (is_reply own call) is
 
-plain_replied : (own : ℕ) (accepts : Bool) (o : Option Holding) → ArePlain (reply_due_to own accepts o)
-plain_replied own accepts None = tt
-plain_replied own accepts (Some x) = plain_reply own accepts x.call
-
--- where a call is answered or declined
-pub plain_answer : (own : ℕ) (places : Places) (number : ℕ) (accepts : Bool) → ArePlain (answer_due own places number accepts)
-plain_answer own places number accepts = plain_replied own accepts (place_of places number)
-
-plain_told : (call : Call) → ArePlain (distress_told call)
-plain_told (Relay to from casualty ask) = (tt, tt)
-plain_told _ = tt
-
-plain_shown : (o : Option ℕ) → ArePlain (answered_or_shown o)
-plain_shown None = (tt, tt)
-plain_shown (Some n) = (tt, tt)
-
-plain_position : (own : ℕ) (place : Option Whereabouts) (to : ℕ) (category : Category) → ArePlain (position_told own place to category)
-plain_position own None to category = (tt, tt)
-plain_position own (Some place) to category = ((refl, refl), tt)
-
-plain_at_once : (own : ℕ) (place : Option Whereabouts) (call : Call) → ArePlain (due_at_once own place call)
-plain_at_once own place (Alert casualty) = tt
-plain_at_once own place (Ack from casualty) = tt
-plain_at_once own place (Relay to from casualty ask) = (tt, tt)
-plain_at_once own place (Service to category from (Test reply)) = ((refl, refl), tt)
-plain_at_once own place (Service to category from AskPosition) = plain_position own place from category
-plain_at_once own place _ = (tt, tt)
-
-plain_by_kind : (own : ℕ) (place : Option Whereabouts) (places : Places) (call : Call) (asked acked : Bool)
-    → ArePlain (if asked then question_due places call else (if acked then answered_or_shown (answered_number places call) else due_at_once own place call))
-plain_by_kind own place places call true acked =
-    plain_append (distress_told call) (if is_got places call then [] else held_under_least (first_free places)) (plain_told call)
-    (plain_got (is_got places call) (first_free places))
-plain_by_kind own place places call false true = plain_shown (answered_number places call)
-plain_by_kind own place places call false false = plain_at_once own place call
-
--- where a call is heard
-pub plain_heard : (own : ℕ) (place : Option Whereabouts) (places : Places) (call : Call) → ArePlain (heard_due own place places call)
-plain_heard own place places call = plain_by_kind own place places call (is_question call) (acknowledges call)
+-- what is held as sent is also such as is wider
+pub wider_such : (p q : Call → Bool) → ((call : Call) → p call ≡ true → q call ≡ true) → (places : Places) → AreSentSuch p places → AreSentSuch q places
+wider_such p q wider [] are = tt
+wider_such p q wider (None ∷ places) are = (tt, wider_such p q wider places are.1)
+wider_such p q wider (Some x ∷ places) are = (λ sent. wider x.call (are.0 sent), wider_such p q wider places are.1)

@@ -1,3 +1,4 @@
+pub mod Giving
 pub mod Occurrences
 pub mod HeldTold
 pub mod Sending
@@ -6,3 +7,4 @@ pub mod Repeating
 pub mod Hearing
 pub mod Sendings
 pub mod After
+pub mod TrafficActs

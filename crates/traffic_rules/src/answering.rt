@@ -1,24 +1,29 @@
-ghost use Rattle.std.specs.Prelude.{◌≡◌, OnOk, OnErr};
+ghost use Rattle.std.specs.Prelude.{◌≡◌, [], OnOk, OnErr};
 ghost use Rattle.dsc_symbols.specs.declared.notices.TheConstants as TheNotices;
 ghost use Rattle.dsc_symbols.specs.declared.telecommands.TheConstants as TheTelecommands;
-ghost use Rattle.area_rules.specs.Rules.{listed, refusal_or};
+ghost use Rattle.area_rules.specs.Rules.{refusal_or};
 ghost use Rattle.traffic_rules.specs.Answering as answering;
 ghost use Rattle.traffic_rules.specs.After.{after_answering};
+ghost use Rattle.traffic_rules.specs.Giving.{answer_with};
 
-use area_rules::{Act, Acts, HeldCalls, Side, StationRefusal, single};
-use arrayvec::ArrayVec;
+use crate::giving::give;
+use area_rules::{Act, Acts, HeldCalls, Side, StationRefusal};
 use call_values::{Call, End, First, Mmsi, Second, To};
 use dsc_symbols::{notices, telecommands};
 
 /// Answers the call that was got under a number, as the operator accepts or declines it, and frees the number (this project's
-/// profile). Refused where no call that was got is held under the number (`NoSuchCall`).
+/// profile). The acts go into a list that is empty, and stays so where the answer is refused. Refused where no call that was got is held
+/// under the number (`NoSuchCall`).
 pub fn answer(
     held: &mut HeldCalls,
     own: Mmsi,
     number: u8,
     accepts: bool,
-) -> Result<Acts, StationRefusal>
-    ensures answer { listed result ≡ refusal_or (answering.answer_refusal held.old number) (answering.answer_due own held.old number accepts) }
+    acts: &mut Acts,
+) -> Result<(), StationRefusal>
+    requires { acts.old.items ≡ [] }
+    ensures answer { answer_with result acts.new.items ≡ refusal_or (answering.answer_refusal held.old number) (answering.answer_due own held.old number accepts) }
+    ensures none { OnErr result (acts.new.items ≡ []) }
     ensures held { OnOk result (held.new ≡ after_answering held.old number) }
     ensures unchanged { OnErr result (held.new ≡ held.old) }
 {
@@ -29,15 +34,16 @@ pub fn answer(
         Side::Sent => Err(StationRefusal::NoSuchCall(number)),
         Side::Got => {
             let _ = held.release(number);
-            Ok(reply(own, accepts, &got.call))
+            reply(own, accepts, &got.call, acts);
+            Ok(())
         }
     }
 }
 
-/// The answer to a call, where there is one.
-#[inline(never)]
-fn reply(own: Mmsi, accepts: bool, call: &Call) -> Acts
-    ensures { result.items ≡ answering.reply_to own accepts call.now }
+/// Gives the answer to a call, where there is one.
+fn reply(own: Mmsi, accepts: bool, call: &Call, acts: &mut Acts)
+    requires { acts.old.items ≡ [] }
+    ensures { acts.new.items ≡ answering.reply_to own accepts call.now }
 {
     match *call {
         Call::Individual {
@@ -49,28 +55,27 @@ fn reply(own: Mmsi, accepts: bool, call: &Call) -> Acts
             ..
         } => {
             let (first, second) = if accepts { (first, second) } else { unable() };
-            single(Act::Send {
-                call: Call::Individual {
-                    to: from,
-                    category,
-                    from: own,
-                    first,
-                    second,
-                    message,
-                    end: End::Reply,
-                },
-                times: 1,
-            })
+            let call = Call::Individual {
+                to: from,
+                category,
+                from: own,
+                first,
+                second,
+                message,
+                end: End::Reply,
+            };
+            give(acts, Act::Send { call, times: 1 });
         }
-        Call::Relay { from, casualty, .. } if accepts => single(Act::Send {
-            call: Call::RelayAck {
-                to: To::One(from),
+        Call::Relay { from, casualty, .. } if accepts => {
+            let to = To::One(from);
+            let call = Call::RelayAck {
+                to,
                 from: own,
                 casualty,
-            },
-            times: 1,
-        }),
-        _ => ArrayVec::new(),
+            };
+            give(acts, Act::Send { call, times: 1 });
+        }
+        _ => {}
     }
 }
 

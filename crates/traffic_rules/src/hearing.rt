@@ -1,18 +1,20 @@
-ghost use Rattle.std.specs.Prelude.{◌≡◌, ◌<◌, ◌∷◌, [], Some, IfSome, IsTrue, OnOk, OnErr, length, position};
+ghost use Rattle.std.specs.Prelude.{◌≡◌, ◌<◌, ◌≤◌, ◌∷◌, [], Some, IfSome, IsTrue, OnOk, OnErr, length, position};
 ghost use Rattle.area_rules.specs.declared.acts.Act.TheVariants as act;
 ghost use Rattle.call_values.specs.declared.calls.Call.TheVariants as form;
-ghost use Rattle.area_rules.specs.Rules.{listed, refusal_or};
+ghost use Rattle.area_rules.specs.Rules.{refusal_or};
 ghost use Rattle.traffic_rules.specs.Hearing as hearing;
 ghost use Rattle.traffic_rules.specs.After.{after_question, freed_at, after_hearing};
+ghost use Rattle.traffic_rules.specs.Giving.{answer_with};
 
 use crate::equality::are_equal;
+use crate::giving::give;
 use crate::sending::acknowledges;
-use area_rules::{Act, Acts, HeldCalls, Holding, Side, StationRefusal, answers, put, single};
-use arrayvec::ArrayVec;
+use area_rules::{Act, Acts, HeldCalls, Holding, Side, StationRefusal, answers, put};
 use call_values::{Call, Category, End, HourMinute, Kind, Mmsi, Position};
 
 /// Does what is due at a heard call that is for the station and is neither a distress alert nor its acknowledgement
-/// (this project's profile). A position request is answered with the place that is given, and shown where none is.
+/// (this project's profile). A position request is answered with the place that is given, and shown where none is. The
+/// acts go into a list that is empty, and stays so where the call is refused.
 /// Refused: a call that must be held where no number is free (`Full`).
 pub fn hear(
     held: &mut HeldCalls,
@@ -20,61 +22,75 @@ pub fn hear(
     place: Option<(Position, HourMinute)>,
     call: &Call,
     at: u64,
-) -> Result<Acts, StationRefusal>
-    ensures answer { listed result ≡ refusal_or (hearing.heard_refusal held.old call.now) (hearing.heard_due own place held.old call.now) }
+    acts: &mut Acts,
+) -> Result<(), StationRefusal>
+    requires { acts.old.items ≡ [] }
+    ensures answer { answer_with result acts.new.items ≡ refusal_or (hearing.heard_refusal held.old call.now) (hearing.heard_due own place held.old call.now) }
+    ensures none { OnErr result (acts.new.items ≡ []) }
     ensures held { OnOk result (held.new ≡ after_hearing held.old call.now at) }
     ensures unchanged { OnErr result (held.new ≡ held.old) }
 {
     if is_question(call) {
-        return hear_question(held, call, at);
+        return hear_question(held, call, at, acts);
     }
     if acknowledges(call) {
-        return Ok(hear_acknowledgement(held, call));
+        hear_acknowledgement(held, call, acts);
+    } else {
+        at_once(own, place, call, acts);
     }
-    Ok(at_once(own, place, call))
+    Ok(())
 }
 
 /// Tells of the distress of a relay, and holds the call under the least free number, unless an equal one is held as got.
-#[inline(never)]
-fn hear_question(held: &mut HeldCalls, call: &Call, at: u64) -> Result<Acts, StationRefusal>
-    requires { IsTrue (hearing.is_question call.now) }
-    ensures answer { listed result ≡ refusal_or (hearing.heard_refusal held.old call.now) (hearing.question_due held.old call.now) }
+fn hear_question(
+    held: &mut HeldCalls,
+    call: &Call,
+    at: u64,
+    acts: &mut Acts,
+) -> Result<(), StationRefusal>
+    requires question { IsTrue (hearing.is_question call.now) }
+    requires empty { acts.old.items ≡ [] }
+    ensures answer { answer_with result acts.new.items ≡ refusal_or (hearing.heard_refusal held.old call.now) (hearing.question_due held.old call.now) }
+    ensures none { OnErr result (acts.new.items ≡ []) }
     ensures held { OnOk result (held.new ≡ after_question held.old call.now at) }
     ensures unchanged { OnErr result (held.new ≡ held.old) }
 {
-    let mut acts = distress_told(call);
-    if !is_got(held, call) {
-        let Some(number) = held.hold(*call, Side::Got, at) else {
-            return Err(StationRefusal::Full);
-        };
-        put(&mut acts, Act::Held(number));
+    if is_got(held, call) {
+        tell_distress(call, acts);
+        return Ok(());
     }
-    Ok(acts)
+    let Some(number) = held.hold(*call, Side::Got, at) else {
+        return Err(StationRefusal::Full);
+    };
+    tell_distress(call, acts);
+    put(acts, Act::Held(number));
+    Ok(())
 }
 
 /// Frees the least number of a sent call that an acknowledgement answers, or else shows the acknowledgement.
-#[inline(never)]
-fn hear_acknowledgement(held: &mut HeldCalls, call: &Call) -> Acts
-    ensures acts { result.items ≡ hearing.answered_or_shown (hearing.answered_number held.old call.now) }
+fn hear_acknowledgement(held: &mut HeldCalls, call: &Call, acts: &mut Acts)
+    requires { acts.old.items ≡ [] }
+    ensures acts { acts.new.items ≡ hearing.answered_or_shown (hearing.answered_number held.old call.now) }
     ensures held { held.new ≡ freed_at (hearing.answered_number held.old call.now) held.old }
 {
     match answered_number(held, call) {
         Some(number) => {
             let _ = held.release(number);
-            single(Act::Answered(number))
+            give(acts, Act::Answered(number));
         }
-        None => single(Act::Shown),
+        None => give(acts, Act::Shown),
     }
 }
 
 /// A relay tells of distress.
-#[inline(never)]
-fn distress_told(call: &Call) -> Acts
-    ensures { result.items ≡ hearing.distress_told call.now }
+fn tell_distress(call: &Call, acts: &mut Acts)
+    requires { acts.old.items ≡ [] }
+    ensures acts { acts.new.items ≡ hearing.distress_told call.now }
+    ensures few { length acts.new.items ≤ 1 }
 {
     match *call {
-        Call::Relay { casualty, .. } => single(Act::Distress(casualty)),
-        _ => ArrayVec::new(),
+        Call::Relay { casualty, .. } => give(acts, Act::Distress(casualty)),
+        _ => {}
     }
 }
 
@@ -133,25 +149,28 @@ fn is_answered_by(call: &Call, place: &Option<Holding>) -> bool
     }
 }
 
-/// What is due at once at a call that is neither a question nor an acknowledgement.
-#[inline(never)]
-fn at_once(own: Mmsi, place: Option<(Position, HourMinute)>, call: &Call) -> Acts
-    ensures { result.items ≡ hearing.due_at_once own place call.now }
+/// Does what is due at once at a call that is neither a question nor an acknowledgement.
+fn at_once(own: Mmsi, place: Option<(Position, HourMinute)>, call: &Call, acts: &mut Acts)
+    requires { acts.old.items ≡ [] }
+    ensures { acts.new.items ≡ hearing.due_at_once own place call.now }
 {
     match *call {
-        Call::Alert(_) | Call::Ack { .. } => ArrayVec::new(),
-        Call::Relay { casualty, .. } => single(Act::Distress(casualty)),
+        Call::Alert(_) | Call::Ack { .. } => {}
+        Call::Relay { casualty, .. } => give(acts, Act::Distress(casualty)),
         Call::Service {
             category,
             from,
             kind,
             ..
         } => match kind {
-            Kind::Test { .. } => single(service(own, from, category, Kind::Test { reply: true })),
-            Kind::AskPosition => tell_position(own, place, from, category),
-            Kind::Position(_, _) => single(Act::Shown),
+            Kind::Test { .. } => give(
+                acts,
+                service(own, from, category, Kind::Test { reply: true }),
+            ),
+            Kind::AskPosition => tell_position(own, place, from, category, acts),
+            Kind::Position(_, _) => give(acts, Act::Shown),
         },
-        _ => single(Act::Shown),
+        _ => give(acts, Act::Shown),
     }
 }
 
@@ -170,20 +189,23 @@ fn service(own: Mmsi, to: Mmsi, category: Category, kind: Kind) -> Act
     }
 }
 
-/// The answer to a position request with a place; without one it is shown.
+/// Answers a position request with a place; without one it is shown.
 fn tell_position(
     own: Mmsi,
     place: Option<(Position, HourMinute)>,
     to: Mmsi,
     category: Category,
-) -> Acts
-    ensures { result.items ≡ hearing.position_told own place to category }
+    acts: &mut Acts,
+)
+    requires { acts.old.items ≡ [] }
+    ensures { acts.new.items ≡ hearing.position_told own place to category }
 {
     match place {
-        Some((position, time)) => {
-            single(service(own, to, category, Kind::Position(position, time)))
-        }
-        None => single(Act::Shown),
+        Some((position, time)) => give(
+            acts,
+            service(own, to, category, Kind::Position(position, time)),
+        ),
+        None => give(acts, Act::Shown),
     }
 }
 

@@ -1,36 +1,60 @@
-ghost use Rattle.std.specs.Prelude.{◌≡◌, OnOk, OnErr};
-ghost use Rattle.area_rules.specs.Rules.{listed, refusal_or};
+ghost use Rattle.std.specs.Prelude.{◌≡◌, [], ◌∷◌, OnOk, OnErr};
+ghost use Rattle.area_rules.specs.declared.acts.Act.TheVariants as act;
+ghost use Rattle.area_rules.specs.Rules.{refusal_or};
+ghost use Rattle.traffic_rules.specs.Giving.{answer_with};
 ghost use Rattle.traffic_rules.specs.Sending as sending;
 ghost use Rattle.traffic_rules.specs.After.{after_sending};
 
-use area_rules::{Act, Acts, HeldCalls, Side, StationRefusal, put, single};
+use crate::giving::give;
+use area_rules::{Act, Acts, HeldCalls, Side, StationRefusal, put};
 use call_grammar::end_of;
 use call_values::{Call, Kind, Mmsi};
 use dsc_symbols::ends;
 
 /// Sends a call that the operator gives, once, and holds it where it asks for an acknowledgement (this project's
-/// profile).
+/// profile). The acts go into a list that is empty, and stays so where the call is refused.
 /// Refused: a call that an operator of this station may not send (`NotSendable`), or else one that must be held where no
 /// number is free (`Full`).
-pub fn send(held: &mut HeldCalls, own: Mmsi, call: &Call, at: u64) -> Result<Acts, StationRefusal>
-    ensures answer { listed result ≡ refusal_or (sending.send_refusal own held.old call.now) (sending.send_due held.old call.now) }
+pub fn send(
+    held: &mut HeldCalls,
+    own: Mmsi,
+    call: &Call,
+    at: u64,
+    acts: &mut Acts,
+) -> Result<(), StationRefusal>
+    requires { acts.old.items ≡ [] }
+    ensures answer { answer_with result acts.new.items ≡ refusal_or (sending.send_refusal own held.old call.now) (sending.send_due held.old call.now) }
+    ensures none { OnErr result (acts.new.items ≡ []) }
     ensures held { OnOk result (held.new ≡ after_sending held.old call.now at) }
     ensures unchanged { OnErr result (held.new ≡ held.old) }
 {
     if !is_sendable(own, call) {
         return Err(StationRefusal::NotSendable);
     }
-    let mut acts = single(Act::Send {
-        call: *call,
-        times: 1,
-    });
-    if asks(call) {
-        let Some(number) = held.hold(*call, Side::Sent, at) else {
-            return Err(StationRefusal::Full);
-        };
-        put(&mut acts, Act::Held(number));
+    if !asks(call) {
+        give_call(call, acts);
+        return Ok(());
     }
-    Ok(acts)
+    let Some(number) = held.hold(*call, Side::Sent, at) else {
+        return Err(StationRefusal::Full);
+    };
+    give_call(call, acts);
+    put(acts, Act::Held(number));
+    Ok(())
+}
+
+/// Gives the sending of a call, once.
+fn give_call(call: &Call, acts: &mut Acts)
+    requires { acts.old.items ≡ [] }
+    ensures { acts.new.items ≡ act.Send call.now 1 ∷ [] }
+{
+    give(
+        acts,
+        Act::Send {
+            call: *call,
+            times: 1,
+        },
+    );
 }
 
 /// Whether a call asks for an acknowledgement (ITU-R M.493, end of sequence).

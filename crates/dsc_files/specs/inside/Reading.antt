@@ -16,6 +16,10 @@ behind_blank rest = either finish (word (codes " ") rest)
 abbrev pub signs : Grammar
 signs = field (run (codes "YB-")) finish
 
+-- a blank and signs
+abbrev pub blank_and_signs : Grammar
+blank_and_signs = word (codes " ") signs
+
 -- a group or none, and what follows it
 abbrev pub grouped : Grammar → Grammar
 grouped rest = either rest (word (codes " g") (field (free_number 0 4294967295) rest))
@@ -23,6 +27,10 @@ grouped rest = either rest (word (codes " g") (field (free_number 0 4294967295) 
 -- a place and a symbol, and what follows them
 abbrev pub pair : Grammar → Grammar
 pair rest = field (free_number 0 63) (word (codes ":") (field (free_number 0 127) rest))
+
+-- some elements of a stream
+abbrev pub elements_line : Grammar
+elements_line = word (codes "s") blank_and_signs
 
 abbrev pub reception_line : Grammar
 reception_line = word (codes "r") (grouped (behind_blank signs))

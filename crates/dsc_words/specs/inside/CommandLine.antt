@@ -30,10 +30,11 @@ program = on_top (λ s. record s {
 -- the program: its commands, one a line
 abbrev pub dsc : App
 dsc =
-    with_subcommand (with_subcommand (with_subcommand (with_subcommand (with_subcommand (with_subcommand program
+    with_subcommand (with_subcommand (with_subcommand (with_subcommand (with_subcommand (with_subcommand (with_subcommand program
     (with_option (codes "join") (codes "workers")))
     (with_option (codes "evidence") (codes "workers")))
     (with_option (codes "encode") (codes "dots")))
     (new_shape (codes "sentences")))
     (with_option (codes "replay") (codes "workers")))
-    (with_number (codes "make"))
+    (with_number (codes "make")))
+    (new_shape (codes "capture"))

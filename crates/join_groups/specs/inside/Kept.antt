@@ -5,8 +5,8 @@ use Rattle.line_grammar.specs.Columns.{IsColumn}
 use Rattle.line_engine.specs.declared.command.Refusal.{Refusal}
 use Rattle.line_engine.specs.declared.command.Refusal.TheVariants.{Column, TooManyGroups, Memory}
 use Rattle.dsc_files.specs.JoinLine.{JoinLine, IsLine}
-use Rattle.dsc_files.specs.declared.lines.Line.{Line}
-use Rattle.dsc_files.specs.declared.lines.Line.TheVariants as got
+use Rattle.dsc_files.specs.declared.join.JoinLine.{JoinLine as Got}
+use Rattle.dsc_files.specs.declared.join.JoinLine.TheVariants as got
 use Rattle.phasing.specs.declared.reception.TheConstants.{LONGEST}
 use Rattle.line_engine.specs.Lines.{Lines}
 use Rattle.join_groups.specs.declared.groups.Groups.{Groups}
@@ -34,5 +34,5 @@ pub record StandsFor (groups : Groups) (lines : Lines) (text : List ℕ) : Type 
   pub few : length groups.batch.items < MOST_IN_BATCH
 
 -- what was read of a line has no more elements than a reception may have
-abbrev pub IsShort : Line → Type 0
+abbrev pub IsShort : Got → Type 0
 IsShort read = (group : ℕ) (e : List Element) → read ≡ got.Reception group e → length e ≤ LONGEST

@@ -18,8 +18,12 @@ use Rattle.call_values.specs.declared.bounds.TheConstants.{LAST_BASE}
 use Rattle.call_values.specs.declared.choices.Band.{Band}
 use Rattle.dsc_files.specs.JoinLine.{JoinLine}
 use Rattle.dsc_files.specs.PointLine.{PointLine, joined}
-use Rattle.dsc_files.specs.declared.lines.Line.{Line}
-use Rattle.dsc_files.specs.declared.lines.Line.TheVariants as got
+use Rattle.dsc_files.specs.declared.join.JoinLine.{JoinLine as Got}
+use Rattle.dsc_files.specs.declared.join.JoinLine.TheVariants as got
+use Rattle.dsc_files.specs.declared.traffic.PointLine.{PointLine as GotAtPoint}
+use Rattle.dsc_files.specs.declared.traffic.PointLine.TheVariants as at
+use Rattle.traffic_lines.specs.declared.lines.TrafficLine.{TrafficLine}
+use Rattle.traffic_lines.specs.declared.lines.TrafficLine.TheVariants as line
 use Rattle.join_groups.specs.Groups.{facts_of_line, names}
 use Rattle.join_groups.specs.declared.groups.TheConstants.{MOST_IN_BATCH}
 use Rattle.join_groups.specs.Holds.{HoldsSome}
@@ -115,17 +119,26 @@ abbrev pub IsEventAt : Station → EventLine → Type 0
 IsEventAt (station.Ship s) what = IsShipEvent what
 IsEventAt (station.Coast s) what = IsCoastEvent what
 
--- what was read of a line may stand where the replay is
-pub record IsReady (replay : Replay) (read : Line) : Type 0 where
+-- a station's line may stand where the replay is
+pub record IsReadyFor (replay : Replay) (says : TrafficLine) : Type 0 where
   pub within : replay.base ≤ LAST_BASE
   pub heard : HoldsSome replay.heard
   pub most : length replay.groups.items ≤ 16
-  pub ship : (mmsi : ℕ) → read ≡ got.Ship mmsi → replay.point ≡ point.Station
-  pub base : (second : ℕ) → read ≡ got.Base second → (replay.point ≡ point.Base) × (second ≤ LAST_BASE)
-  pub coast : (mmsi : ℕ) (band : Band) → read ≡ got.Coast mmsi band → replay.point ≡ point.Station
-  pub group : (mmsi : ℕ) → read ≡ got.Group mmsi → IsAmongGroups replay.point × (length replay.groups.items < 16)
-  pub event : (at : ℕ) (what : EventLine) → read ≡ got.Event at what → IsEventAt replay.station what
-  pub short : (group : ℕ) (e : List Element) → read ≡ got.Reception group e → length e ≤ LONGEST
+  pub ship : (mmsi : ℕ) → says ≡ line.Ship mmsi → replay.point ≡ point.Station
+  pub base : (second : ℕ) → says ≡ line.Base second → (replay.point ≡ point.Base) × (second ≤ LAST_BASE)
+  pub coast : (mmsi : ℕ) (band : Band) → says ≡ line.Coast mmsi band → replay.point ≡ point.Station
+  pub group : (mmsi : ℕ) → says ≡ line.Group mmsi → IsAmongGroups replay.point × (length replay.groups.items < 16)
+  pub event : (at : ℕ) (what : EventLine) → says ≡ line.Event at what → IsEventAt replay.station what
+
+-- what was read of a line of receivers has no more elements than a reception may have
+abbrev pub IsShort : Got → Type 0
+IsShort read = (group : ℕ) (e : List Element) → read ≡ got.Reception group e → length e ≤ LONGEST
+
+-- what was read of a line may stand where the replay is
+pub record IsReady (replay : Replay) (read : GotAtPoint) : Type 0 where
+  pub heard : HoldsSome replay.heard
+  pub joined : (says : Got) → read ≡ at.Joined says → IsShort says
+  pub traffic : (says : TrafficLine) → read ≡ at.Traffic says → IsReadyFor replay says
 
 -- a line of receivers gives these facts of its group
 pub record IsShown (line : JoinLine) (group : ℕ) (G : Facts) : Type 0 where

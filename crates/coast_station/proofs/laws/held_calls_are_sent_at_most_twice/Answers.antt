@@ -5,7 +5,7 @@ use Rattle.coast_station.proofs.Sendings.{entry_handles}
 use Rattle.coast_station.proofs.laws.held_calls_are_sent_at_most_twice.Goals as goal
 
 pub returns-clause-first : goal.returns-clause-first
-returns-clause-first c who h is_such legal = sent_or_again coast_occurs (coast_rules who) is_such (entry_handles is_such who) h legal
+returns-clause-first c who h is_such legal = sent_or_again coast_occurs (coast_rules who) who.own is_such (entry_handles is_such who) h legal
 
 pub returns-clause-again : goal.returns-clause-again
-returns-clause-again c who h is_such legal = again_at_most coast_occurs (coast_rules who) is_such (entry_handles is_such who) h legal
+returns-clause-again c who h is_such legal = again_at_most coast_occurs (coast_rules who) who.own is_such (entry_handles is_such who) h legal

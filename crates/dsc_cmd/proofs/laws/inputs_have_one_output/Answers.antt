@@ -10,6 +10,7 @@ laws_of c = record {
   encode = c.lines_determine_output-2.ensures;
   sentences = c.lines_determine_output-3.ensures;
   replay = c.lines_determine_output-4.ensures;
+  capture = c.lines_determine_output-5.ensures;
   made = c.made_text_is_one.ensures;
 }
 

@@ -1,74 +1,35 @@
-use Rattle.std.proofs.Common.{◌∙◌, [], Some, inl, inr, sym, ap, subst, refl}
-use Rattle.dsc_words.specs.declared.plans.Plan.{Plan}
+use Rattle.std.proofs.Common.{◌∙◌, sym, ap, refl}
 use Rattle.dsc_words.specs.declared.plans.Plan.TheVariants.{Encode}
-use Rattle.line_engine.specs.Endings.{TellsWhole, CutsOff, TellsFront}
-use Rattle.dsc_cmd.specs.Plans.{made_meaning, meaning_of, input_of, IsQuietPlan}
-use Rattle.dsc_cmd.proofs.MadeEndings.{made_whole, made_cut, no_fault, no_read_fault, made_want, join_is_not_make, evidence_is_not_make, encode_is_not_make, sentences_is_not_make, replay_is_not_make}
+use Rattle.dsc_cmd.proofs.MadeEndings.{made_run, join_is_not_make, evidence_is_not_make, encode_is_not_make, sentences_is_not_make, replay_is_not_make, capture_is_not_make}
+use Rattle.dsc_cmd.proofs.PlanRuns.{at_plan}
 use Rattle.dsc_cmd.proofs.running.execute.Goals as goal
 
-pub returns-in-Encode-true-clause-unwritten : goal.returns-in-Encode-true-clause-unwritten
-returns-in-Encode-true-clause-unwritten g c = λ quiet.
-    c.drive.ensures.quiet (subst IsQuietPlan (c.in-Encode-true.is ∙ ap (λ long. Encode long) c.in-Encode-true.long-test) quiet)
+pub returns-in-Join-clause-run : goal.returns-in-Join-clause-run
+returns-in-Join-clause-run g c = at_plan g.S.Source g.K.Sink c.in-Join.is c.tell_groups.ensures
 
-pub returns-in-Encode-false-clause-unwritten : goal.returns-in-Encode-false-clause-unwritten
-returns-in-Encode-false-clause-unwritten g c = λ quiet.
-    c.drive-in-Encode-false.ensures.quiet (subst IsQuietPlan (c.in-Encode-false.is ∙ ap (λ long. Encode long) c.in-Encode-false.long-test) quiet)
+pub returns-in-Evidence-clause-run : goal.returns-in-Evidence-clause-run
+returns-in-Evidence-clause-run g c = at_plan g.S.Source g.K.Sink c.in-Evidence.is c.tell_groups-in-Evidence.ensures
 
-pub returns-in-Sentences-clause-unwritten : goal.returns-in-Sentences-clause-unwritten
-returns-in-Sentences-clause-unwritten g c = λ quiet.
-    c.drive-in-Sentences.ensures.quiet (subst IsQuietPlan c.in-Sentences.is quiet)
+pub returns-in-Encode-true-clause-run : goal.returns-in-Encode-true-clause-run
+returns-in-Encode-true-clause-run g c = at_plan g.S.Source g.K.Sink (c.in-Encode-true.is ∙ ap (λ long. Encode long) c.in-Encode-true.long-test) c.drive_alone.ensures
 
-pub returns-in-Replay-clause-unwritten : goal.returns-in-Replay-clause-unwritten
-returns-in-Replay-clause-unwritten g c = λ quiet.
-    c.replay.ensures.quiet (subst IsQuietPlan c.in-Replay.is quiet)
+pub returns-in-Encode-false-clause-run : goal.returns-in-Encode-false-clause-run
+returns-in-Encode-false-clause-run g c = at_plan g.S.Source g.K.Sink (c.in-Encode-false.is ∙ ap (λ long. Encode long) c.in-Encode-false.long-test) c.drive_alone-in-Encode-false.ensures
 
--- ---- `make`
+pub returns-in-Sentences-clause-run : goal.returns-in-Sentences-clause-run
+returns-in-Sentences-clause-run g c = at_plan g.S.Source g.K.Sink c.in-Sentences.is c.drive_alone-in-Sentences.ensures
 
-pub returns-in-Make-clause-whole : goal.returns-in-Make-clause-whole
-returns-in-Make-clause-whole g c = λ finished.
-    subst (λ (plan : Plan). TellsWhole (meaning_of plan) (input_of plan (g.S.Source.left c.args.source.now)) (input_of plan (g.S.Source.left c.args.source.now))
-    (g.K.Sink.written c.args.sink.now) (g.K.Sink.written c.make.new.sink) (g.K.Sink.flushed c.make.new.sink) c.make.result) (sym c.in-Make.is)
-    (made_whole c.in-Make.groups _ _ _ _ (c.make.ensures.done finished))
+pub returns-in-Replay-clause-run : goal.returns-in-Replay-clause-run
+returns-in-Replay-clause-run g c = at_plan g.S.Source g.K.Sink c.in-Replay.is c.replay.ensures
 
-pub returns-in-Make-clause-faulty : goal.returns-in-Make-clause-faulty
-returns-in-Make-clause-faulty g c = λ fault. absurd (no_fault c.make.result c.make.ensures.which fault)
+pub returns-in-Capture-clause-run : goal.returns-in-Capture-clause-run
+returns-in-Capture-clause-run g c = at_plan g.S.Source g.K.Sink c.in-Capture.is c.capture.ensures
 
-pub returns-in-Make-clause-stopped : goal.returns-in-Make-clause-stopped
-returns-in-Make-clause-stopped g c = λ stopped. absurd (no_read_fault c.make.result c.make.ensures.which stopped)
-
-pub returns-in-Make-clause-cut : goal.returns-in-Make-clause-cut
-returns-in-Make-clause-cut g c = λ cut.
-    subst (λ (plan : Plan). CutsOff (meaning_of plan) (input_of plan (g.S.Source.left c.args.source.now)) (input_of plan (g.S.Source.left c.args.source.now))
-    (g.K.Sink.written c.args.sink.now) (g.K.Sink.written c.make.new.sink)) (sym c.in-Make.is)
-    (made_cut c.in-Make.groups _ _ (c.make.ensures.cut cut))
-
-pub returns-in-Make-clause-memory : goal.returns-in-Make-clause-memory
-returns-in-Make-clause-memory g c = λ memory.
-    subst (λ (plan : Plan). TellsFront (meaning_of plan) (input_of plan (g.S.Source.left c.args.source.now)) (input_of plan (g.S.Source.left c.args.source.now))
-    (g.K.Sink.written c.args.sink.now) (g.K.Sink.written c.make.new.sink)) (sym c.in-Make.is)
-    (subst (λ sink. TellsFront (made_meaning c.in-Make.groups) (Some []) (Some []) (g.K.Sink.written c.args.sink.now) (g.K.Sink.written sink)) (sym (c.make.ensures.unwritten memory))
-    (made_want c.in-Make.groups (g.K.Sink.written c.args.sink.now)))
-
-pub returns-in-Make-clause-unwritten : goal.returns-in-Make-clause-unwritten
-returns-in-Make-clause-unwritten g c = λ quiet halt. elim halt [
-  | inl stopped ↦ absurd (no_read_fault c.make.result c.make.ensures.which stopped)
-  | inr memory ↦ c.make.ensures.unwritten memory
-]
-
-pub returns-in-Make-clause-read_cause : goal.returns-in-Make-clause-read_cause
-returns-in-Make-clause-read_cause g c = λ stopped. absurd (no_read_fault c.make.result c.make.ensures.which stopped)
-
-pub returns-in-Make-clause-write_sound : goal.returns-in-Make-clause-write_sound
-returns-in-Make-clause-write_sound g c = c.make.ensures.sound
-
-pub returns-in-Make-clause-range : goal.returns-in-Make-clause-range
-returns-in-Make-clause-range g c = elim c.make.ensures.which [
-  | inl finished ↦ inl finished
-  | inr other ↦ elim other [
-    | inl cut ↦ inr (inr (inr (inl cut)))
-    | inr memory ↦ inr (inr (inr (inr memory)))
-  ]
-]
+pub returns-in-Make-clause-run : goal.returns-in-Make-clause-run
+returns-in-Make-clause-run g c =
+    let made = c.make.ensures in
+    at_plan g.S.Source g.K.Sink c.in-Make.is
+    (made_run c.in-Make.groups g.S.Source g.K.Sink _ _ _ _ made.which made.done made.cut made.unflushed made.cause made.sound made.unwritten made.told)
 
 pub returns-in-Make-clause-unread : goal.returns-in-Make-clause-unread
 returns-in-Make-clause-unread g c = λ n same. (refl, c.make.ensures.which)
@@ -92,3 +53,6 @@ returns-in-Sentences-clause-unread g c = λ n same. absurd (sentences_is_not_mak
 
 pub returns-in-Replay-clause-unread : goal.returns-in-Replay-clause-unread
 returns-in-Replay-clause-unread g c = λ n same. absurd (replay_is_not_make (sym c.in-Replay.is ∙ same))
+
+pub returns-in-Capture-clause-unread : goal.returns-in-Capture-clause-unread
+returns-in-Capture-clause-unread g c = λ n same. absurd (capture_is_not_make (sym c.in-Capture.is ∙ same))

@@ -21,12 +21,12 @@ returns-in-Ok-clause-sent g c = λ n planned finished.
     let same = c.one_plan.ensures _ c.in-Ok.plan (Join n) c.in-Ok.ensures.planned planned in
     reports_sent laws _ _ _ _ _ _
     (subst (λ (plan : Plan). TellsWhole (meaning_of plan) (input_of plan (g.S.Source.left c.args.source.now)) (input_of plan (g.S.Source.left c.execute.new.source))
-    (g.K.Sink.written c.args.sink.now) (g.K.Sink.written c.execute.new.sink) (g.K.Sink.flushed c.execute.new.sink) c.execute.result) same (c.execute.ensures.whole finished))
+    (g.K.Sink.written c.args.sink.now) (g.K.Sink.written c.execute.new.sink) (g.K.Sink.flushed c.execute.new.sink) c.execute.result) same (c.execute.ensures.run.whole finished))
 
 pub returns-in-Ok-clause-unwritten : goal.returns-in-Ok-clause-unwritten
 returns-in-Ok-clause-unwritten g c = λ plan planned quiet.
     let same = c.one_plan.ensures _ c.in-Ok.plan plan c.in-Ok.ensures.planned planned in
-    c.execute.ensures.unwritten (subst IsQuietPlan (sym same) quiet)
+    c.execute.ensures.run.unwritten (subst IsQuietPlan (sym same) quiet)
 
 pub returns-in-Err-Refused-clause-unplanned : goal.returns-in-Err-Refused-clause-unplanned
 returns-in-Err-Refused-clause-unplanned g c = λ _. c.in-Err-Refused.ensures.refused (ap (λ (e : PlanError). Err e) c.in-Err-Refused.field-0-is)
@@ -43,7 +43,7 @@ returns-in-Ok-clause-made g c = λ n planned finished.
     let same = c.one_plan.ensures _ c.in-Ok.plan (Make n) c.in-Ok.ensures.planned planned in
     summary_of_whole n _ _ _ _ _ _
     (subst (λ (plan : Plan). TellsWhole (meaning_of plan) (input_of plan (g.S.Source.left c.args.source.now)) (input_of plan (g.S.Source.left c.execute.new.source))
-    (g.K.Sink.written c.args.sink.now) (g.K.Sink.written c.execute.new.sink) (g.K.Sink.flushed c.execute.new.sink) c.execute.result) same (c.execute.ensures.whole finished))
+    (g.K.Sink.written c.args.sink.now) (g.K.Sink.written c.execute.new.sink) (g.K.Sink.flushed c.execute.new.sink) c.execute.result) same (c.execute.ensures.run.whole finished))
 
 pub returns-in-Ok-clause-unread_made : goal.returns-in-Ok-clause-unread_made
 returns-in-Ok-clause-unread_made g c = λ n planned.
@@ -58,7 +58,7 @@ pub returns-in-Ok-clause-answered : goal.returns-in-Ok-clause-answered
 returns-in-Ok-clause-answered g c = λ plan planned finished.
     subst (λ (plan : Plan). TellsWhole (meaning_of plan) (input_of plan (g.S.Source.left c.args.source.now)) (input_of plan (g.S.Source.left c.execute.new.source))
     (g.K.Sink.written c.args.sink.now) (g.K.Sink.written c.execute.new.sink) (g.K.Sink.flushed c.execute.new.sink) c.execute.result)
-    (c.one_plan.ensures _ c.in-Ok.plan plan c.in-Ok.ensures.planned planned) (c.execute.ensures.whole finished)
+    (c.one_plan.ensures _ c.in-Ok.plan plan c.in-Ok.ensures.planned planned) (c.execute.ensures.run.whole finished)
 
 -- ---- a run that was broken off wrote a front of the output
 
@@ -68,7 +68,7 @@ returns-in-Ok-clause-front g c = λ plan planned broken_off.
     (g.K.Sink.written c.args.sink.now) (g.K.Sink.written c.execute.new.sink))
     (c.one_plan.ensures _ c.in-Ok.plan plan c.in-Ok.ensures.planned planned)
     (front_broken_off (meaning_of c.in-Ok.plan) (c.inputs_have_one_output.ensures.determined c.in-Ok.plan) _ _ _ _ c.execute.result broken_off
-    c.execute.ensures.stopped c.execute.ensures.cut c.execute.ensures.memory)
+    c.execute.ensures.run.stopped c.execute.ensures.run.cut c.execute.ensures.run.memory)
 
 pub returns-in-Err-Refused-clause-front : goal.returns-in-Err-Refused-clause-front
 returns-in-Err-Refused-clause-front g c = λ plan planned broken_off. absurd (c.in-Err-Refused.ensures.refused (ap (λ (e : PlanError). Err e) c.in-Err-Refused.field-0-is) plan planned)

@@ -1,13 +1,13 @@
-use Rattle.std.proofs.Common.{refl, sym, subst}
+use Rattle.std.proofs.Common.{sym, subst}
 use Rattle.line_grammar.specs.Columns.{IsColumn}
 use Rattle.dsc_texts.specs.Texts.{IsCallText}
-use Rattle.dsc_files.specs.CallLine.{call, IsCallLine}
+use Rattle.dsc_files.specs.CallLine.{IsCallLine}
 use Rattle.dsc_files.proofs.Narrowing.{column_of_kind}
 use Rattle.dsc_files.proofs.CallLines.{calls_in_calls}
 use Rattle.dsc_files.proofs.calls.whole_call.Goals as goal
 
 pub returns-in-Ok : goal.returns-in-Ok
-returns-in-Ok c = (call c.in-Ok.call c.in-Ok.extra, (c.in-Ok.ensures.read.0, refl))
+returns-in-Ok c = c.in-Ok.ensures.read.0
 
 pub returns-in-Err : goal.returns-in-Err
 returns-in-Err c =

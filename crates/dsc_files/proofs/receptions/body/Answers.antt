@@ -1,28 +1,11 @@
-use Rattle.std.proofs.Common.{◌≡◌, ℕ, Err, sym}
+use Rattle.std.proofs.Common.{refl, sym}
 use Rattle.std.proofs.lemmas.Bool.{eqb-false}
-use Rattle.line_grammar.specs.inside.Reading.{read}
-use Rattle.line_grammar.proofs.Chains.{passed}
-use Rattle.dsc_files.specs.inside.Reading.{behind_blank, signs}
-use Rattle.dsc_files.proofs.Bodies.{checked_body, run_body, no_blank, no_sign, no_line_end}
+use Rattle.dsc_files.proofs.Bodies.{body_of, blank_missed, ok_more, err_more}
+use Rattle.dsc_files.specs.inside.Reading.{signs}
 use Rattle.dsc_files.proofs.receptions.body.Goals as goal
 
-pub returns-in_err-signs-clause-left : goal.returns-in_err-signs-clause-left
-returns-in_err-signs-clause-left c =
-    passed (λ (left : ℕ). read (behind_blank signs) c.args.bytes.now ≡ Err left) c.from_residual.result _ c.from_residual.ensures.1
-    (no_blank _ _ (eqb-false _ 0 (sym c.if-is_empty.ensures)) c.in_err-signs.ensures.left)
-
-pub returns-then-are_signs-clause-signs : goal.returns-then-are_signs-clause-signs
-returns-then-are_signs-clause-signs c = checked_body _ _ c.in_ok-signs.ensures.rest (eqb-false _ 0 (sym c.if-not-is_empty.ensures)) (sym c.if-are_signs.ensures)
-
-pub returns-in_err-signs-2-clause-left : goal.returns-in_err-signs-2-clause-left
-returns-in_err-signs-2-clause-left c =
-    passed (λ (left : ℕ). read (behind_blank signs) c.args.bytes.now ≡ Err left) c.from_residual-in_err-signs-2.result _ c.from_residual-in_err-signs-2.ensures.1
-    (no_sign _ _ _ (eqb-false _ 0 (sym c.if-is_empty.ensures)) c.in_ok-signs.ensures.rest c.in_err-signs-2.ensures.left)
-
-pub returns-in_err-end-clause-left : goal.returns-in_err-end-clause-left
-returns-in_err-end-clause-left c =
-    passed (λ (left : ℕ). read (behind_blank signs) c.args.bytes.now ≡ Err left) c.from_residual-in_err-end.result _ c.from_residual-in_err-end.ensures.1
-    (no_line_end _ _ _ _ _ (eqb-false _ 0 (sym c.if-is_empty.ensures)) c.in_ok-signs.ensures.rest c.in_ok-signs-2.ensures.parts c.in_err-end.ensures.left)
-
 pub returns-clause-signs : goal.returns-clause-signs
-returns-clause-signs c = run_body _ _ _ _ c.in_ok-signs.ensures.rest c.in_ok-signs-2.ensures.parts c.in_ok-end.ensures.end
+returns-clause-signs c = ok_more (λ signs is. body_of c.args.bytes.now signs.now is.1.0 is.1.1 is.0) c.signs.result c.signs.ensures.signs
+
+pub returns-clause-left : goal.returns-clause-left
+returns-clause-left c = err_more (λ left h. blank_missed signs c.args.bytes.now left refl (eqb-false _ 0 (sym c.if-is_empty.ensures)) h) c.signs.result c.signs.ensures.left

@@ -1,5 +1,5 @@
 use Rattle.std.proofs.Common.{ap}
-use Rattle.dsc_files.specs.declared.lines.Line.TheVariants as got
+use Rattle.dsc_files.specs.declared.join.JoinLine.TheVariants as got
 use Rattle.dsc_files.specs.JoinLine.{reception}
 use Rattle.dsc_files.proofs.Faults.{reception_fault, within_line, column_of, reception_read}
 use Rattle.dsc_files.proofs.receptions.reception_line.Goals as goal

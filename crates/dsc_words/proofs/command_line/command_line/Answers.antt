@@ -11,4 +11,5 @@ returns c =
     let with_sentences = c.in_ok-program-4.ensures.shape c.new.ensures.local ∙ ap₂ with_subcommand with_encode (ap (λ (a : App). a.top) c.new.ensures.app) in
     let with_replay = c.in_ok-program-5.ensures.shape c.in_ok-with_option-4.ensures.local ∙ ap₂ with_subcommand with_sentences c.in_ok-with_option-4.ensures.shape in
     let with_make = c.in_ok-program-6.ensures.shape c.in_ok-with_number.ensures.local ∙ ap₂ with_subcommand with_replay c.in_ok-with_number.ensures.shape in
-    with_make
+    let with_capture = c.in_ok-program-7.ensures.shape c.new-2.ensures.local ∙ ap₂ with_subcommand with_make (ap (λ (a : App). a.top) c.new-2.ensures.app) in
+    with_capture

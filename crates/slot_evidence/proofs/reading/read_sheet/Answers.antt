@@ -1,23 +1,5 @@
-use Rattle.std.proofs.Common.{List, subst, sym}
-use Rattle.slot_evidence.specs.declared.places.Seen.{Seen}
-use Rattle.slot_evidence.specs.Facts.{facts_of}
-use Rattle.slot_evidence.specs.Sheet.{IsEnds}
-use Rattle.slot_evidence.proofs.Read.{AreRead, kept_read, ends_read}
+use Rattle.slot_evidence.proofs.Read.{origin_facts}
 use Rattle.slot_evidence.proofs.reading.read_sheet.Goals as goal
 
-pub of_numbers-requires : goal.of_numbers-requires
-of_numbers-requires c =
-    let leasts = c.leasts_of.ensures in
-    let pasts = c.pasts_of.ensures in
-    kept_read c.args.e.now c.in_ok-lead.lead c.read_slots-shown.result.dx c.read_slots-shown.result.rx _ _
-    (record { even = c.read_slots-shown.ensures.dx; odd = c.read_slots-shown.ensures.rx; places = leasts.places; as_many = pasts.places; least = leasts.each; past = pasts.each })
-
 pub returns-clause-some : goal.returns-clause-some
-returns-clause-some c =
-    let leasts = c.leasts_of.ensures in
-    let pasts = c.pasts_of.ensures in
-    let read : AreRead c.args.e.now c.in_ok-lead.lead c.read_slots-shown.result.dx c.read_slots-shown.result.rx c.leasts_of.result c.pasts_of.result =
-    record { even = c.read_slots-shown.ensures.dx; odd = c.read_slots-shown.ensures.rx; places = leasts.places; as_many = pasts.places; least = leasts.each; past = pasts.each }
-    in
-    subst (λ (s : List Seen). IsEnds (facts_of c.args.e.now) s) (sym c.of_numbers.ensures)
-    (ends_read c.args.e.now c.in_ok-lead.lead _ _ _ _ c.in_ok-lead.ensures.least read)
+returns-clause-some c = origin_facts c.args.e.now c.in_ok-lead.lead c.sheet_at.result c.in_ok-lead.ensures.least c.sheet_at.ensures

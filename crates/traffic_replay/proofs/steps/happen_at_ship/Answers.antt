@@ -4,7 +4,8 @@ use Rattle.ship_station.specs.Stands.{Stands}
 use Rattle.traffic_lines.specs.declared.lines.EventLine.{EventLine}
 use Rattle.traffic_lines.specs.declared.lines.TrafficLine.TheVariants.{Event}
 use Rattle.dsc_files.specs.PointLine.{traffic}
-use Rattle.traffic_replay.specs.Happenings.{taking_ship, ship_event}
+use Rattle.station_lines.specs.Events.{ship_event}
+use Rattle.traffic_replay.specs.Happenings.{taking_ship}
 use Rattle.traffic_replay.specs.inside.Happens.{Happens}
 use Rattle.traffic_replay.specs.inside.Kept.{KeepsGroups}
 use Rattle.traffic_replay.proofs.GroupKeeping.{silent}

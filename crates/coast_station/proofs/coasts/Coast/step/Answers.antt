@@ -1,19 +1,7 @@
-use Rattle.std.proofs.Common.{sym, ◌∙◌}
-use Rattle.coast_station.specs.CoastRules.{coast_rules}
-use Rattle.coast_station.proofs.Frame.{not_before, answer_on_time}
-use Rattle.coast_station.proofs.Keeping.{answer_same, goes}
+use Rattle.std.proofs.lemmas.Result.{err_from_is_err_and}
 use Rattle.coast_station.proofs.coasts.Coast.step.Goals as goal
 
-pub returns-in-None-clause-answer : goal.returns-in-None-clause-answer
-returns-in-None-clause-answer c who h stands =
-    let at = c.args.event.now.at in
-    let what = c.args.event.now.what in
-    let late = not_before c.args.self.now.last h at stands.1.last c.in-None.ensures in
-    c.handle.ensures.answer ∙ answer_same who h c.args.self.now at what stands.1 ∙ sym (answer_on_time (coast_rules who) h at what late)
-
-pub returns-in-None-clause-stands : goal.returns-in-None-clause-stands
-returns-in-None-clause-stands c who h stands =
-    let at = c.args.event.now.at in
-    let what = c.args.event.now.what in
-    let late = not_before c.args.self.now.last h at stands.1.last c.in-None.ensures in
-    goes who h at what c.args.self.now c.handle.new.self c.handle.result late c.lawful.ensures stands c.handle.ensures.answer c.handle.ensures.unchanged c.handle.ensures.after
+pub returns-in_err-step_into-clause-answer : goal.returns-in_err-step_into-clause-answer
+returns-in_err-step_into-clause-answer c who h stands =
+    let p = err_from_is_err_and c.from_residual.result c.from_residual.ensures.1 in
+    rw (p.1, p.2) (c.in_err-step_into.ensures.answer who h stands)

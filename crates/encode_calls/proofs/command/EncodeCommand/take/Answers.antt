@@ -1,8 +1,25 @@
-use Rattle.std.proofs.Common.{arith}
-use Rattle.encode_calls.proofs.Encoded.{few_encoded}
+use Rattle.std.proofs.Common.{arith, sym, ap, subst, ◌++◌, ◌∷◌, [], ◌∙◌, append_assoc}
+use Rattle.encode_calls.specs.Encoding.{calls_of, encoded}
+use Rattle.encode_calls.specs.inside.Progress.{HasEncoded}
+use Rattle.encode_calls.proofs.Encoded.{few_encoded, line_lawful, more_encoded}
 use Rattle.encode_calls.proofs.command.EncodeCommand.take.Goals as goal
 
 pub encode-requires-clause-few : goal.encode-requires-clause-few
 encode-requires-clause-few g c =
     let ready = c.requires.ready in
     omega (arith, few_encoded _ _ _ _ ready.stands, ready.few)
+
+pub encode-requires-clause-lawful : goal.encode-requires-clause-lawful
+encode-requires-clause-lawful g c = line_lawful c.in-Ok.says c.args.line.now c.in-Ok.ensures
+
+pub returns-in_ok-encode-in-Ok-clause-stands : goal.returns-in_ok-encode-in-Ok-clause-stands
+returns-in_ok-encode-in-Ok-clause-stands g c = λ lines written h.
+    let long = g.D.Dots.long in
+    let count = c.args.self.now.count in
+    let old = c.args.out.now.items in
+    let said = c.in-Ok.says ∷ [] in
+    let given = encoded long count (calls_of said) in
+    let told = ap (λ t. written ++ t) c.in_ok-encode-in-Ok.ensures.text ∙ sym (append_assoc written old given) in
+    subst (λ t. HasEncoded long c.encode.new.self.count (lines ++ c.args.line.now ∷ []) t) (sym told)
+    (subst (λ n. HasEncoded long n (lines ++ c.args.line.now ∷ []) ((written ++ old) ++ given)) (sym c.in_ok-encode-in-Ok.ensures.count)
+    (more_encoded long count lines (written ++ old) c.args.line.now c.in-Ok.says h c.in-Ok.ensures))

@@ -21,7 +21,7 @@ returns-clause-goes_on c who h stands late event =
     let ship = c.args.self.now in
     let number = c.args.number in
     let accepts = c.args.accepts in
-    let parts = acts_of (answer_refusal ship.held number) (answer_due ship.own ship.held number accepts) c.in_ok-acts.acts.items c.in_ok-acts.ensures.answer in
+    let parts = acts_of (answer_refusal ship.held number) (answer_due ship.own ship.held number accepts) c.answer.new.acts.items c.in_ok-answer.ensures.answer in
     let none : refusal_at who h (Answer number accepts) ≡ None = sym (ap (λ (l : Places). answer_refusal l number) keeps.held) ∙ parts.0 in
     let acts = answer_due who.own (held h) number accepts in
     let e : Entry ShipWhat = record { at = c.args.at; what = Answer number accepts; acts = acts } in
@@ -29,4 +29,4 @@ returns-clause-goes_on c who h stands late event =
     (keeps_after who h e ship _ false false keeps (record { place = refl; delay = refl; alert = refl })
     (none_replied is_end ends_missed who.own (held h) number accepts) (none_replied is_attempt attempts_missed who.own (held h) number accepts)
     (record { own = refl; groups = refl; last = refl; position = refl; time = refl; alert = refl; attempted = refl; delays = refl })
-    (c.in_ok-acts.ensures.held ∙ ap (λ (l : Places). after_answering l number) keeps.held ∙ sym (after_answer ship_occurs e h who.own number accepts refl refl none)))
+    (c.in_ok-answer.ensures.held ∙ ap (λ (l : Places). after_answering l number) keeps.held ∙ sym (after_answer ship_occurs e h who.own number accepts refl refl none)))

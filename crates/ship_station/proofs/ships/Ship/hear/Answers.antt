@@ -9,7 +9,8 @@ use Rattle.area_rules.specs.declared.acts.Act.TheVariants.{Distress, AlertEnded}
 use Rattle.area_rules.specs.declared.refusals.StationRefusal.{StationRefusal}
 use Rattle.area_rules.specs.Histories.{Entry, History}
 use Rattle.area_rules.specs.Holding.{Places}
-use Rattle.area_rules.specs.Rules.{listed, refusal_or}
+use Rattle.area_rules.specs.Rules.{refusal_or}
+use Rattle.traffic_rules.specs.Giving.{answer_with}
 use Rattle.traffic_rules.specs.Hearing.{heard_refusal, heard_due}
 use Rattle.traffic_rules.specs.After.{after_hearing}
 use Rattle.traffic_rules.proofs.PublicLaws.{none_heard, after_heard, after_hearing_nothing}
@@ -111,7 +112,7 @@ returns-in_default c =
     let due : (who : Identities) (h : History ShipWhat) → Keeps ship who h → due_at who h at (Heard call) ≡ heard_due who.own (Some (kept h)) (held h) call =
     λ who h keeps.
     due_for who h at call (for_it who h keeps) ∙ traffic_due who.own (kept h) (is_some (open_alert h)) (held h) call c.in_default.not-Alert c.in_default.not-Ack in
-    let told : (who : Identities) (h : History ShipWhat) → Keeps ship who h → listed c.hear_traffic.result ≡ refusal_or (refusal_at who h (Heard call)) (due_at who h at (Heard call)) =
+    let told : (who : Identities) (h : History ShipWhat) → Keeps ship who h → answer_with c.hear_traffic.result c.hear_traffic.new.acts.items ≡ refusal_or (refusal_at who h (Heard call)) (due_at who h at (Heard call)) =
     λ who h keeps.
     c.hear_traffic.ensures.answer
     ∙ ap (λ (l : Places). refusal_or (heard_refusal l call) (heard_due ship.own (Some (ship.position, ship.time)) l call)) keeps.held
@@ -123,9 +124,10 @@ returns-in_default c =
     record {
       answer = λ who h stands late. told who h stands.1 ∙ sym (answer_on_time who h at (Heard call) late);
       goes_on = λ who h stands late event.
-          goes who h at (Heard call) ship c.hear_traffic.new.self c.hear_traffic.result late event stands (told who h stands.1) c.hear_traffic.ensures.unchanged
+          goes who h at (Heard call) ship c.hear_traffic.new.self c.hear_traffic.result c.hear_traffic.new.acts.items late event stands (told who h stands.1) c.hear_traffic.ensures.unchanged
           (λ none. on_ok c.hear_traffic.result
           (keeps_heard who h at call ship c.hear_traffic.new.self stands.1 (due who h stands.1) (sym (refusal_for who h call (for_it who h stands.1)) ∙ none))
           c.hear_traffic.ensures.held);
+      none = c.hear_traffic.ensures.none;
       unchanged = c.hear_traffic.ensures.unchanged;
     }

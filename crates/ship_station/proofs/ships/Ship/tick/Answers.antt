@@ -34,11 +34,11 @@ returns-clause-answer c who h stands late =
     let ship = c.args.self.now in
     let at = c.args.at in
     let none = delay_held who h ship keeps (sym c.lacks_delay.ensures ∙ c.if-lacks_delay.false) in
-    let front : c.attempt_again-acts.result.items ≡ at_tick who.own (kept h) (open_alert h) (delays_left h) (last_attempt h) at =
-    c.attempt_again-acts.ensures.acts ∙ tick_same who h ship at keeps in
-    let same : c.attempt_again-acts.new.self.held ≡ held h = ap (λ (s : Ship). s.held) c.attempt_again-acts.ensures.others ∙ keeps.held in
+    let front : c.attempt_again.new.acts.items ≡ at_tick who.own (kept h) (open_alert h) (delays_left h) (last_attempt h) at =
+    c.attempt_again.ensures.acts ∙ tick_same who h ship at keeps in
+    let same : c.attempt_again.new.self.held ≡ held h = ap (λ (s : Ship). s.held) c.attempt_again.ensures.others ∙ keeps.held in
     answered who h at Tick c.repeat.new.acts.items late none
-    (sym (c.repeat.ensures.acts ∙ ap (λ (l : Places). c.attempt_again-acts.result.items ++ repeats at 1 l) same ∙ ap (λ (l : List Act). l ++ repeats at 1 (held h)) front))
+    (sym (c.repeat.ensures.acts ∙ ap (λ (l : Places). c.attempt_again.new.acts.items ++ repeats at 1 l) same ∙ ap (λ (l : List Act). l ++ repeats at 1 (held h)) front))
 
 pub returns-clause-goes_on : goal.returns-clause-goes_on
 returns-clause-goes_on c who h stands late event =
@@ -47,9 +47,9 @@ returns-clause-goes_on c who h stands late event =
     let at = c.args.at in
     let none = delay_held who h ship keeps (sym c.lacks_delay.ensures ∙ c.if-lacks_delay.false) in
     let tick = at_tick who.own (kept h) (open_alert h) (delays_left h) (last_attempt h) at in
-    let front : c.attempt_again-acts.result.items ≡ tick = c.attempt_again-acts.ensures.acts ∙ tick_same who h ship at keeps in
-    let others = c.attempt_again-acts.ensures.others in
-    let same : c.attempt_again-acts.new.self.held ≡ held h = ap (λ (s : Ship). s.held) others ∙ keeps.held in
+    let front : c.attempt_again.new.acts.items ≡ tick = c.attempt_again.ensures.acts ∙ tick_same who h ship at keeps in
+    let others = c.attempt_again.ensures.others in
+    let same : c.attempt_again.new.self.held ≡ held h = ap (λ (s : Ship). s.held) others ∙ keeps.held in
     let e : Entry ShipWhat = record { at = at; what = Tick; acts = tick ++ repeats at 1 (held h) } in
     let tried = list_any is_attempt tick in
     accepted who h at Tick (tick ++ repeats at 1 (held h)) _ late event stands.0 none refl
@@ -63,8 +63,8 @@ returns-clause-goes_on c who h stands late event =
       position = ap (λ (s : Ship). s.position) others;
       time = ap (λ (s : Ship). s.time) others;
       alert = ap (λ (s : Ship). s.alert) others;
-      attempted = c.attempt_again-acts.ensures.attempted ∙ ap (λ (l : List Act). if list_any is_attempt l then at else ship.attempted_at) front;
-      delays = c.attempt_again-acts.ensures.delays ∙ ap (λ (l : List Act). if list_any is_attempt l then drop 1 ship.delays.items else ship.delays.items) front;
+      attempted = c.attempt_again.ensures.attempted ∙ ap (λ (l : List Act). if list_any is_attempt l then at else ship.attempted_at) front;
+      delays = c.attempt_again.ensures.delays ∙ ap (λ (l : List Act). if list_any is_attempt l then drop 1 ship.delays.items else ship.delays.items) front;
     })
     (c.repeat.ensures.held ∙ ap (λ (l : Places). after_tick l at) same
     ∙ sym (after_ticking ship_occurs e h tick refl refl (tick_quiet who.own (kept h) (open_alert h) (delays_left h) (last_attempt h) at))))

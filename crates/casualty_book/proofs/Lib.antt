@@ -1,0 +1,4 @@
+mod Sets
+mod Orders
+mod Unions
+mod Pieces

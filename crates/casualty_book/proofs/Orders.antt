@@ -1,0 +1,90 @@
+-- the order of rows
+use Rattle.std.specs.Cmp.{IsTotalOrder}
+use Rattle.std.specs.Cmp.Lexicographic.{slice_cmp}
+use Rattle.std.specs.Ordering.{nat_cmp, ordering_then}
+use Rattle.std.specs.declared.cmp.Ordering.{Ordering}
+use Rattle.std.specs.declared.cmp.Ordering.TheVariants.{Less, Equal, Greater}
+use Rattle.std.specs.Option.{option_cmp}
+use Rattle.std.specs.Prelude.{◌≡◌, ℕ, Option, Some, None}
+use Rattle.std.proofs.Common.{refl, ap, sym, subst, rules}
+use Rattle.std.proofs.lemmas.Map.Lookups.{CmpEqualImpliesEq, exact_unsigned, exact_bytes}
+use Rattle.casualty_book.specs.declared.rows.BookKind.{BookKind}
+use Rattle.casualty_book.specs.declared.rows.BookKind.TheVariants.{Alert, Ack, Relay, RelayAck}
+use Rattle.casualty_book.specs.declared.rows.BookRow.{BookRow}
+use Rattle.casualty_book.specs.Rows.{row_order, rank}
+use Rattle.casualty_book.specs.contracts.rows.BookRowOrd.TheImpl as ord
+use Rattle.casualty_book.specs.contracts.rows.BookRowOrd.TheImpl.Laws as laws
+
+-- two orders one behind the other tell apart what either tells
+both_equal : (x y : Ordering) → ordering_then x y ≡ Equal → (x ≡ Equal) × (y ≡ Equal)
+both_equal Equal y h = (refl, h)
+both_equal Less y h = absurd (cc)
+both_equal Greater y h = absurd (cc)
+
+exact_rank : (a b : BookKind) → nat_cmp (rank a) (rank b) ≡ Equal → a ≡ b
+exact_rank Alert Alert h = refl
+exact_rank Ack Ack h = refl
+exact_rank Relay Relay h = refl
+exact_rank RelayAck RelayAck h = refl
+exact_rank Alert Ack h = absurd (cc)
+exact_rank Alert Relay h = absurd (cc)
+exact_rank Alert RelayAck h = absurd (cc)
+exact_rank Ack Alert h = absurd (cc)
+exact_rank Ack Relay h = absurd (cc)
+exact_rank Ack RelayAck h = absurd (cc)
+exact_rank Relay Alert h = absurd (cc)
+exact_rank Relay Ack h = absurd (cc)
+exact_rank Relay RelayAck h = absurd (cc)
+exact_rank RelayAck Alert h = absurd (cc)
+exact_rank RelayAck Ack h = absurd (cc)
+exact_rank RelayAck Relay h = absurd (cc)
+
+exact_option : (a b : Option ℕ) → option_cmp nat_cmp a b ≡ Equal → a ≡ b
+exact_option None None h = refl
+exact_option None (Some b) h = absurd (cc)
+exact_option (Some a) None h = absurd (cc)
+exact_option (Some a) (Some b) h = ap Some (exact_unsigned a b h)
+
+pub rows_exact : CmpEqualImpliesEq row_order
+rows_exact a b h =
+    let one = both_equal (slice_cmp nat_cmp a.casualty b.casualty) _ h in
+    let two = both_equal (nat_cmp (rank a.kind) (rank b.kind)) _ one.1 in
+    let three = both_equal (slice_cmp nat_cmp a.from b.from) _ two.1 in
+    let four = both_equal (option_cmp nat_cmp a.nature b.nature) _ three.1 in
+    let five = both_equal (slice_cmp nat_cmp a.place.items b.place.items) _ four.1 in
+    let six = both_equal (option_cmp nat_cmp a.time b.time) _ five.1 in
+    let casualty = exact_bytes a.casualty b.casualty one.0 in
+    let kind = exact_rank a.kind b.kind two.0 in
+    let from = exact_bytes a.from b.from three.0 in
+    let nature = exact_option a.nature b.nature four.0 in
+    let place = exact_bytes a.place.items b.place.items five.0 in
+    let time = exact_option a.time b.time six.0 in
+    let second = exact_option a.second b.second six.1 in
+    λ i. record {
+      casualty = casualty i;
+      kind = kind i;
+      from = from i;
+      nature = nature i;
+      place = record { items = place i };
+      time = time i;
+      second = second i;
+    }
+
+-- the order that is derived of rows
+abbrev pub compared : BookRow → BookRow → Ordering
+compared = ord.cmp-value.it
+
+same_order : (a b : BookRow) → compared a b ≡ row_order a b
+same_order = search rules
+
+pub orders_are : compared ≡ row_order
+orders_are = λ i a b. same_order a b i
+
+pub compared_total : IsTotalOrder compared
+compared_total = laws.total-law
+
+pub rows_total : IsTotalOrder row_order
+rows_total = subst (λ (R : BookRow → BookRow → Ordering). IsTotalOrder R) orders_are compared_total
+
+pub compared_exact : CmpEqualImpliesEq compared
+compared_exact = subst (λ (R : BookRow → BookRow → Ordering). CmpEqualImpliesEq R) (sym orders_are) rows_exact

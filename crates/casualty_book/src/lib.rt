@@ -1,0 +1,14 @@
+//! The casualty book: who was in distress, and who acknowledged and relayed it, as sentences tell it (this project's profile).
+#![tactic(auto)]
+
+mod books;
+mod laws;
+mod rows;
+mod sentences;
+mod texts;
+
+pub use books::Book;
+pub use laws::{books_with_the_same_rows_are_one_list, union_is_of_sets};
+pub use rows::{BookKind, BookRow};
+pub use sentences::row_of;
+pub use texts::put_row;

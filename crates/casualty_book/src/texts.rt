@@ -1,0 +1,85 @@
+ghost use Rattle.std.specs.Prelude.{◌≡◌, ◌+◌, ◌≤◌, ◌++◌, IfSome, length};
+ghost use Rattle.arrayvec.specs.ArrayVec.{array_vec_len};
+ghost use Rattle.sentence_frame.specs.Texts.{AreDigits};
+ghost use Rattle.casualty_book.specs.Rows.{IsLawful};
+ghost use Rattle.casualty_book.specs.Texts as texts;
+
+use crate::rows::{BookKind, BookRow};
+use arrayvec::ArrayVec;
+use sentence_frame::{append_digit_text, append_fixed_number};
+use text_pieces::append;
+
+/// The text of a row, without LF.
+#[tactic(auto, unfolding(crate::specs::Texts::row_text))]
+pub fn put_row(r: &BookRow) -> ArrayVec<u8, 160>
+    requires { IsLawful r.now }
+    ensures { result.items ≡ texts.row_text r.now }
+{
+    let mut out = ArrayVec::new();
+    append(&mut out, b"casualty ");
+    append_digit_text(&mut out, &r.casualty);
+    append(&mut out, b" ");
+    append(&mut out, kind_text(r.kind));
+    append(&mut out, b" from=");
+    append_digit_text(&mut out, &r.from);
+    append(&mut out, b" nature=");
+    append_two_digits(&mut out, r.nature);
+    append(&mut out, b" pos=");
+    append_digits_or_hyphen(&mut out, r.place.as_slice());
+    append(&mut out, b" time=");
+    append_four_digits(&mut out, r.time);
+    append(&mut out, b" then=");
+    append_two_digits(&mut out, r.second);
+    out
+}
+
+/// The word of a kind.
+fn kind_text(kind: BookKind) -> &'static [u8]
+    ensures word { result.now ≡ texts.kind_text kind }
+    ensures length { length result.now ≤ 8 }
+{
+    match kind {
+        BookKind::Alert => b"alert",
+        BookKind::Ack => b"ack",
+        BookKind::Relay => b"relay",
+        BookKind::RelayAck => b"relayack",
+    }
+}
+
+/// Appends a number in two digits, or a hyphen where there is none.
+fn append_two_digits(out: &mut ArrayVec<u8, 160>, number: Option<u8>)
+    requires { array_vec_len out.old + 2 ≤ 160 }
+    ensures items { out.new.items ≡ out.old.items ++ texts.number_or_hyphen 2 number }
+    ensures len { array_vec_len out.new ≤ array_vec_len out.old + 2 }
+{
+    match number {
+        None => append(out, b"-"),
+        Some(number) => append_fixed_number(out, 2, u32::from(number)),
+    }
+}
+
+/// Appends a number in four digits, or a hyphen where there is none.
+fn append_four_digits(out: &mut ArrayVec<u8, 160>, number: Option<u16>)
+    requires { array_vec_len out.old + 4 ≤ 160 }
+    ensures items { out.new.items ≡ out.old.items ++ texts.number_or_hyphen 4 number }
+    ensures len { array_vec_len out.new ≤ array_vec_len out.old + 4 }
+{
+    match number {
+        None => append(out, b"-"),
+        Some(number) => append_fixed_number(out, 4, u32::from(number)),
+    }
+}
+
+/// Appends digits, or a hyphen where there are none.
+fn append_digits_or_hyphen(out: &mut ArrayVec<u8, 160>, digits: &[u8])
+    requires room { array_vec_len out.old + length digits.now + 1 ≤ 160 }
+    requires digits { AreDigits digits.now }
+    ensures items { out.new.items ≡ out.old.items ++ texts.digits_or_hyphen digits.now }
+    ensures len { array_vec_len out.new ≤ array_vec_len out.old + length digits.now + 1 }
+{
+    if digits.is_empty() {
+        append(out, b"-");
+    } else {
+        append_digit_text(out, digits);
+    }
+}

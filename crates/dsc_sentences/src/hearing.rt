@@ -1,0 +1,69 @@
+ghost use Rattle.std.specs.Prelude.{◌≡◌, ◌≤◌, ◌++◌, ◌∷◌, [], length};
+ghost use Rattle.dsc_sentences.specs.Heard.{IsHeard};
+ghost use Rattle.dsc_sentences.specs.inside.Hearing.{IsHeardAsDsc, IsHeardAsDse};
+ghost use Rattle.dsc_sentences.specs.Verdicts as verdicts;
+
+use crate::dsc::DscSentence;
+use crate::dse_reading::read_dse;
+use crate::reading::fields_read;
+use arrayvec::ArrayVec;
+use sentence_frame::{LONGEST_SENTENCE, SentenceRefusal};
+use text_pieces::append;
+
+/// The DSC sentence of a line that has no LF: one CR at its end is dropped, and CR LF are added. A line that begins with `$CDDSE` is read
+/// as a DSE sentence, and where it is accepted the answer is None. A refused line gives its first refusal.
+pub fn sentence_on(line: &[u8]) -> Result<Option<DscSentence>, SentenceRefusal>
+    ensures { IsHeard line.now result }
+{
+    let text = without_return(line);
+    if text.len() > LONGEST_SENTENCE - 2 {
+        return Err(SentenceRefusal::TooLong(text.len() + 2));
+    }
+    let bytes = ended(text);
+    if line.starts_with(b"$CDDSE") {
+        heard_as_dse(bytes.as_slice())
+    } else {
+        heard_as_dsc(bytes.as_slice())
+    }
+}
+
+/// A line without one CR at its end.
+fn without_return(line: &[u8]) -> &[u8]
+    ensures { result.now ≡ verdicts.without_return line.now }
+{
+    match line.split_last() {
+        Some((b'\r', text)) => text,
+        _ => line,
+    }
+}
+
+/// A text with CR and LF.
+fn ended(text: &[u8]) -> ArrayVec<u8, LONGEST_SENTENCE>
+    requires { length text.now ≤ 80 }
+    ensures { result.items ≡ text.now ++ 13 ∷ 10 ∷ [] }
+{
+    let mut bytes = ArrayVec::new();
+    append(&mut bytes, text);
+    append(&mut bytes, b"\r\n");
+    bytes
+}
+
+/// What is heard of bytes that are read as a DSC sentence.
+fn heard_as_dsc(bytes: &[u8]) -> Result<Option<DscSentence>, SentenceRefusal>
+    ensures { IsHeardAsDsc bytes.now result }
+{
+    match fields_read(bytes) {
+        Ok(fields) => Ok(Some(DscSentence { fields })),
+        Err(refusal) => Err(refusal),
+    }
+}
+
+/// What is heard of bytes that are read as a DSE sentence: no DSC sentence, or a refusal.
+fn heard_as_dse(bytes: &[u8]) -> Result<Option<DscSentence>, SentenceRefusal>
+    ensures { IsHeardAsDse bytes.now result }
+{
+    match read_dse(bytes) {
+        Ok(_) => Ok(None),
+        Err(refusal) => Err(refusal),
+    }
+}

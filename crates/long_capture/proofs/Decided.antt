@@ -1,0 +1,84 @@
+-- what follows changes nothing of leads that are decided
+use Rattle.std.proofs.Common.{◌≡◌, ℕ, zero, suc, ◌+◌, ◌-◌, ◌<◌, ◌≤◌, Bool, cond, List, [], ◌∷◌, ◌++◌, length, map, find, get_or, Option, Some, None, inl, inr, refl, arith, ap, sym, ◌∙◌}
+use Rattle.std.specs.List.{range_with_len}
+use Rattle.std.proofs.lemmas.Bool.{cases_lt}
+use Rattle.std.proofs.lemmas.List.{get_or_append_left}
+use Rattle.std.proofs.lemmas.List.FromFn.{length-map-range_with_len, get_or-map-range_with_len}
+use Rattle.ten_unit.specs.declared.character.Element.{Element}
+use Rattle.ten_unit.specs.declared.character.Element.TheVariants.{Lost}
+use Rattle.phasing.specs.Origin.{is_phased}
+use Rattle.phasing.specs.inside.Places.{element_at}
+use Rattle.long_capture.specs.Starts.{starts_below, facts_from}
+use Rattle.long_capture.specs.inside.Reads.{IsWindow}
+use Rattle.long_capture.proofs.Cuts.{IsAfter, rest_of, facts_cut}
+use Rattle.long_capture.proofs.Leads.{find_least, find_none}
+use Rattle.long_capture.proofs.Lists.{none_below, below_more}
+use Rattle.long_capture.proofs.Near.{Laws, at_inside, at_before}
+
+-- an element of a stream that goes on
+at_more : (e more : List Element) (place : ℕ) → place < length e + 150 → element_at (e ++ more) place ≡ element_at e place
+at_more e more place inside =
+    elim (cases_lt place 150) [
+      | inl early ↦ at_before (e ++ more) place early ∙ sym (at_before e place early)
+      | inr late ↦
+          at_inside (e ++ more) place late ∙ get_or_append_left e more Lost (place - 150) (omega arith) ∙ sym (at_inside e place late)
+    ]
+
+pub phased_stays : Laws → (e more : List Element) (lead : ℕ) → lead + 1450 ≤ length e → is_phased (e ++ more) lead ≡ is_phased e lead
+phased_stays laws e more lead inside = laws.lead (e ++ more) e lead lead (λ i below. at_more e more (lead + i) (omega arith))
+
+-- the window at a lead
+abbrev window_of : List Element → ℕ → List Element
+window_of e lead = map (element_at e) (range_with_len lead 1600)
+
+at_window : (e : List Element) (lead k : ℕ) → k < 1600 → get_or (window_of e lead) k Lost ≡ element_at e (lead + k)
+at_window e lead k below = get_or-map-range_with_len (element_at e) lead 1600 k (lead + k) Lost below refl
+
+own_window : (e : List Element) (lead : ℕ) → IsWindow (window_of e lead) e lead
+own_window e lead = record {
+  long = length-map-range_with_len (element_at e) lead 1600;
+  same = λ k below. at_window e lead k below;
+}
+
+more_window : (e more : List Element) (lead : ℕ) → lead + 1450 ≤ length e → IsWindow (window_of e lead) (e ++ more) lead
+more_window e more lead inside = record {
+  long = length-map-range_with_len (element_at e) lead 1600;
+  same = λ k below. at_window e lead k below ∙ sym (at_more e more (lead + k) (omega arith));
+}
+
+-- a window has a first phased index behind its first one, or none
+abbrev is_after : List Element → ℕ → Bool
+is_after w k = is_phased (rest_of w) (k + 150)
+
+after_of : (w : List Element) (found : Option ℕ) → find (is_after w) (range_with_len 0 1599) ≡ found → (after : ℕ) × IsAfter w after
+after_of w None is = (
+  1599,
+  record {
+    within = omega arith;
+    phased = λ short. absurd (omega arith);
+    none = λ k below. find_none (is_after w) 0 1599 is k (omega arith) below;
+  },
+)
+after_of w (Some after) is =
+    let least = find_least (is_after w) 0 1599 after is in (
+      after,
+      record {
+        within = omega (arith, least.within);
+        phased = λ short. least.passes;
+        none = λ k below. least.least k (omega arith) below;
+      },
+    )
+
+pub facts_stay : Laws → (e more : List Element) (lead p v : ℕ) → lead + 1450 ≤ length e → facts_from (e ++ more) lead p v ≡ facts_from e lead p v
+facts_stay laws e more lead p v inside =
+    let after = after_of (window_of e lead) (find (is_after (window_of e lead)) (range_with_len 0 1599)) refl in
+    sym (facts_cut laws (window_of e lead) (e ++ more) lead after.0 (more_window e more lead inside) after.1 p v)
+    ∙ facts_cut laws (window_of e lead) e lead after.0 (own_window e lead) after.1 p v
+
+pub starts_stay : Laws → (e more : List Element) (bound : ℕ) → bound ≤ length e - 1449 → starts_below (e ++ more) bound ≡ starts_below e bound
+starts_stay laws e more zero inside = none_below (e ++ more) ∙ sym (none_below e)
+starts_stay laws e more (suc bound) inside =
+    below_more (e ++ more) bound
+    ∙ ap (λ (l : List ℕ). l ++ cond (is_phased (e ++ more) bound) (bound ∷ []) []) (starts_stay laws e more bound (omega arith))
+    ∙ ap (λ (b : Bool). starts_below e bound ++ cond b (bound ∷ []) []) (phased_stays laws e more bound (omega arith))
+    ∙ sym (below_more e bound)

@@ -1,0 +1,54 @@
+-- the last 1,600 of a list of elements, when one is put behind them
+use Rattle.std.proofs.Common.{◌≡◌, ◌≢◌, ℕ, ◌+◌, ◌-◌, ◌<◌, ◌≤◌, List, [], ◌∷◌, ◌++◌, length, take, drop, set, get_or, inl, inr, arith, ap, sym, ◌∙◌, length-append, get_or-set_other, get_or-set_same}
+use Rattle.std.proofs.lemmas.Bool.{cases_lt}
+use Rattle.std.proofs.lemmas.List.{ext_get_or, length-take-le, length-drop, length-set, get_or-take, get_or-drop, get_or_append_left, get_or-append_right}
+use Rattle.ten_unit.specs.declared.character.Element.{Element}
+use Rattle.ten_unit.specs.declared.character.Element.TheVariants.{Lost}
+
+-- the elements before the first index that is free
+abbrev pub last_of : List Element → ℕ → List Element
+last_of buffer end = take 1600 (drop (end - 1600) buffer)
+
+pub length-last : (buffer : List Element) (end : ℕ) → 1600 ≤ end → end ≤ length buffer → length (last_of buffer end) ≡ 1600
+length-last buffer end low high = length-take-le 1600 (drop (end - 1600) buffer) (omega (arith, length-drop (end - 1600) buffer))
+
+pub at_last : (buffer : List Element) (end i : ℕ) → i < 1600 → get_or (last_of buffer end) i Lost ≡ get_or buffer (end - 1600 + i) Lost
+at_last buffer end i below = get_or-take 1600 (drop (end - 1600) buffer) i Lost below ∙ get_or-drop (end - 1600) buffer i Lost
+
+-- an element of a window when another is put behind it
+pub pushed_before : (w : List Element) (x : Element) (i : ℕ) → length w ≡ 1600 → i < 1599 → get_or (drop 1 w ++ x ∷ []) i Lost ≡ get_or w (1 + i) Lost
+pushed_before w x i long below =
+    get_or_append_left (drop 1 w) (x ∷ []) Lost i (omega (arith, length-drop 1 w)) ∙ get_or-drop 1 w i Lost
+
+pub pushed_last : (w : List Element) (x : Element) → length w ≡ 1600 → get_or (drop 1 w ++ x ∷ []) 1599 Lost ≡ x
+pushed_last w x long =
+    let short : length (drop 1 w) ≡ 1599 = omega (arith, length-drop 1 w) in
+    get_or-append_right (drop 1 w) (x ∷ []) 1599 1599 Lost short (omega arith)
+
+pub length-pushed : (w : List Element) (x : Element) → length w ≡ 1600 → length (drop 1 w ++ x ∷ []) ≡ 1600
+length-pushed w x long = omega (arith, length-append (drop 1 w) (x ∷ []), length-drop 1 w)
+
+-- an element that is written where the window ends
+pub window_more : (buffer : List Element) (end : ℕ) (x : Element) → 1600 ≤ end → end < length buffer → last_of (set buffer end x) (end + 1) ≡ drop 1 (last_of buffer end) ++ x ∷ []
+window_more buffer end x low high =
+    let long = length-last buffer end low (omega arith) in
+    let size : end + 1 ≤ length (set buffer end x) = omega (arith, length-set buffer end x) in
+    let sized = length-last (set buffer end x) (end + 1) (omega arith) size in
+    ext_get_or Lost _ _ (sized ∙ sym (length-pushed (last_of buffer end) x long))
+    (λ i below.
+    let few : i < 1600 = omega (arith, sized) in
+    at_last (set buffer end x) (end + 1) i few
+    ∙ elim (cases_lt i 1599) as (λ _. get_or (set buffer end x) (end + 1 - 1600 + i) Lost ≡ get_or (drop 1 (last_of buffer end) ++ x ∷ []) i Lost) [
+      | inl before ↦
+          let other : end + 1 - 1600 + i ≢ end = omega arith in
+          let index : end + 1 - 1600 + i ≡ end - 1600 + (1 + i) = omega arith in
+          get_or-set_other buffer end (end + 1 - 1600 + i) x Lost other ∙ ap (λ (n : ℕ). get_or buffer n Lost) index
+          ∙ sym (at_last buffer end (1 + i) (omega arith))
+          ∙ sym (pushed_before (last_of buffer end) x i long before)
+      | inr last ↦
+          let here : end + 1 - 1600 + i ≡ end = omega arith in
+          let at : 1599 ≡ i = omega arith in
+          ap (λ (n : ℕ). get_or (set buffer end x) n Lost) here ∙ get_or-set_same buffer end x Lost high
+          ∙ sym (pushed_last (last_of buffer end) x long)
+          ∙ ap (λ (n : ℕ). get_or (drop 1 (last_of buffer end) ++ x ∷ []) n Lost) at
+    ])

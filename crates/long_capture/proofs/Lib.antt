@@ -1,0 +1,10 @@
+mod LastElements
+mod Near
+mod Leads
+mod Cuts
+mod Steps
+mod Lists
+mod Decided
+mod InTime
+mod OneWay
+mod Endings

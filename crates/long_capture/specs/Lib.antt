@@ -1,0 +1,4 @@
+pub mod Starts
+pub mod Told
+pub mod Captures
+pub mod inside

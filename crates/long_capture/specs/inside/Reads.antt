@@ -1,0 +1,31 @@
+-- How a capture holds a stream: its last 1,600 elements, and how many leads behind the decided ones are known not to be phased. This project's own form.
+use Rattle.std.specs.Prelude.{◌≡◌, ℕ, ◌+◌, ◌<◌, false, List, length, slice_index_or, Option, Some, None}
+use Rattle.ten_unit.specs.declared.character.Element.{Element}
+use Rattle.ten_unit.specs.declared.character.Element.TheVariants.{Lost}
+use Rattle.phasing.specs.Origin.{is_phased}
+use Rattle.phasing.specs.inside.Places.{element_at}
+use Rattle.long_capture.specs.declared.scans.Scan.{Scan}
+use Rattle.long_capture.specs.declared.starts.Start.{Start}
+use Rattle.long_capture.specs.Told.{IsStart}
+
+-- the window has the 1,600 elements of the stream from a place on
+pub record IsWindow (window : List Element) (e : List Element) (place : ℕ) : Type 0 where
+  pub long : length window ≡ 1600
+  pub same : (k : ℕ) → k < 1600 → slice_index_or window k Lost ≡ element_at e (place + k)
+
+-- so many leads from one on are not phased
+abbrev pub IsQuietFor : List Element → ℕ → ℕ → Type 0
+IsQuietFor e lead count = (k : ℕ) → k < count → is_phased e (lead + k) ≡ false
+
+-- a look at a lead answers its start, or that it is none, and how many leads behind it are not phased
+abbrev pub Looks : List Element → ℕ → Option Start → ℕ → Type 0
+Looks e lead None quiet = IsQuietFor e lead (quiet + 1)
+Looks e lead (Some start) quiet = IsStart e lead start × IsQuietFor e (lead + 1) quiet
+
+-- it has read so many elements of the stream, and lost ones past its end
+pub record Reads (scan : Scan) (e : List Element) (count : ℕ) : Type 0 where
+  pub seen : scan.seen ≡ count
+  pub long : length scan.window ≡ 1600
+  pub window : (k place : ℕ) → k < 1600 → place + 1450 ≡ count + k → slice_index_or scan.window k Lost ≡ element_at e place
+  pub quiet : (k lead : ℕ) → k < scan.quiet → lead + 1449 ≡ count + k → is_phased e lead ≡ false
+  pub early : count < 1450 → count + scan.quiet ≡ 1449

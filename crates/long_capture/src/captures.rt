@@ -1,0 +1,65 @@
+ghost use Rattle.std.specs.Prelude.{◌+◌, ◌≤◌, ◌^◌};
+
+use crate::scans::Scan;
+use crate::starts::Start;
+use ten_unit::Element;
+
+/// The starts of a long stream, element by element. It holds a fixed number of elements and takes no memory.
+#[derive(Drop)]
+pub struct Capture {
+    scan: Scan,
+    lost: u32,
+    ghost few: { scan.seen ≤ 2 ^ 40 + lost },
+    ghost most: { lost ≤ 1599 },
+}
+
+/// Lost elements behind the end that decide its last origins.
+const BEHIND: u32 = 1599;
+
+impl Capture {
+    ghost use Rattle.std.specs.Prelude.{◌≡◌, [], ◌∷◌, ◌++◌, ◌<◌, ◌^◌, List, length, IsSome, IsNone};
+    ghost use Rattle.ten_unit.specs.declared.character.Element.{Element};
+    ghost use Rattle.long_capture.specs.Captures.{taken, reached, left, IsOpen, Stands, Ending};
+    ghost use Rattle.long_capture.specs.Told.{Tells};
+
+    /// It stands for the empty stream and has decided nothing.
+    pub fn new() -> Capture
+        ensures stands { Stands result [] }
+    {
+        Capture {
+            scan: Scan::new(),
+            lost: 0,
+        }
+    }
+
+    /// Takes the next element of the stream. With N elements taken it decides the origin N - 1600, where that is at least -150,
+    /// and answers the start there, if the origin is phased. It may be called up to 2^40 times, and not behind `finish`.
+    ///
+    /// An element mostly costs a store and a count: 64 origins are searched at once, and only where the last search ended.
+    pub fn take(&mut self, x: Element) -> Option<Start>
+        requires few { taken self.old < 2 ^ 40 }
+        requires going { IsOpen self.old }
+        ensures stands { (e : List Element) → Stands self.old e → Stands self.new (e ++ x ∷ []) }
+        ensures tells { (e more : List Element) → Stands self.old e → Tells (e ++ x ∷ more) (reached self.old) (reached self.new) result }
+    {
+        self.scan.step(x)
+    }
+
+    /// Answers the next start of the whole stream behind the last origin that was decided, and decides it and all before it. `None`
+    /// comes exactly where there is no further one.
+    pub fn finish(&mut self) -> Option<Start>
+        ensures ending { (e : List Element) → Ending self.old e → Ending self.new e }
+        ensures tells { (e : List Element) → Ending self.old e → Tells e (reached self.old) (reached self.new) result }
+        ensures none { (e : List Element) → Ending self.old e → IsNone result → reached self.new ≡ length e + 150 }
+        ensures some { IsSome result → left self.new < left self.old }
+    {
+        while self.lost < BEHIND {
+            self.lost += 1;
+            let start = self.scan.step(Element::Lost);
+            if start.is_some() {
+                return start;
+            }
+        }
+        None
+    }
+}

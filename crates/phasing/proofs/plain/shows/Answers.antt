@@ -1,7 +1,0 @@
-use Rattle.std.proofs.Common.{rules}
-use Rattle.phasing.specs.Slot.{shows}
-use Rattle.phasing.proofs.plain.shows.Goals as goal
-
-pub returns : goal.returns
-unfolding shows
-returns c = search rules

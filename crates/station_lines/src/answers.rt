@@ -1,0 +1,61 @@
+//! The lines of what a station answers to an event.
+ghost use Rattle.std.specs.Prelude.{◌≡◌, ◌++◌, is_ok, OnOk, IfOk};
+ghost use Rattle.std.specs.List.{flat_map};
+ghost use Rattle.traffic_rules.specs.Giving.{answer_with};
+ghost use Rattle.station_lines.specs.Answers.{act_line, refusal_line, answer_lines};
+
+use act_texts::{put_act, put_refused};
+use area_rules::{Act, StationRefusal};
+use std::alloc::AllocError;
+
+/// Appends the line of an act.
+#[tactic(auto, unfolding(crate::specs::Answers::act_line))]
+fn append_act(out: &mut Vec<u8>, at: u32, act: &Act) -> Result<(), AllocError>
+    ensures { OnOk result (out.new.items ≡ out.old.items ++ act_line at act.now) }
+{
+    out.extend_from_slice(&put_act(at, act))?;
+    out.extend_from_slice(b"\n")?;
+    Ok(())
+}
+
+/// Appends the lines of acts.
+fn append_acts(out: &mut Vec<u8>, at: u32, acts: &[Act]) -> Result<(), AllocError>
+    ensures { OnOk result (out.new.items ≡ out.old.items ++ flat_map (act_line at) acts.now) }
+{
+    for act in acts {
+        append_act(out, at, act)?;
+    }
+    Ok(())
+}
+
+/// Appends the line of a refusal.
+#[tactic(auto, unfolding(crate::specs::Answers::refusal_line))]
+fn append_refusal(out: &mut Vec<u8>, at: u32, refusal: &StationRefusal) -> Result<(), AllocError>
+    ensures { OnOk result (out.new.items ≡ out.old.items ++ refusal_line at refusal.now) }
+{
+    out.extend_from_slice(&put_refused(at, refusal))?;
+    out.extend_from_slice(b"\n")?;
+    Ok(())
+}
+
+/// Appends the lines of what a station answers, where these are the acts that it gave, and tells whether it accepted the event.
+pub fn append_answer(
+    out: &mut Vec<u8>,
+    at: u32,
+    answer: &Result<(), StationRefusal>,
+    acts: &[Act],
+) -> Result<bool, AllocError>
+    ensures lines { OnOk result (out.new.items ≡ out.old.items ++ answer_lines at (answer_with answer.now acts.now)) }
+    ensures accepted { IfOk result (λ accepted. accepted ≡ is_ok (answer_with answer.now acts.now)) }
+{
+    match answer {
+        Ok(()) => {
+            append_acts(out, at, acts)?;
+            Ok(true)
+        }
+        Err(refusal) => {
+            append_refusal(out, at, refusal)?;
+            Ok(false)
+        }
+    }
+}

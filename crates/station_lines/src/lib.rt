@@ -1,0 +1,8 @@
+//! What lines say to a station, and what a station answers in lines: for each command that leads stations by events of files.
+#![tactic(auto)]
+
+mod answers;
+mod events;
+
+pub use answers::append_answer;
+pub use events::{coast_event, ship_event};

@@ -1,0 +1,6 @@
+mod Texts
+mod Steps
+mod Ready
+mod Fronts
+mod Determined
+mod LinesTaken

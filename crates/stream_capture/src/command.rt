@@ -1,0 +1,119 @@
+ghost use Rattle.std.specs.Prelude.{◌≡◌, ◌-◌, ◌<◌, ◌^◌, ◌∷◌, ◌++◌, List, ℕ, [], map, length, OnOk};
+ghost use Rattle.ten_unit.specs.declared.character.Element.{Element as Taken};
+ghost use Rattle.line_engine.specs.Commands.{StandsBelow};
+ghost use Rattle.dsc_files.specs.inside.Reading.{element_of as element_at};
+ghost use Rattle.long_capture.specs.Captures.{taken, IsOpen};
+ghost use Rattle.stream_capture.specs.Telling.{capture_meaning};
+ghost use Rattle.stream_capture.specs.inside.Progress.{HasTold, EndsTold, HasToldAll, TellsOne, HasRoom, StandsFor};
+ghost use Rattle.stream_capture.specs.inside.Gives.{gives_text};
+
+use crate::lines::append_start;
+use dsc_files::{element_of, one_stream_line, stream_line};
+use dsc_streams::Status;
+use line_engine::{Command, Refusal};
+use long_capture::{Capture, Start, starts_go_on, taking_ends};
+use std::alloc::AllocError;
+use ten_unit::Element;
+
+/// The command that tells of each start of a stream as soon as it is decided.
+#[derive(Drop)]
+pub struct Capturing {
+    pub(crate) capture: Capture,
+    /// How many starts were told.
+    pub(crate) count: u32,
+    /// A call was reported at each of them.
+    pub(crate) is_well: bool,
+}
+
+impl Capturing {
+    /// The command before its first line.
+    pub fn new() -> Capturing
+        ensures { StandsFor result [] [] }
+    {
+        Capturing {
+            capture: Capture::new(),
+            count: 0,
+            is_well: true,
+        }
+    }
+
+    /// Tells of a start.
+    // In a frame and a body of its own: nearly all elements begin nothing.
+    #[inline(never)]
+    fn tell(&mut self, start: &Start, out: &mut Vec<u8>) -> Result<(), AllocError>
+        requires { self.old.count < 2 ^ 32 - 1 }
+        ensures { OnOk result (TellsOne self.old self.new start.now out.old.items out.new.items) }
+    {
+        self.is_well &= append_start(out, self.count, start.at, &start.sheet)?;
+        self.count += 1;
+        Ok(())
+    }
+
+    /// Takes an element of the stream.
+    #[inline(always)]
+    fn take_element(&mut self, element: Element, out: &mut Vec<u8>) -> Result<(), AllocError>
+        requires few { self.old.count < 2 ^ 32 - 1 }
+        requires short { taken self.old.capture < 2 ^ 40 }
+        requires going { IsOpen self.old.capture }
+        ensures { OnOk result ((e : List Taken) (text : List ℕ) → HasTold self.old e (text ++ out.old.items) → HasTold self.new (e ++ element ∷ []) (text ++ out.new.items)) }
+    {
+        starts_go_on();
+        match self.capture.take(element) {
+            Some(start) => self.tell(&start, out),
+            None => Ok(()),
+        }
+    }
+
+    /// Takes the elements of a line.
+    fn take_signs(&mut self, signs: &[u8], out: &mut Vec<u8>) -> Result<(), AllocError>
+        requires { HasRoom self.old out.old.items (length signs.now) }
+        ensures { OnOk result ((e : List Taken) (text : List ℕ) → HasTold self.old e (text ++ out.old.items)
+            → HasTold self.new (e ++ map element_at signs.now) (text ++ out.new.items)) }
+    {
+        for sign in signs {
+            self.take_element(element_of(*sign), out)?;
+        }
+        Ok(())
+    }
+
+    /// Tells of the starts that the stream's end decides.
+    fn take_end(&mut self, out: &mut Vec<u8>) -> Result<(), AllocError>
+        requires { self.old.count < 2 ^ 31 }
+        ensures { OnOk result ((e : List Taken) (text : List ℕ) → EndsTold self.old e (text ++ out.old.items) → HasToldAll self.new e (text ++ out.new.items)) }
+    {
+        starts_go_on();
+        while let Some(start) = self.capture.finish() {
+            self.tell(&start, out)?;
+        }
+        Ok(())
+    }
+}
+
+impl Command for Capturing {
+    ghost meaning = { capture_meaning };
+
+    ghost stands_for = { StandsFor };
+
+    fn take(&mut self, line: &[u8], out: &mut Vec<u8>) -> Result<(), Refusal> {
+        one_stream_line();
+        match stream_line(line) {
+            Ok(signs) => {
+                self.take_signs(signs, out)?;
+                Ok(())
+            }
+            Err(n) => Err(Refusal::Column(n)),
+        }
+    }
+
+    fn finish(&mut self, out: &mut Vec<u8>) -> Result<Status, AllocError> {
+        taking_ends();
+        self.take_end(out)?;
+        if self.is_well {
+            Ok(Status::new(0))
+        } else {
+            Ok(Status::new(1))
+        }
+    }
+
+    ghost gives = { λ command lines text stands. gives_text command lines text stands };
+}

@@ -1,0 +1,11 @@
+ghost use Rattle.std.specs.Prelude.{◌≡◌, [], ◌∷◌};
+
+use area_rules::{Act, Acts, put};
+
+/// Gives one act alone, into a list that is empty.
+pub fn give(acts: &mut Acts, act: Act)
+    requires { acts.old.items ≡ [] }
+    ensures { acts.new.items ≡ act ∷ [] }
+{
+    put(acts, act);
+}
