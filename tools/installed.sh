@@ -1,7 +1,11 @@
 # Read by `tools/install` and `tools/uninstall`: where the files of the suite stand on a system. Who reads this has set `top`,
-# the folder of the repository.
+# the folder of the repository, and `from`, the caller's.
 
 prefix=${DESTDIR-}${PREFIX-/usr/local}
+case $prefix in
+"" | /*) ;;
+*) prefix=$from/$prefix ;;
+esac
 documents=$prefix/share/doc/dsc
 
 # Names each file of the repository that is installed, and the folder that it is put into. Documents keep their places to each
@@ -9,7 +13,7 @@ documents=$prefix/share/doc/dsc
 list_installed() (
     cd "$top" || exit
     echo "man/dsc.1 $prefix/share/man/man1"
-    for file in README.md docs/*.md docs/pictures/*.svg examples/* tools/split_groups; do
+    for file in README.md docs/*.md docs/pictures/*.svg examples/* tools/split_groups tools/explain tools/draw_receptions tools/pictures.py; do
         folder=$documents/$file
         echo "$file ${folder%/*}"
     done

@@ -2,3 +2,8 @@ mod Sets
 mod Orders
 mod Unions
 mod Pieces
+mod BookTexts
+mod Numbers
+mod Keys
+mod Kept
+mod Steps

@@ -16,12 +16,12 @@ use Rattle.casualty_book.specs.contracts.rows.BookRowOrd.TheImpl as ord
 use Rattle.casualty_book.specs.contracts.rows.BookRowOrd.TheImpl.Laws as laws
 
 -- two orders one behind the other tell apart what either tells
-both_equal : (x y : Ordering) → ordering_then x y ≡ Equal → (x ≡ Equal) × (y ≡ Equal)
+pub both_equal : (x y : Ordering) → ordering_then x y ≡ Equal → (x ≡ Equal) × (y ≡ Equal)
 both_equal Equal y h = (refl, h)
 both_equal Less y h = absurd (cc)
 both_equal Greater y h = absurd (cc)
 
-exact_rank : (a b : BookKind) → nat_cmp (rank a) (rank b) ≡ Equal → a ≡ b
+pub exact_rank : (a b : BookKind) → nat_cmp (rank a) (rank b) ≡ Equal → a ≡ b
 exact_rank Alert Alert h = refl
 exact_rank Ack Ack h = refl
 exact_rank Relay Relay h = refl

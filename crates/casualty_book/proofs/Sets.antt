@@ -24,16 +24,16 @@ isnt true h e = absurd (false≢true h)
 isnt false h e = absurd (false≢true e)
 
 -- where a key of a list stands
-nothing : {K : Type 0} (k : K) → Contains [] k → ⊥
+pub nothing : {K : Type 0} (k : K) → Contains [] k → ⊥
 nothing k h = absurd (let small = h.1 in omega (arith, small))
 
-first : {K : Type 0} (x : K) (xs : List K) → Contains (x ∷ xs) x
+pub first : {K : Type 0} (x : K) (xs : List K) → Contains (x ∷ xs) x
 first x xs = Contains-append_left (x ∷ []) xs x (Contains-push [] x)
 
-later : {K : Type 0} (x : K) (xs : List K) (k : K) → Contains xs k → Contains (x ∷ xs) k
+pub later : {K : Type 0} (x : K) (xs : List K) (k : K) → Contains xs k → Contains (x ∷ xs) k
 later x xs k h = Contains-append_right (x ∷ []) xs k h
 
-one_of : {K : Type 0} (x : K) (xs : List K) (k : K) → Contains (x ∷ xs) k → (x ≡ k) ⊎ Contains xs k
+pub one_of : {K : Type 0} (x : K) (xs : List K) (k : K) → Contains (x ∷ xs) k → (x ≡ k) ⊎ Contains xs k
 one_of x xs k h =
     elim (Contains-append_cases (x ∷ []) xs k h) [
       | inl here ↦

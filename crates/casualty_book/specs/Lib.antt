@@ -2,3 +2,4 @@ pub mod Rows
 pub mod Sentences
 pub mod Books
 pub mod Texts
+pub mod inside

@@ -1,5 +1,6 @@
 -- The text of a row: this project's profile.
 use Rattle.std.specs.Prelude.{ℕ, List, ◌∷◌, [], ◌++◌, Option, Some, None, codes}
+use Rattle.std.specs.List.{flat_map}
 use Rattle.sentence_frame.specs.Texts.{digits, digit_text}
 use Rattle.casualty_book.specs.declared.rows.BookKind.{BookKind}
 use Rattle.casualty_book.specs.declared.rows.BookKind.TheVariants.{Alert, Ack, Relay, RelayAck}
@@ -32,3 +33,7 @@ row_text row =
     ++ (codes " pos=" ++ (digits_or_hyphen row.place.items
     ++ (codes " time=" ++ (number_or_hyphen 4 row.time
     ++ (codes " then=" ++ number_or_hyphen 2 row.second))))))))))))
+
+-- the text of rows: of each one, with a line feed
+abbrev pub book_text : List BookRow → List ℕ
+book_text rows = flat_map (λ row. row_text row ++ 10 ∷ []) rows

@@ -1,34 +1,40 @@
-ghost use Rattle.std.specs.Prelude.{◌≡◌, ◌↔◌, false, IsTrue, IfOk, IfSome, OnOk, OnErr, Some, List, [], length, slice_get};
+ghost use Rattle.std.specs.Prelude.{◌≡◌, ◌↔◌, ◌++◌, ◌∷◌, false, IsTrue, IfOk, IfSome, OnOk, OnErr, Some, List, [], length, slice_get};
 ghost use Rattle.std.specs.List.{Contains};
 ghost use Rattle.dsc_sentences.specs.declared.dsc.DscFields.{DscFields};
 ghost use Rattle.casualty_book.specs.Rows.{IsLawful};
 ghost use Rattle.casualty_book.specs.Books.{HasAlsoOf, IsBook, IsUnion};
 ghost use Rattle.casualty_book.specs.Sentences as rows;
+ghost use Rattle.casualty_book.specs.Texts as texts;
 ghost use Rattle.casualty_book.specs.declared.rows.BookRow.{BookRow as Row};
 
+use crate::packing::{Packed, pack, unpack};
 use crate::rows::BookRow;
 use crate::sentences::row_of;
+use crate::texts::put_row;
 use dsc_sentences::DscSentence;
 use std::alloc::{AllocError, Global};
 use std::collections::BTreeSet;
 use std::marker::Model;
 
-/// A casualty book: a set of rows, seen as their rising list.
+/// No row's text is longer than so many bytes, its LF among them.
+const LONGEST_LINE: usize = 94;
+
+/// A casualty book: a set of rows, seen as their rising list. It keeps their keys, which take less memory and time.
 #[derive(Drop)]
 pub struct Book {
-    rows: BTreeSet<BookRow>,
+    rows: BTreeSet<Packed>,
 }
 
 impl Model for Book {
     ghost use Rattle.std.specs.Prelude.{List};
     ghost use Rattle.casualty_book.specs.declared.rows.BookRow.{BookRow};
-    ghost use Rattle.casualty_book.specs.Books.{IsBook};
+    ghost use Rattle.casualty_book.specs.inside.Packing.{rows_of, IsKept};
 
     ghost Value = { List BookRow };
 
-    ghost view = { λ book. book.rows.keys };
+    ghost view = { λ book. rows_of book.rows.keys };
 
-    ghost invariant = { λ book. IsBook book.rows.keys };
+    ghost invariant = { λ book. IsKept book.rows.keys };
 }
 
 impl Book {
@@ -51,7 +57,7 @@ impl Book {
     {
         match row_of(s) {
             None => Ok(false),
-            Some(row) => Ok(self.rows.insert(row)?),
+            Some(row) => Ok(self.rows.insert(pack(&row))?),
         }
     }
 
@@ -78,8 +84,31 @@ impl Book {
         ensures lawful { IfSome result IsLawful }
     {
         match self.rows.iter().nth(i) {
-            Some(row) => Some(row.copy()),
+            Some(key) => Some(unpack(key)),
             None => None,
         }
     }
+
+    /// Appends the text of each row, with LF, in rising order.
+    pub fn append_text(&self, out: &mut Vec<u8>) -> Result<(), AllocError>
+        ensures text { OnOk result (out.new.items ≡ out.old.items ++ texts.book_text self.now) }
+        ensures book { IsBook self.now }
+    {
+        // Reserved at once, so that the buffer does not grow step by step.
+        out.reserve_exact(self.rows.len().saturating_mul(LONGEST_LINE))?;
+        for key in self.rows.iter() {
+            append_row(out, &unpack(key))?;
+        }
+        Ok(())
+    }
+}
+
+/// Appends the text of a row, with LF.
+fn append_row(out: &mut Vec<u8>, row: &BookRow) -> Result<(), AllocError>
+    requires { IsLawful row.now }
+    ensures { OnOk result (out.new.items ≡ out.old.items ++ (texts.row_text row.now ++ 10 ∷ [])) }
+{
+    out.extend_from_slice(&put_row(row))?;
+    out.push(b'\n')?;
+    Ok(())
 }

@@ -3,6 +3,7 @@
 
 mod books;
 mod laws;
+mod packing;
 mod rows;
 mod sentences;
 mod texts;

@@ -167,7 +167,7 @@ fn reception(alloc: Global, lost: &[usize]) -> Result<Reception, AllocError> {
 }
 
 /// The two receptions of the worked row: one lost its DX slots from 12 on and slot 31, the other all slots from 16 on but slot 26.
-fn two_receptions(alloc: Global) -> Result<Vec<Reception>, AllocError> {
+pub(crate) fn two_receptions(alloc: Global) -> Result<Vec<Reception>, AllocError> {
     let mut list = Vec::new(alloc);
     list.push(reception(
         alloc,
@@ -186,7 +186,7 @@ fn two_receptions(alloc: Global) -> Result<Vec<Reception>, AllocError> {
 }
 
 /// Whether no reception passes the greatest length.
-fn are_short(list: &[Reception]) -> bool
+pub(crate) fn are_short(list: &[Reception]) -> bool
     ensures { IsTrue result → All (λ heard. length heard ≤ LONGEST) list.now }
 {
     list.iter()
@@ -194,7 +194,7 @@ fn are_short(list: &[Reception]) -> bool
 }
 
 /// The sheet of receptions, joined one after another.
-fn one_by_one(list: &[Reception]) -> Sheet
+pub(crate) fn one_by_one(list: &[Reception]) -> Sheet
     requires { All (λ heard. length heard ≤ LONGEST) list.now }
 {
     let mut sheet = Sheet::empty();

@@ -124,7 +124,8 @@ fn echoed(
 {
     let mut source = ByteSource::new(bytes.to_vec(alloc)?, piece, reads.to_vec(alloc)?);
     let mut sink = ByteSink::new(alloc, 1_000_000, 60_000, writes.to_vec(alloc)?)?;
-    let status = drive(alloc, Echo { count: 0 }, &mut source, &mut sink);
+    let mut echo = Echo { count: 0 };
+    let status = drive(alloc, &mut echo, &mut source, &mut sink);
     Ok((status.number(), sink.bytes().to_vec(alloc)?))
 }
 
@@ -132,7 +133,8 @@ fn echoed(
 /// What the sink has of a run over an endless source of one byte.
 fn of_endless(alloc: Global, byte: u8) -> Result<(u8, Vec<u8>), AllocError> {
     let mut sink = SureSink::new(alloc, 100_000, 1000)?;
-    let status = drive(alloc, Echo { count: 0 }, &mut Endless { byte }, &mut sink);
+    let mut echo = Echo { count: 0 };
+    let status = drive(alloc, &mut echo, &mut Endless { byte }, &mut sink);
     Ok((status.number(), sink.bytes().to_vec(alloc)?))
 }
 
@@ -263,7 +265,8 @@ fn quiet_commands_write_at_the_end(rt: HostRuntime) -> Result<(), Fail> {
     for (input, fail, status, text) in rows {
         let mut source = ByteSource::new(input.to_vec(rt.alloc())?, 2, fail.to_vec(rt.alloc())?);
         let mut sink = ByteSink::new(rt.alloc(), 100, 100, Vec::new(rt.alloc()))?;
-        let was = drive(rt.alloc(), Seen { any: false }, &mut source, &mut sink);
+        let mut seen = Seen { any: false };
+        let was = drive(rt.alloc(), &mut seen, &mut source, &mut sink);
         assert_eq!(rt; was.number(), status);
         assert_eq!(rt; sink.bytes(), text);
     }

@@ -12,4 +12,6 @@ mod replays;
 #[cfg(test)]
 mod streams;
 #[cfg(test)]
+mod watching;
+#[cfg(test)]
 mod words;

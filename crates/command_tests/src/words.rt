@@ -12,7 +12,7 @@ fn words_of(alloc: Global, line: &str) -> Result<Vec<String>, AllocError> {
 }
 
 /// Word lists, and the plan that each is.
-static PLANS: [(&str, Plan); 27] = [
+static PLANS: [(&str, Plan); 28] = [
     ("dsc|join", Plan::Join { workers: 1 }),
     ("dsc|evidence", Plan::Evidence { workers: 1 }),
     ("dsc|join|--workers|1", Plan::Join { workers: 1 }),
@@ -37,6 +37,7 @@ static PLANS: [(&str, Plan); 27] = [
     ("dsc|encode|--dots=200", Plan::Encode { long: true }),
     ("dsc|sentences", Plan::Sentences),
     ("dsc|capture", Plan::Capture),
+    ("dsc|book", Plan::Book),
     ("dsc|replay", Plan::Replay { workers: 1 }),
     ("dsc|replay|--workers=64", Plan::Replay { workers: 64 }),
     // A command with a number.
@@ -46,7 +47,7 @@ static PLANS: [(&str, Plan); 27] = [
 ];
 
 /// Word lists that are no plan.
-static REFUSED: [&str; 76] = [
+static REFUSED: [&str; 78] = [
     // No command, or none that there is.
     "dsc",
     "",
@@ -114,6 +115,8 @@ static REFUSED: [&str; 76] = [
     "dsc|capture|--workers=2",
     "dsc|capture|capture",
     "dsc|capture|1",
+    "dsc|book|book",
+    "dsc|books",
     // Of the command with a number.
     "dsc|make",
     "dsc|make|",

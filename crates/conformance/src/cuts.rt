@@ -123,6 +123,7 @@ fn lines_at_the_limit(rt: HostRuntime) -> Result<(), Fail> {
         "dsc sentences",
         "dsc replay",
         "dsc capture",
+        "dsc book",
     ] {
         for (lines, want, status) in [
             (65_536, "", 0),

@@ -252,6 +252,15 @@ fn devices_fail_in_capture(rt: HostRuntime) -> Result<(), Fail> {
     Ok(())
 }
 
+#[test]
+fn devices_fail_in_book(rt: HostRuntime) -> Result<(), Fail> {
+    let alloc = rt.alloc();
+    let log =
+        "# a log\n\n$CDDSC,12,3380400790,12,06,00,1423108312,2019,,,S,*2F\r\n$CDDSE,1,1,A,3380400790,00,45894494*1B\n$";
+    try_failures(&rt, alloc, "dsc book", log, 1, true)?;
+    Ok(())
+}
+
 // Each kind of line of a ship's traffic file, with events that are refused and a group that isn't reported.
 const SHIP: &str =
     "# a ship\nstation ship 338158137\nbase 1714594740\ngroup 023380001\n\n0 position 1423108312\n0 delay 210000\n\

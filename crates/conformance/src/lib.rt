@@ -19,6 +19,8 @@ mod groups;
 #[cfg(test)]
 mod joins;
 #[cfg(test)]
+mod logs;
+#[cfg(test)]
 mod made;
 #[cfg(test)]
 mod receptions;

@@ -1,5 +1,5 @@
 -- `join` gives back what `encode` wrote.
-use Rattle.std.proofs.Common.{◌≡◌, ℕ, ◌<◌, ◌^◌, ◌==◌, Bool, true, false, ◌||◌, List, [], ◌∷◌, ◌++◌, refl, sym, ap, subst, ◌∙◌, inl, inr, arith, append_assoc, append-nil}
+use Rattle.std.proofs.Common.{◌≡◌, ℕ, ◌<◌, ◌^◌, ◌==◌, Bool, true, false, Option, Some, None, IfSome, ◌||◌, List, [], ◌∷◌, ◌++◌, refl, sym, ap, subst, ◌∙◌, inl, inr, arith, append_assoc, append-nil}
 use Rattle.std.specs.Prelude.{codes, decimal}
 use Rattle.std.specs.List.{list_any, AllByRecursion}
 use Rattle.std.proofs.lemmas.Bool.{or_cases, and_parts, and_from}
@@ -16,12 +16,12 @@ use Rattle.slot_evidence.specs.Facts.{Symbols, facts_of}
 use Rattle.slot_evidence.specs.Alike.{AreAlike, IsBetween}
 use Rattle.slot_join.specs.declared.joined.Joined.{Joined}
 use Rattle.slot_join.specs.declared.joined.Joined.TheVariants.{Reported}
-use Rattle.slot_join.specs.declared.joined.Extra.{Extra}
-use Rattle.slot_join.specs.declared.joined.Extra.TheVariants.{Absent, Whole, Broken}
+use Rattle.slot_join.specs.declared.joined.Extra.TheVariants.{Absent, Whole}
 use Rattle.slot_join.specs.Answer.{IsAnswer}
 use Rattle.slot_join.specs.Intact.{IsExpandedBy}
 use Rattle.expansion.specs.declared.values.Sets.{Sets}
-use Rattle.dsc_texts.specs.Texts.{IsWholeOrAbsent}
+use Rattle.expansion.specs.Expansions.{IsExpansion}
+use Rattle.dsc_files.specs.CallLine.{extra_of}
 use Rattle.dsc_files.specs.JoinLine.{JoinLine, nothing, reception, evidence, body_text}
 use Rattle.dsc_files.specs.Lines.{facts_of_pairs}
 use Rattle.join_groups.specs.Groups.{names, is_named, facts_of_line, group_facts}
@@ -34,10 +34,10 @@ use Rattle.dsc_cmd.proofs.SentGroups.{AlikeLaw, found}
 -- ---- the line
 
 -- the blank and the letter of the group, its number, and the body
-pub heard_whole : (long : Bool) (k : ℕ) (call : Call) (extra : Extra) → k < 2 ^ 32 → IsHeardWhole long k call extra
+pub heard_whole : (long : Bool) (k : ℕ) (call : Call) (expansion : Option Sets) → k < 2 ^ 32 → IsHeardWhole long k call expansion
 unfolding encoded_line
-heard_whole long k call extra small =
-    let body = body_text (transmitted long call extra) in record {
+heard_whole long k call expansion small =
+    let body = body_text (transmitted long call expansion) in record {
       line = codes "r" ++ ((codes " g" ++ decimal k) ++ body);
       line_is = ap (λ (l : List ℕ). codes "r g" ++ l) (sym (append_assoc (decimal k) body (10 ∷ [])));
       says = (codes " g" ++ decimal k, (inr (small, refl), refl));
@@ -121,23 +121,22 @@ pub record Laws : Type 0 where
       → IsAnswer (facts_of (sent (on_air (spell call ++ tail)) long)) answer → answer ≡ Reported call (Whole x)
 
 -- what is sent of a call has one answer
-one_answer : Laws → (long : Bool) (call : Call) (extra : Extra) (answer : Joined) → IsCall call → IsWholeOrAbsent extra
-    → IsAnswer (facts_of (transmitted long call extra)) answer → answer ≡ Reported call extra
+one_answer : Laws → (long : Bool) (call : Call) (expansion : Option Sets) (answer : Joined) → IsCall call → IfSome expansion IsExpansion
+    → IsAnswer (facts_of (transmitted long call expansion)) answer → answer ≡ Reported call (extra_of expansion)
 unfolding transmitted
-one_answer laws long call Absent answer is whole h =
+one_answer laws long call None answer is whole h =
     laws.alone call long answer is (subst (λ (l : List ℕ). IsAnswer (facts_of (sent (on_air l) long)) answer) (append-nil (spell call)) h)
-one_answer laws long call (Whole x) answer is whole h =
-    laws.expanded call (tail_of call (Whole x)) x long answer is (record { last = end_named (end_of call); own = own_end call; lawful = whole; list = refl }) h
-one_answer laws long call (Broken n) answer is whole h = absurd whole
+one_answer laws long call (Some x) answer is whole h =
+    laws.expanded call (tail_of call (Some x)) x long answer is (record { last = end_named (end_of call); own = own_end call; lawful = whole; list = refl }) h
 
-pub tells_call : Laws → (said : List JoinLine) (k : ℕ) (long : Bool) (call : Call) (extra : Extra) → IsCall call → IsWholeOrAbsent extra → IsOfEncoded said k long call extra
-    → (text : List ℕ) (status : ℕ) (joined : IsJoinText said text status) → TellsCall joined.all k call extra
-tells_call laws said k long call extra is whole of text status joined =
+pub tells_call : Laws → (said : List JoinLine) (k : ℕ) (long : Bool) (call : Call) (expansion : Option Sets) → IsCall call → IfSome expansion IsExpansion → IsOfEncoded said k long call expansion
+    → (text : List ℕ) (status : ℕ) (joined : IsJoinText said text status) → TellsCall joined.all k call expansion
+tells_call laws said k long call expansion is whole of text status joined =
     let one = found (λ told. TellsAnswer (group_facts said told.group) told) joined.all k joined.each (joined.groups.named k ∙ of.named) in
     let tells = one.holds in
     let here : IsAnswer (group_facts said k) tells.answer = subst (λ (n : ℕ). IsAnswer (group_facts said n) tells.answer) one.group tells.is_answer in
-    let alike = laws.alike (group_facts said k) (facts_of (transmitted long call extra)) tells.answer (same_facts said k (transmitted long call extra) of.each of.named) here in
-    let answer : tells.answer ≡ Reported call extra = one_answer laws long call extra tells.answer is whole alike in
+    let alike = laws.alike (group_facts said k) (facts_of (transmitted long call expansion)) tells.answer (same_facts said k (transmitted long call expansion) of.each of.named) here in
+    let answer : tells.answer ≡ Reported call (extra_of expansion) = one_answer laws long call expansion tells.answer is whole alike in
     record {
       told = one.told;
       is_one = one.is_one;

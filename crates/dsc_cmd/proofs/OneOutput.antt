@@ -2,13 +2,14 @@
 use Rattle.std.proofs.Common.{◌≡◌, ℕ, Bool, List, [], ◌++◌, sym, ap, ◌∙◌}
 use Rattle.line_engine.specs.Determined.{IsDetermined, BeginsWith}
 use Rattle.dsc_words.specs.declared.plans.Plan.{Plan}
-use Rattle.dsc_words.specs.declared.plans.Plan.TheVariants.{Join, Evidence, Encode, Sentences, Replay, Make, Capture}
+use Rattle.dsc_words.specs.declared.plans.Plan.TheVariants.{Join, Evidence, Encode, Sentences, Replay, Make, Capture, Book}
 use Rattle.join_groups.specs.Output.{TellsAnswer, TellsEvidence}
 use Rattle.join_groups.specs.Meanings.{groups_meaning}
 use Rattle.encode_calls.specs.Encoding.{encode_meaning}
 use Rattle.sentence_files.specs.Telling.{sentences_meaning}
 use Rattle.traffic_replay.specs.Meaning.{replay_meaning}
 use Rattle.stream_capture.specs.Telling.{capture_meaning}
+use Rattle.book_logs.specs.Telling.{book_meaning}
 use Rattle.generated_join.specs.Summary.{IsMade}
 use Rattle.dsc_cmd.specs.Plans.{made_meaning, meaning_of}
 
@@ -20,6 +21,7 @@ pub record Laws : Type 0 where
   pub sentences : IsDetermined sentences_meaning
   pub replay : IsDetermined replay_meaning
   pub capture : IsDetermined capture_meaning
+  pub book : IsDetermined book_meaning
   pub made : (n : ℕ) (a b : List ℕ) (s t : ℕ) → IsMade n a s → IsMade n b t → (a ≡ b) × (s ≡ t)
 
 -- every text begins with nothing
@@ -43,3 +45,4 @@ plan_determined laws Sentences = laws.sentences
 plan_determined laws (Replay workers) = laws.replay
 plan_determined laws (Make n) = made_determined laws n
 plan_determined laws Capture = laws.capture
+plan_determined laws Book = laws.book

@@ -1,8 +1,8 @@
-ghost use Rattle.std.specs.Prelude.{◌≡◌, ℕ, ◌<◌, ◌^◌, Bool, List};
+ghost use Rattle.std.specs.Prelude.{◌≡◌, ℕ, ◌<◌, ◌^◌, Bool, Option, IfSome, List};
 ghost use Rattle.call_values.specs.declared.calls.Call.{Call};
 ghost use Rattle.call_values.specs.Calls.{IsCall};
-ghost use Rattle.slot_join.specs.declared.joined.Extra.{Extra};
-ghost use Rattle.dsc_texts.specs.Texts.{IsWholeOrAbsent};
+ghost use Rattle.expansion.specs.declared.values.Sets.{Sets};
+ghost use Rattle.expansion.specs.Expansions.{IsExpansion};
 ghost use Rattle.dsc_files.specs.JoinLine.{JoinLine};
 ghost use Rattle.join_groups.specs.Output.{IsJoinText};
 ghost use Rattle.line_engine.specs.declared.faults.Fault.{Fault};
@@ -21,9 +21,9 @@ use slot_join::{alike_facts_have_one_answer, transmissions_are_answered};
 /// whose lines are all this line join's text reports exactly this call and this expansion, whatever other groups there are. It
 /// does nothing.
 pub fn encoded_calls_are_reported()
-    ensures line { (long : Bool) (k : ℕ) (call : Call) (extra : Extra) → k < 2 ^ 32 → IsHeardWhole long k call extra }
-    ensures reported { (said : List JoinLine) (k : ℕ) (long : Bool) (call : Call) (extra : Extra) → IsCall call → IsWholeOrAbsent extra → IsOfEncoded said k long call extra
-        → (text : List ℕ) (status : ℕ) (joined : IsJoinText said text status) → TellsCall joined.all k call extra }
+    ensures line { (long : Bool) (k : ℕ) (call : Call) (expansion : Option Sets) → k < 2 ^ 32 → IsHeardWhole long k call expansion }
+    ensures reported { (said : List JoinLine) (k : ℕ) (long : Bool) (call : Call) (expansion : Option Sets) → IsCall call → IfSome expansion IsExpansion → IsOfEncoded said k long call expansion
+        → (text : List ℕ) (status : ℕ) (joined : IsJoinText said text status) → TellsCall joined.all k call expansion }
 {
     alike_facts_have_one_answer();
     transmissions_are_answered();
@@ -41,5 +41,6 @@ pub fn inputs_have_one_output()
     sentence_files::lines_determine_output();
     traffic_replay::lines_determine_output();
     stream_capture::lines_determine_output();
+    book_logs::lines_determine_output();
     made_text_is_one();
 }

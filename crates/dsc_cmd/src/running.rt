@@ -11,6 +11,7 @@ ghost use Rattle.dsc_cmd.specs.Sent.{ReportsSent};
 
 use crate::laws::inputs_have_one_output;
 use crate::making::make;
+use book_logs::Logs;
 use dsc_streams::{Failed, Sink, Source, Status, write_all};
 use dsc_words::{Plan, PlanError, one_plan, plan_of};
 use encode_calls::{Encode, LongDots, ShortDots};
@@ -69,7 +70,8 @@ fn drive_alone<C: Command, S: Source, K: Sink>(
     requires { C.stands_for command [] [] }
     ensures { IsRun C.meaning S.Source K.Sink source.old source.new sink.old sink.new result }
 {
-    drive(alloc, command, source, sink)
+    let mut command = command;
+    drive(alloc, &mut command, source, sink)
 }
 
 /// Runs `capture`, whose command holds a window of the stream.
@@ -77,7 +79,8 @@ fn drive_alone<C: Command, S: Source, K: Sink>(
 fn capture<S: Source, K: Sink>(alloc: Global, source: &mut S, sink: &mut K) -> Status
     ensures { IsRun capture_meaning S.Source K.Sink source.old source.new sink.old sink.new result }
 {
-    drive(alloc, Capturing::new(), source, sink)
+    let mut command = Capturing::new();
+    drive(alloc, &mut command, source, sink)
 }
 
 /// Runs the command of a plan.
@@ -99,18 +102,18 @@ fn execute<R: Threads + Sync, S: Source, K: Sink, G: Gate>(
         Plan::Join { workers } => tell_groups(
             rt,
             alloc,
-            Answers,
             source,
             sink,
+            Answers,
             u32::from(workers),
             gate,
         ),
         Plan::Evidence { workers } => tell_groups(
             rt,
             alloc,
-            Ends,
             source,
             sink,
+            Ends,
             u32::from(workers),
             gate,
         ),
@@ -120,6 +123,7 @@ fn execute<R: Threads + Sync, S: Source, K: Sink, G: Gate>(
         Plan::Replay { workers } => replay(rt, alloc, source, sink, u32::from(workers), gate),
         Plan::Make { groups } => make(alloc, groups, sink, gate),
         Plan::Capture => capture(alloc, source, sink),
+        Plan::Book => drive_alone(alloc, Logs::new(alloc), source, sink),
     }
 }
 
@@ -134,6 +138,7 @@ fn execute<R: Threads + Sync, S: Source, K: Sink, G: Gate>(
 /// | `sentences` | for each line of a call its DSC sentence, and the DSE sentence of its expansion; for each sentence a verdict |
 /// | `replay [--workers N]` | for each event line of a traffic file what the station does, or why it refuses the event |
 /// | `capture` | for each start of a stream of elements its origin and the answer to its facts |
+/// | `book` | each row that the DSC sentences of logs give, once, by rising order: who was in distress, who acknowledged and relayed it |
 /// | `make N` | the summary of the join of N generated groups, of four receptions each; nothing is read |
 ///
 /// Of workers N is 1 to 64, and 1 where it isn't given; it changes no answer. Of groups N is 1 to 1,000. D is 20 or 200, and 20 where it isn't given.
@@ -141,7 +146,7 @@ fn execute<R: Threads + Sync, S: Source, K: Sink, G: Gate>(
 /// | Status | What it says |
 /// |---|---|
 /// | 0 | all was written: in `join` and `make` a call was reported of each group |
-/// | 1 | all was written, and some group has another answer; in `sentences` some sentence was refused; in `replay` some event was refused, or some heard group has another answer; in `capture` some start has another answer |
+/// | 1 | all was written, and some group has another answer; in `sentences` and `book` some sentence was refused; in `replay` some event was refused, or some heard group has another answer; in `capture` some start has another answer |
 /// | 2 | the words are no command: nothing was read, and `dsc: words refused` was written |
 /// | 3 | a line is ill-formed, and the line of this first fault was written, as `dsc: line 3 column 7` |
 /// | 4 | the source failed: what the lines so far gave was written |
@@ -149,7 +154,7 @@ fn execute<R: Threads + Sync, S: Source, K: Sink, G: Gate>(
 /// | 6 | there was no memory: a front of what the lines so far gave may have been written |
 /// | 7 | a limit was passed, 65,536 lines, 4,200 bytes in one or 1,024 groups, and the line of this first fault was written |
 ///
-/// `join`, `evidence` and `make` write nothing before the end of their input. What the lines before a fault gave stands before its line.
+/// `join`, `evidence`, `book` and `make` write nothing before the end of their input. What the lines before a fault gave stands before its line.
 pub fn run<R: Threads + Sync, S: Source, K: Sink, G: Gate>(
     rt: &R,
     alloc: Global,

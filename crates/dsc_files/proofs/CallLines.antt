@@ -1,14 +1,15 @@
 -- the lines of files of calls, and of calls and sentences
-use Rattle.std.proofs.Common.{◌≡◌, ℕ, zero, suc, ◌≤◌, inl, inr, refl, sym, ap, ◌∙◌, subst, List, [], ◌∷◌, ◌++◌, take, codes, arith}
+use Rattle.std.proofs.Common.{◌≡◌, ℕ, zero, suc, ◌≤◌, Some, None, inl, inr, refl, ap, List, [], ◌∷◌, arith}
 use Rattle.call_values.specs.declared.calls.Call.{Call}
 use Rattle.slot_join.specs.declared.joined.Extra.{Extra}
-use Rattle.line_grammar.specs.Columns.{Begins, IsColumn}
+use Rattle.slot_join.specs.declared.joined.Extra.TheVariants.{Absent, Whole, Broken}
+use Rattle.line_grammar.specs.Columns.{IsColumn}
 use Rattle.dsc_texts.specs.Texts.{IsCallText}
 use Rattle.dsc_files.specs.declared.calls.CallLine.{CallLine}
 use Rattle.dsc_files.specs.declared.calls.CallLine.TheVariants as line
 use Rattle.dsc_files.specs.declared.sentences.SentenceLine.{SentenceLine}
 use Rattle.dsc_files.specs.declared.sentences.SentenceLine.TheVariants.{Said, Sentence}
-use Rattle.dsc_files.specs.CallLine.{IsCallLine}
+use Rattle.dsc_files.specs.CallLine.{extra_of, IsCallLine}
 use Rattle.dsc_files.specs.SentenceLine.{IsSentenceLine}
 use Rattle.dsc_files.proofs.Narrowing.{AreAt, column_of_kind}
 
@@ -19,12 +20,24 @@ head h = cc
 says_call : (b : ℕ) → (b ≡ 35 → ⊥) → (v : CallLine) (rest : List ℕ) → IsCallLine v (b ∷ rest) → (w : Call × Extra) × IsCallText w (b ∷ rest)
 says_call b other line.Nothing rest (inl empty) = absurd (cc)
 says_call b other line.Nothing rest (inr comment) = absurd (other (head comment.1))
-says_call b other (line.Call c extra) rest is = ((c, extra), is)
+says_call b other (line.Call c x) rest is = ((c, extra_of x), is)
+
+-- the line that a call's text is
+line_of_text : Call × Extra → CallLine
+line_of_text (c, Absent) = line.Call c None
+line_of_text (c, Whole x) = line.Call c (Some x)
+line_of_text (c, Broken n) = line.Call c None
+
+is_line_of_text : (w : Call × Extra) (text : List ℕ) → IsCallText w text → IsCallLine (line_of_text w) text
+unfolding line_of_text
+is_line_of_text (c, Absent) text is = is
+is_line_of_text (c, Whole x) text is = is
+is_line_of_text (c, Broken n) text is = absurd is.0.1
 
 pub calls_in_calls : (b : ℕ) → (b ≡ 35 → ⊥) → AreAt b IsCallText IsCallLine
 calls_in_calls b other = record {
-  says = λ w. line.Call w.0 w.1;
-  embeds = λ w text is. is;
+  says = line_of_text;
+  embeds = is_line_of_text;
   only = says_call b other;
 }
 

@@ -1,5 +1,5 @@
 -- lines at a point of a traffic file
-use Rattle.std.proofs.Common.{◌≡◌, ℕ, zero, suc, ◌≤◌, ◌⊎◌, inl, inr, true, List, [], ◌∷◌, Result, Ok, Err, refl, sym, ap, subst, arith}
+use Rattle.std.proofs.Common.{◌≡◌, ℕ, zero, suc, ◌≤◌, ◌⊎◌, inl, inr, true, List, [], ◌∷◌, Ok, Err, refl, sym, ap, subst, arith}
 use Rattle.line_grammar.specs.Columns.{IsColumn}
 use Rattle.line_grammar.specs.Tokens.{is_digit}
 use Rattle.traffic_lines.specs.declared.lines.Point.{Point}

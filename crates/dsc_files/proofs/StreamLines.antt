@@ -1,10 +1,10 @@
 -- the lines of a stream
-use Rattle.std.proofs.Common.{◌≡◌, ◌≢◌, ℕ, zero, suc, ◌+◌, ◌-◌, ◌≤◌, ◌<◌, true, List, [], ◌∷◌, ◌++◌, map, length, take, drop, codes, Ok, Err, inl, inr, refl, sym, ◌∙◌, ap, subst, append-nil, arith}
+use Rattle.std.proofs.Common.{◌≡◌, ◌≢◌, ℕ, zero, suc, ◌+◌, ◌-◌, ◌≤◌, ◌<◌, true, List, [], ◌∷◌, ◌++◌, map, length, take, drop, codes, Err, inl, inr, refl, sym, ◌∙◌, ap, subst, append-nil, arith}
 use Rattle.std.specs.List.{list_all}
 use Rattle.ten_unit.specs.declared.character.Element.{Element}
 use Rattle.line_grammar.specs.Columns.{Begins, IsColumn, ReadsAs, with_column}
 use Rattle.line_grammar.specs.Tokens.{is_one_of}
-use Rattle.line_grammar.specs.Grammar.{Grammar, Parts, none, part, first, second, Spells}
+use Rattle.line_grammar.specs.Grammar.{Parts, none, part, first, second, Spells}
 use Rattle.line_grammar.specs.inside.Reading.{after, read}
 use Rattle.line_grammar.proofs.Chains.{word_on, fault_within}
 use Rattle.dsc_files.specs.JoinLine.{sign_of, body_text}

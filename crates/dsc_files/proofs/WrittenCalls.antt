@@ -1,5 +1,5 @@
 -- the text of a call is read as this call
-use Rattle.std.proofs.Common.{◌≡◌, ℕ, ◌==◌, false, List, [], ◌∷◌, ◌++◌, codes, inl, inr, refl, sym, ap, ◌∙◌, arith, Result, Ok, Err}
+use Rattle.std.proofs.Common.{◌≡◌, ℕ, Some, None, ◌==◌, false, List, [], ◌∷◌, ◌++◌, codes, inl, inr, refl, sym, ap, ◌∙◌, arith, Result, Ok, Err}
 use Rattle.call_values.specs.declared.calls.Call.{Call}
 use Rattle.call_values.specs.declared.calls.Call.TheVariants as form
 use Rattle.call_values.specs.declared.parts.Kind.TheVariants as kind
@@ -13,7 +13,8 @@ use Rattle.dsc_files.specs.declared.lines.LineFault.{LineFault}
 use Rattle.dsc_files.specs.declared.lines.LineFault.TheVariants as fault
 use Rattle.dsc_files.specs.declared.calls.CallLine.{CallLine}
 use Rattle.dsc_files.specs.declared.calls.CallLine.TheVariants as line
-use Rattle.dsc_files.specs.CallLine.{IsCallLine}
+use Rattle.slot_join.specs.declared.joined.Extra.TheVariants.{Absent, Whole, Broken}
+use Rattle.dsc_files.specs.CallLine.{extra_of, IsCallLine}
 use Rattle.dsc_files.specs.Lines.{ReadsLine}
 use Rattle.dsc_files.specs.declared.lines.FileKind.TheVariants as file
 
@@ -96,7 +97,7 @@ call_no_dollar c x text is e = not_equal (letter_of c) 36 (is_no_dollar c) (sym 
 
 no_dollar : (a : CallLine) (text : List ℕ) → IsCallLine a text → first_of text ≡ 36 → ⊥
 no_dollar line.Nothing text is e = let same : 35 ≡ 36 = sym (says_nothing text is) ∙ e in omega (arith, same)
-no_dollar (line.Call c x) text is e = call_no_dollar c x text is.1 e
+no_dollar (line.Call c x) text is e = call_no_dollar c (extra_of x) text is.1 e
 
 first_dollar : (rest : List ℕ) → first_of (codes "$" ++ rest) ≡ 36
 unfolding first_of
@@ -110,9 +111,11 @@ pub no_empty : (c : Call) (x : Extra) → IsCallLine line.Nothing (reported_text
 no_empty c x is = not_equal (letter_of c) 35 (is_letter c) (sym (begins_so c x) ∙ says_nothing (reported_text c x) is)
 
 pub call_is_read : ApartLaw → (c : Call) (x : Extra) (answer : Result Line LineFault) → IsCall c → IsWholeOrAbsent x → ReadsLine file.Call (reported_text c x) answer → answer ≡ Ok (got.Call c x)
-call_is_read apart c x (Err (fault.Column n)) is whole h = absurd (h.is_none (line.Call c x) ((is, whole), refl))
+call_is_read apart c Absent (Err (fault.Column n)) is whole h = absurd (h.is_none (line.Call c None) ((is, whole), refl))
+call_is_read apart c (Whole x) (Err (fault.Column n)) is whole h = absurd (h.is_none (line.Call c (Some x)) ((is, whole), refl))
+call_is_read apart c (Broken n) (Err (fault.Column k)) is whole h = absurd whole
 call_is_read apart c x (Err fault.NoMemory) is whole h = absurd h
 call_is_read apart c x (Ok read) is whole (line.Nothing, (text, says)) = absurd (no_empty c x text)
 call_is_read apart c x (Ok read) is whole (line.Call d y, (text, says)) =
-    let same = apart d c y x text.0.0 is text.0.1 whole (sym text.1) in
-    ap Ok (says ∙ ap (λ k. got.Call k y) same.0 ∙ ap (λ k. got.Call c k) same.1)
+    let same = apart d c (extra_of y) x text.0.0 is text.0.1 whole (sym text.1) in
+    ap Ok (says ∙ ap (λ k. got.Call k (extra_of y)) same.0 ∙ ap (λ k. got.Call c k) same.1)

@@ -3,6 +3,7 @@ pub mod JoinLine
 pub mod CallLine
 pub mod SentenceLine
 pub mod StreamLine
+pub mod BookLine
 pub mod PointLine
 pub mod Lines
 pub mod inside

@@ -1,5 +1,5 @@
 -- What is read of a line: this project's profile.
-use Rattle.std.specs.Prelude.{◌≡◌, ℕ, ◌&&◌, ◌==◌, List, ◌∷◌, [], Result, Ok, Err}
+use Rattle.std.specs.Prelude.{◌≡◌, ℕ, ◌≤◌, Option, Some, None, ◌&&◌, ◌==◌, List, ◌∷◌, [], Result, Ok, Err}
 use Rattle.std.specs.List.{list_any}
 use Rattle.ten_unit.specs.declared.character.Element.{Element}
 use Rattle.slot_evidence.specs.declared.places.Seen.{Seen}
@@ -9,6 +9,7 @@ use Rattle.line_grammar.specs.Columns.{Spelling, IsColumn}
 use Rattle.traffic_lines.specs.declared.lines.Point.{Point}
 use Rattle.traffic_lines.specs.declared.lines.TrafficLine.{TrafficLine}
 use Rattle.traffic_lines.specs.declared.lines.TrafficLine.TheVariants.{Ship, Coast, Base, Group, Event}
+use Rattle.traffic_lines.specs.Lines.{IsTrafficLine}
 use Rattle.dsc_files.specs.declared.lines.FileKind.{FileKind}
 use Rattle.dsc_files.specs.declared.lines.FileKind.TheVariants as kind
 use Rattle.dsc_files.specs.declared.lines.Line.{Line}
@@ -24,9 +25,12 @@ use Rattle.dsc_files.specs.declared.calls.CallLine.{CallLine}
 use Rattle.dsc_files.specs.declared.calls.CallLine.TheVariants as call
 use Rattle.dsc_files.specs.declared.sentences.SentenceLine.{SentenceLine}
 use Rattle.dsc_files.specs.declared.sentences.SentenceLine.TheVariants as sentence
-use Rattle.dsc_files.specs.CallLine.{IsCallLine}
+use Rattle.dsc_files.specs.declared.books.BookLine.{BookLine}
+use Rattle.dsc_files.specs.declared.books.BookLine.TheVariants as book
+use Rattle.dsc_files.specs.CallLine.{extra_of, IsCallLine}
 use Rattle.dsc_files.specs.SentenceLine.{IsSentenceLine}
 use Rattle.dsc_files.specs.StreamLine.{IsStreamLine}
+use Rattle.dsc_files.specs.BookLine.{IsBookLine}
 use Rattle.dsc_files.specs.PointLine.{PointLine, joined, traffic, IsPointLine}
 
 -- the facts of evidence: each pair's place showed its symbol
@@ -65,12 +69,17 @@ ReadsAlways L as_line text (Err fault.NoMemory) = ⊥
 -- what a line of calls says
 abbrev pub line_of_call : CallLine → Line
 line_of_call call.Nothing = line.Nothing
-line_of_call (call.Call c extra) = line.Call c extra
+line_of_call (call.Call c expansion) = line.Call c (extra_of expansion)
 
 -- what a line of calls and sentences says
 abbrev pub line_of_sentence : SentenceLine → Line
 line_of_sentence (sentence.Said says) = line_of_call says
 line_of_sentence (sentence.Sentence bytes) = line.Sentence
+
+-- what a line of a log of sentences says
+abbrev pub line_of_book : BookLine → Line
+line_of_book book.Nothing = line.Nothing
+line_of_book book.Sentence = line.Sentence
 
 -- what was read is what the line says, as a line of any file
 abbrev pub IsTold : {V W : Type 0} (says : V → W → Type 0) (as_line : W → Line) → V → Line → Type 0
@@ -84,6 +93,12 @@ SaysAtPoint (traffic says) read = read ≡ at.Traffic says
 -- the answer for a line at this point of a traffic file
 abbrev pub ReadsAtPoint : Point → List ℕ → Result GotAtPoint LineFault → Type 0
 ReadsAtPoint point text answer = ReadsWithRoom (IsPointLine point) SaysAtPoint text answer
+
+-- the answer for a line of join's input at this point of a traffic file; where it is none, faults of the station's lines are the point's
+abbrev pub ReadsJoinedAt : Point → List ℕ → Result (Option Got) LineFault → Type 0
+ReadsJoinedAt point text (Ok (Some read)) = ReadsAtPoint point text (Ok (at.Joined read))
+ReadsJoinedAt point text (Ok None) = (n : ℕ) → 1 ≤ n → IsColumn (IsTrafficLine point) text n → IsColumn (IsPointLine point) text n
+ReadsJoinedAt point text (Err fault) = ReadsAtPoint point text (Err fault)
 
 -- what was read of a station's line, and of a line of a traffic file
 abbrev pub line_of_traffic : TrafficLine → Line
@@ -113,3 +128,4 @@ ReadsLine kind.Call text answer = ReadsAlways IsCallLine line_of_call text answe
 ReadsLine kind.Sentence text answer = ReadsAlways IsSentenceLine line_of_sentence text answer
 ReadsLine (kind.Traffic point) text answer = ReadsWithRoom (IsPointLine point) (IsTold SaysAtPoint line_of_point) text answer
 ReadsLine kind.Stream text answer = ReadsStream text answer
+ReadsLine kind.Book text answer = ReadsAlways IsBookLine line_of_book text answer

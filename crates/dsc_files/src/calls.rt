@@ -1,10 +1,12 @@
 //! The lines of files of calls.
 ghost use Rattle.std.specs.Prelude.{◌≡◌, ◌≢◌, ◌∷◌, ℕ, List};
-ghost use Rattle.dsc_files.specs.CallLine.{IsCallLine};
+ghost use Rattle.dsc_texts.specs.Texts.{IsWholeOrAbsent};
+ghost use Rattle.dsc_files.specs.CallLine.{extra_of, IsCallLine};
 ghost use Rattle.dsc_files.specs.Readings.{Reads};
 
 use call_values::Call;
 use dsc_texts::read_call;
+use expansion::Expansion;
 use slot_join::Extra;
 
 /// What a line of a file of calls says.
@@ -12,8 +14,22 @@ use slot_join::Extra;
 pub enum CallLine {
     /// The line is empty or a comment.
     Nothing,
-    /// A call, and what follows it, which is nothing or an expansion.
-    Call { call: Call, extra: Extra },
+    /// A call, and the expansion behind it, if one is there.
+    Call {
+        call: Call,
+        expansion: Option<Expansion>,
+    },
+}
+
+/// The expansion of what a text says behind a call.
+fn expansion_in(extra: &Extra) -> Option<Expansion>
+    requires { IsWholeOrAbsent extra.now }
+    ensures { extra_of result ≡ extra.now }
+{
+    match extra {
+        Extra::Whole(expansion) => Some(*expansion),
+        Extra::Absent | Extra::Broken(_) => None,
+    }
 }
 
 /// Reads a line that isn't empty and doesn't begin with `#`.
@@ -22,7 +38,10 @@ fn whole_call(line: &[u8]) -> Result<CallLine, usize>
     ensures { Reads IsCallLine line.now result }
 {
     match read_call(line) {
-        Ok((call, extra)) => Ok(CallLine::Call { call, extra }),
+        Ok((call, extra)) => Ok(CallLine::Call {
+            call,
+            expansion: expansion_in(&extra),
+        }),
         Err(n) => Err(n),
     }
 }

@@ -13,6 +13,8 @@ ghost use Rattle.dsc_files.specs.declared.calls.CallLine.{CallLine};
 ghost use Rattle.dsc_files.specs.declared.sentences.SentenceLine.{SentenceLine};
 ghost use Rattle.dsc_files.specs.CallLine.{IsCallLine};
 ghost use Rattle.dsc_files.specs.SentenceLine.{IsSentenceLine, SayTheSame};
+ghost use Rattle.dsc_files.specs.declared.books.BookLine.{BookLine};
+ghost use Rattle.dsc_files.specs.BookLine.{IsBookLine};
 ghost use Rattle.ten_unit.specs.declared.character.Element.{Element};
 ghost use Rattle.dsc_files.specs.StreamLine.{IsStreamLine};
 ghost use Rattle.dsc_files.specs.PointLine.{PointLine, IsPointLine};
@@ -51,6 +53,11 @@ pub fn one_sentence_line()
 /// The law that a line of a stream adds one list of elements. It does nothing.
 pub fn one_stream_line()
     ensures { (a b : List Element) (text : List ℕ) → IsStreamLine a text → IsStreamLine b text → a ≡ b }
+{}
+
+/// The law that a line of a log of sentences says one thing. It does nothing.
+pub fn one_book_line()
+    ensures { (a b : BookLine) (text : List ℕ) → IsBookLine a text → IsBookLine b text → a ≡ b }
 {}
 
 /// The law that of the text that `put_call` writes of a call and of the expansion behind it, reading a line of calls can answer

@@ -1,6 +1,7 @@
 //! Files of lines: sources and sinks, what a line says, the column at which it is ill-formed, and texts.
 #![tactic(auto)]
 
+mod books;
 mod calls;
 mod evidence;
 mod groups;
@@ -13,6 +14,7 @@ mod sentences;
 mod streams;
 mod traffic;
 
+pub use books::{BookLine, book_line};
 pub use calls::{CallLine, call_line};
 pub use dsc_streams::{
     ByteSink, ByteSource, Failed, NoMemory, Sink, Source, Status, StdSink, StdSource, SureSink,
@@ -21,7 +23,7 @@ pub use dsc_streams::{
 pub use dsc_texts::{put_answer, put_answer_line, put_call};
 pub use join::{JoinLine, join_line};
 pub use laws::{
-    one_call_line, one_line, one_point_line, one_sentence_line, one_stream_line,
+    one_book_line, one_call_line, one_line, one_point_line, one_sentence_line, one_stream_line,
     written_calls_are_read,
 };
 pub use lines::{FileKind, Line, LineFault};
@@ -29,5 +31,5 @@ pub use reading::line_of;
 pub use receptions::element_of;
 pub use sentences::{SentenceLine, sentence_line};
 pub use streams::stream_line;
-pub use traffic::{PointLine, point_line};
+pub use traffic::{PointLine, joined_line, point_line};
 pub use traffic_lines::{EventLine, Point, TrafficLine};

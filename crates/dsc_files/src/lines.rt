@@ -1,12 +1,15 @@
 ghost use Rattle.std.specs.Prelude.{◌≡◌};
-ghost use Rattle.dsc_files.specs.Lines.{line_of_call, line_of_join, line_of_point, line_of_sentence, line_of_traffic};
+ghost use Rattle.dsc_files.specs.CallLine as calls;
+ghost use Rattle.dsc_files.specs.Lines.{line_of_book, line_of_call, line_of_join, line_of_point, line_of_sentence, line_of_traffic};
 ghost use Rattle.dsc_files.specs.declared.lines.LineFault.TheVariants.{NoMemory};
 
+use crate::books::BookLine;
 use crate::calls::CallLine;
 use crate::join::JoinLine;
 use crate::sentences::SentenceLine;
 use crate::traffic::PointLine;
 use call_values::{Band, Call, Mmsi};
+use expansion::Expansion;
 use slot_evidence::{Reception, Sheet};
 use slot_join::Extra;
 use std::alloc::AllocError;
@@ -26,6 +29,8 @@ pub enum FileKind {
     Traffic(Point),
     /// Elements of one stream.
     Stream,
+    /// Sentences.
+    Book,
 }
 
 /// What a line says.
@@ -67,13 +72,26 @@ impl From<JoinLine> for Line {
     }
 }
 
+/// What an answer says behind a call that was sent with this expansion behind it, or with none.
+fn extra_of(expansion: Option<Expansion>) -> Extra
+    ensures { result ≡ calls.extra_of expansion }
+{
+    match expansion {
+        None => Extra::Absent,
+        Some(sets) => Extra::Whole(sets),
+    }
+}
+
 impl From<CallLine> for Line {
     ghost from_gives = { λ says line. line ≡ line_of_call says };
 
     fn from(says: CallLine) -> Line {
         match says {
             CallLine::Nothing => Line::Nothing,
-            CallLine::Call { call, extra } => Line::Call { call, extra },
+            CallLine::Call { call, expansion } => Line::Call {
+                call,
+                extra: extra_of(expansion),
+            },
         }
     }
 }
@@ -85,6 +103,17 @@ impl From<&SentenceLine<'_>> for Line {
         match says {
             SentenceLine::Said(says) => Line::from(*says),
             SentenceLine::Sentence(_) => Line::Sentence,
+        }
+    }
+}
+
+impl From<BookLine> for Line {
+    ghost from_gives = { λ says line. line ≡ line_of_book says };
+
+    fn from(says: BookLine) -> Line {
+        match says {
+            BookLine::Nothing => Line::Nothing,
+            BookLine::Sentence => Line::Sentence,
         }
     }
 }

@@ -1,5 +1,6 @@
 ghost use Rattle.dsc_files.specs.Lines.{ReadsLine};
 
+use crate::books::book_line;
 use crate::calls::call_line;
 use crate::join::join_line;
 use crate::lines::{FileKind, Line, LineFault};
@@ -31,5 +32,9 @@ pub fn line_of(alloc: Global, kind: FileKind, bytes: &[u8]) -> Result<Line, Line
             Err(fault) => Err(fault),
         },
         FileKind::Stream => added_line(alloc, bytes),
+        FileKind::Book => match book_line(bytes) {
+            Ok(says) => Ok(Line::from(says)),
+            Err(n) => Err(LineFault::Column(n)),
+        },
     }
 }

@@ -1,6 +1,6 @@
 //! The lines of traffic files.
 ghost use Rattle.std.specs.Prelude.{◌≡◌, ◌∷◌, ◌⊎◌, ℕ, List, IsTrue, ◌↔◌};
-ghost use Rattle.dsc_files.specs.Lines.{ReadsAtPoint};
+ghost use Rattle.dsc_files.specs.Lines.{ReadsAtPoint, ReadsJoinedAt};
 ghost use Rattle.dsc_files.specs.PointLine.{IsBody};
 ghost use Rattle.dsc_files.specs.inside.Points.{IsStationsByte};
 
@@ -28,31 +28,46 @@ fn is_body(point: Point) -> bool
     }
 }
 
-/// Reads a line whose first byte no line of join's input has at this point.
-fn stations_line(point: Point, line: &[u8]) -> Result<PointLine, LineFault>
+/// No line of join's input begins as this line does at this point, so its faults are those of the station's lines.
+fn stations_own(point: Point, line: &[u8]) -> Result<Option<JoinLine>, LineFault>
     requires { (b : ℕ) × (rest : List ℕ) × (line.now ≡ b ∷ rest) × IsStationsByte point b }
-    ensures { ReadsAtPoint point line.now result }
+    ensures { ReadsJoinedAt point line.now result }
 {
-    traffic_lines_begin();
-    match read_traffic(point, line) {
-        Ok(says) => Ok(PointLine::Traffic(says)),
-        Err(n) => Err(LineFault::Column(n)),
-    }
+    Ok(None)
 }
 
 /// Reads a line that begins with `r` or `e`.
-fn line_of_receivers(alloc: Global, point: Point, line: &[u8]) -> Result<PointLine, LineFault>
+fn line_of_receivers(
+    alloc: Global,
+    point: Point,
+    line: &[u8],
+) -> Result<Option<JoinLine>, LineFault>
     requires { (b : ℕ) × (rest : List ℕ) × (line.now ≡ b ∷ rest) × ((b ≡ 114) ⊎ (b ≡ 101)) }
-    ensures { ReadsAtPoint point line.now result }
+    ensures { ReadsJoinedAt point line.now result }
 {
     if is_body(point) {
         traffic_lines_begin();
         match join_line(alloc, line) {
-            Ok(says) => Ok(PointLine::Joined(says)),
+            Ok(says) => Ok(Some(says)),
             Err(fault) => Err(fault),
         }
     } else {
-        stations_line(point, line)
+        stations_own(point, line)
+    }
+}
+
+/// Reads a line of join's input at this point of a traffic file. None says that it is no such line: what it says is read as a line
+/// of the station. An error is the column of bytes that are no line of the point, or want of memory.
+pub fn joined_line(alloc: Global, point: Point, line: &[u8]) -> Result<Option<JoinLine>, LineFault>
+    ensures { ReadsJoinedAt point line.now result }
+{
+    let Some((first, _)) = line.split_first() else {
+        return Ok(Some(JoinLine::Nothing));
+    };
+    match *first {
+        b'#' => Ok(Some(JoinLine::Nothing)),
+        b'r' | b'e' => line_of_receivers(alloc, point, line),
+        _ => stations_own(point, line),
     }
 }
 
@@ -60,12 +75,15 @@ fn line_of_receivers(alloc: Global, point: Point, line: &[u8]) -> Result<PointLi
 pub fn point_line(alloc: Global, point: Point, line: &[u8]) -> Result<PointLine, LineFault>
     ensures { ReadsAtPoint point line.now result }
 {
-    let Some((first, _)) = line.split_first() else {
-        return Ok(PointLine::Joined(JoinLine::Nothing));
+    let joined = match joined_line(alloc, point, line) {
+        Ok(joined) => joined,
+        Err(fault) => return Err(fault),
     };
-    match *first {
-        b'#' => Ok(PointLine::Joined(JoinLine::Nothing)),
-        b'r' | b'e' => line_of_receivers(alloc, point, line),
-        _ => stations_line(point, line),
+    match joined {
+        Some(says) => Ok(PointLine::Joined(says)),
+        None => match read_traffic(point, line) {
+            Ok(says) => Ok(PointLine::Traffic(says)),
+            Err(n) => Err(LineFault::Column(n)),
+        },
     }
 }

@@ -1,23 +1,42 @@
 ghost use Rattle.std.specs.Prelude.{◌≡◌, IfOk, false};
 ghost use Rattle.clap.specs.Words.{app_of, shape_of};
 ghost use Rattle.clap.specs.declared.builder.command.Command.TheViews.{out-Command as fields_of};
-ghost use Rattle.dsc_words.specs.inside.CommandLine.{dsc, program, with_number, with_option};
+ghost use Rattle.dsc_words.specs.inside.CommandLine.{dsc, program, with_first_commands, with_last_commands, with_number, with_option};
 
 use clap::{Arg, Command};
 use std::alloc::{AllocError, Global};
 
-/// The program's command line: its commands, one a line.
+/// The program's command line: its commands, one a line. It is made in frames of their own: the copies that this takes are gone while
+/// words are read.
+#[inline(never)]
 pub fn command_line<'a>(alloc: Global) -> Result<Command<'a>, AllocError>
     ensures { IfOk result (λ r. app_of r ≡ dsc) }
 {
-    let program = without_commands(alloc);
+    let program = with_first_commands(alloc, without_commands(alloc))?;
+    with_last_commands(alloc, program)
+}
+
+/// The program with its first commands.
+#[inline(never)]
+fn with_first_commands<'a>(alloc: Global, program: Command<'a>) -> Result<Command<'a>, AllocError>
+    ensures { IfOk result (λ r. app_of r ≡ with_first_commands (app_of program.entry)) }
+{
     let program = program.subcommand(with_option(alloc, "join", "workers")?)?;
     let program = program.subcommand(with_option(alloc, "evidence", "workers")?)?;
     let program = program.subcommand(with_option(alloc, "encode", "dots")?)?;
     let program = program.subcommand(Command::new(alloc, "sentences"))?;
+    Ok(program)
+}
+
+/// The program with the commands behind these.
+#[inline(never)]
+fn with_last_commands<'a>(alloc: Global, program: Command<'a>) -> Result<Command<'a>, AllocError>
+    ensures { IfOk result (λ r. app_of r ≡ with_last_commands (app_of program.entry)) }
+{
     let program = program.subcommand(with_option(alloc, "replay", "workers")?)?;
     let program = program.subcommand(with_number(alloc, "make")?)?;
     let program = program.subcommand(Command::new(alloc, "capture"))?;
+    let program = program.subcommand(Command::new(alloc, "book"))?;
     Ok(program)
 }
 

@@ -21,6 +21,8 @@ pub enum Plan {
     Make { groups: u16 },
     /// `capture`: every call of a stream of elements.
     Capture,
+    /// `book`: the book of casualties of logs of sentences.
+    Book,
 }
 
 /// Why words gave no plan.

@@ -3,8 +3,7 @@ ghost use Rattle.std.specs.List.{list_any};
 ghost use Rattle.std.specs.Str.{bytes_eq};
 ghost use Rattle.clap.specs.Words.{Row, Text, fault_of, first_of, kind_of, subcommand_of, subcommand_rows_of};
 ghost use Rattle.dsc_words.specs.Words.{IsInRange, IsPlan};
-ghost use Rattle.dsc_words.specs.inside.Asked.{IsAsked};
-ghost use Rattle.dsc_words.specs.inside.CommandLine.{dsc};
+ghost use Rattle.dsc_words.specs.inside.CommandLine.{dsc, IsAsked};
 ghost use Rattle.dsc_words.specs.declared.plans.Plan.{Plan};
 
 use crate::command_line::command_line;
@@ -14,9 +13,9 @@ use clap::error::ErrorKind;
 use clap::{ArgMatches, Error};
 use std::alloc::Global;
 
+// In a frame of its own: what `clap` builds doesn't lie on the stack while a command runs.
 /// The plan that the words are; the first of them is the program's name. `Refused` where they are none, and `Memory` where
 /// no memory was found to read them.
-// In a frame of its own: what `clap` builds doesn't lie on the stack while a command runs.
 #[inline(never)]
 pub fn plan_of(alloc: Global, words: &[String]) -> Result<Plan, PlanError>
     ensures planned { IfOk result (IsPlan (map string_bytes words.now)) }
@@ -91,6 +90,7 @@ fn asked(command: &str, given: Option<&str>) -> Option<Plan>
             groups: groups(given)?,
         }),
         "capture" => Some(Plan::Capture),
+        "book" => Some(Plan::Book),
         _ => None,
     }
 }

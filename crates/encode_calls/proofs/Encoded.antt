@@ -1,13 +1,13 @@
 -- what the command has encoded, one line further
-use Rattle.std.proofs.Common.{◌≡◌, ℕ, suc, ◌+◌, ◌≤◌, Bool, List, [], ◌∷◌, ◌++◌, length, refl, sym, ap, ◌∙◌, arith, append_assoc, length-append}
+use Rattle.std.proofs.Common.{◌≡◌, ℕ, suc, ◌+◌, ◌≤◌, Bool, Option, List, [], ◌∷◌, ◌++◌, length, refl, sym, ap, ◌∙◌, arith, append_assoc, length-append}
 use Rattle.call_values.specs.declared.calls.Call.{Call}
-use Rattle.slot_join.specs.declared.joined.Extra.{Extra}
+use Rattle.expansion.specs.declared.values.Sets.{Sets}
 use Rattle.line_engine.specs.Lines.{Lines}
 use Rattle.dsc_files.specs.declared.calls.CallLine.{CallLine}
 use Rattle.dsc_files.specs.declared.calls.CallLine.TheVariants as line
 use Rattle.dsc_files.specs.CallLine.{IsCallLine}
 use Rattle.encode_calls.specs.Encoding.{AreCallLines, calls_of, encoded_line, encoded}
-use Rattle.encode_calls.specs.inside.Progress.{HasEncoded, IsLawful}
+use Rattle.encode_calls.specs.inside.Progress.{HasEncoded}
 
 pub none_encoded : (long : Bool) → HasEncoded long 0 [] []
 unfolding encoded
@@ -16,10 +16,10 @@ none_encoded long = record { said = []; are_lines = tt; text_is = refl; count_is
 pub calls_append : (a b : List CallLine) → calls_of (a ++ b) ≡ calls_of a ++ calls_of b
 calls_append [] b = refl
 calls_append (line.Nothing ∷ a) b = calls_append a b
-calls_append (line.Call c extra ∷ a) b = ap (λ (l : List (Call × Extra)). (c, extra) ∷ l) (calls_append a b)
+calls_append (line.Call c expansion ∷ a) b = ap (λ (l : List (Call × Option Sets)). (c, expansion) ∷ l) (calls_append a b)
 
 -- the lines of further calls stand behind those of the first, and are numbered on
-pub encoded_append : (long : Bool) (number : ℕ) (a b : List (Call × Extra)) → encoded long number (a ++ b) ≡ encoded long number a ++ encoded long (number + length a) b
+pub encoded_append : (long : Bool) (number : ℕ) (a b : List (Call × Option Sets)) → encoded long number (a ++ b) ≡ encoded long number a ++ encoded long (number + length a) b
 unfolding encoded
 encoded_append long number [] b =
     let here : number ≡ number + 0 = omega arith in
@@ -60,7 +60,7 @@ calls_few (s ∷ said) [] are = absurd are
 calls_few (line.Nothing ∷ said) (t ∷ lines) are =
     let few = calls_few said lines are.1 in
     omega (arith, few)
-calls_few (line.Call c extra ∷ said) (t ∷ lines) are =
+calls_few (line.Call c expansion ∷ said) (t ∷ lines) are =
     let few = calls_few said lines are.1 in
     omega (arith, few)
 
@@ -69,8 +69,3 @@ pub few_encoded : (long : Bool) (count : ℕ) (lines : Lines) (text : List ℕ) 
 few_encoded long count lines text h =
     let counted : count ≡ length (calls_of h.said) = h.count_is in
     omega (arith, counted, calls_few h.said lines h.are_lines)
-
--- what a line says has an expansion whole or not at all
-pub line_lawful : (says : CallLine) (text : List ℕ) → IsCallLine says text → IsLawful says
-line_lawful line.Nothing text is = tt
-line_lawful (line.Call c extra) text is = is.0.1

@@ -1,7 +1,7 @@
 -- What `encode` writes: this project's profile.
-use Rattle.std.specs.Prelude.{◌≡◌, ℕ, suc, Bool, List, [], ◌∷◌, ◌++◌, codes, decimal}
+use Rattle.std.specs.Prelude.{◌≡◌, ℕ, suc, Bool, Option, List, [], ◌∷◌, ◌++◌, codes, decimal}
 use Rattle.call_values.specs.declared.calls.Call.{Call}
-use Rattle.slot_join.specs.declared.joined.Extra.{Extra}
+use Rattle.expansion.specs.declared.values.Sets.{Sets}
 use Rattle.line_grammar.specs.Columns.{IsColumn}
 use Rattle.line_engine.specs.Lines.{Lines}
 use Rattle.line_engine.specs.Meaning.{Meaning}
@@ -19,17 +19,17 @@ AreCallLines (one ∷ said) [] = ⊥
 AreCallLines (one ∷ said) (text ∷ lines) = IsCallLine one text × AreCallLines said lines
 
 -- the calls among them, in turn
-abbrev pub calls_of : List CallLine → List (Call × Extra)
+abbrev pub calls_of : List CallLine → List (Call × Option Sets)
 calls_of [] = []
 calls_of (line.Nothing ∷ said) = calls_of said
-calls_of (line.Call c extra ∷ said) = (c, extra) ∷ calls_of said
+calls_of (line.Call c expansion ∷ said) = (c, expansion) ∷ calls_of said
 
 -- the reception line of a call: its group has the call's number
-unfoldable pub encoded_line : Bool → ℕ → Call × Extra → List ℕ
-encoded_line long number (c, extra) = codes "r g" ++ (decimal number ++ (body_text (transmitted long c extra) ++ 10 ∷ []))
+unfoldable pub encoded_line : Bool → ℕ → Call × Option Sets → List ℕ
+encoded_line long number (c, expansion) = codes "r g" ++ (decimal number ++ (body_text (transmitted long c expansion) ++ 10 ∷ []))
 
 -- the lines of calls, numbered from here on
-unfoldable pub encoded : Bool → ℕ → List (Call × Extra) → List ℕ
+unfoldable pub encoded : Bool → ℕ → List (Call × Option Sets) → List ℕ
 encoded long number [] = []
 encoded long number (c ∷ calls) = encoded_line long number c ++ encoded long (suc number) calls
 

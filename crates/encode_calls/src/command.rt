@@ -1,6 +1,6 @@
 ghost use Rattle.std.specs.Prelude.{◌≡◌, ◌<◌, ◌+◌, ◌++◌, ◌∷◌, Bool, true, false, length, [], OnOk};
 ghost use Rattle.encode_calls.specs.Encoding.{calls_of, encode_meaning, encoded};
-ghost use Rattle.encode_calls.specs.inside.Progress.{HasEncoded, IsLawful};
+ghost use Rattle.encode_calls.specs.inside.Progress.{HasEncoded};
 
 use crate::lines::append_line;
 use dsc_files::{CallLine, Status, call_line};
@@ -59,14 +59,13 @@ impl<D: Dots> Encode<D> {
     /// Appends what a line of calls gives.
     fn encode(&mut self, says: &CallLine, out: &mut Vec<u8>) -> Result<(), AllocError>
         requires few { self.old.count < MOST_LINES }
-        requires lawful { IsLawful says.now }
         ensures text { OnOk result (out.new.items ≡ out.old.items ++ encoded D.long self.old.count (calls_of (says.now ∷ []))) }
         ensures count { OnOk result (self.new.count ≡ self.old.count + length (calls_of (says.now ∷ []))) }
     {
         match says {
             CallLine::Nothing => Ok(()),
-            CallLine::Call { call, extra } => {
-                append_line(out, D::is_long(), self.count, call, extra)?;
+            CallLine::Call { call, expansion } => {
+                append_line(out, D::is_long(), self.count, call, expansion)?;
                 self.count += 1;
                 Ok(())
             }

@@ -1,12 +1,11 @@
 ghost use Rattle.std.specs.Prelude.{◌≡◌, ◌++◌, OnOk};
-ghost use Rattle.dsc_texts.specs.Texts.{IsWholeOrAbsent};
 ghost use Rattle.encode_calls.specs.Encoding.{encoded_line};
 
 use crate::signs::append_signs;
 use crate::transmissions::slots_of;
 use call_values::Call;
+use expansion::Expansion;
 use itoa::Buffer;
-use slot_join::Extra;
 use std::alloc::AllocError;
 
 /// Appends the line of a reception of this group, which heard the call and the expansion behind it whole.
@@ -15,16 +14,15 @@ pub(crate) fn append_line(
     long: bool,
     group: u32,
     call: &Call,
-    extra: &Extra,
+    expansion: &Option<Expansion>,
 ) -> Result<(), AllocError>
-    requires { IsWholeOrAbsent extra.now }
-    ensures { OnOk result (out.new.items ≡ out.old.items ++ encoded_line long group (call.now, extra.now)) }
+    ensures { OnOk result (out.new.items ≡ out.old.items ++ encoded_line long group (call.now, expansion.now)) }
 {
     let mut number = Buffer::new();
     out.extend_from_slice(b"r g")?;
     out.extend_from_slice(number.format(group).as_bytes())?;
     out.extend_from_slice(b" ")?;
-    append_signs(out, &slots_of(call, extra), long)?;
+    append_signs(out, &slots_of(call, expansion), long)?;
     out.extend_from_slice(b"\n")?;
     Ok(())
 }

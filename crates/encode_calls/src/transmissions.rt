@@ -2,21 +2,18 @@
 ghost use Rattle.std.specs.Prelude.{◌≡◌, ◌<◌, ◌≤◌, ◌++◌, length, All};
 ghost use Rattle.call_grammar.specs.Spelling as calls;
 ghost use Rattle.time_diversity.specs.OnAir as diversity;
-ghost use Rattle.dsc_texts.specs.Texts.{IsWholeOrAbsent};
 ghost use Rattle.encode_calls.specs.Transmissions.{list_on_air};
 
 use arrayvec::ArrayVec;
 use call_grammar::{own_end, spell};
 use call_values::Call;
-use expansion::spell_sets;
-use slot_join::Extra;
+use expansion::{Expansion, spell_sets};
 use text_pieces::append;
 use time_diversity::on_air;
 
 /// The symbols of a call, and of the expansion behind it, if one is there.
-fn list_of(call: &Call, extra: &Extra) -> ArrayVec<u8, 64>
-    requires { IsWholeOrAbsent extra.now }
-    ensures list { result.items ≡ list_on_air call.now extra.now }
+fn list_of(call: &Call, expansion: &Option<Expansion>) -> ArrayVec<u8, 64>
+    ensures list { result.items ≡ list_on_air call.now expansion.now }
     ensures length { (4 ≤ length result.items) × (length result.items ≤ 64) }
     ensures symbols { All (λ v. v < 128) result.items }
 {
@@ -26,19 +23,19 @@ fn list_of(call: &Call, extra: &Extra) -> ArrayVec<u8, 64>
     expansion::lists_are_short();
     expansion::lists_are_characters();
     let mut list = spell(call);
-    if let Extra::Whole(sets) = extra {
+    if let Some(sets) = expansion {
+        sets.lawful();
         append(&mut list, &spell_sets(sets, own_end(call)));
     }
     list
 }
 
-/// The symbols of all slots of a call's transmission, and of the expansion behind it, which is there whole or not at all
+/// The symbols of all slots of a call's transmission, and of the expansion behind it, if one is there
 /// (ITU-R M.493, call sequence and time diversity).
-pub fn slots_of(call: &Call, extra: &Extra) -> ArrayVec<u8, 160>
-    requires { IsWholeOrAbsent extra.now }
-    ensures slots { result.items ≡ diversity.on_air (list_on_air call.now extra.now) }
+pub fn slots_of(call: &Call, expansion: &Option<Expansion>) -> ArrayVec<u8, 160>
+    ensures slots { result.items ≡ diversity.on_air (list_on_air call.now expansion.now) }
     ensures length { length result.items ≤ 140 }
     ensures symbols { All (λ v. v < 128) result.items }
 {
-    on_air(&list_of(call, extra))
+    on_air(&list_of(call, expansion))
 }

@@ -10,7 +10,7 @@ use crate::summary::Summary;
 use encode_calls::slots_of;
 use receiver_pool::Gate;
 use slot_evidence::{Reception, Sheet, shown_by};
-use slot_join::{Extra, Joined, report};
+use slot_join::{Joined, report};
 use std::alloc::{AllocError, Global};
 
 /// At most so many groups are generated.
@@ -22,7 +22,7 @@ fn answer_to(alloc: Global, group: u16) -> Result<Joined, AllocError>
     requires { group ≤ MOST_MADE }
     ensures { IfOk result (IsAnswer (group_facts (lines_of_group group) group)) }
 {
-    let slots = slots_of(&alert(group), &Extra::Absent);
+    let slots = slots_of(&alert(group), &None);
     let mut sheet = Sheet::empty();
     for receiver in 0..RECEPTIONS {
         let elements = heard(alloc, group, receiver, &slots)?;

@@ -2,6 +2,8 @@
 
 -- sets of the same facts are equal
 pub use Rattle.join_groups.proofs.Naming.{same_facts}
+-- one line more: which groups are named, and their facts
+pub use Rattle.join_groups.proofs.Naming.{named_push, facts_push, facts_of_others}
 -- a line, and lines, give no facts of a group that they don't name; a line of one group gives facts of this group alone
 pub use Rattle.join_groups.proofs.Naming.{unnamed_line, unnamed_facts}
 pub use Rattle.join_groups.proofs.Keeping.{line_of_one}
@@ -9,9 +11,13 @@ pub use Rattle.join_groups.proofs.Keeping.{line_of_one}
 pub use Rattle.join_groups.proofs.Rising.{same_rising}
 -- what is held of groups is held of the same groups and facts
 pub use Rattle.join_groups.proofs.Holding.{holds_same}
+-- before the first line all is kept
+pub use Rattle.join_groups.proofs.Keeping.{keeps_none}
+-- lines one behind another, and that lines say one thing
+pub use Rattle.join_groups.proofs.LinesTaken.{lines_push, same_said}
 -- groups are full exactly where a line brings one too many
 pub use Rattle.join_groups.proofs.Keeping.{full_brings, brings_full}
 -- what a line says, once it is read
-pub use Rattle.join_groups.proofs.Keeping.{says_reception, says_evidence}
+pub use Rattle.join_groups.proofs.Keeping.{says_reception, says_evidence, short_read}
 -- what holds of an answer where another thing does
 pub use Rattle.join_groups.proofs.Keeping.{map_ok, map_err}

@@ -28,22 +28,20 @@ use std::thread::Threads;
 pub fn tell_groups<R: Threads + Sync, S: Source, K: Sink, G: Gate, T: Teller>(
     rt: &R,
     alloc: Global,
-    teller: T,
     source: &mut S,
     sink: &mut K,
+    teller: T,
     workers: u32,
     gate: &G,
 ) -> Status
     requires { (1 ≤ workers) × (workers ≤ 64) }
     ensures { IsRun (groups_meaning T.tells) S.Source K.Sink source.old source.new sink.old sink.new result }
 {
-    if workers == 1 {
-        gate.enter(0);
-    }
     let join = |batch: &[Heard]| -> Result<Vec<Shown>, AllocError>
         requires { (1 ≤ workers) × (workers ≤ 64) × All IsShort batch.now }
         ensures { IfOk result (λ v. Shows (facts_of_group batch.now) batch.now v.items) }
     { pool_groups(rt, alloc, batch, workers, gate) };
-    let command = TellGroups::new(alloc, Workers::new(workers, join), teller);
-    drive(alloc, command, source, sink)
+    let workers = Workers::new(workers, gate, join);
+    let mut command = TellGroups::new(alloc, workers, teller);
+    drive(alloc, &mut command, source, sink)
 }

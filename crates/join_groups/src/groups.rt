@@ -179,4 +179,16 @@ impl Groups {
             None => Sheet::empty(),
         }
     }
+
+    /// The sheet of a group; that of no facts where the group isn't known. The batch has ended.
+    pub fn sheet_of(&self, group: u32) -> Sheet
+        requires ready { HoldsSome self.now }
+        requires ended { self.now.batch.items ≡ [] }
+        ensures { (named : ℕ → Bool) (F : ℕ → Facts) → Holds self.now named F → IsEnds (F group) result }
+    {
+        match self.numbers.get(&group) {
+            Some(number) => self.sheets[*number],
+            None => Sheet::empty(),
+        }
+    }
 }

@@ -35,8 +35,8 @@ pub(crate) fn take_line<W: Joiner>(
     }
 }
 
-/// Takes a line that was read.
-fn take_read<W: Joiner>(groups: &mut Groups, workers: &W, read: JoinLine) -> Result<(), Refusal>
+/// Takes a line that was read. A group too many leaves all as it was.
+pub fn take_read<W: Joiner>(groups: &mut Groups, workers: &W, read: JoinLine) -> Result<(), Refusal>
     requires short { IsShort read }
     requires ready { HoldsSome groups.old }
     requires joins { W.can_join workers.now }

@@ -63,7 +63,7 @@ impl Teller for Ends {
 }
 
 /// Tells of each group by rising number, and answers whether all is well with all of them. No reception waits any more.
-pub(crate) fn tell_all<T: Teller>(groups: &Groups, out: &mut Vec<u8>) -> Result<bool, AllocError>
+pub fn tell_all<T: Teller>(groups: &Groups, out: &mut Vec<u8>) -> Result<bool, AllocError>
     requires { HoldsSome groups.now }
     ensures { IfOk result (λ is_well. (said : List JoinLine) → Keeps groups.now said → groups.now.batch.items ≡ []
         → (text : List ℕ) × ((out.new.items ≡ out.old.items ++ text) × IsGroupsText T.tells said text (if is_well then 0 else 1))) }

@@ -51,11 +51,11 @@ fn take_input<C: Command, S: Source, K: Sink>(
 /// Gives the lines of a source to a command, and tells each part of the run's promise.
 fn run_lines<C: Command, S: Source, K: Sink>(
     alloc: Global,
-    command: C,
+    command: &mut C,
     source: &mut S,
     sink: &mut K,
 ) -> Status
-    requires { C.stands_for command [] [] }
+    requires fresh { C.stands_for command.old [] [] }
 
     // What was written, by the status.
     ensures whole { IsFinished result → TellsWhole C.meaning (S.left source.old) (S.left source.new) (K.written sink.old) (K.written sink.new) (K.flushed sink.new) result }
@@ -85,9 +85,8 @@ fn run_lines<C: Command, S: Source, K: Sink>(
     ensures completes { (Rises (S.faults source.old) (S.faults source.new) → ⊥) → (Rises (K.faults sink.old) (K.faults sink.new) → ⊥)
         → IsFinished result ⊎ IsOfFault result ⊎ (result ≡ 6) }
 {
-    let mut command = command;
     let mut out = Vec::new(alloc);
-    match take_input(alloc, &mut command, &mut out, source, sink) {
+    match take_input(alloc, command, &mut out, source, sink) {
         Ok(()) => match command.finish(&mut out) {
             Ok(status) => tell(sink, &out, b"", status),
             Err(AllocError) => Status::new(6),
@@ -103,7 +102,8 @@ fn run_lines<C: Command, S: Source, K: Sink>(
 /// and the line of the first fault; and ends with a status.
 ///
 /// What is given is written before each read, and as soon as 64 KiB of it are pending. A fault is told as soon as its line is known.
-/// One buffer of 128 KiB, an open line and the pending text are kept of an input, however long it is.
+/// One buffer of 128 KiB, an open line and the pending text are kept of an input, however long it is. Behind the run the command
+/// is done with.
 ///
 /// | Status | What it says |
 /// |---|---|
@@ -115,11 +115,11 @@ fn run_lines<C: Command, S: Source, K: Sink>(
 /// | 7 | a limit was passed, and the line of this first fault was written behind what the lines before it gave |
 pub fn drive<C: Command, S: Source, K: Sink>(
     alloc: Global,
-    command: C,
+    command: &mut C,
     source: &mut S,
     sink: &mut K,
 ) -> Status
-    requires { C.stands_for command [] [] }
+    requires { C.stands_for command.old [] [] }
     ensures { IsRun C.meaning S.Source K.Sink source.old source.new sink.old sink.new result }
 {
     run_lines(alloc, command, source, sink)

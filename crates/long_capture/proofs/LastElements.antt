@@ -1,7 +1,8 @@
 -- the last 1,600 of a list of elements, when one is put behind them
 use Rattle.std.proofs.Common.{◌≡◌, ◌≢◌, ℕ, ◌+◌, ◌-◌, ◌<◌, ◌≤◌, List, [], ◌∷◌, ◌++◌, length, take, drop, set, get_or, inl, inr, arith, ap, sym, ◌∙◌, length-append, get_or-set_other, get_or-set_same}
 use Rattle.std.proofs.lemmas.Bool.{cases_lt}
-use Rattle.std.proofs.lemmas.List.{ext_get_or, length-take-le, length-drop, length-set, get_or-take, get_or-drop, get_or_append_left, get_or-append_right}
+use Rattle.std.proofs.lemmas.List.{ext_get_or, length-take-le, length-drop, length-set, get_or-take, get_or-drop, get_or_append_left, get_or-append_right, drop-drop, drop-append-le}
+use Rattle.std.proofs.lemmas.Slice.{between_is}
 use Rattle.ten_unit.specs.declared.character.Element.{Element}
 use Rattle.ten_unit.specs.declared.character.Element.TheVariants.{Lost}
 
@@ -52,3 +53,24 @@ window_more buffer end x low high =
           ∙ sym (pushed_last (last_of buffer end) x long)
           ∙ ap (λ (n : ℕ). get_or (drop 1 (last_of buffer end) ++ x ∷ []) n Lost) at
     ])
+
+-- ---- when several are put behind it
+
+last_is : (buffer : List Element) (end : ℕ) → 1600 ≤ end → last_of buffer end ≡ drop (end - 1600) (take end buffer)
+last_is buffer end low =
+    let size : 1600 ≡ end - (end - 1600) = omega arith in
+    ap (λ (n : ℕ). take n (drop (end - 1600) buffer)) size ∙ between_is buffer (end - 1600) end
+
+-- elements that are written from where the window ends on
+pub window_put : (buffer new : List Element) (end n : ℕ) (ys : List Element) → 1600 ≤ end → end ≤ length buffer → take (end + n) new ≡ take end buffer ++ ys
+    → last_of new (end + n) ≡ drop n (last_of buffer end ++ ys)
+window_put buffer new end n ys low high put =
+    let front = take end buffer in
+    let first : end + n - 1600 ≡ end - 1600 + n = omega arith in
+    last_is new (end + n) (omega arith) ∙ ap (drop (end + n - 1600)) put
+    ∙ ap (λ (k : ℕ). drop k (front ++ ys)) first
+    ∙ sym (drop-drop n (end - 1600) (front ++ ys))
+    ∙ ap (drop n) (drop-append-le (end - 1600) front ys (omega (arith, length-take-le end buffer high)) ∙ ap (λ (l : List Element). l ++ ys) (sym (last_is buffer end low)))
+
+pub length-put : (w ys : List Element) (n : ℕ) → length w ≡ 1600 → length ys ≡ n → length (drop n (w ++ ys)) ≡ 1600
+length-put w ys n long size = omega (arith, length-drop n (w ++ ys), length-append w ys)

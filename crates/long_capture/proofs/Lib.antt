@@ -3,6 +3,7 @@ mod Near
 mod Leads
 mod Cuts
 mod Steps
+mod Blocks
 mod Lists
 mod Decided
 mod InTime

@@ -13,11 +13,18 @@ pub struct Capture {
     ghost most: { lost ≤ 1599 },
 }
 
+/// What `take_block` took: how many elements, and the start that the last of them decides, if there is one.
+#[derive(Clone, Copy, Debug, PartialEq, Eq)]
+pub struct Taken {
+    pub count: usize,
+    pub start: Option<Start>,
+}
+
 /// Lost elements behind the end that decide its last origins.
 const BEHIND: u32 = 1599;
 
 impl Capture {
-    ghost use Rattle.std.specs.Prelude.{◌≡◌, [], ◌∷◌, ◌++◌, ◌<◌, ◌^◌, List, length, IsSome, IsNone};
+    ghost use Rattle.std.specs.Prelude.{◌≡◌, [], ◌∷◌, ◌++◌, ◌<◌, ◌≤◌, ◌^◌, List, length, take, IsSome, IsNone};
     ghost use Rattle.ten_unit.specs.declared.character.Element.{Element};
     ghost use Rattle.long_capture.specs.Captures.{taken, reached, left, IsOpen, Stands, Ending};
     ghost use Rattle.long_capture.specs.Told.{Tells};
@@ -43,6 +50,29 @@ impl Capture {
         ensures tells { (e more : List Element) → Stands self.old e → Tells (e ++ x ∷ more) (reached self.old) (reached self.new) result }
     {
         self.scan.step(x)
+    }
+
+    /// Takes a front of the next elements, at least one if there is one: as many as decide that no origin is a start, in one copy, or the
+    /// one that wants a search. It is as if `take` had taken them one by one, and only the last of them can decide a start.
+    pub fn take_block(&mut self, xs: &[Element]) -> Taken
+        requires few { taken self.old + length xs.now ≤ 2 ^ 40 }
+        requires going { IsOpen self.old }
+        ensures front { result.count ≤ length xs.now }
+        ensures some { 0 < length xs.now → 0 < result.count }
+        ensures stands { (e : List Element) → Stands self.old e → Stands self.new (e ++ take result.count xs.now) }
+        ensures tells { (e more : List Element) → Stands self.old e → Tells (e ++ (take result.count xs.now ++ more)) (reached self.old) (reached self.new) result.start }
+    {
+        let count = self.scan.skip(xs);
+        if count > 0 {
+            return Taken { count, start: None };
+        }
+        match xs.first() {
+            Some(x) => Taken {
+                count: 1,
+                start: self.scan.step(*x),
+            },
+            None => Taken { count, start: None },
+        }
     }
 
     /// Answers the next start of the whole stream behind the last origin that was decided, and decides it and all before it. `None`

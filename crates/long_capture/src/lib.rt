@@ -7,7 +7,7 @@ mod scans;
 mod starts;
 mod windows;
 
-pub use captures::Capture;
+pub use captures::{Capture, Taken};
 pub use laws::{
     answers_add_up, decided_starts_stay, one_list, slots_end_in_time, start_reports_the_call,
     starts_go_on, taking_ends,

@@ -1,13 +1,13 @@
 //! The search for starts, element by element.
-ghost use Rattle.std.specs.Prelude.{◌≡◌, ℕ, ◌+◌, ◌-◌, ◌<◌, ◌≤◌, ◌^◌, List};
+ghost use Rattle.std.specs.Prelude.{◌≡◌, ℕ, ◌+◌, ◌-◌, ◌<◌, ◌≤◌, ◌^◌, List, length, slice_index_or};
 ghost use Rattle.ten_unit.specs.declared.character.Element.{Element};
 ghost use Rattle.phasing.specs.inside.Places.{element_at};
-ghost use Rattle.long_capture.specs.Told.{Tells};
+ghost use Rattle.long_capture.specs.Told.{AreQuiet, Tells};
 ghost use Rattle.long_capture.specs.inside.Reads.{IsWindow, Looks, Reads};
 
 use crate::starts::Start;
 use crate::windows::{LONG, Window};
-use phasing::{elements_decide, first_phased, none_past_the_end};
+use phasing::{elements_decide, first_phased, none_past_the_end, phased};
 use slot_evidence::sheet_at;
 use ten_unit::Element;
 
@@ -52,6 +52,23 @@ impl Scan {
         self.look()
     }
 
+    /// Takes a front of the next elements, which decide that no origin is a start, and answers how many they are. It takes none only where
+    /// there is none, or where the next one wants a search.
+    pub fn skip(&mut self, xs: &[Element]) -> usize
+        requires { self.old.seen + length xs.now < 2 ^ 62 }
+        ensures front { result ≤ length xs.now }
+        ensures seen { self.new.seen ≡ self.old.seen + result }
+        ensures reads { (e : List Element) (n : ℕ) → Reads self.old e n → ((k : ℕ) → k < result → element_at e (n + 150 + k) ≡ slice_index_or xs.now k Element.Lost)
+            → Reads self.new e (n + result) }
+        ensures quiet { (e : List Element) (n : ℕ) → Reads self.old e n → AreQuiet e (n - 1449) (n + result - 1449) }
+    {
+        let most = xs.len().min(self.quiet as usize);
+        let count = self.window.push_front(&xs[..most]);
+        self.seen += count as u64;
+        self.quiet -= count as u32;
+        count
+    }
+
     /// Whether the origin at the window's first element is a start, and how many behind it are no starts.
     #[inline(never)]
     fn look(&mut self) -> Option<Start>
@@ -63,14 +80,12 @@ impl Scan {
         elements_decide();
         none_past_the_end();
         let window = self.window.elements();
-        let ahead = first_phased(window);
-        if ahead > 0 {
-            self.quiet = ahead.min(KNOWN + 1) - 1;
+        let after = first_phased(&window[1..]);
+        self.quiet = after.min(KNOWN);
+        if !phased(window, 0) {
             return None;
         }
-        let after = first_phased(&window[1..]);
         let sheet = sheet_at(&window[..after as usize + 1], 150);
-        self.quiet = after.min(KNOWN);
         Some(Start {
             at: self.seen as i64 - LONG as i64,
             sheet,

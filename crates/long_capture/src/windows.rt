@@ -1,5 +1,5 @@
 //! The last elements of a stream.
-ghost use Rattle.std.specs.Prelude.{◌≡◌, [], ◌∷◌, ◌++◌, ◌-◌, length, take, drop, replicate};
+ghost use Rattle.std.specs.Prelude.{◌≡◌, [], ◌∷◌, ◌++◌, ◌-◌, ◌<◌, ◌≤◌, length, take, drop, replicate};
 ghost use Rattle.ten_unit.specs.declared.character.Element.TheVariants.{Lost};
 
 use std::marker::Model;
@@ -46,12 +46,23 @@ impl Window {
     pub fn push(&mut self, x: Element)
         ensures { self.new ≡ drop 1 self.old ++ x ∷ [] }
     {
-        if self.end == ROOM {
-            move_to_front(&mut self.buffer);
-            self.end = LONG;
-        }
-        self.buffer[self.end] = x;
-        self.end += 1;
+        let end = free(&mut self.buffer, self.end);
+        self.buffer[end] = x;
+        self.end = end + 1;
+    }
+
+    /// Puts a front of these elements behind the others, as far as there is room before the last ones move, and answers how many they
+    /// are: at least one, if there is one. As many first ones go.
+    pub fn push_front(&mut self, xs: &[Element]) -> usize
+        ensures front { result ≤ length xs.now }
+        ensures some { 0 < length xs.now → 0 < result }
+        ensures pushed { self.new ≡ drop result (self.old ++ take result xs.now) }
+    {
+        let begin = free(&mut self.buffer, self.end);
+        let count = xs.len().min(ROOM - begin);
+        self.end = begin + count;
+        self.buffer[begin..self.end].copy_from_slice(&xs[..count]);
+        count
     }
 
     /// The elements, in their order.
@@ -61,6 +72,23 @@ impl Window {
     {
         &self.buffer[self.end - LONG..self.end]
     }
+}
+
+/// Where the next element goes: at the window's end, or, where there is no room, behind the last elements, which move to the front.
+#[inline(always)]
+fn free(buffer: &mut [Element; ROOM], end: usize) -> usize
+    requires low { LONG ≤ end }
+    requires high { end ≤ ROOM }
+    ensures low { LONG ≤ result }
+    ensures high { result < ROOM }
+    ensures length { length buffer.new ≡ ROOM }
+    ensures same { take LONG (drop (result - LONG) buffer.new) ≡ take LONG (drop (end - LONG) buffer.old) }
+{
+    if end == ROOM {
+        move_to_front(buffer);
+        return LONG;
+    }
+    end
 }
 
 /// Moves the last 1,600 elements to the front.

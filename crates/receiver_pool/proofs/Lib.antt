@@ -8,6 +8,7 @@ mod Rests
 mod Core
 mod Unions
 mod Parts
+mod Posted
 mod Entries
 mod Turning
 mod SeatRows

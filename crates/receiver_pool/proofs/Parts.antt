@@ -34,7 +34,7 @@ or_false true = refl
 or_false false = refl
 
 -- whose turn it is
-turn_yes : (workers low high index : ℕ) → low ≤ index % workers → index % workers < high → is_turn workers low high index ≡ true
+pub turn_yes : (workers low high index : ℕ) → low ≤ index % workers → index % workers < high → is_turn workers low high index ≡ true
 turn_yes workers low high index above below = both_true _ _ (le-leb low (index % workers) above) (lt-ltb (index % workers) high below)
 
 turn_below : (workers low high index : ℕ) → index % workers < low → is_turn workers low high index ≡ false
@@ -139,8 +139,11 @@ pub halves_joined : (workers low middle high : ℕ) (list : List (List Element))
 halves_joined workers low middle high list F sheet left right ends =
     IsEnds-same _ _ sheet (λ p v. fold_twice (F p v) _ _ ∙ ap (λ (b : Bool). F p v || b) (sym (part_halves workers low middle high (nth list) (length list) p v left right))) ends
 
-pub all_joined : (workers : ℕ) (list : List (List Element)) (sheet : List Seen) → 0 < workers → IsEnds (union no_facts (part (is_turn workers 0 workers) list (length list))) sheet → IsEnds (facts_of_all list) sheet
-all_joined workers list sheet some_there ends = IsEnds-same _ _ sheet (λ p v. part_all workers list p v some_there) ends
+pub all_joined : (list : List (List Element)) (sheet : List Seen) → IsEnds (union no_facts (facts_of_all list)) sheet → IsEnds (facts_of_all list) sheet
+all_joined list sheet ends = IsEnds-same _ _ sheet (λ p v. refl) ends
+
+pub all_posted : (workers : ℕ) (list : List (List Element)) (F : Facts) (sheet : List Seen) → 0 < workers → IsEnds (union F (part (is_turn workers 0 workers) list (length list))) sheet → IsEnds (union F (facts_of_all list)) sheet
+all_posted workers list F sheet some_there ends = IsEnds-same _ _ sheet (λ p v. ap (λ (b : Bool). F p v || b) (part_all workers list p v some_there)) ends
 
 pub all_by_one : (workers : ℕ) (list : List (List Element)) (sheet : List Seen) → 0 < workers → IsEnds (part (is_turn workers 0 workers) list (length list)) sheet → IsEnds (facts_of_all list) sheet
 all_by_one workers list sheet some_there ends = IsEnds-same _ _ sheet (λ p v. part_all workers list p v some_there) ends

@@ -11,7 +11,7 @@ use Rattle.slot_evidence.specs.TwoNumbers.{least_of, past_of, AreInOrder}
 use Rattle.slot_evidence.proofs.PublicLaws.{order_met}
 use Rattle.receiver_pool.specs.declared.seats.TheConstants.{WHOLE}
 use Rattle.receiver_pool.specs.Views.{Reach, no_reach, united, reach_of, kept_of, Place, blank, View, place_at, fresh, spent, given_sheet}
-use Rattle.receiver_pool.specs.Rule.{words_of, Fits, AreAllowed, IsPlaceKept, IsKept}
+use Rattle.receiver_pool.specs.Rule.{words_of, IsWithin, Fits, AreAllowed, IsPlaceKept, IsKept}
 use Rattle.receiver_pool.specs.Steps.{admitted, uncounted, joined, kept_half, new_half, both}
 use Rattle.receiver_pool.specs.Seats.{IsResting, IsSeated}
 use Rattle.receiver_pool.specs.inside.Through.{Through, LooksAt}
@@ -19,6 +19,19 @@ use Rattle.receiver_pool.proofs.Folds.{lowest_alone, highest_alone, total_two}
 use Rattle.receiver_pool.proofs.OnePlace.{allowed_none}
 use Rattle.receiver_pool.proofs.StepKinds.{place_blank, blanks_long, each_one, place_uncounted, joined_long, joined_at}
 use Rattle.receiver_pool.proofs.Loads.{order_small}
+
+-- what was posted was seen
+no_further : (a : Reach) → IsWithin a a
+no_further a = record { least = omega arith; past = omega arith }
+
+further_still : (a b c : Reach) → IsWithin a b → IsWithin b c → IsWithin a c
+further_still a b c first last = let low = first.least in let lower = last.least in let high = first.past in let higher = last.past in record { least = omega arith; past = omega arith }
+
+both_within : (a b c d : Reach) → IsWithin a c → IsWithin b d → IsWithin (united a b) (united c d)
+both_within a b c d left right = let low = left.least in let lower = right.least in let high = left.past in let higher = right.past in record { least = omega arith; past = omega arith }
+
+abbrev Saw : Place → Type 0
+Saw place = IsWithin place.given place.seen
 
 pub fresh_seated : (share : ℕ) → 1 ≤ share → IsSeated (fresh share)
 fresh_seated share alive = record {
@@ -28,6 +41,7 @@ fresh_seated share alive = record {
     given = λ p below. subst (λ (c : Place). IsResting c.given) (sym (place_blank p)) refl;
     seen = λ p below. subst (λ (c : Place). IsResting c.seen) (sym (place_blank p)) refl;
   };
+  within = λ p below. subst Saw (sym (place_blank p)) (no_further no_reach);
 }
 
 pub lawful_order : (x : Seen) → IsLawful x → AreInOrder (least_of x) (past_of x)
@@ -49,6 +63,7 @@ admitted_seated sheet before after lawful seated through =
         given = λ p below. subst (λ (c : Place). IsResting c.given) (sym (through.below p below)) (united_rests (place_at before p).given (reach_of (seen_at sheet p)) (seated.rest.given p below) (lawful_order _ (lawful.lawful p)));
         seen = λ p below. subst (λ (c : Place). IsResting c.seen) (sym (through.below p below)) (united_rests (place_at before p).seen (reach_of (seen_at sheet p)) (seated.rest.seen p below) (lawful_order _ (lawful.lawful p)));
       };
+      within = λ p below. subst Saw (sym (through.below p below)) (both_within (place_at before p).given _ (place_at before p).seen _ (seated.within p below) (no_further (reach_of (seen_at sheet p))));
     }
 
 pub small_at : (view : View) (p : ℕ) → IsSeated view → p < 64 → ((place_at view p).given.least ≤ 128) × ((place_at view p).seen.least ≤ 128)
@@ -65,6 +80,8 @@ looked_seated facts before after seated through =
         given = λ p below. subst IsResting (sym (through.below p below).looked.given) (seated.rest.given p below);
         seen = λ p below. (through.below p below).rest;
       };
+      within = λ p below. subst (λ (r : Reach). IsWithin r (place_at after p).seen) (sym (through.below p below).looked.given)
+          (further_still (place_at before p).given (place_at before p).seen (place_at after p).seen (seated.within p below) (through.below p below).looked.no_less);
     }
 
 pub kept_seated : (v : View) → IsSeated v → 2 ≤ v.share → IsSeated (kept_half v)
@@ -72,6 +89,7 @@ kept_seated v seated enough = record {
   alive = omega arith;
   size = seated.size;
   rest = record { given = λ p below. seated.rest.given p below; seen = λ p below. seated.rest.seen p below };
+  within = λ p below. seated.within p below;
 }
 
 pub new_place : (v : View) (p : ℕ) → length v.places ≡ 64 → p < 64 → place_at (new_half v) p ≡ uncounted (place_at v p)
@@ -85,6 +103,7 @@ new_seated v seated enough = record {
     given = λ p below. subst (λ (c : Place). IsResting c.given) (sym (new_place v p seated.size below)) (seated.rest.given p below);
     seen = λ p below. subst (λ (c : Place). IsResting c.seen) (sym (new_place v p seated.size below)) (seated.rest.seen p below);
   };
+  within = λ p below. subst Saw (sym (new_place v p seated.size below)) (seated.within p below);
 }
 
 pub both_place : (a b : View) (p : ℕ) → length a.places ≡ 64 → length b.places ≡ 64 → p < 64 → place_at (both a b) p ≡ joined (place_at a p) (place_at b p)
@@ -100,6 +119,8 @@ both_seated a b left right =
         given = λ p below. subst (λ (c : Place). IsResting c.given) (sym (both_place a b p left.size right.size below)) (united_rests _ _ (left.rest.given p below) (right.rest.given p below));
         seen = λ p below. subst (λ (c : Place). IsResting c.seen) (sym (both_place a b p left.size right.size below)) (united_rests _ _ (left.rest.seen p below) (right.rest.seen p below));
       };
+      within = λ p below. subst Saw (sym (both_place a b p left.size right.size below))
+          (both_within (place_at a p).given (place_at b p).given (place_at a p).seen (place_at b p).seen (left.within p below) (right.within p below));
     }
 
 -- an empty board

@@ -8,12 +8,16 @@ use Rattle.slot_evidence.specs.Facts.{Symbols, Facts, no_facts, union}
 use Rattle.slot_evidence.specs.Seen.{ShowsNone, IsSeen, IsLawful}
 use Rattle.slot_evidence.specs.Sheet.{IsSheet, IsEnds, seen_at}
 use Rattle.slot_evidence.specs.TwoNumbers.{least_of}
+use Rattle.slot_evidence.specs.Allowed.{IsAllowed}
 use Rattle.slot_evidence.proofs.PublicLaws.{IsEnds-same, order_met, edges_met, seen_edges, edges_seen, or_none-seen}
-use Rattle.receiver_pool.specs.Views.{Reach, united, reach_of, kept_of, Place, blank, View, place_at, fresh, given_sheet}
+use Rattle.receiver_pool.specs.Views.{Reach, united, reach_of, kept_of, Place, blank, View, place_at, fresh, given_sheet, seen_sheet}
 use Rattle.receiver_pool.specs.Steps.{admitted, joined}
 use Rattle.receiver_pool.specs.Seats.{IsResting, IsSeated}
+use Rattle.receiver_pool.specs.Rule.{AreAllowed}
+use Rattle.receiver_pool.specs.inside.Through.{Through, LooksAt}
 use Rattle.receiver_pool.proofs.StepKinds.{place_blank, blanks_long}
-use Rattle.receiver_pool.proofs.Rests.{lawful_order}
+use Rattle.receiver_pool.proofs.Rests.{lawful_order, looked_seated}
+use Rattle.receiver_pool.proofs.Loads.{seen_at_view}
 
 -- the sheet of what a view gave
 given_at : (v : View) (p : ℕ) → length v.places ≡ 64 → p < 64 → seen_at (given_sheet v) p ≡ kept_of (place_at v p).given
@@ -77,6 +81,41 @@ same_given v w size long same =
     (λ p below.
     let inside : p < 64 = omega (arith, given_long w long) in
     given_at w p long inside ∙ ap kept_of (same p inside) ∙ sym (given_at v p size inside))
+
+-- a look leaves what was posted
+pub looked_given : (facts : List (ℕ × ℕ)) (before after : View) → IsSeated before → Through (LooksAt facts) before after 64 → given_sheet after ≡ given_sheet before
+looked_given facts before after seated through =
+    same_given before after seated.size (through.size ∙ seated.size) (λ p below. (through.below p below).looked.given)
+
+-- where only these facts may be posted and a seat posted their ends, a look sees these ends
+pub looked_exactly : (facts : List (ℕ × ℕ)) (before after : View) (F : Facts) → IsSeated before → Through (LooksAt facts) before after 64
+    → ((p v : ℕ) → IsAllowed facts p v → F p v ≡ true) → IsEnds F (given_sheet before) → IsEnds F (seen_sheet after)
+looked_exactly facts before after F seated through among ends =
+    let later = looked_seated facts before after seated through in
+    record {
+      places = length-map after.places (λ place. kept_of place.seen) ∙ later.size;
+      each = λ p. elim (cases_lt p 64) [
+        | inl below ↦
+            let looked = through.below p below in
+            let given = (place_at before p).given in
+            let saw = (place_at after p).seen in
+            let within = later.within p below in
+            let same = looked.looked.given in
+            let least : saw.least ≤ given.least = omega (arith, within.least, ap (λ (r : Reach). r.least) same) in
+            let past : given.past ≤ saw.past = omega (arith, within.past, ap (λ (r : Reach). r.past) same) in
+            let edges = seen_edges (F p) given.least given.past (seated.rest.given p below) (subst (λ (x : Seen). IsSeen (F p) x) (given_at before p seated.size below) (ends.each p)) in
+            subst (λ (x : Seen). IsSeen (F p) x) (sym (seen_at_view after p (omega (arith, later.size))))
+            (edges_seen (F p) saw.least saw.past looked.rest record {
+              has_least = λ small. among p saw.least (looked.looked.allowed.least small);
+              has_greatest = λ v is. among p v (looked.looked.allowed.greatest v is);
+              between = λ w shown. let b = edges.between w shown in (omega arith, omega arith);
+            })
+        | inr above ↦
+            subst (λ (x : Seen). IsSeen (F p) x)
+            (sym (get_or_past (seen_sheet after) p seen.None (omega (arith, length-map after.places (λ place. kept_of place.seen), later.size))))
+            (beyond F (given_sheet before) ends p above)
+      ];
+    }
 
 pub nothing_given : (share : ℕ) → IsEnds no_facts (given_sheet (fresh share))
 nothing_given share =

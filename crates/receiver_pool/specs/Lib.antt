@@ -4,6 +4,7 @@ pub mod Steps
 pub mod Looks
 pub mod Seats
 pub mod Facts
+pub mod Posting
 pub mod Events
 pub mod Groups
 pub mod Joining

@@ -3,6 +3,7 @@ use Rattle.std.specs.Prelude.{◌≡◌, ℕ, ◌<◌, ◌≤◌, length}
 use Rattle.atomic_table.specs.Seated.{TableId}
 use Rattle.slot_evidence.specs.TwoNumbers.{AreInOrder}
 use Rattle.receiver_pool.specs.Views.{Reach, View, place_at}
+use Rattle.receiver_pool.specs.Rule.{IsWithin}
 
 -- a seat: of which board's table it is, and what it knows
 pub record Held : Type 0 where
@@ -18,8 +19,9 @@ pub record IsAtRest (view : View) : Type 0 where
   pub given : (p : ℕ) → p < 64 → IsResting (place_at view p).given
   pub seen : (p : ℕ) → p < 64 → IsResting (place_at view p).seen
 
--- a seat between two calls has a share, knows of 64 places, and is at rest
+-- a seat between two calls has a share, knows of 64 places, and is at rest; what it posted it saw
 pub record IsSeated (view : View) : Type 0 where
   pub alive : 1 ≤ view.share
   pub size : length view.places ≡ 64
   pub rest : IsAtRest view
+  pub within : (p : ℕ) → p < 64 → IsWithin (place_at view p).given (place_at view p).seen

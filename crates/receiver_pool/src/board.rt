@@ -1,8 +1,8 @@
 //! The board.
-ghost use Rattle.std.specs.Prelude.{◌≡◌, ℕ, ◌+◌, ◌<◌, ◌≤◌, IfOk};
+ghost use Rattle.std.specs.Prelude.{◌≡◌, ℕ, ◌+◌, ◌<◌, ◌≤◌, IfOk, true};
 ghost use Rattle.slot_evidence.specs.Facts.{Facts, no_facts, union};
 ghost use Rattle.slot_evidence.specs.Sheet.{IsEnds, seen_at};
-ghost use Rattle.slot_evidence.specs.Allowed.{OnlyAllowed};
+ghost use Rattle.slot_evidence.specs.Allowed.{IsAllowed, OnlyAllowed};
 ghost use Rattle.receiver_pool.specs.Views.{place_at, fresh, given_sheet, seen_sheet};
 ghost use Rattle.receiver_pool.specs.Steps.{admitted, uncounted, joined};
 ghost use Rattle.receiver_pool.specs.Looks.{IsLooked};
@@ -127,7 +127,8 @@ impl<A: Allowed> Board<A> {
     }
 
     /// Looks at the board: at each place the greatest word is loaded, and behind it the least word where the greatest isn't empty. It
-    /// answers what the seat then saw of each place, which is what was loaded, and no less than it saw before.
+    /// answers what the seat then saw of each place, which is what was loaded, and no less than it saw before. Where only facts of a set
+    /// may be posted and this seat posted the ends of the set, it sees these.
     pub fn look(&self, mut seat: Seat<A>) -> (Seat<A>, Sheet)
         requires { seat.table ≡ self.now }
         ensures board { result.0.table ≡ self.now }
@@ -135,6 +136,8 @@ impl<A: Allowed> Board<A> {
         ensures places { (p : ℕ) → p < 64 → IsLooked A.facts p (place_at seat.view p) (place_at result.0.view p) }
         ensures sheet { result.1 ≡ seen_sheet result.0.view }
         ensures allowed { OnlyAllowed A.facts result.1 }
+        ensures given { given_sheet result.0.view ≡ given_sheet seat.view }
+        ensures exact { (F : Facts) → ((p v : ℕ) → IsAllowed A.facts p v → F p v ≡ true) → IsEnds F (given_sheet seat.view) → IsEnds F result.1 }
     {
         let sheet = look(&self.words, &mut seat.token);
         (seat, sheet)

@@ -2,11 +2,12 @@
 ghost use Rattle.std.specs.Prelude.{◌≡◌, ℕ, ◌+◌, ◌-◌, ◌/◌, IfOk, length};
 ghost use Rattle.slot_evidence.specs.Facts.{Facts, no_facts, union};
 ghost use Rattle.slot_evidence.specs.Sheet.{IsEnds};
+ghost use Rattle.slot_evidence.specs.Allowed.{OnlyAllowed};
 ghost use Rattle.receiver_pool.specs.Views.{given_sheet};
 ghost use Rattle.receiver_pool.specs.Groups.{AreSheets};
 ghost use Rattle.receiver_pool.specs.inside.Rows.{AreSeats, Sit};
 
-use crate::allowed::{AllFacts, all_facts_may_be_posted};
+use crate::allowed::{AllFacts, Allowed, all_facts_may_be_posted};
 use crate::board::Board;
 use crate::seats::{Seat, WHOLE};
 use slot_evidence::{Sheet, sheet_is_lawful};
@@ -30,9 +31,10 @@ pub(crate) fn boards_for(
     Ok((boards, seats))
 }
 
-/// Posts a sheet through a seat of its board. One that shows nothing is not posted.
-pub(crate) fn post_sheet(board: &Board<AllFacts>, seat: &mut Seat<AllFacts>, sheet: &Sheet)
-    requires { seat.old.table ≡ board.now }
+/// Posts a sheet, which may be posted there, through a seat of its board. One that shows nothing is not posted.
+pub(crate) fn post_sheet<A: Allowed>(board: &Board<A>, seat: &mut Seat<A>, sheet: &Sheet)
+    requires board { seat.old.table ≡ board.now }
+    requires allowed { OnlyAllowed A.facts sheet.now }
     ensures board { seat.new.table ≡ board.now }
     ensures share { seat.new.view.share ≡ seat.old.view.share }
     ensures ends { (F G : Facts) → IsEnds F (given_sheet seat.old.view) → IsEnds G sheet.now → IsEnds (union F G) (given_sheet seat.new.view) }
@@ -41,7 +43,6 @@ pub(crate) fn post_sheet(board: &Board<AllFacts>, seat: &mut Seat<AllFacts>, she
     if *sheet == Sheet::empty() {
         return;
     }
-    all_facts_may_be_posted();
     board.admit_at(seat, sheet);
 }
 
@@ -52,8 +53,11 @@ pub(crate) fn post_each(boards: &[Board<AllFacts>], seats: &mut [Seat<AllFacts>]
     ensures { (share : ℕ) (F G : ℕ → Facts) → AreSeats share F boards.now seats.old → AreSheets G sheets.now (length boards.now)
         → AreSeats share (λ k. union (F k) (G k)) boards.now seats.new }
 {
+    all_facts_may_be_posted();
     for (k, board) in boards.iter().enumerate() {
-        post_sheet(board, &mut seats[k], &sheets[k]);
+        let sheet = &sheets[k];
+        sheet_is_lawful(sheet);
+        post_sheet(board, &mut seats[k], sheet);
     }
 }
 

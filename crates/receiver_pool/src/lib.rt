@@ -24,7 +24,7 @@ pub use gate::{Gate, Open};
 pub use heard::{Heard, Shown};
 pub use laws::{one_core, seats_are_at_rest, whole_share};
 pub use meeting::Meeting;
-pub use pools::pool;
+pub use pools::{pool, post_all};
 pub use seats::{Seat, WHOLE};
 pub use slot_evidence::Reception;
 pub use workers::{Joiner, Workers};

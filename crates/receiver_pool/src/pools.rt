@@ -4,9 +4,10 @@ ghost use Rattle.std.specs.Thread.{IsSync, IsSend};
 ghost use Rattle.slot_evidence.specs.Facts.{Facts, facts_of, facts_of_all, union};
 ghost use Rattle.slot_evidence.specs.Sheet.{IsEnds};
 ghost use Rattle.receiver_pool.specs.Views.{given_sheet};
+ghost use Rattle.receiver_pool.specs.Posting.{MayAllBePosted};
 ghost use Rattle.receiver_pool.specs.inside.Turns.{is_turn, part};
 
-use crate::allowed::AllFacts;
+use crate::allowed::{AllFacts, Allowed};
 use crate::board::Board;
 use crate::boards::post_sheet;
 use crate::gate::{Entered, Gate, enter};
@@ -41,15 +42,16 @@ fn heard_by(_entered: &Entered, list: &[Reception], workers: u32, worker: u32) -
 }
 
 /// One worker: it enters the gate, joins its receptions, and posts what they showed.
-fn work<G: Gate>(
-    board: &Board<AllFacts>,
-    mut seat: Seat<AllFacts>,
+fn work<A: Allowed, G: Gate>(
+    board: &Board<A>,
+    mut seat: Seat<A>,
     list: &[Reception],
     workers: u32,
     worker: u32,
     gate: &G,
-) -> Seat<AllFacts>
+) -> Seat<A>
     requires board { seat.table ≡ board.now }
+    requires may { MayAllBePosted A.facts list.now }
     requires worker { worker < workers }
     requires short { All (λ heard. length heard ≤ LONGEST) list.now }
     ensures board { result.table ≡ board.now }
@@ -64,18 +66,19 @@ fn work<G: Gate>(
 
 /// The workers from `low` on and below `high`, by halves of halves in threads of their own.
 #[cycle(workers)]
-fn fork<R: Threads + Sync, G: Gate>(
+fn fork<A: Allowed, R: Threads + Sync, G: Gate>(
     rt: &R,
-    board: &Board<AllFacts>,
-    seat: Seat<AllFacts>,
+    board: &Board<A>,
+    seat: Seat<A>,
     list: &[Reception],
     low: u32,
     high: u32,
     workers: u32,
     gate: &G,
-) -> Seat<AllFacts>
-    requires sync { IsSync R.row × IsSync G.row }
+) -> Seat<A>
+    requires sync { IsSync R.row × IsSync A.row × IsSend A.row × IsSync G.row }
     requires board { seat.table ≡ board.now }
+    requires may { MayAllBePosted A.facts list.now }
     requires range { (low < high) × (high ≤ workers) }
     requires share { high ≤ low + seat.view.share }
     requires short { All (λ heard. length heard ≤ LONGEST) list.now }
@@ -90,16 +93,39 @@ fn fork<R: Threads + Sync, G: Gate>(
     let (first, second) = board.split(seat);
     let (first, second) = join(
         rt,
-        move || -> Seat<AllFacts>
-            requires { IsSync R.row × IsSync G.row × (first.table ≡ board.now) × ((low < middle) × (middle ≤ workers)) × (middle ≤ low + first.view.share) × All (λ heard. length heard ≤ LONGEST) list.now }
+        move || -> Seat<A>
+            requires { IsSync R.row × IsSync A.row × IsSend A.row × IsSync G.row × (first.table ≡ board.now) × MayAllBePosted A.facts list.now × ((low < middle) × (middle ≤ workers)) × (middle ≤ low + first.view.share) × All (λ heard. length heard ≤ LONGEST) list.now }
             ensures { (result.table ≡ board.entry.now) × (result.view.share ≡ first.view.share) × ((F : Facts) → IsEnds F (given_sheet first.view) → IsEnds (union F (part (is_turn workers low middle) list.entry.now (length list.entry.now))) (given_sheet result.view)) }
         { fork(rt, board, first, list, low, middle, workers, gate) },
-        move || -> Seat<AllFacts>
-            requires { IsSync R.row × IsSync G.row × (second.table ≡ board.now) × ((middle < high) × (high ≤ workers)) × (high ≤ middle + second.view.share) × All (λ heard. length heard ≤ LONGEST) list.now }
+        move || -> Seat<A>
+            requires { IsSync R.row × IsSync A.row × IsSend A.row × IsSync G.row × (second.table ≡ board.now) × MayAllBePosted A.facts list.now × ((middle < high) × (high ≤ workers)) × (high ≤ middle + second.view.share) × All (λ heard. length heard ≤ LONGEST) list.now }
             ensures { (result.table ≡ board.entry.now) × (result.view.share ≡ second.view.share) × ((F : Facts) → IsEnds F (given_sheet second.view) → IsEnds (union F (part (is_turn workers middle high) list.entry.now (length list.entry.now))) (given_sheet result.view)) }
         { fork(rt, board, second, list, middle, high, workers, gate) },
     );
     board.join(first, second)
+}
+
+/// Posts through a seat all that receptions show, by one worker or more, who take turns as those of `pool` do: each enters the gate once,
+/// first thing. Conditions: all that the receptions show may be posted on the board, and the seat's share is at least the number of the
+/// workers.
+pub fn post_all<A: Allowed, R: Threads + Sync, G: Gate>(
+    rt: &R,
+    board: &Board<A>,
+    seat: Seat<A>,
+    list: &[Reception],
+    workers: u32,
+    gate: &G,
+) -> Seat<A>
+    requires sync { IsSync R.row × IsSync A.row × IsSend A.row × IsSync G.row }
+    requires board { seat.table ≡ board.now }
+    requires may { MayAllBePosted A.facts list.now }
+    requires workers { (1 ≤ workers) × (workers ≤ seat.view.share) }
+    requires short { All (λ heard. length heard ≤ LONGEST) list.now }
+    ensures board { result.table ≡ board.now }
+    ensures share { result.view.share ≡ seat.view.share }
+    ensures ends { (F : Facts) → IsEnds F (given_sheet seat.view) → IsEnds (union F (facts_of_all list.now)) (given_sheet result.view) }
+{
+    fork(rt, board, seat, list, 0, workers, workers, gate)
 }
 
 /// The sheet of all facts that receptions show, joined by 1 to 64 workers: worker w takes those whose index leaves w when divided by
@@ -119,7 +145,7 @@ pub fn pool<R: Threads + Sync, G: Gate>(
         let entered = enter(gate, 0);
         return Ok(heard_by(&entered, list, 1, 0));
     }
-    let (board, seat) = Board::new(alloc)?;
-    let seat = fork(rt, &board, seat, list, 0, workers, workers, gate);
+    let (board, seat) = Board::<AllFacts>::new(alloc)?;
+    let seat = post_all(rt, &board, seat, list, workers, gate);
     Ok(board.close(seat))
 }

@@ -6,6 +6,7 @@ ghost use Rattle.receiver_pool.specs.Groups.{facts_of_group, AreSheets, AreShown
 ghost use Rattle.receiver_pool.specs.Joining.{JoinsBatches};
 
 use crate::batches::meet_at;
+use crate::gate::{Entered, Gate, enter};
 use crate::heard::{Heard, Shown};
 use phasing::LONGEST;
 use slot_evidence::{Reception, Sheet, shown_by};
@@ -31,19 +32,22 @@ pub trait Joiner: Drop {
 /// Those who join receptions: one worker, who joins each at once, or several, who read batches by this function, as `pool_groups` does.
 #[derive(Drop)]
 pub struct Workers<J> {
-    are_several: bool,
+    /// What the one worker has who works alone.
+    alone: Option<Entered>,
     pub join: J,
 }
 
 impl<J: Drop> Workers<J> {
-    /// So many workers.
-    pub fn new(workers: u32, join: J) -> Workers<J>
+    /// So many workers. One enters the gate here; several enter it in each batch.
+    pub fn new<G: Gate>(workers: u32, gate: &G, join: J) -> Workers<J>
         ensures { result.join ≡ join }
     {
-        Workers {
-            are_several: workers > 1,
-            join,
-        }
+        let alone = if workers == 1 {
+            Some(enter(gate, 0))
+        } else {
+            None
+        };
+        Workers { alone, join }
     }
 }
 
@@ -51,10 +55,9 @@ impl<J: Drop + Fn(&[Heard]) -> Result<Vec<Shown>, AllocError>> Joiner for Worker
     ghost can_join = { λ workers. JoinsBatches (J.pre workers.join) (J.post workers.join) };
 
     fn read_alone(&self, heard: &Reception) -> Option<Sheet> {
-        if self.are_several {
-            None
-        } else {
-            Some(shown_by(heard))
+        match &self.alone {
+            Some(entered) => Some(read_by(entered, heard)),
+            None => None,
         }
     }
 
@@ -63,6 +66,14 @@ impl<J: Drop + Fn(&[Heard]) -> Result<Vec<Shown>, AllocError>> Joiner for Worker
         meet_entries(sheets, &entries);
         Ok(())
     }
+}
+
+/// What a worker who has entered the gate reads of a reception.
+fn read_by(_entered: &Entered, heard: &Reception) -> Sheet
+    requires { length heard.now ≤ LONGEST }
+    ensures { IsEnds (facts_of heard.now) result }
+{
+    shown_by(heard)
 }
 
 /// Takes what was shown of groups into their sheets.

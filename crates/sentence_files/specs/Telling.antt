@@ -1,9 +1,6 @@
 -- What `sentences` writes: this project's profile.
-use Rattle.std.specs.Prelude.{◌≡◌, ℕ, Bool, true, false, if◌then◌else◌, Option, Some, None, List, [], ◌∷◌, ◌++◌}
+use Rattle.std.specs.Prelude.{◌≡◌, ℕ, Bool, true, false, if◌then◌else◌, List, [], ◌∷◌, ◌++◌}
 use Rattle.std.specs.List.{list_all, flat_map}
-use Rattle.expansion.specs.declared.values.Sets.{Sets}
-use Rattle.slot_join.specs.declared.joined.Extra.{Extra}
-use Rattle.slot_join.specs.declared.joined.Extra.TheVariants.{Absent, Whole, Broken}
 use Rattle.line_grammar.specs.Columns.{IsColumn}
 use Rattle.line_engine.specs.Lines.{Lines}
 use Rattle.line_engine.specs.Meaning.{Meaning}
@@ -24,12 +21,6 @@ AreSentenceLines [] (text ∷ lines) = ⊥
 AreSentenceLines (one ∷ all) [] = ⊥
 AreSentenceLines (one ∷ all) (text ∷ lines) = IsSentenceLine one text × AreSentenceLines all lines
 
--- the expansion behind a call, where one is there
-abbrev pub expansion_in : Extra → Option Sets
-expansion_in Absent = None
-expansion_in (Whole x) = Some x
-expansion_in (Broken n) = None
-
 abbrev pub is_accepted : Verdict → Bool
 is_accepted Accepted = true
 is_accepted (Refused refusal) = false
@@ -37,7 +28,7 @@ is_accepted (Refused refusal) = false
 -- what a line of calls gives: nothing; or the sentences of a call, each with CR and LF
 abbrev pub call_sentences : CallLine → List ℕ
 call_sentences line.Nothing = []
-call_sentences (line.Call c extra) = sentences_of c (expansion_in extra)
+call_sentences (line.Call c expansion) = sentences_of c expansion
 
 -- what a line gives: what a line of calls does; or the verdict on a sentence, with LF
 abbrev pub line_text : SentenceLine → List ℕ

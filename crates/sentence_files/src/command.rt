@@ -1,30 +1,18 @@
 ghost use Rattle.std.specs.Prelude.{◌≡◌, ◌||◌, ◌++◌, ◌∷◌, not, [], OnOk};
 ghost use Rattle.dsc_sentences.specs.Verdicts.{verdict_of, verdict_text};
 ghost use Rattle.dsc_sentences.specs.CallSentences.{sentences_of};
-ghost use Rattle.sentence_files.specs.Telling.{call_sentences, expansion_in, is_accepted, is_well, line_text, sentences_meaning};
+ghost use Rattle.sentence_files.specs.Telling.{call_sentences, is_accepted, is_well, line_text, sentences_meaning};
 ghost use Rattle.sentence_files.specs.inside.Progress.{HasTold};
 
 use dsc_files::{CallLine, SentenceLine, Status, sentence_line};
 use dsc_sentences::{Verdict, put_sentences, put_verdict, verdict_on};
-use expansion::Expansion;
 use line_engine::{Command, Refusal};
-use slot_join::Extra;
 use std::alloc::AllocError;
 
 /// The command that writes the sentences of each call, and a verdict on each sentence.
 #[derive(Drop)]
 pub struct Sentences {
     pub(crate) refused: bool,
-}
-
-/// The expansion behind a call, where one is there.
-fn expansion_in(extra: &Extra) -> Option<Expansion>
-    ensures { result ≡ expansion_in extra.now }
-{
-    match extra {
-        Extra::Whole(expansion) => Some(*expansion),
-        Extra::Absent | Extra::Broken(_) => None,
-    }
 }
 
 /// Whether a sentence is accepted.
@@ -43,8 +31,8 @@ fn append_sentences(out: &mut Vec<u8>, says: &CallLine) -> Result<(), AllocError
 {
     match says {
         CallLine::Nothing => Ok(()),
-        CallLine::Call { call, extra } => {
-            out.extend_from_slice(&put_sentences(call, &expansion_in(extra)))?;
+        CallLine::Call { call, expansion } => {
+            out.extend_from_slice(&put_sentences(call, expansion))?;
             Ok(())
         }
     }

@@ -18,12 +18,13 @@ use Rattle.expansion.specs.Spelling.{through_check as expanded_check, spell as e
 use Rattle.dsc_symbols.specs.Formats.{IsFormat}
 use Rattle.slot_evidence.specs.Facts.{Facts, facts_of, facts_at}
 use Rattle.slot_evidence.specs.Seen.{ShowsOne}
+use Rattle.slot_evidence.specs.declared.places.Seen.TheVariants as seen
 use Rattle.slot_join.specs.declared.joined.Joined.{Joined}
 use Rattle.slot_join.specs.declared.joined.Joined.TheVariants.{Reported}
 use Rattle.slot_join.specs.declared.joined.Extra.{Extra}
 use Rattle.slot_join.specs.declared.joined.Extra.TheVariants.{Absent, Whole}
 use Rattle.slot_join.specs.Shown.{head_of, IsShown}
-use Rattle.slot_join.specs.Extra.{IsBlankFrom, IsShownFrom, IsExtra}
+use Rattle.slot_join.specs.Extra.{IsBlankFrom, IsShownFrom, IsExtra, Follows}
 use Rattle.slot_join.specs.Answer.{HasFormat, IsAnswer}
 use Rattle.slot_join.specs.OneCall.{IsCallReported}
 use Rattle.slot_join.specs.Intact.{ArrivesIntact, EndsWithin, IsExpandedBy}
@@ -114,6 +115,32 @@ shown_by F c places =
       places = λ p least below. inl (subst (λ (x : ℕ). ShowsOne (F p) x) (get_or_append_left (through_check c) (end_of c ∷ end_of c ∷ []) 0 p below) (places p (omega arith)));
     }
 
+has_format : ((f : ℕ) → IsFormat f ↔ IsViable (f ∷ f ∷ [])) → (F : Facts) (c : Call) → IsCall c → ShowsOne (F 0) (format_of c) → ShowsOne (F 1) (format_of c) → HasFormat F (format_of c)
+has_format formats F c lawful first second =
+    let f : ℕ = format_of c in
+    let whole : IsViable (f ∷ f ∷ []) = viable_front (f ∷ f ∷ []) (drop 2 (through_check c)) (front_viable c lawful) in
+    record {
+      is_one = (formats f).1 whole;
+      first = λ _ none. absurd (cc (none f, first.0));
+      second = λ _ none. absurd (cc (none f, second.0));
+    }
+
+-- facts that show a call's list but for its last two have the call as their answer
+pub whole_answer : ((f : ℕ) → IsFormat f ↔ IsViable (f ∷ f ∷ [])) → (F : Facts) (c : Call) (extra : Extra) → IsCall c → 4 ≤ length (spell c)
+    → ((p : ℕ) → p + 2 < length (spell c) → ShowsOne (F p) (get_or (spell c) p 0)) → Follows F c extra → IsAnswer F (Reported c extra)
+whole_answer formats F c extra lawful least places follows =
+    let f : ℕ = format_of c in
+    let first : ShowsOne (F 0) f = places 0 (omega (arith, least)) in
+    let second : ShowsOne (F 1) f = places 1 (omega (arith, least)) in
+    record {
+      head = seen.One f;
+      seen = one_or_other F f first second;
+      answers = inr (inr (inr (
+        has_format formats F c lawful first second,
+        inl (record { call = c; extra = extra; lawful = lawful; shown = shown_by F c places; follows = follows; answer_is = refl }),
+      )));
+    }
+
 -- the laws of the crates below that this one stands on
 pub record Laws : Type 0 where
   pub equal : WordsEqual
@@ -135,16 +162,7 @@ module _ (laws : Laws) (F : Facts) (c : Call) (lawful : IsCall c) (answer : Join
   least = (laws.calls c lawful).0
 
   has : HasFormat F (format_of c)
-  has =
-      let f : ℕ = format_of c in
-      let first : ShowsOne (F 0) f = places 0 (omega (arith, least)) in
-      let second : ShowsOne (F 1) f = places 1 (omega (arith, least)) in
-      let whole : IsViable (f ∷ f ∷ []) = viable_front (f ∷ f ∷ []) (drop 2 (through_check c)) (front_viable c lawful) in
-      record {
-        is_one = (laws.formats f).1 whole;
-        first = λ _ none. absurd (cc (none f, first.0));
-        second = λ _ none. absurd (cc (none f, second.0));
-      }
+  has = has_format laws.formats F c lawful (places 0 (omega (arith, least))) (places 1 (omega (arith, least)))
 
   pub front_reported : IsCallReported F c answer
   front_reported =

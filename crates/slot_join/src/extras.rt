@@ -48,7 +48,7 @@ fn is_blank_from(sheet: &Sheet, from: u8) -> bool
 }
 
 /// The symbols of the places from this one on, up to the first that didn't show exactly one.
-fn shown_from(sheet: &Sheet, from: u8) -> ArrayVec<u8, 64>
+pub(crate) fn shown_from(sheet: &Sheet, from: u8) -> ArrayVec<u8, 64>
     requires { from ≤ 64 }
     ensures shown { (F : Facts) → IsEnds F sheet.now → IsShownFrom F from result.items }
     ensures most { from + length result.items ≤ 64 }

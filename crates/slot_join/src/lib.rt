@@ -6,6 +6,7 @@ mod hearing;
 mod joined;
 mod laws;
 mod reading;
+mod whole;
 
 pub use hearing::{intact_copies_report_the_call, sent_call_is_answered};
 pub use joined::{Extra, Joined};

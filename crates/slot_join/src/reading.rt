@@ -10,6 +10,7 @@ ghost use Rattle.slot_join.specs.Answer.{IsAnswer, IsReported, IsStopped, Behind
 
 use crate::extras::read_extra;
 use crate::joined::Joined;
+use crate::whole::whole_call;
 use call_grammar::{
     Step, Walk, formats_begin_calls, fronts_differ, lists_are_short, one_check_place,
     one_end_place, open_is_not_done,
@@ -19,10 +20,13 @@ use slot_evidence::{Seen, Sheet};
 
 /// The answer to every set of facts that has this sheet: it reads the places one after the other, until one
 /// shows no symbol, several, or one with which no call goes on, or until a call has its right error check
-/// character. Only the first end of sequence may be known from its later copies.
+/// character. Only the first end of sequence may be known from its later copies. A call whose whole list was shown is read in one go.
 pub fn report(sheet: &Sheet) -> Joined
     ensures { (F : Facts) → IsEnds F sheet.now → IsAnswer F result }
 {
+    if let Some(answer) = whole_call(sheet) {
+        return answer;
+    }
     match head(sheet) {
         Seen::None => Joined::Missing(0),
         Seen::Differ(least, greatest) => Joined::Differ(0, least, greatest),

@@ -2,6 +2,10 @@
 use Rattle.std.specs.Prelude.{ℕ, Option, Some, None}
 use Rattle.call_values.specs.declared.positions.Fix.{Fix}
 use Rattle.civil_time.specs.CivilTime.{second_of, hour_of, minute_of}
+use Rattle.traffic_lines.specs.declared.lines.ShipOwn.{ShipOwn}
+use Rattle.traffic_lines.specs.declared.lines.ShipOwn.TheVariants as own_ship
+use Rattle.traffic_lines.specs.declared.lines.CoastOwn.{CoastOwn}
+use Rattle.traffic_lines.specs.declared.lines.CoastOwn.TheVariants as own_coast
 use Rattle.traffic_lines.specs.declared.lines.EventLine.{EventLine}
 use Rattle.traffic_lines.specs.declared.lines.EventLine.TheVariants.{Position, Delay, Alert, Cancel, Tick, Send, Answer, Hear, Heard, Accept, Relay}
 use Rattle.ship_station.specs.declared.events.ShipWhat.{ShipWhat}
@@ -13,6 +17,24 @@ use Rattle.coast_station.specs.declared.events.CoastWhat.TheVariants as coast
 abbrev pub time_of : (base at : ℕ) → Option Fix → Option (ℕ × ℕ)
 time_of base at (Some fix) = Some (hour_of (second_of base at), minute_of (second_of base at))
 time_of base at None = None
+
+-- the event at a ship by an event of its own
+abbrev pub own_ship_event : (base at : ℕ) → ShipOwn → ShipWhat
+own_ship_event base at (own_ship.Position place) = ship.Position place (time_of base at place)
+own_ship_event base at (own_ship.Delay delay) = ship.Delay delay
+own_ship_event base at (own_ship.Alert nature comm) = ship.Alert nature comm
+own_ship_event base at own_ship.Cancel = ship.Cancel
+own_ship_event base at own_ship.Tick = ship.Tick
+own_ship_event base at (own_ship.Send call) = ship.Send call
+own_ship_event base at (own_ship.Answer number accepts) = ship.Answer number accepts
+
+-- the event at a coast station by an event of its own
+abbrev pub own_coast_event : CoastOwn → CoastWhat
+own_coast_event (own_coast.Accept mmsi delay) = coast.Accept mmsi delay
+own_coast_event (own_coast.Relay mmsi to ask) = coast.Relay mmsi to ask
+own_coast_event own_coast.Tick = coast.Tick
+own_coast_event (own_coast.Send call) = coast.Send call
+own_coast_event (own_coast.Answer number accepts) = coast.Answer number accepts
 
 -- the event at a ship that an event line gives of itself
 abbrev pub ship_event : (base at : ℕ) → EventLine → Option ShipWhat

@@ -1,5 +1,5 @@
-//! The events that event lines give of themselves.
-ghost use Rattle.std.specs.Prelude.{◌≡◌, ◌≤◌, ℕ};
+//! The events that stations have of their own.
+ghost use Rattle.std.specs.Prelude.{◌≡◌, ◌≤◌};
 ghost use Rattle.station_lines.specs.Events as events;
 
 use call_values::bounds::LAST_BASE;
@@ -7,7 +7,7 @@ use call_values::{HourMinute, Position};
 use civil_time::civil_minute;
 use coast_station::CoastWhat;
 use ship_station::ShipWhat;
-use traffic_lines::EventLine;
+use traffic_lines::{CoastOwn, ShipOwn};
 
 /// The time of a position: that of its line's moment in UTC, and unknown where the position is.
 fn time_at(base: u64, at: u32, position: &Position) -> HourMinute
@@ -20,42 +20,31 @@ fn time_at(base: u64, at: u32, position: &Position) -> HourMinute
     }
 }
 
-/// The event at a ship that an event line gives of itself.
-pub fn ship_event(base: u64, at: u32, what: &EventLine) -> Option<ShipWhat>
+/// The event at a ship by an event of its own.
+pub fn ship_event(base: u64, at: u32, own: &ShipOwn) -> ShipWhat
     requires { base ≤ LAST_BASE }
-    ensures { result ≡ events.ship_event base at what.now }
+    ensures { result ≡ events.own_ship_event base at own.now }
 {
-    match *what {
-        EventLine::Position(position) => Some(ShipWhat::Position(
-            position,
-            time_at(base, at, &position),
-        )),
-        EventLine::Delay(delay) => Some(ShipWhat::Delay(delay)),
-        EventLine::Alert(nature, comm) => Some(ShipWhat::Alert(nature, comm)),
-        EventLine::Cancel => Some(ShipWhat::Cancel),
-        EventLine::Tick => Some(ShipWhat::Tick),
-        EventLine::Send(call) => Some(ShipWhat::Send(call)),
-        EventLine::Answer(number, accepts) => Some(ShipWhat::Answer(number, accepts)),
-        EventLine::Hear(call) => Some(ShipWhat::Heard(call)),
-        EventLine::Heard(_) | EventLine::Accept(_, _) | EventLine::Relay(_, _, _) => None,
+    match *own {
+        ShipOwn::Position(position) => ShipWhat::Position(position, time_at(base, at, &position)),
+        ShipOwn::Delay(delay) => ShipWhat::Delay(delay),
+        ShipOwn::Alert(nature, comm) => ShipWhat::Alert(nature, comm),
+        ShipOwn::Cancel => ShipWhat::Cancel,
+        ShipOwn::Tick => ShipWhat::Tick,
+        ShipOwn::Send(call) => ShipWhat::Send(call),
+        ShipOwn::Answer(number, accepts) => ShipWhat::Answer(number, accepts),
     }
 }
 
-/// The event at a coast station that an event line gives of itself.
-pub fn coast_event(what: &EventLine) -> Option<CoastWhat>
-    ensures { (base at : ℕ) → result ≡ events.coast_event base at what.now }
+/// The event at a coast station by an event of its own.
+pub fn coast_event(own: &CoastOwn) -> CoastWhat
+    ensures { result ≡ events.own_coast_event own.now }
 {
-    match *what {
-        EventLine::Accept(mmsi, delay) => Some(CoastWhat::Accept(mmsi, delay)),
-        EventLine::Tick => Some(CoastWhat::Tick),
-        EventLine::Relay(mmsi, to, ask) => Some(CoastWhat::Relay(mmsi, to, ask)),
-        EventLine::Send(call) => Some(CoastWhat::Send(call)),
-        EventLine::Answer(number, accepts) => Some(CoastWhat::Answer(number, accepts)),
-        EventLine::Hear(call) => Some(CoastWhat::Heard(call)),
-        EventLine::Heard(_)
-        | EventLine::Position(_)
-        | EventLine::Delay(_)
-        | EventLine::Alert(_, _)
-        | EventLine::Cancel => None,
+    match *own {
+        CoastOwn::Accept(mmsi, delay) => CoastWhat::Accept(mmsi, delay),
+        CoastOwn::Relay(mmsi, to, ask) => CoastWhat::Relay(mmsi, to, ask),
+        CoastOwn::Tick => CoastWhat::Tick,
+        CoastOwn::Send(call) => CoastWhat::Send(call),
+        CoastOwn::Answer(number, accepts) => CoastWhat::Answer(number, accepts),
     }
 }

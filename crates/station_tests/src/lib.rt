@@ -6,6 +6,8 @@ mod areas;
 #[cfg(test)]
 mod coasts;
 #[cfg(test)]
+mod exchanges;
+#[cfg(test)]
 mod ships;
 #[cfg(test)]
 mod traffic;

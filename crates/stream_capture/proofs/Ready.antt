@@ -1,12 +1,12 @@
 -- what the command stands for before its first line, and the room in its count
-use Rattle.std.proofs.Common.{◌≡◌, ℕ, ◌+◌, ◌-◌, ◌<◌, ◌≤◌, ◌^◌, true, List, [], ◌∷◌, ◌++◌, map, length, take, get_or, refl, sym, ◌∙◌, ap, arith, append_assoc, length-append}
+use Rattle.std.proofs.Common.{◌≡◌, ℕ, ◌+◌, ◌-◌, ◌<◌, ◌≤◌, ◌^◌, true, List, [], ◌++◌, length, take, drop, refl, sym, ◌∙◌, ap, ap₂, arith, append_assoc, length-append}
 use Rattle.std.specs.List.{range_with_len}
-use Rattle.std.proofs.lemmas.List.{map-append, length-map, take_more, length-take}
+use Rattle.std.proofs.lemmas.List.{length-map, length-take-le, take-take, drop-take}
+use Rattle.std.proofs.Math.ListN.{take-append-drop}
 use Rattle.std.proofs.lemmas.List.FromFn.{length-range_with_len}
 use Rattle.std.proofs.lemmas.List.Sums.{length-filter, count_by-le-length}
 use Rattle.ten_unit.specs.declared.character.Element.{Element}
 use Rattle.phasing.specs.Origin.{is_phased}
-use Rattle.dsc_files.specs.inside.Reading.{element_of}
 use Rattle.long_capture.specs.declared.captures.Capture.{Capture}
 use Rattle.long_capture.specs.Starts.{starts_below}
 use Rattle.long_capture.specs.Captures.{Stands, IsOpen, taken, left, decided}
@@ -47,14 +47,14 @@ below_few e bound = omega (
 pub few_told : (e : List Element) (bound : ℕ) (told : List Told) → AreTold e bound told → length told ≤ bound
 few_told e bound told are = omega (arith, length-map told (λ (one : Told). one.lead), ap length are.leads, below_few e bound)
 
--- it may take another element
-pub record MayTake (command : Capturing) : Type 0 where
+-- it may take so many elements more
+pub record MayTake (command : Capturing) (more : ℕ) : Type 0 where
   pub few : command.count < 2 ^ 32 - 1
-  pub short : taken command.capture < 2 ^ 40
+  pub short : taken command.capture + more ≤ 2 ^ 40
   pub going : IsOpen command.capture
 
-pub may_take : (command : Capturing) (e : List Element) (text : List ℕ) → HasTold command e text → length e < 2 ^ 31 → MayTake command
-may_take command e text h short =
+pub may_take : (command : Capturing) (e : List Element) (text : List ℕ) (more : ℕ) → HasTold command e text → length e + more < 2 ^ 31 → MayTake command more
+may_take command e text more h short =
     let count = few_told (e ++ []) (decided (length e)) h.told (h.are_told []) in
     record {
       few = omega (arith, h.counts.count_is, count, short);
@@ -62,24 +62,19 @@ may_take command e text h short =
       going = h.stands.going;
     }
 
--- the elements of a line, up to one of them
-pub part_length : (e : List Element) (signs : List ℕ) (i : ℕ) → length (e ++ map element_of (take i signs)) ≤ length e + length signs
-part_length e signs i = omega (
-  arith,
-  length-append e (map element_of (take i signs)),
-  length-map (take i signs) element_of,
-  length-take i signs,
-)
+-- behind a front of elements, it may take the rest
+pub may_take_rest : (command : Capturing) (e xs : List Element) (i : ℕ) (text : List ℕ) → HasTold command (e ++ take i xs) text → length e + length xs < 2 ^ 31 → i ≤ length xs
+    → MayTake command (length xs - i)
+may_take_rest command e xs i text h short inside =
+    may_take command (e ++ take i xs) text (length xs - i) h (omega (arith, length-append e (take i xs), length-take-le i xs inside, short, inside))
 
-pub may_take_part : (command : Capturing) (e : List Element) (signs : List ℕ) (i : ℕ) (text : List ℕ) → HasTold command (e ++ map element_of (take i signs)) text → length e + length signs < 2 ^ 31
-    → MayTake command
-may_take_part command e signs i text h short = may_take command (e ++ map element_of (take i signs)) text h (omega (arith, part_length e signs i, short))
+-- a front, and a front of the rest
+pub fronts : (xs : List Element) (i n : ℕ) → take i xs ++ take n (drop i xs) ≡ take (i + n) xs
+fronts xs i n =
+    ap₂ (λ (a b : List Element). a ++ b) (sym (take-take i (i + n) xs (omega arith))) (sym (drop-take i n xs)) ∙ take-append-drop i (take (i + n) xs)
 
-pub part_more : (e : List Element) (signs : List ℕ) (i : ℕ) → i < length signs → (e ++ map element_of (take i signs)) ++ element_of (get_or signs i 0) ∷ [] ≡ e ++ map element_of (take (i + 1) signs)
-part_more e signs i inside =
-    append_assoc e (map element_of (take i signs)) (element_of (get_or signs i 0) ∷ [])
-    ∙ ap (λ (l : List Element). e ++ l) (sym (map-append element_of (take i signs) (get_or signs i 0 ∷ [])))
-    ∙ ap (λ (l : List ℕ). e ++ map element_of l) (sym (take_more signs i 0 inside))
+pub part_more : (e xs : List Element) (i n : ℕ) → (e ++ take i xs) ++ take n (drop i xs) ≡ e ++ take (i + n) xs
+part_more e xs i n = append_assoc e (take i xs) (take n (drop i xs)) ∙ ap (λ (l : List Element). e ++ l) (fronts xs i n)
 
 -- a start that is told at the end leaves fewer
 pub fewer_left : (old new : Capturing) (lost : Capture) (most : ℕ) → old.count + left old.capture ≤ most → left lost < left old.capture → new.count ≡ old.count + 1 → new.capture ≡ lost

@@ -1,4 +1,4 @@
--- what the command has told, one element or one start further
+-- what the command has told, some elements or one start further
 use Rattle.std.proofs.Common.{◌≡◌, ℕ, ◌+◌, ◌&&◌, Bool, List, [], ◌∷◌, ◌++◌, length, pos, ◌-ℤ◌, Result, Ok, Err, OnOk, sym, ◌∙◌, ap, ap₂, subst, append_assoc, length-append, arith}
 use Rattle.std.specs.List.{AllByRecursion}
 use Rattle.std.proofs.lemmas.List.{map-append}
@@ -82,43 +82,40 @@ module _ (laws : Laws) where
   recounted : (old new : Capturing) (told : List Told) (text : List ℕ) → new.count ≡ old.count → new.is_well ≡ old.is_well → text ≡ told_text 0 told → Counts old told → IsCounted new told text
   recounted old new told text count well text_is counts = record { text_is = text_is; counts = record { count_is = count ∙ counts.count_is; well_is = well ∙ counts.well_is } }
 
-  -- ---- an element further
+  -- ---- some elements further
 
-  grown : (e more : List Element) (x : Element) → (e ++ x ∷ []) ++ more ≡ e ++ x ∷ more
-  grown e more x = append_assoc e (x ∷ []) more
+  -- what was told of the stream so far, whatever follows the next elements
+  so_far : (old : Capturing) (e xs : List Element) (text : List ℕ) (h : HasTold old e text) (more : List Element) → AreTold (e ++ (xs ++ more)) (reached old.capture) h.told
+  so_far old e xs text h more = subst (λ (n : ℕ). AreTold (e ++ (xs ++ more)) n h.told) (sym h.stands.far) (h.are_told (xs ++ more))
 
-  -- what was told of the stream so far, whatever follows the next element
-  so_far : (old : Capturing) (e : List Element) (x : Element) (text : List ℕ) (h : HasTold old e text) (more : List Element) → AreTold (e ++ x ∷ more) (reached old.capture) h.told
-  so_far old e x text h more = subst (λ (n : ℕ). AreTold (e ++ x ∷ more) n h.told) (sym h.stands.far) (h.are_told (x ∷ more))
-
-  pub quiet_taken : (old new : Capturing) (e : List Element) (x : Element) (text : List ℕ) → HasTold old e text → Stands new.capture (e ++ x ∷ [])
-      → ((more : List Element) → AreQuiet (e ++ x ∷ more) (reached old.capture) (reached new.capture)) → new.count ≡ old.count → new.is_well ≡ old.is_well → HasTold new (e ++ x ∷ []) text
-  quiet_taken old new e x text h stands quiet count well =
+  pub quiet_taken : (old new : Capturing) (e xs : List Element) (text : List ℕ) → HasTold old e text → Stands new.capture (e ++ xs)
+      → ((more : List Element) → AreQuiet (e ++ (xs ++ more)) (reached old.capture) (reached new.capture)) → new.count ≡ old.count → new.is_well ≡ old.is_well → HasTold new (e ++ xs) text
+  quiet_taken old new e xs text h stands quiet count well =
       let counted = recounted old new h.told text count well h.text_is h.counts in
       record {
         stands = stands;
         told = h.told;
         are_told = λ more.
-            subst (λ (s : List Element). AreTold s (decided (length (e ++ x ∷ []))) h.told) (sym (grown e more x))
-            (subst (λ (n : ℕ). AreTold (e ++ x ∷ more) n h.told) stands.far
-            (quiet_told (e ++ x ∷ more) (reached old.capture) (reached new.capture) h.told (so_far old e x text h more) (quiet more)));
+            subst (λ (s : List Element). AreTold s (decided (length (e ++ xs))) h.told) (sym (append_assoc e xs more))
+            (subst (λ (n : ℕ). AreTold (e ++ (xs ++ more)) n h.told) stands.far
+            (quiet_told (e ++ (xs ++ more)) (reached old.capture) (reached new.capture) h.told (so_far old e xs text h more) (quiet more)));
         text_is = counted.text_is;
         counts = counted.counts;
       }
 
-  pub start_taken : (old taken new : Capturing) (e : List Element) (x : Element) (start : Start) (text before after : List ℕ) → HasTold old e (text ++ before)
-      → Stands taken.capture (e ++ x ∷ []) → ((more : List Element) → IsNextStart (e ++ x ∷ more) (reached old.capture) (reached taken.capture) start)
-      → taken.count ≡ old.count → taken.is_well ≡ old.is_well → TellsOne taken new start before after → HasTold new (e ++ x ∷ []) (text ++ after)
-  start_taken old taken new e x start text before after h stands next count well one =
+  pub start_taken : (old taken new : Capturing) (e xs : List Element) (start : Start) (text before after : List ℕ) → HasTold old e (text ++ before)
+      → Stands taken.capture (e ++ xs) → ((more : List Element) → IsNextStart (e ++ (xs ++ more)) (reached old.capture) (reached taken.capture) start)
+      → taken.count ≡ old.count → taken.is_well ≡ old.is_well → TellsOne taken new start before after → HasTold new (e ++ xs) (text ++ after)
+  start_taken old taken new e xs start text before after h stands next count well one =
       let here = next [] in
       let counted = one_counted taken new start h.told here.lead text before after (recounted old taken h.told (text ++ before) count well h.text_is h.counts) one here.is.origin in
       record {
-        stands = subst (λ c. Stands c (e ++ x ∷ [])) (sym one.capture_is) stands;
+        stands = subst (λ c. Stands c (e ++ xs)) (sym one.capture_is) stands;
         told = h.told ++ one_at here.lead one.answer ∷ [];
         are_told = λ more.
-            subst (λ (s : List Element). AreTold s (decided (length (e ++ x ∷ []))) (h.told ++ one_at here.lead one.answer ∷ [])) (sym (grown e more x))
-            (subst (λ (n : ℕ). AreTold (e ++ x ∷ more) n (h.told ++ one_at here.lead one.answer ∷ [])) stands.far
-            (next_told (e ++ x ∷ more) (reached old.capture) (reached taken.capture) here.lead start h.told one.answer (so_far old e x (text ++ before) h more) (next more) here.last one.is_answer));
+            subst (λ (s : List Element). AreTold s (decided (length (e ++ xs))) (h.told ++ one_at here.lead one.answer ∷ [])) (sym (append_assoc e xs more))
+            (subst (λ (n : ℕ). AreTold (e ++ (xs ++ more)) n (h.told ++ one_at here.lead one.answer ∷ [])) stands.far
+            (next_told (e ++ (xs ++ more)) (reached old.capture) (reached taken.capture) here.lead start h.told one.answer (so_far old e xs (text ++ before) h more) (next more) here.last one.is_answer));
         text_is = counted.text_is;
         counts = counted.counts;
       }

@@ -1,4 +1,4 @@
-ghost use Rattle.std.specs.Prelude.{◌≡◌, ◌-◌, ◌<◌, ◌^◌, ◌∷◌, ◌++◌, List, ℕ, [], map, length, OnOk};
+ghost use Rattle.std.specs.Prelude.{◌≡◌, ◌+◌, ◌-◌, ◌<◌, ◌≤◌, ◌^◌, ◌∷◌, ◌++◌, List, ℕ, [], map, length, take, IfOk, OnOk};
 ghost use Rattle.ten_unit.specs.declared.character.Element.{Element as Taken};
 ghost use Rattle.line_engine.specs.Commands.{StandsBelow};
 ghost use Rattle.dsc_files.specs.inside.Reading.{element_of as element_at};
@@ -7,10 +7,11 @@ ghost use Rattle.stream_capture.specs.Telling.{capture_meaning};
 ghost use Rattle.stream_capture.specs.inside.Progress.{HasTold, EndsTold, HasToldAll, TellsOne, HasRoom, StandsFor};
 ghost use Rattle.stream_capture.specs.inside.Gives.{gives_text};
 
+use crate::elements::elements_of;
 use crate::lines::append_start;
-use dsc_files::{element_of, one_stream_line, stream_line};
+use dsc_files::{one_stream_line, stream_line};
 use dsc_streams::Status;
-use line_engine::{Command, Refusal};
+use line_engine::{Command, LONGEST_LINE, Refusal};
 use long_capture::{Capture, Start, starts_go_on, taking_ends};
 use std::alloc::AllocError;
 use ten_unit::Element;
@@ -49,31 +50,51 @@ impl Capturing {
         Ok(())
     }
 
-    /// Takes an element of the stream.
-    #[inline(always)]
-    fn take_element(&mut self, element: Element, out: &mut Vec<u8>) -> Result<(), AllocError>
+    /// Takes a front of the stream's next elements, at least one if there is one, and answers how many.
+    fn take_front(&mut self, elements: &[Element], out: &mut Vec<u8>) -> Result<usize, AllocError>
         requires few { self.old.count < 2 ^ 32 - 1 }
-        requires short { taken self.old.capture < 2 ^ 40 }
+        requires short { taken self.old.capture + length elements.now ≤ 2 ^ 40 }
         requires going { IsOpen self.old.capture }
-        ensures { OnOk result ((e : List Taken) (text : List ℕ) → HasTold self.old e (text ++ out.old.items) → HasTold self.new (e ++ element ∷ []) (text ++ out.new.items)) }
+        ensures front { IfOk result (λ count. count ≤ length elements.now) }
+        ensures some { IfOk result (λ count. 0 < length elements.now → 0 < count) }
+        ensures told { IfOk result (λ count. (e : List Taken) (text : List ℕ) → HasTold self.old e (text ++ out.old.items)
+            → HasTold self.new (e ++ take count elements.now) (text ++ out.new.items)) }
     {
         starts_go_on();
-        match self.capture.take(element) {
-            Some(start) => self.tell(&start, out),
-            None => Ok(()),
+        let block = self.capture.take_block(elements);
+        let count = block.count;
+        let start = block.start;
+        match start {
+            Some(start) => {
+                self.tell(&start, out)?;
+                Ok(count)
+            }
+            None => Ok(count),
         }
+    }
+
+    /// Takes the stream's next elements.
+    fn take_elements(&mut self, elements: &[Element], out: &mut Vec<u8>) -> Result<(), AllocError>
+        requires { HasRoom self.old out.old.items (length elements.now) }
+        ensures { OnOk result ((e : List Taken) (text : List ℕ) → HasTold self.old e (text ++ out.old.items)
+            → HasTold self.new (e ++ elements.now) (text ++ out.new.items)) }
+    {
+        let mut count = 0;
+        while count < elements.len() {
+            count += self.take_front(&elements[count..], out)?;
+        }
+        Ok(())
     }
 
     /// Takes the elements of a line.
     fn take_signs(&mut self, signs: &[u8], out: &mut Vec<u8>) -> Result<(), AllocError>
-        requires { HasRoom self.old out.old.items (length signs.now) }
+        requires short { length signs.now ≤ LONGEST_LINE }
+        requires room { HasRoom self.old out.old.items (length signs.now) }
         ensures { OnOk result ((e : List Taken) (text : List ℕ) → HasTold self.old e (text ++ out.old.items)
             → HasTold self.new (e ++ map element_at signs.now) (text ++ out.new.items)) }
     {
-        for sign in signs {
-            self.take_element(element_of(*sign), out)?;
-        }
-        Ok(())
+        let elements = elements_of(signs);
+        self.take_elements(&elements[..signs.len()], out)
     }
 
     /// Tells of the starts that the stream's end decides.

@@ -2,6 +2,7 @@
 #![tactic(auto)]
 
 mod command;
+mod elements;
 mod laws;
 mod lines;
 

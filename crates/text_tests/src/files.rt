@@ -127,6 +127,27 @@ fn lines_of_streams_add_elements(rt: HostRuntime) -> Result<(), Fail> {
 }
 
 #[test]
+fn lines_of_logs_are_sentences(rt: HostRuntime) -> Result<(), Fail> {
+    for text in ["hello", " $", "alert", "s YB"] {
+        let Err(fault) = line_of(rt.alloc(), FileKind::Book, text.as_bytes()) else {
+            return Err("a line")?;
+        };
+        assert_eq!(rt; fault, LineFault::Column(1), "{text}");
+    }
+    for text in ["", "#", "#$"] {
+        let Line::Nothing = line_of(rt.alloc(), FileKind::Book, text.as_bytes())? else {
+            return Err("a sentence")?;
+        };
+    }
+    for text in ["$", "$GPXXX"] {
+        let Line::Sentence = line_of(rt.alloc(), FileKind::Book, text.as_bytes())? else {
+            return Err("no sentence")?;
+        };
+    }
+    Ok(())
+}
+
+#[test]
 fn evidence_has_pairs(rt: HostRuntime) -> Result<(), Fail> {
     let text = b"e g9 63:127 0:120 8:22 8:14 8:14 8:17";
     let Line::Evidence { group, sheet } = line_of(rt.alloc(), FileKind::Join, text)? else {

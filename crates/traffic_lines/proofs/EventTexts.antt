@@ -22,7 +22,7 @@ use Rattle.traffic_lines.specs.declared.lines.EventLine.{EventLine}
 use Rattle.traffic_lines.specs.declared.lines.EventLine.TheVariants.{Position, Delay, Alert, Cancel, Tick, Send, Answer, Hear, Heard, Accept, Relay}
 use Rattle.traffic_lines.specs.Lines.{IsEventText, IsHeldNumber, delay_text, ask_text}
 use Rattle.traffic_lines.specs.inside.Grammars.{only, lone, position, delay, alert, cancel, tick, heard, answer, decline, coast_delay, perhaps_delay, accept, ask_or_tell, relay, shared_events, ship_events, coast_events}
-use Rattle.traffic_lines.specs.inside.Reading.{ReadsBy, Finds, IsShipText, IsCoastText, IsSharedText, IsCallEvent, IsDelayText, IsAskText}
+use Rattle.traffic_lines.specs.inside.Reading.{ReadsBy, IsShipText, IsCoastText, IsSharedText, IsCallEvent, IsDelayText, IsAskText}
 use Rattle.traffic_lines.proofs.Languages.{HasLine}
 use Rattle.traffic_lines.proofs.Tokens.{number_told}
 
@@ -294,22 +294,18 @@ some_ship_event = record { value = second (second (second (first none))); text =
 pub some_coast_event : HasLine (Spells coast_events)
 some_coast_event = record { value = second (second (first none)); text = codes "tick"; line = ([], refl, refl) }
 
--- what was found of both kinds of stations was found of each
-pub shared_by_ship : (bytes : List ℕ) (r : Result EventLine ℕ) → ReadsBy shared_events IsSharedText bytes r → ReadsBy shared_events IsShipText bytes r
-shared_by_ship bytes (Ok e) h = shared_ship e bytes h
-shared_by_ship bytes (Err left) h = h
+-- what was said in files of both kinds of stations was said in those of each
+pub shared_at_ship : (e o : EventLine) (bytes : List ℕ) → o ≡ e → IsSharedText e bytes → IsShipText o bytes
+shared_at_ship e o bytes same h = subst (λ (x : EventLine). IsShipText x bytes) (sym same) (shared_ship e bytes h)
 
-pub shared_by_coast : (bytes : List ℕ) (r : Result EventLine ℕ) → ReadsBy shared_events IsSharedText bytes r → ReadsBy shared_events IsCoastText bytes r
-shared_by_coast bytes (Ok e) h = shared_coast e bytes h
-shared_by_coast bytes (Err left) h = h
+pub shared_at_coast : (e o : EventLine) (bytes : List ℕ) → o ≡ e → IsSharedText e bytes → IsCoastText o bytes
+shared_at_coast e o bytes same h = subst (λ (x : EventLine). IsCoastText x bytes) (sym same) (shared_coast e bytes h)
 
-pub call_by_ship : (bytes : List ℕ) (r : Result EventLine ℕ) → Finds IsCallEvent IsCallEvent bytes r → Finds IsCallEvent IsShipText bytes r
-call_by_ship bytes (Ok e) h = call_of_ship e bytes h
-call_by_ship bytes (Err left) h = h
+pub call_at_ship : (e o : EventLine) (bytes : List ℕ) → o ≡ e → IsCallEvent e bytes → IsShipText o bytes
+call_at_ship e o bytes same h = subst (λ (x : EventLine). IsShipText x bytes) (sym same) (call_of_ship e bytes h)
 
-pub call_by_coast : (bytes : List ℕ) (r : Result EventLine ℕ) → Finds IsCallEvent IsCallEvent bytes r → Finds IsCallEvent IsCoastText bytes r
-call_by_coast bytes (Ok e) h = call_of_coast e bytes h
-call_by_coast bytes (Err left) h = h
+pub call_at_coast : (e o : EventLine) (bytes : List ℕ) → o ≡ e → IsCallEvent e bytes → IsCoastText o bytes
+call_at_coast e o bytes same h = subst (λ (x : EventLine). IsCoastText x bytes) (sym same) (call_of_coast e bytes h)
 
 -- a text to the end of the line was read as the value that it stands for
 pub value_by : {W : Type 0} (text : List ℕ) (L : W → List ℕ → Type 0) (value : W) (bytes : List ℕ) (r : Result W ℕ) → L value text → IfOk r (λ found. (found ≡ value) × (bytes ≡ text))

@@ -83,16 +83,16 @@ further_read G H L bytes (Err m) (Err n) h k = both_miss G H bytes m n (min m n)
 pub further_by : {W : Type 0} (G H : Grammar) (L : W → List ℕ → Type 0) (bytes : List ℕ) (r s t : Result W ℕ) → t ≡ further r s → ReadsBy G L bytes r → ReadsBy H L bytes s → ReadsBy (either G H) L bytes t
 further_by G H L bytes r s t e h k = subst (ReadsBy (either G H) L bytes) (sym e) (further_read G H L bytes r s h k)
 
-further_find : {U V W : Type 0} (M : U → List ℕ → Type 0) (N : V → List ℕ → Type 0) (L : W → List ℕ → Type 0) (bytes : List ℕ) (r s : Result W ℕ)
-    → HasLine M → HasLine N → IsChoice M N L → Finds M L bytes r → Finds N L bytes s → Finds L L bytes (further r s)
-further_find M N L bytes (Ok w) s one two both h k = h
-further_find M N L bytes (Err m) (Ok w) one two both h k = k
-further_find M N L bytes (Err m) (Err n) one two both h k =
-    stops_column L bytes (min m n) (Stops-choice M N L bytes m n both (found_stops M bytes m one h) (found_stops N bytes n two k))
+further_find : {U V X W : Type 0} (M : U → List ℕ → Type 0) (N : V → List ℕ → Type 0) (K : X → List ℕ → Type 0) (L : W → List ℕ → Type 0) (bytes : List ℕ) (r s : Result W ℕ)
+    → HasLine M → HasLine N → IsChoice M N K → Finds M L bytes r → Finds N L bytes s → Finds K L bytes (further r s)
+further_find M N K L bytes (Ok w) s one two both h k = h
+further_find M N K L bytes (Err m) (Ok w) one two both h k = k
+further_find M N K L bytes (Err m) (Err n) one two both h k =
+    stops_column K bytes (min m n) (Stops-choice M N K bytes m n both (found_stops M bytes m one h) (found_stops N bytes n two k))
 
-pub further_found : {U V W : Type 0} (M : U → List ℕ → Type 0) (N : V → List ℕ → Type 0) (L : W → List ℕ → Type 0) (bytes : List ℕ) (r s t : Result W ℕ)
-    → t ≡ further r s → HasLine M → HasLine N → IsChoice M N L → Finds M L bytes r → Finds N L bytes s → Finds L L bytes t
-further_found M N L bytes r s t e one two both h k = subst (Finds L L bytes) (sym e) (further_find M N L bytes r s one two both h k)
+pub further_found : {U V X W : Type 0} (M : U → List ℕ → Type 0) (N : V → List ℕ → Type 0) (K : X → List ℕ → Type 0) (L : W → List ℕ → Type 0) (bytes : List ℕ) (r s t : Result W ℕ)
+    → t ≡ further r s → HasLine M → HasLine N → IsChoice M N K → Finds M L bytes r → Finds N L bytes s → Finds K L bytes t
+further_found M N K L bytes r s t e one two both h k = subst (Finds K L bytes) (sym e) (further_find M N K L bytes r s one two both h k)
 
 -- the lines of L are lines of M behind fronts, and the bytes tell where a front ends
 pub record IsBehind {V W : Type 0} (IsFront : List ℕ → Type 0) (M : V → List ℕ → Type 0) (L : W → List ℕ → Type 0) : Type 0 where

@@ -27,7 +27,10 @@ use Rattle.traffic_lines.specs.declared.lines.TrafficLine.{TrafficLine}
 use Rattle.traffic_lines.specs.declared.lines.TrafficLine.TheVariants.{Ship, Coast, Base, Group, Event}
 use Rattle.traffic_lines.specs.Lines.{band_text, IsLineText, IsTrafficLine}
 use Rattle.traffic_lines.specs.inside.Grammars.{lone, ship, band, coast, station, base, group, moment}
-use Rattle.traffic_lines.specs.inside.Reading.{ReadsBy, Finds, IsShipText, IsCoastText, IsBandText, IsGroupLine}
+use Rattle.traffic_lines.specs.declared.lines.StationLine.{StationLine}
+use Rattle.traffic_lines.specs.declared.lines.ShipBodyLine.{ShipBodyLine}
+use Rattle.traffic_lines.specs.Anywhere.{line_of_ship}
+use Rattle.traffic_lines.specs.inside.Reading.{NamesStation, SaysGroup, SaysInShip, ReadsBy, Finds, IsShipText, IsCoastText, IsBandText, IsGroupLine}
 use Rattle.traffic_lines.proofs.EventTexts.{labelled_of, labelled_is, lone_of, lone_is, only_of, only_is}
 use Rattle.traffic_lines.proofs.Languages.{HasLine, IsBehind, IsFronts, Stops-behind, Stops-front, stops_column, found_stops, column_by, left_few}
 use Rattle.traffic_lines.proofs.Tokens.{number_told}
@@ -80,7 +83,7 @@ station_sound : is_sound station ≡ true
 unfolding fits
 station_sound = refl
 
-pub station_found : (bytes : List ℕ) (r : Result TrafficLine ℕ) → ReadsBy station (IsTrafficLine point.Station) bytes r → Finds (IsTrafficLine point.Station) (IsTrafficLine point.Station) bytes r
+pub station_found : (bytes : List ℕ) (r : Result StationLine ℕ) → ReadsBy station NamesStation bytes r → Finds (IsTrafficLine point.Station) NamesStation bytes r
 station_found bytes (Ok line) h = h
 station_found bytes (Err left) h = column_by station (IsTrafficLine point.Station) bytes left station_sound station_alike h
 
@@ -309,18 +312,18 @@ some_line point.Ship = some_ship_line
 some_line point.Coast = some_coast_line
 
 -- what was found of a line behind groups
-pub group_found : (held : ℕ) (bytes : List ℕ) (r : Result TrafficLine ℕ) → held < 16 → Finds IsGroupLine IsGroupLine bytes r → Finds IsGroupLine (IsTrafficLine (point.Groups held)) bytes r
-group_found held bytes (Ok line) few h = group_to held line bytes few h
+pub group_found : (held : ℕ) (bytes : List ℕ) (r : Result ShipBodyLine ℕ) → held < 16 → Finds IsGroupLine SaysGroup bytes r → Finds IsGroupLine (SaysInShip (point.Groups held)) bytes r
+group_found held bytes (Ok says) few h = group_to held (line_of_ship says) bytes few h
 group_found held bytes (Err left) few h = h
 
-pub event_found : (held : ℕ) (bytes : List ℕ) (r : Result TrafficLine ℕ) → Finds (IsTrafficLine point.Ship) (IsTrafficLine point.Ship) bytes r
-    → Finds (IsTrafficLine point.Ship) (IsTrafficLine (point.Groups held)) bytes r
-event_found held bytes (Ok line) h = event_to held line bytes h
+pub event_found : (held : ℕ) (bytes : List ℕ) (r : Result ShipBodyLine ℕ) → Finds (IsTrafficLine point.Ship) (SaysInShip point.Ship) bytes r
+    → Finds (IsTrafficLine point.Ship) (SaysInShip (point.Groups held)) bytes r
+event_found held bytes (Ok says) h = event_to held (line_of_ship says) bytes h
 event_found held bytes (Err left) h = h
 
-pub no_group_found : (held : ℕ) (bytes : List ℕ) (r : Result TrafficLine ℕ) → 16 ≤ held → Finds (IsTrafficLine point.Ship) (IsTrafficLine point.Ship) bytes r
-    → Finds (IsTrafficLine (point.Groups held)) (IsTrafficLine (point.Groups held)) bytes r
-no_group_found held bytes (Ok line) many h = event_to held line bytes h
+pub no_group_found : (held : ℕ) (bytes : List ℕ) (r : Result ShipBodyLine ℕ) → 16 ≤ held → Finds (IsTrafficLine point.Ship) (SaysInShip point.Ship) bytes r
+    → Finds (IsTrafficLine (point.Groups held)) (SaysInShip (point.Groups held)) bytes r
+no_group_found held bytes (Ok says) many h = event_to held (line_of_ship says) bytes h
 no_group_found held bytes (Err left) many h =
     stops_column (IsTrafficLine (point.Groups held)) bytes left
     (Stops-alike (IsTrafficLine point.Ship) (IsTrafficLine (point.Groups held)) bytes left (behind_all held many) (found_stops (IsTrafficLine point.Ship) bytes left some_ship_line h))
@@ -328,3 +331,10 @@ no_group_found held bytes (Err left) many h =
 -- a fault leaves no more bytes than there are
 pub few_left : (p : Point) (bytes : List ℕ) (left : ℕ) → IsColumn (IsTrafficLine p) bytes (length bytes + 1 - left) → left ≤ length bytes
 few_left p bytes left h = left_few (IsTrafficLine p) bytes left (some_line p) h
+
+-- a column that is told counts from 1
+pub counted_from_one : (p : Point) (bytes : List ℕ) (left n : ℕ) → n + left ≡ length bytes + 1 → IsColumn (IsTrafficLine p) bytes (length bytes + 1 - left) → (1 ≤ n) × IsColumn (IsTrafficLine p) bytes n
+counted_from_one p bytes left n e h =
+    let few = few_left p bytes left h in
+    let same : length bytes + 1 - left ≡ n = omega (arith, e) in
+    (omega (arith, few, e), subst (IsColumn (IsTrafficLine p) bytes) same h)

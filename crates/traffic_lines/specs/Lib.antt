@@ -1,2 +1,4 @@
 pub mod Lines
+pub mod Anywhere
+pub mod Readings
 pub mod inside

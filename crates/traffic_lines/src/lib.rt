@@ -1,6 +1,7 @@
 //! The lines of traffic files: a station, its base and groups, and events at their moments.
 #![tactic(auto)]
 
+mod anywhere;
 mod calls;
 mod casualties;
 mod choices;
@@ -11,8 +12,12 @@ mod lines;
 mod moments;
 mod points;
 mod reading;
+mod shared;
 mod words;
 
 pub use laws::{one_traffic_line, traffic_lines_begin};
-pub use lines::{EventLine, Point, TrafficLine};
-pub use reading::read_traffic;
+pub use lines::{
+    CoastLine, CoastOwn, EventLine, Point, ShipBodyLine, ShipLine, ShipOwn, StationLine,
+    TrafficLine,
+};
+pub use reading::{read_base, read_coast_line, read_ship_line, read_station, read_traffic};

@@ -3,11 +3,11 @@ ghost use Rattle.line_grammar.specs.inside.Reading.{read};
 ghost use Rattle.traffic_lines.specs.Lines.{IsTrafficLine};
 ghost use Rattle.traffic_lines.specs.declared.lines.Point.TheVariants.{Coast, Ship};
 ghost use Rattle.traffic_lines.specs.inside.Grammars as grammar;
-ghost use Rattle.traffic_lines.specs.inside.Reading.{Finds};
+ghost use Rattle.traffic_lines.specs.inside.Reading.{Finds, SaysInCoast, SaysInShip};
 
 use crate::events::{coast_event, ship_event};
 use crate::fields::Token;
-use crate::lines::TrafficLine;
+use crate::lines::{CoastLine, ShipBodyLine};
 use line_grammar::word;
 
 /// The moment and the blank at the front of these bytes, and what follows them. An error is how many bytes are left at the fault.
@@ -22,19 +22,19 @@ fn moment(bytes: &[u8]) -> Result<(u32, &[u8]), usize>
 }
 
 /// Reads an event of a ship behind its moment. An error is how many bytes are left at the fault.
-pub fn ship_line(bytes: &[u8]) -> Result<TrafficLine, usize>
-    ensures { Finds (IsTrafficLine Ship) (IsTrafficLine Ship) bytes.now result }
+pub fn ship_line(bytes: &[u8]) -> Result<ShipBodyLine, usize>
+    ensures { Finds (IsTrafficLine Ship) (SaysInShip Ship) bytes.now result }
 {
     let (at, rest) = moment(bytes)?;
     let what = ship_event(rest)?;
-    Ok(TrafficLine::Event { at, what })
+    Ok(ShipBodyLine::Event { at, what })
 }
 
 /// Reads an event of a coast station behind its moment. An error is how many bytes are left at the fault.
-pub fn coast_line(bytes: &[u8]) -> Result<TrafficLine, usize>
-    ensures { Finds (IsTrafficLine Coast) (IsTrafficLine Coast) bytes.now result }
+pub fn coast_line(bytes: &[u8]) -> Result<(u32, CoastLine), usize>
+    ensures { Finds (IsTrafficLine Coast) (SaysInCoast Coast) bytes.now result }
 {
     let (at, rest) = moment(bytes)?;
     let what = coast_event(rest)?;
-    Ok(TrafficLine::Event { at, what })
+    Ok((at, what))
 }

@@ -2,11 +2,11 @@ ghost use Rattle.std.specs.Prelude.{◌<◌};
 ghost use Rattle.traffic_lines.specs.Lines.{IsTrafficLine};
 ghost use Rattle.traffic_lines.specs.declared.lines.Point.TheVariants.{Station, Base, Groups};
 ghost use Rattle.traffic_lines.specs.inside.Grammars as grammar;
-ghost use Rattle.traffic_lines.specs.inside.Reading.{Finds, ReadsBy, IsBandText, IsGroupLine};
+ghost use Rattle.traffic_lines.specs.inside.Reading.{Finds, ReadsBy, IsBandText, IsGroupLine, NamesBase, NamesStation, SaysGroup, SaysInShip};
 
 use crate::choices::further;
 use crate::fields::{BaseSecond, labelled, only};
-use crate::lines::TrafficLine;
+use crate::lines::{ShipBodyLine, StationLine};
 use crate::moments::ship_line;
 use crate::words::lone_value;
 use call_values::{Band, Mmsi};
@@ -15,11 +15,11 @@ use call_values::{Band, Mmsi};
 const MOST_SHIP_GROUPS: u8 = 16;
 
 /// Reads that the station is a ship. An error is how many bytes are left at the fault.
-fn ship(bytes: &[u8]) -> Result<TrafficLine, usize>
-    ensures { ReadsBy grammar.ship (IsTrafficLine Station) bytes.now result }
+fn ship(bytes: &[u8]) -> Result<StationLine, usize>
+    ensures { ReadsBy grammar.ship NamesStation bytes.now result }
 {
     let mmsi: Mmsi = only(b"station ship ", bytes)?;
-    Ok(TrafficLine::Ship(mmsi))
+    Ok(StationLine::Ship(mmsi))
 }
 
 /// Reads a band. An error is how many bytes are left at the fault.
@@ -34,51 +34,51 @@ fn band(bytes: &[u8]) -> Result<Band, usize>
 }
 
 /// Reads that the station is a coast station. An error is how many bytes are left at the fault.
-fn coast(bytes: &[u8]) -> Result<TrafficLine, usize>
-    ensures { ReadsBy grammar.coast (IsTrafficLine Station) bytes.now result }
+fn coast(bytes: &[u8]) -> Result<StationLine, usize>
+    ensures { ReadsBy grammar.coast NamesStation bytes.now result }
 {
     let (mmsi, rest) = match labelled::<Mmsi>(b"station coast ", bytes) {
         Ok(parts) => parts,
         Err(left) => return Err(left),
     };
     let band = band(rest)?;
-    Ok(TrafficLine::Coast(mmsi, band))
+    Ok(StationLine::Coast(mmsi, band))
 }
 
 /// Reads a station. An error is how many bytes are left at the fault.
-pub fn station_line(bytes: &[u8]) -> Result<TrafficLine, usize>
-    ensures { Finds (IsTrafficLine Station) (IsTrafficLine Station) bytes.now result }
+pub fn station_line(bytes: &[u8]) -> Result<StationLine, usize>
+    ensures { Finds (IsTrafficLine Station) NamesStation bytes.now result }
 {
     further(&ship(bytes), &coast(bytes))
 }
 
 /// Reads a base. An error is how many bytes are left at the fault.
-pub fn base_line(bytes: &[u8]) -> Result<TrafficLine, usize>
-    ensures { Finds (IsTrafficLine Base) (IsTrafficLine Base) bytes.now result }
+pub fn base_line(bytes: &[u8]) -> Result<u64, usize>
+    ensures { Finds (IsTrafficLine Base) (NamesBase Base) bytes.now result }
 {
     let second: BaseSecond = only(b"base ", bytes)?;
-    Ok(TrafficLine::Base(second.number))
+    Ok(second.number)
 }
 
 /// Reads a group. An error is how many bytes are left at the fault.
-fn group_line(bytes: &[u8]) -> Result<TrafficLine, usize>
-    ensures { Finds IsGroupLine IsGroupLine bytes.now result }
+fn group_line(bytes: &[u8]) -> Result<ShipBodyLine, usize>
+    ensures { Finds IsGroupLine SaysGroup bytes.now result }
 {
     let mmsi: Mmsi = only(b"group ", bytes)?;
-    Ok(TrafficLine::Group(mmsi))
+    Ok(ShipBodyLine::Group(mmsi))
 }
 
 /// Reads a group or an event, behind fewer than sixteen groups. An error is how many bytes are left at the fault.
-fn group_or_event(held: u8, bytes: &[u8]) -> Result<TrafficLine, usize>
+fn group_or_event(held: u8, bytes: &[u8]) -> Result<ShipBodyLine, usize>
     requires { held < 16 }
-    ensures { Finds (IsTrafficLine (Groups held)) (IsTrafficLine (Groups held)) bytes.now result }
+    ensures { Finds (IsTrafficLine (Groups held)) (SaysInShip (Groups held)) bytes.now result }
 {
     further(&group_line(bytes), &ship_line(bytes))
 }
 
 /// Reads a line behind so many groups. An error is how many bytes are left at the fault.
-pub fn line_behind_groups(held: u8, bytes: &[u8]) -> Result<TrafficLine, usize>
-    ensures { Finds (IsTrafficLine (Groups held)) (IsTrafficLine (Groups held)) bytes.now result }
+pub fn line_behind_groups(held: u8, bytes: &[u8]) -> Result<ShipBodyLine, usize>
+    ensures { Finds (IsTrafficLine (Groups held)) (SaysInShip (Groups held)) bytes.now result }
 {
     if held < MOST_SHIP_GROUPS {
         group_or_event(held, bytes)

@@ -1,5 +1,5 @@
 -- what comes of an event line
-use Rattle.std.proofs.Common.{◌≡◌, ℕ, Bool, false, Option, Some, None, List, ◌++◌, is_ok, Result, Ok, Err, refl, sym, ap}
+use Rattle.std.proofs.Common.{◌≡◌, ℕ, Bool, false, List, ◌++◌, is_ok, Result, Ok, Err, OnOk, IfOk, refl, sym, ap}
 use Rattle.call_values.specs.declared.calls.Call.{Call}
 use Rattle.slot_join.specs.declared.joined.Joined.{Joined}
 use Rattle.slot_join.specs.declared.joined.Joined.TheVariants.{Reported, Missing, Differ, Outside, Check}
@@ -10,37 +10,51 @@ use Rattle.traffic_lines.specs.declared.lines.EventLine.{EventLine}
 use Rattle.traffic_lines.specs.declared.lines.EventLine.TheVariants as line
 use Rattle.traffic_lines.specs.declared.lines.TrafficLine.TheVariants.{Event}
 use Rattle.dsc_files.specs.PointLine.{traffic}
-use Rattle.traffic_lines.specs.Lines.{IsShipEvent, IsCoastEvent}
+use Rattle.traffic_lines.specs.declared.lines.ShipOwn.{ShipOwn}
+use Rattle.traffic_lines.specs.declared.lines.ShipOwn.TheVariants as own_ship
+use Rattle.traffic_lines.specs.declared.lines.ShipLine.TheVariants as at_ship
+use Rattle.traffic_lines.specs.declared.lines.CoastOwn.{CoastOwn}
+use Rattle.traffic_lines.specs.declared.lines.CoastOwn.TheVariants as own_coast
+use Rattle.traffic_lines.specs.declared.lines.CoastLine.TheVariants as at_coast
+use Rattle.traffic_lines.specs.Anywhere.{event_of_ship, event_of_coast}
 use Rattle.traffic_replay.specs.declared.outcomes.Unreported.{Unreported}
 use Rattle.traffic_replay.specs.Said.{Said, base_of}
 use Rattle.traffic_replay.specs.HeardGroups.{hears, facts_since_heard}
-use Rattle.station_lines.specs.Events.{ship_event, coast_event}
-use Rattle.traffic_replay.specs.Happenings.{Taking, heard_as, ComesOf}
+use Rattle.station_lines.specs.Events.{own_ship_event, own_coast_event}
+use Rattle.traffic_replay.specs.Happenings.{Taking, taking_ship, taking_coast, heard_as, ComesOf}
 use Rattle.station_lines.specs.Answers.{answer_lines}
 use Rattle.traffic_replay.specs.Output.{unreported_line}
 use Rattle.traffic_replay.specs.inside.Happens.{Happens}
 
-comes_plain : {What : Type 0} (taking : Taking What) (said : Said) (at : ℕ) (what : EventLine) (event : What) → ((group : ℕ) → what ≡ line.Heard group → ⊥)
-    → taking.event (base_of said) at what ≡ Some event → ComesOf taking said at what (Ok event)
-comes_plain taking said at (line.Position place) event another is = (event, is, refl)
-comes_plain taking said at (line.Delay delay) event another is = (event, is, refl)
-comes_plain taking said at (line.Alert nature comm) event another is = (event, is, refl)
-comes_plain taking said at line.Cancel event another is = (event, is, refl)
-comes_plain taking said at line.Tick event another is = (event, is, refl)
-comes_plain taking said at (line.Send call) event another is = (event, is, refl)
-comes_plain taking said at (line.Answer number accepts) event another is = (event, is, refl)
-comes_plain taking said at (line.Hear call) event another is = (event, is, refl)
-comes_plain taking said at (line.Accept mmsi delay) event another is = (event, is, refl)
-comes_plain taking said at (line.Relay mmsi to ask) event another is = (event, is, refl)
-comes_plain taking said at (line.Heard group) event another is = absurd (another group refl)
+-- an event of a station's own comes of its line
+pub comes_own_ship : (said : Said) (at : ℕ) (own : ShipOwn) → ComesOf taking_ship said at (event_of_ship (at_ship.Own own)) (Ok (own_ship_event (base_of said) at own))
+comes_own_ship said at (own_ship.Position place) = (_, refl, refl)
+comes_own_ship said at (own_ship.Delay delay) = (_, refl, refl)
+comes_own_ship said at (own_ship.Alert nature comm) = (_, refl, refl)
+comes_own_ship said at own_ship.Cancel = (_, refl, refl)
+comes_own_ship said at own_ship.Tick = (_, refl, refl)
+comes_own_ship said at (own_ship.Send call) = (_, refl, refl)
+comes_own_ship said at (own_ship.Answer number accepts) = (_, refl, refl)
 
--- an event line gives an event of itself
+pub comes_own_coast : (said : Said) (at : ℕ) (own : CoastOwn) → ComesOf taking_coast said at (event_of_coast (at_coast.Own own)) (Ok (own_coast_event own))
+comes_own_coast said at (own_coast.Accept mmsi delay) = (_, refl, refl)
+comes_own_coast said at (own_coast.Relay mmsi to ask) = (_, refl, refl)
+comes_own_coast said at own_coast.Tick = (_, refl, refl)
+comes_own_coast said at (own_coast.Send call) = (_, refl, refl)
+comes_own_coast said at (own_coast.Answer number accepts) = (_, refl, refl)
+
+-- what a step tells where it ends well
+pub tell : {E : Type 0} {S L : Type 0} {A B : Bool → Type 0} (r : Result Bool E) → ((b : Bool) → S → L → A b → B b) → OnOk r S → OnOk r L → IfOk r A → IfOk r B
+tell (Ok b) f s l a = f b s l a
+tell (Err e) f s l a = tt
+
+-- an event line gives an event
 pub plain_happens : {What : Type 0} (rules : Rules What) (taking : Taking What) (IsAt : History What → Type 0) (h : History What) (said : Said) (at : ℕ) (what : EventLine)
-    (old new : List ℕ) (accepted : Bool) (event : What) → ((group : ℕ) → what ≡ line.Heard group → ⊥) → taking.event (base_of said) at what ≡ Some event
+    (old new : List ℕ) (accepted : Bool) (event : What) → ComesOf taking said at what (Ok event)
     → IsAt (continued rules h at event) → new ≡ old ++ answer_lines at (answer_to rules h at event) → accepted ≡ is_ok (answer_to rules h at event)
     → Happens rules taking IsAt h said at what old new accepted
-plain_happens rules taking IsAt h said at what old new accepted event another is stands lines well =
-    record { outcome = Ok event; comes = comes_plain taking said at what event another is; stands = stands; lines = lines; well = well }
+plain_happens rules taking IsAt h said at what old new accepted event comes stands lines well =
+    record { outcome = Ok event; comes = comes; stands = stands; lines = lines; well = well }
 
 ok_call : {a b : Call} → ◌≡◌ {A = Result Call Unreported} (Ok a) (Ok b) → a ≡ b
 ok_call h = cc
@@ -80,46 +94,19 @@ pub unheard_happens : {What : Type 0} (rules : Rules What) (taking : Taking What
 unheard_happens rules taking IsAt h said at group old new accepted answer u answers is stands lines well =
     record { outcome = Err u; comes = (answer, answers, heard_none taking.heard group answer u is); stands = stands; lines = lines; well = well }
 
-some_none : {What : Type 0} {x : What} → ◌≡◌ {A = Option What} (Some x) None → ⊥
-some_none h = cc
+-- events of a station's own hear no group
+pub own_ship_quiet : (at : ℕ) (own : ShipOwn) (k : ℕ) → hears k (traffic (Event at (event_of_ship (at_ship.Own own)))) ≡ false
+own_ship_quiet at (own_ship.Position place) k = refl
+own_ship_quiet at (own_ship.Delay delay) k = refl
+own_ship_quiet at (own_ship.Alert nature comm) k = refl
+own_ship_quiet at own_ship.Cancel k = refl
+own_ship_quiet at own_ship.Tick k = refl
+own_ship_quiet at (own_ship.Send call) k = refl
+own_ship_quiet at (own_ship.Answer number accepts) k = refl
 
--- the events that a station has give one of themselves, but for heard groups
-pub ship_has : (base at : ℕ) (what : EventLine) → IsShipEvent what → ((group : ℕ) → what ≡ line.Heard group → ⊥) → None ≡ ship_event base at what → ⊥
-ship_has base at (line.Position place) has another is = some_none (sym is)
-ship_has base at (line.Delay delay) has another is = some_none (sym is)
-ship_has base at (line.Alert nature comm) has another is = some_none (sym is)
-ship_has base at line.Cancel has another is = some_none (sym is)
-ship_has base at line.Tick has another is = some_none (sym is)
-ship_has base at (line.Send call) has another is = some_none (sym is)
-ship_has base at (line.Answer number accepts) has another is = some_none (sym is)
-ship_has base at (line.Hear call) has another is = some_none (sym is)
-ship_has base at (line.Heard group) has another is = another group refl
-ship_has base at (line.Accept mmsi delay) has another is = has
-ship_has base at (line.Relay mmsi to ask) has another is = has
-
-pub coast_has : (base at : ℕ) (what : EventLine) → IsCoastEvent what → ((group : ℕ) → what ≡ line.Heard group → ⊥) → None ≡ coast_event base at what → ⊥
-coast_has base at (line.Accept mmsi delay) has another is = some_none (sym is)
-coast_has base at line.Tick has another is = some_none (sym is)
-coast_has base at (line.Relay mmsi to ask) has another is = some_none (sym is)
-coast_has base at (line.Send call) has another is = some_none (sym is)
-coast_has base at (line.Answer number accepts) has another is = some_none (sym is)
-coast_has base at (line.Hear call) has another is = some_none (sym is)
-coast_has base at (line.Heard group) has another is = another group refl
-coast_has base at (line.Position place) has another is = has
-coast_has base at (line.Delay delay) has another is = has
-coast_has base at (line.Alert nature comm) has another is = has
-coast_has base at line.Cancel has another is = has
-
--- an event line that hears no group
-pub hears_none : (at : ℕ) (what : EventLine) → ((group : ℕ) → what ≡ line.Heard group → ⊥) → (k : ℕ) → hears k (traffic (Event at what)) ≡ false
-hears_none at (line.Position place) another k = refl
-hears_none at (line.Delay delay) another k = refl
-hears_none at (line.Alert nature comm) another k = refl
-hears_none at line.Cancel another k = refl
-hears_none at line.Tick another k = refl
-hears_none at (line.Send call) another k = refl
-hears_none at (line.Answer number accepts) another k = refl
-hears_none at (line.Hear call) another k = refl
-hears_none at (line.Accept mmsi delay) another k = refl
-hears_none at (line.Relay mmsi to ask) another k = refl
-hears_none at (line.Heard group) another k = absurd (another group refl)
+pub own_coast_quiet : (at : ℕ) (own : CoastOwn) (k : ℕ) → hears k (traffic (Event at (event_of_coast (at_coast.Own own)))) ≡ false
+own_coast_quiet at (own_coast.Accept mmsi delay) k = refl
+own_coast_quiet at (own_coast.Relay mmsi to ask) k = refl
+own_coast_quiet at own_coast.Tick k = refl
+own_coast_quiet at (own_coast.Send call) k = refl
+own_coast_quiet at (own_coast.Answer number accepts) k = refl

@@ -7,3 +7,4 @@ mod Unique
 mod Receivers
 mod Fronts
 mod Determined
+mod Bodies

@@ -1,5 +1,5 @@
 -- What was read of a line of receivers, and of a line that says nothing.
-use Rattle.std.proofs.Common.{◌≡◌, ◌∙◌, ℕ, true, false, List, ◌∷◌, refl, sym, ap, subst}
+use Rattle.std.proofs.Common.{◌≡◌, ℕ, true, false, Option, Some, Ok, List, ◌∷◌, refl, sym, subst}
 use Rattle.ten_unit.specs.declared.character.Element.{Element}
 use Rattle.slot_evidence.specs.declared.places.Seen.{Seen}
 use Rattle.slot_evidence.specs.Facts.{facts_of}
@@ -7,11 +7,11 @@ use Rattle.slot_evidence.specs.Sheet.{IsEnds}
 use Rattle.traffic_lines.specs.declared.lines.TrafficLine.{TrafficLine}
 use Rattle.dsc_files.specs.declared.join.JoinLine.{JoinLine as Got}
 use Rattle.dsc_files.specs.declared.join.JoinLine.TheVariants as got
-use Rattle.dsc_files.specs.declared.traffic.PointLine.{PointLine as GotAtPoint}
 use Rattle.dsc_files.specs.declared.traffic.PointLine.TheVariants as at
 use Rattle.dsc_files.specs.JoinLine.{JoinLine, nothing, reception, evidence}
-use Rattle.dsc_files.specs.PointLine.{PointLine, joined, traffic}
-use Rattle.dsc_files.specs.Lines.{Says, SaysAtPoint}
+use Rattle.traffic_lines.specs.declared.lines.Point.{Point}
+use Rattle.dsc_files.specs.PointLine.{PointLine, joined, traffic, IsPointLine}
+use Rattle.dsc_files.specs.Lines.{Says, SaysAtPoint, ReadsJoinedAt}
 use Rattle.join_groups.specs.Groups.{facts_of_line}
 use Rattle.join_groups.specs.Meanings.{BringsTooMany}
 use Rattle.join_groups.proofs.PublicLaws.{says_reception, says_evidence}
@@ -75,25 +75,20 @@ two_kinds h = cc
 same_joined : {one two : Got} → at.Joined one ≡ at.Joined two → one ≡ two
 same_joined h = cc
 
-same_traffic : {one two : TrafficLine} → at.Traffic one ≡ at.Traffic two → one ≡ two
-same_traffic h = cc
-
-pub record IsOfReceivers (says : PointLine) (read : Got) : Type 0 where
+-- a line of receivers at a point, or one that says nothing
+pub record IsReceivers (at_point : Point) (read : Got) (text : List ℕ) : Type 0 where
   pub line : JoinLine
-  pub is_joined : says ≡ joined line
+  pub is_line : IsPointLine at_point (joined line) text
   pub says_it : Says line read
 
-pub of_joined : (says : PointLine) (read : GotAtPoint) (one : Got) → read ≡ at.Joined one → SaysAtPoint says read → IsOfReceivers says one
-of_joined (joined line) read one is h = record {
-  line = line;
-  is_joined = refl;
-  says_it = subst (Says line) (same_joined (sym h.1.1 ∙ is)) h.1.0;
-}
-of_joined (traffic says) read one is h = absurd (two_kinds (sym is ∙ h))
+of_joined : (at_point : Point) (text : List ℕ) (says : PointLine) (one : Got) → IsPointLine at_point says text → SaysAtPoint says (at.Joined one) → IsReceivers at_point one text
+of_joined at_point text (joined line) one is h = record { line = line; is_line = is; says_it = subst (Says line) (same_joined (sym h.1.1)) h.1.0 }
+of_joined at_point text (traffic says) one is h = absurd (two_kinds h)
 
-pub of_traffic : (says : PointLine) (read : GotAtPoint) (one : TrafficLine) → read ≡ at.Traffic one → SaysAtPoint says read → says ≡ traffic one
-of_traffic (joined line) read one is h = absurd (two_kinds (sym h.1.1 ∙ is))
-of_traffic (traffic says) read one is h = ap traffic (same_traffic (sym h ∙ is))
+pub receivers_line : (at_point : Point) (read : Option Got) (one : Got) (text : List ℕ) → read ≡ Some one → ReadsJoinedAt at_point text (Ok read) → IsReceivers at_point one text
+receivers_line at_point read one text is h =
+    let some : ReadsJoinedAt at_point text (Ok (Some one)) = subst (λ (o : Option Got). ReadsJoinedAt at_point text (Ok o)) is h in
+    of_joined at_point text some.0 one some.1.0 some.1.1
 
 -- a line that says nothing
 pub nothing_taken : (replay : Replay) (said : Said) (line : JoinLine) (text : List ℕ) → Says line got.Nothing → Keeps replay said text

@@ -1,5 +1,5 @@
 -- what was told so far, line by line
-use Rattle.std.proofs.Common.{◌≡◌, ℕ, Bool, true, ◌&&◌, List, [], ◌∷◌, ◌++◌, length, refl, sym, ◌∙◌, ap, subst, append_assoc}
+use Rattle.std.proofs.Common.{◌≡◌, ℕ, ◌<◌, Bool, true, ◌&&◌, List, [], ◌∷◌, ◌++◌, length, refl, sym, ◌∙◌, ap, subst, append_assoc}
 use Rattle.call_values.specs.declared.choices.Band.{Band}
 use Rattle.area_rules.specs.Histories.{History}
 use Rattle.area_rules.specs.Rules.{Rules}
@@ -17,14 +17,15 @@ use Rattle.traffic_lines.specs.declared.lines.Point.TheVariants as point
 use Rattle.traffic_lines.specs.declared.lines.TrafficLine.TheVariants as line
 use Rattle.traffic_lines.specs.Lines.{MayStand}
 use Rattle.dsc_files.specs.JoinLine.{JoinLine}
-use Rattle.dsc_files.specs.PointLine.{joined, traffic}
+use Rattle.dsc_files.specs.PointLine.{joined, traffic, IsBody}
+use Rattle.traffic_lines.specs.Anywhere.{ship_point}
 use Rattle.traffic_replay.specs.declared.stations.Station.{Station}
 use Rattle.traffic_replay.specs.declared.stations.Station.TheVariants as at
 use Rattle.traffic_replay.specs.Said.{Said, Kind, ship, coast, identities_of, station_of, among_events, behind_base}
 use Rattle.traffic_replay.specs.Happenings.{Taking, taking_ship, taking_coast, AreHappenings}
 use Rattle.traffic_replay.specs.Output.{history_of, text_of, all_accepted, written_behind}
 use Rattle.traffic_replay.specs.inside.Happens.{Happens}
-use Rattle.traffic_replay.specs.inside.Progress.{IsBeforeEvents, IsAmongGroups, IsBehindGroups, IsPointOf, TellsSoFar, IsTold, point_at, point_behind_base, IsEventAt}
+use Rattle.traffic_replay.specs.inside.Progress.{IsBeforeEvents, IsAmongGroups, IsBehindGroups, IsPointOf, TellsSoFar, IsTold, point_at, point_behind_base, groups_at}
 
 -- nothing happened, whatever the kind of station
 abbrev pub NoneHappened : Said → Type 1
@@ -155,26 +156,40 @@ groups_ship point.Base kind among of = absurd among
 groups_ship point.Ship kind among of = absurd among
 groups_ship point.Coast kind among of = absurd among
 
--- an event that may stand where the replay is is one of the station's
-pub event_at : (p : Point) (kind : Kind) (station : Station) (A : Type 0) (said : Said) (text : List ℕ) (is_well : Bool) (when : ℕ) (what : EventLine)
-    → IsPointOf p kind → IsTold kind station A said text is_well → MayStand p (line.Event when what) → IsEventAt station what
-event_at (point.Groups held) ship (at.Ship s) A said text is_well when what of told stands = stands
-event_at (point.Groups held) (coast band) station A said text is_well when what of told stands = absurd (no_coast of)
-  where
-    no_coast : {b : Band} → coast b ≡ ship → ⊥
-    no_coast h = cc
-event_at (point.Groups held) ship (at.Coast s) A said text is_well when what of told stands = absurd told
-event_at point.Ship ship (at.Ship s) A said text is_well when what of told stands = stands
-event_at point.Ship (coast band) station A said text is_well when what of told stands = absurd (no_coast of)
-  where
-    no_coast : {b : Band} → coast b ≡ ship → ⊥
-    no_coast h = cc
-event_at point.Ship ship (at.Coast s) A said text is_well when what of told stands = absurd told
-event_at point.Coast (coast band) (at.Coast s) A said text is_well when what of told stands = stands
-event_at point.Coast (coast band) (at.Ship s) A said text is_well when what of told stands = absurd told
-event_at point.Coast ship station A said text is_well when what of told stands = absurd of
-event_at point.Station kind station A said text is_well when what of told stands = absurd stands
-event_at point.Base kind station A said text is_well when what of told stands = absurd stands
+-- the kind of a station, by what was told
+pub kind_at_ship : (kind : Kind) (s : Ship) (A : Type 0) (said : Said) (text : List ℕ) (is_well : Bool) → IsTold kind (at.Ship s) A said text is_well → kind ≡ ship
+kind_at_ship ship s A said text is_well told = refl
+kind_at_ship (coast band) s A said text is_well told = absurd told
+
+pub kind_at_coast : (kind : Kind) (s : Coast) (A : Type 0) (said : Said) (text : List ℕ) (is_well : Bool) → IsTold kind (at.Coast s) A said text is_well → (band : Band) × (kind ≡ coast band)
+kind_at_coast (coast band) s A said text is_well told = (band, refl)
+kind_at_coast ship s A said text is_well told = absurd told
+
+no_coast : {b : Band} → coast b ≡ ship → ⊥
+no_coast h = cc
+
+-- the point of a line behind the base, by the kind of the station
+pub ship_here : (p : Point) → IsBody p → IsPointOf p ship → ship_point (groups_at p) ≡ p
+ship_here (point.Groups held) body of = refl
+ship_here point.Ship body of = refl
+ship_here point.Coast body of = absurd of
+ship_here point.Station body of = absurd body
+ship_here point.Base body of = absurd body
+
+pub coast_here : (p : Point) (band : Band) → IsBody p → IsPointOf p (coast band) → point.Coast ≡ p
+coast_here (point.Groups held) band body of = absurd (no_coast of)
+coast_here point.Ship band body of = absurd (no_coast of)
+coast_here point.Coast band body of = refl
+coast_here point.Station band body of = absurd body
+coast_here point.Base band body of = absurd body
+
+-- a group stands among groups, of which there are fewer than sixteen
+pub group_may : (p : Point) (groups : List ℕ) (mmsi : ℕ) → MayStand (ship_point (groups_at p)) (line.Group mmsi) → IsBehindGroups p groups → IsAmongGroups p × (length groups < 16)
+group_may (point.Groups held) groups mmsi may behind = (tt, subst (λ (n : ℕ). n < 16) behind may)
+group_may point.Station groups mmsi may behind = absurd may
+group_may point.Base groups mmsi may behind = absurd may
+group_may point.Ship groups mmsi may behind = absurd may
+group_may point.Coast groups mmsi may behind = absurd may
 
 -- a text is appended behind what was there
 behind : (text out new lines all : List ℕ) → new ≡ out ++ lines → text ++ out ≡ all → text ++ new ≡ all ++ lines

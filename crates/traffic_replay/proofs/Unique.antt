@@ -2,7 +2,8 @@
 use Rattle.std.proofs.Common.{◌≡◌, ℕ, List, [], ◌∷◌, ◌++◌, refl, sym, ap, subst, ◌∙◌}
 use Rattle.line_grammar.specs.Columns.{IsColumn}
 use Rattle.line_engine.specs.Lines.{Lines}
-use Rattle.line_engine.specs.declared.command.Refusal.TheVariants.{TooManyGroups}
+use Rattle.line_engine.specs.declared.command.Refusal.TheVariants.{Column, TooManyGroups, Memory}
+use Rattle.line_engine.specs.declared.command.Refusal.{Refusal}
 use Rattle.line_engine.specs.Commands.{IsTakenBehind, IsRefusedBehind}
 use Rattle.traffic_lines.specs.declared.lines.Point.{Point}
 use Rattle.dsc_files.specs.PointLine.{PointLine, joined, IsPointLine}
@@ -10,7 +11,7 @@ use Rattle.traffic_replay.specs.Said.{Said, point_of, AreSaid}
 use Rattle.join_groups.specs.Meanings.{BringsTooMany}
 use Rattle.traffic_replay.specs.HeardGroups.{of_receivers}
 use Rattle.traffic_replay.specs.Meaning.{replay_meaning}
-use Rattle.traffic_replay.specs.inside.Progress.{BringsGroup}
+use Rattle.traffic_replay.specs.inside.Progress.{BringsGroup, Refuses}
 
 -- a line at a point says one thing
 abbrev pub OnePointLine : Type 0
@@ -68,3 +69,9 @@ refused_behind one said lines text says are is brings = (
       (subst (λ (s : Said). IsColumn (IsPointLine (point_of s)) text n) same ill.is_column).is_none says is,
   record { said = said; are_said = are; line = brings.line; is_line = subst (λ (w : PointLine). IsPointLine (point_of said) w text) brings.is_joined is; brings = brings.brings },
 )
+
+-- a line is refused for the reason that was told
+pub refused_so : OnePointLine → (said : Said) (lines : Lines) (text : List ℕ) (refusal : Refusal) → AreSaid said lines → Refuses said text refusal → IsRefusedBehind replay_meaning lines text refusal
+refused_so one said lines text (Column n) are h = record { said = said; are_said = are; is_column = h }
+refused_so one said lines text TooManyGroups are h = refused_behind one said lines text h.0 are h.1.0 h.1.1
+refused_so one said lines text Memory are h = tt

@@ -1,10 +1,11 @@
 ghost use Rattle.std.specs.Prelude.{◌≡◌, ◌⊎◌, ◌∷◌, ◌++◌, ◌≤◌, ◌<◌, ℕ, List, [], length, OnOk, IfErr};
 ghost use Rattle.line_engine.specs.Commands.{KeepsText};
-ghost use Rattle.dsc_files.specs.PointLine.{PointLine as Line, joined, traffic};
+ghost use Rattle.dsc_files.specs.PointLine.{joined, traffic, IsBody};
 ghost use Rattle.dsc_files.specs.JoinLine.{JoinLine as ReceiverLine};
-ghost use Rattle.dsc_files.specs.Lines.{Says, SaysAtPoint};
+ghost use Rattle.dsc_files.specs.Lines.{Says};
 ghost use Rattle.traffic_lines.specs.declared.lines.Point.TheVariants as At;
 ghost use Rattle.traffic_lines.specs.declared.lines.TrafficLine.TheVariants as station;
+ghost use Rattle.traffic_lines.specs.Anywhere.{line_of_station};
 ghost use Rattle.slot_evidence.specs.Facts.{Facts, facts_of};
 ghost use Rattle.slot_evidence.specs.Sheet.{IsEnds};
 ghost use Rattle.join_groups.specs.Holds.{HoldsSome};
@@ -12,27 +13,27 @@ ghost use Rattle.join_groups.specs.Meanings.{BringsTooMany};
 ghost use Rattle.traffic_replay.specs.Said.{Said};
 ghost use Rattle.traffic_replay.specs.HeardGroups.{of_receivers};
 ghost use Rattle.traffic_replay.specs.Meaning.{replay_meaning};
-ghost use Rattle.traffic_replay.specs.inside.Progress.{Keeps, StandsFor, IsAmongGroups, IsEventAt, IsReady, IsReadyFor, IsShort, IsShown, BringsGroup};
+ghost use Rattle.traffic_replay.specs.inside.Progress.{Keeps, StandsFor, IsAmongGroups, IsOwnLine, IsReady, IsShort, IsShown, Refuses, Takes};
 ghost use Rattle.traffic_replay.specs.inside.Gives.{gives_text};
 
-use crate::stations::Station;
+use crate::stations::{Station, groups_at};
 use crate::steps::{happen_at_coast, happen_at_ship};
 use area_rules::Acts;
 use arrayvec::ArrayVec;
 use call_values::bounds::LAST_BASE;
 use call_values::{Band, Mmsi};
 use coast_station::Coast;
-use dsc_files::{
-    EventLine, JoinLine, LineFault, Point, PointLine, Status, TrafficLine, one_point_line,
-    point_line,
-};
+use dsc_files::{JoinLine, LineFault, Point, Status, joined_line, one_point_line};
 use join_groups::Groups;
-use line_engine::{Command, Refusal};
+use line_engine::{Command, LONGEST_LINE, Refusal};
 use phasing::LONGEST;
 use receiver_pool::Joiner;
 use ship_station::Ship;
 use slot_evidence::{Reception, Sheet};
 use std::alloc::{AllocError, Global};
+use traffic_lines::{
+    ShipBodyLine, StationLine, read_base, read_coast_line, read_ship_line, read_station,
+};
 
 /// What a replay of a traffic file has come to: the station that its lines name went through the events that they gave it, and wrote
 /// what it did at each.
@@ -55,6 +56,7 @@ pub struct Replay {
 
 impl Replay {
     /// The replay before its first line.
+    #[inline(never)]
     pub fn new(alloc: Global) -> Replay
         ensures { StandsFor result [] [] }
     {
@@ -72,24 +74,28 @@ impl Replay {
         }
     }
 
-    /// Takes a line that was read.
-    fn take_read<W: Joiner>(
+    /// Takes a line.
+    fn take_line<W: Joiner>(
         &mut self,
         workers: &W,
-        read: PointLine,
+        line: &[u8],
         out: &mut Vec<u8>,
     ) -> Result<(), Refusal>
-        requires ready { IsReady self.old read }
+        requires short { length line.now ≤ LONGEST_LINE }
+        requires ready { IsReady self.old }
         requires joins { W.can_join workers.now }
-        ensures ok { OnOk result ((said : Said) (says : Line) (text : List ℕ) → Keeps self.old said (text ++ out.old.items) → SaysAtPoint says read
-            → (BringsGroup said says → ⊥) × Keeps self.new (says ∷ said) (text ++ out.new.items)) }
-        ensures err { IfErr result (λ refusal. (refusal ≡ Refusal.Memory) ⊎ ((said : Said) (says : Line) (text : List ℕ)
-            → Keeps self.old said (text ++ out.old.items) → SaysAtPoint says read → (refusal ≡ Refusal.TooManyGroups) × BringsGroup said says)) }
+        ensures ok { OnOk result ((said : Said) (text : List ℕ) → Keeps self.old said (text ++ out.old.items) → Takes self.new said line.now (text ++ out.new.items)) }
+        ensures err { IfErr result (λ refusal. (said : Said) (text : List ℕ) → Keeps self.old said (text ++ out.old.items) → Refuses said line.now refusal) }
         ensures unsaid { IfErr result (λ refusal. KeepsText refusal out.old.items out.new.items) }
     {
-        match read {
-            PointLine::Joined(says) => self.take_joined(workers, says),
-            PointLine::Traffic(says) => self.take_traffic(workers, &says, out),
+        let joined = match joined_line(self.alloc, self.point, line) {
+            Ok(joined) => joined,
+            Err(LineFault::Column(n)) => return Err(Refusal::Column(n)),
+            Err(LineFault::NoMemory) => return Err(Refusal::Memory),
+        };
+        match joined {
+            Some(says) => self.take_joined(workers, says),
+            None => self.take_own(workers, line, out),
         }
     }
 
@@ -111,36 +117,125 @@ impl Replay {
     }
 
     /// Takes a line of the station.
-    fn take_traffic<W: Joiner>(
+    fn take_own<W: Joiner>(
         &mut self,
         workers: &W,
-        says: &TrafficLine,
+        line: &[u8],
         out: &mut Vec<u8>,
     ) -> Result<(), Refusal>
-        requires ready { IsReadyFor self.old says.now }
+        requires ready { IsReady self.old }
         requires joins { W.can_join workers.now }
-        ensures ok { OnOk result ((said : Said) (text : List ℕ) → Keeps self.old said (text ++ out.old.items)
-            → Keeps self.new (traffic says.now ∷ said) (text ++ out.new.items)) }
-        ensures err { IfErr result (λ refusal. refusal ≡ Refusal.Memory) }
+        requires own { IsOwnLine self.old.point line.now }
+        ensures ok { OnOk result ((said : Said) (text : List ℕ) → Keeps self.old said (text ++ out.old.items) → Takes self.new said line.now (text ++ out.new.items)) }
+        ensures err { IfErr result (λ refusal. (said : Said) (text : List ℕ) → Keeps self.old said (text ++ out.old.items) → Refuses said line.now refusal) }
+        ensures unsaid { IfErr result (λ refusal. KeepsText refusal out.old.items out.new.items) }
     {
-        match *says {
-            TrafficLine::Ship(mmsi) => {
-                self.name_ship(mmsi);
+        match self.point {
+            Point::Station => self.take_station(line),
+            Point::Base => self.take_base(line),
+            Point::Groups { .. } | Point::Ship | Point::Coast => self.take_body(workers, line, out),
+        }
+    }
+
+    /// Takes the line that names the station.
+    fn take_station(&mut self, line: &[u8]) -> Result<(), Refusal>
+        requires first { self.old.point ≡ At.Station }
+        requires most { length self.old.groups.items ≤ 16 }
+        requires own { IsOwnLine self.old.point line.now }
+        ensures ok { OnOk result ((said : Said) (text : List ℕ) → Keeps self.old said text → Takes self.new said line.now text) }
+        ensures err { IfErr result (λ refusal. (said : Said) (text : List ℕ) → Keeps self.old said text → Refuses said line.now refusal) }
+        ensures column { IfErr result (λ refusal. (before : List ℕ) → KeepsText refusal before before) }
+    {
+        match read_station(line) {
+            Ok(says) => {
+                self.name_station(says);
                 Ok(())
             }
-            TrafficLine::Coast(mmsi, band) => {
-                self.name_coast(mmsi, band);
-                Ok(())
-            }
-            TrafficLine::Base(second) => {
+            Err(n) => Err(Refusal::Column(n)),
+        }
+    }
+
+    /// Takes the line of the base.
+    fn take_base(&mut self, line: &[u8]) -> Result<(), Refusal>
+        requires next { self.old.point ≡ At.Base }
+        requires own { IsOwnLine self.old.point line.now }
+        ensures ok { OnOk result ((said : Said) (text : List ℕ) → Keeps self.old said text → Takes self.new said line.now text) }
+        ensures err { IfErr result (λ refusal. (said : Said) (text : List ℕ) → Keeps self.old said text → Refuses said line.now refusal) }
+        ensures column { IfErr result (λ refusal. (before : List ℕ) → KeepsText refusal before before) }
+    {
+        match read_base(line) {
+            Ok(second) => {
                 self.name_base(second);
                 Ok(())
             }
-            TrafficLine::Group(mmsi) => self.name_group(mmsi),
-            TrafficLine::Event { at, what } => {
-                self.happen(workers, at, &what, out)?;
+            Err(n) => Err(Refusal::Column(n)),
+        }
+    }
+
+    /// Takes a line of the station behind the base.
+    fn take_body<W: Joiner>(
+        &mut self,
+        workers: &W,
+        line: &[u8],
+        out: &mut Vec<u8>,
+    ) -> Result<(), Refusal>
+        requires ready { IsReady self.old }
+        requires joins { W.can_join workers.now }
+        requires body { IsBody self.old.point }
+        requires own { IsOwnLine self.old.point line.now }
+        ensures ok { OnOk result ((said : Said) (text : List ℕ) → Keeps self.old said (text ++ out.old.items) → Takes self.new said line.now (text ++ out.new.items)) }
+        ensures err { IfErr result (λ refusal. (said : Said) (text : List ℕ) → Keeps self.old said (text ++ out.old.items) → Refuses said line.now refusal) }
+        ensures unsaid { IfErr result (λ refusal. KeepsText refusal out.old.items out.new.items) }
+    {
+        let groups = groups_at(self.point);
+        match &mut self.station {
+            Station::Ship(ship) => {
+                let says = match read_ship_line(groups, line) {
+                    Ok(says) => says,
+                    Err(n) => return Err(Refusal::Column(n)),
+                };
+                match says {
+                    ShipBodyLine::Group(mmsi) => self.name_group(mmsi),
+                    ShipBodyLine::Event { at, what } => {
+                        let heard = &mut self.heard;
+                        let acts = &mut self.acts;
+                        self.point = Point::Ship;
+                        self.is_well &= happen_at_ship(
+                            ship, heard, workers, self.base, at, &what, acts, out,
+                        )?;
+                        Ok(())
+                    }
+                }
+            }
+            Station::Coast(coast) => {
+                let (at, what) = match read_coast_line(line) {
+                    Ok(says) => says,
+                    Err(n) => return Err(Refusal::Column(n)),
+                };
+                self.point = Point::Coast;
+                self.is_well &= happen_at_coast(
+                    coast,
+                    &mut self.heard,
+                    workers,
+                    at,
+                    &what,
+                    &mut self.acts,
+                    out,
+                )?;
                 Ok(())
             }
+        }
+    }
+
+    /// The station is this one.
+    fn name_station(&mut self, says: StationLine)
+        requires first { self.old.point ≡ At.Station }
+        requires most { length self.old.groups.items ≤ 16 }
+        ensures { (said : Said) (text : List ℕ) → Keeps self.old said text → Keeps self.new (traffic (line_of_station says) ∷ said) text }
+    {
+        match says {
+            StationLine::Ship(mmsi) => self.name_ship(mmsi),
+            StationLine::Coast(mmsi, band) => self.name_coast(mmsi, band),
         }
     }
 
@@ -225,38 +320,6 @@ impl Replay {
             Err(refusal) => Err(refusal),
         }
     }
-
-    /// Goes through what happens at a moment, and appends what is written of it.
-    fn happen<W: Joiner>(
-        &mut self,
-        workers: &W,
-        at: u32,
-        what: &EventLine,
-        out: &mut Vec<u8>,
-    ) -> Result<(), AllocError>
-        requires heard { HoldsSome self.old.heard }
-        requires joins { W.can_join workers.now }
-        requires within { self.old.base ≤ LAST_BASE }
-        requires event { IsEventAt self.old.station what.now }
-        ensures { OnOk result ((said : Said) (text : List ℕ) → Keeps self.old said (text ++ out.old.items)
-            → Keeps self.new (traffic (station.Event at what.now) ∷ said) (text ++ out.new.items)) }
-    {
-        self.point = self.station.among_events();
-        let heard = &mut self.heard;
-        let acts = &mut self.acts;
-        match &mut self.station {
-            Station::Ship(ship) => {
-                self.is_well &= happen_at_ship(
-                    ship, heard, workers, self.base, at, what, acts, out,
-                )?;
-                Ok(())
-            }
-            Station::Coast(coast) => {
-                self.is_well &= happen_at_coast(coast, heard, workers, at, what, acts, out)?;
-                Ok(())
-            }
-        }
-    }
 }
 
 /// The command that replays a traffic file. Workers join the receptions of its groups.
@@ -267,7 +330,9 @@ pub struct Replaying<W: Joiner> {
 }
 
 impl<W: Joiner> Replaying<W> {
-    /// The command before its first line.
+    /// The command before its first line. It is made in a frame of its own, so that the copies of it that making it takes are gone
+    /// while it runs.
+    #[inline(never)]
     pub fn new(alloc: Global, workers: W) -> Replaying<W>
         ensures replay { StandsFor result.replay [] [] }
         ensures workers { result.workers ≡ workers }
@@ -286,11 +351,7 @@ impl<W: Joiner> Command for Replaying<W> {
 
     fn take(&mut self, line: &[u8], out: &mut Vec<u8>) -> Result<(), Refusal> {
         one_point_line();
-        match point_line(self.replay.alloc, self.replay.point, line) {
-            Ok(read) => self.replay.take_read(&self.workers, read, out),
-            Err(LineFault::Column(n)) => Err(Refusal::Column(n)),
-            Err(LineFault::NoMemory) => Err(Refusal::Memory),
-        }
+        self.replay.take_line(&self.workers, line, out)
     }
 
     fn finish(&mut self, _out: &mut Vec<u8>) -> Result<Status, AllocError> {

@@ -34,13 +34,11 @@ pub fn replay<R: Threads + Sync, S: Source, K: Sink, G: Gate>(
     requires { (1 ≤ workers) × (workers ≤ 64) }
     ensures { IsRun replay_meaning S.Source K.Sink source.old source.new sink.old sink.new result }
 {
-    if workers == 1 {
-        gate.enter(0);
-    }
     let join = |batch: &[Heard]| -> Result<Vec<Shown>, AllocError>
         requires { (1 ≤ workers) × (workers ≤ 64) × All IsShort batch.now }
         ensures { IfOk result (λ v. Shows (facts_of_group batch.now) batch.now v.items) }
     { pool_groups(rt, alloc, batch, workers, gate) };
-    let command = Replaying::new(alloc, Workers::new(workers, join));
-    drive(alloc, command, source, sink)
+    let workers = Workers::new(workers, gate, join);
+    let mut command = Replaying::new(alloc, workers);
+    drive(alloc, &mut command, source, sink)
 }

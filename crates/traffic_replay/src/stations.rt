@@ -1,5 +1,6 @@
 ghost use Rattle.std.specs.Prelude.{◌≡◌};
 ghost use Rattle.traffic_replay.specs.inside.Progress.{point_at, point_behind_base};
+ghost use Rattle.traffic_replay.specs.inside.Progress as progress;
 
 use coast_station::Coast;
 use dsc_files::Point;
@@ -31,5 +32,15 @@ impl Station {
             Station::Ship(_) => Point::Groups { held: 0 },
             Station::Coast(_) => Point::Coast,
         }
+    }
+}
+
+/// Behind how many groups of a ship a point stands, where another may follow.
+pub(crate) fn groups_at(point: Point) -> Option<u8>
+    ensures { result ≡ progress.groups_at point }
+{
+    match point {
+        Point::Groups { held } => Some(held),
+        Point::Station | Point::Base | Point::Ship | Point::Coast => None,
     }
 }

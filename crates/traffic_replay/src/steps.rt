@@ -8,7 +8,7 @@ ghost use Rattle.coast_station.specs.declared.events.CoastWhat.{CoastWhat as AtC
 ghost use Rattle.coast_station.specs.CoastRules.{Station, coast_rules};
 ghost use Rattle.coast_station.specs.Stands.{Stands as CoastStands};
 ghost use Rattle.traffic_lines.specs.declared.lines.TrafficLine.TheVariants as line;
-ghost use Rattle.traffic_lines.specs.Lines.{IsShipEvent, IsCoastEvent};
+ghost use Rattle.traffic_lines.specs.Anywhere.{event_of_ship, event_of_coast};
 ghost use Rattle.dsc_files.specs.PointLine.{traffic};
 ghost use Rattle.join_groups.specs.Holds.{HoldsSome};
 ghost use Rattle.traffic_replay.specs.Said.{Said, base_of};
@@ -23,7 +23,6 @@ use crate::outcomes::{Unreported, heard_call};
 use area_rules::Acts;
 use call_values::bounds::LAST_BASE;
 use coast_station::{Coast, CoastEvent, CoastWhat};
-use dsc_files::EventLine;
 use dsc_texts::put_answer_line;
 use itoa::Buffer;
 use join_groups::{Groups, MOST_IN_BATCH};
@@ -31,6 +30,7 @@ use receiver_pool::Joiner;
 use ship_station::{Ship, ShipEvent, ShipWhat};
 use station_lines::{append_answer, coast_event, ship_event};
 use std::alloc::AllocError;
+use traffic_lines::{CoastLine, ShipLine};
 
 /// Appends the line of a heard group that isn't reported, and tells that no event was accepted.
 #[tactic(auto, unfolding(crate::specs::Output::unreported_line))]
@@ -101,34 +101,29 @@ pub(crate) fn happen_at_ship<W: Joiner>(
     workers: &W,
     base: u64,
     at: u32,
-    what: &EventLine,
+    what: &ShipLine,
     acts: &mut Acts,
     out: &mut Vec<u8>,
 ) -> Result<bool, AllocError>
     requires within { base ≤ LAST_BASE }
     requires heard { HoldsSome groups.old }
     requires joins { W.can_join workers.now }
-    requires event { IsShipEvent what.now }
-    ensures kept { OnOk result ((said : Said) → KeepsGroups groups.old said → KeepsGroups groups.new (traffic (line.Event at what.now) ∷ said)) }
+    ensures kept { OnOk result ((said : Said) → KeepsGroups groups.old said → KeepsGroups groups.new (traffic (line.Event at (event_of_ship what.now)) ∷ said)) }
     ensures few { OnOk result (length groups.old.batch.items < MOST_IN_BATCH → length groups.new.batch.items < MOST_IN_BATCH) }
     ensures happens { IfOk result (λ accepted. (said : Said) (who : Identities) (h : History AtShip) → KeepsGroups groups.old said → base ≡ base_of said
         → ShipStands ship.old who h
-        → Happens (ship_rules who) taking_ship (ShipStands ship.new who) h said at what.now out.old.items out.new.items accepted) }
+        → Happens (ship_rules who) taking_ship (ShipStands ship.new who) h said at (event_of_ship what.now) out.old.items out.new.items accepted) }
 {
-    if let EventLine::Heard(group) = *what {
-        let answer = hear(groups, workers, group)?;
-        let accepted = match heard_call(group, &answer) {
-            Ok(call) => step_ship(ship, at, ShipWhat::Heard(call), acts, out)?,
-            Err(unreported) => append_unreported(out, at, &unreported)?,
-        };
-        return Ok(accepted);
-    }
-    match ship_event(base, at, what) {
-        Some(event) => {
-            let accepted = step_ship(ship, at, event, acts, out)?;
-            Ok(accepted)
+    match *what {
+        ShipLine::Own(own) => step_ship(ship, at, ship_event(base, at, &own), acts, out),
+        ShipLine::Hear(call) => step_ship(ship, at, ShipWhat::Heard(call), acts, out),
+        ShipLine::Heard(group) => {
+            let answer = hear(groups, workers, group)?;
+            match heard_call(group, &answer) {
+                Ok(call) => step_ship(ship, at, ShipWhat::Heard(call), acts, out),
+                Err(unreported) => append_unreported(out, at, &unreported),
+            }
         }
-        None => unreachable!(),
     }
 }
 
@@ -138,32 +133,27 @@ pub(crate) fn happen_at_coast<W: Joiner>(
     groups: &mut Groups,
     workers: &W,
     at: u32,
-    what: &EventLine,
+    what: &CoastLine,
     acts: &mut Acts,
     out: &mut Vec<u8>,
 ) -> Result<bool, AllocError>
     requires heard { HoldsSome groups.old }
     requires joins { W.can_join workers.now }
-    requires event { IsCoastEvent what.now }
-    ensures kept { OnOk result ((said : Said) → KeepsGroups groups.old said → KeepsGroups groups.new (traffic (line.Event at what.now) ∷ said)) }
+    ensures kept { OnOk result ((said : Said) → KeepsGroups groups.old said → KeepsGroups groups.new (traffic (line.Event at (event_of_coast what.now)) ∷ said)) }
     ensures few { OnOk result (length groups.old.batch.items < MOST_IN_BATCH → length groups.new.batch.items < MOST_IN_BATCH) }
     ensures happens { IfOk result (λ accepted. (said : Said) (who : Station) (h : History AtCoast) → KeepsGroups groups.old said
         → CoastStands coast.old who h
-        → Happens (coast_rules who) taking_coast (CoastStands coast.new who) h said at what.now out.old.items out.new.items accepted) }
+        → Happens (coast_rules who) taking_coast (CoastStands coast.new who) h said at (event_of_coast what.now) out.old.items out.new.items accepted) }
 {
-    if let EventLine::Heard(group) = *what {
-        let answer = hear(groups, workers, group)?;
-        let accepted = match heard_call(group, &answer) {
-            Ok(call) => step_coast(coast, at, CoastWhat::Heard(call), acts, out)?,
-            Err(unreported) => append_unreported(out, at, &unreported)?,
-        };
-        return Ok(accepted);
-    }
-    match coast_event(what) {
-        Some(event) => {
-            let accepted = step_coast(coast, at, event, acts, out)?;
-            Ok(accepted)
+    match *what {
+        CoastLine::Own(own) => step_coast(coast, at, coast_event(&own), acts, out),
+        CoastLine::Hear(call) => step_coast(coast, at, CoastWhat::Heard(call), acts, out),
+        CoastLine::Heard(group) => {
+            let answer = hear(groups, workers, group)?;
+            match heard_call(group, &answer) {
+                Ok(call) => step_coast(coast, at, CoastWhat::Heard(call), acts, out),
+                Err(unreported) => append_unreported(out, at, &unreported),
+            }
         }
-        None => unreachable!(),
     }
 }

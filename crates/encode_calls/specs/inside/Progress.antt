@@ -1,9 +1,7 @@
 -- What the command has encoded so far: this project's profile.
 use Rattle.std.specs.Prelude.{◌≡◌, ℕ, Bool, List, length}
 use Rattle.line_engine.specs.Lines.{Lines}
-use Rattle.dsc_texts.specs.Texts.{IsWholeOrAbsent}
 use Rattle.dsc_files.specs.declared.calls.CallLine.{CallLine}
-use Rattle.dsc_files.specs.declared.calls.CallLine.TheVariants as line
 use Rattle.encode_calls.specs.Encoding.{AreCallLines, calls_of, encoded}
 
 -- so many calls stood in these lines, and this is what they give
@@ -12,8 +10,3 @@ pub record HasEncoded (long : Bool) (count : ℕ) (lines : Lines) (text : List �
   pub are_lines : AreCallLines said lines
   pub text_is : text ≡ encoded long 0 (calls_of said)
   pub count_is : count ≡ length (calls_of said)
-
--- behind a call an expansion stands whole or not at all
-abbrev pub IsLawful : CallLine → Type 0
-IsLawful line.Nothing = Unit {0}
-IsLawful (line.Call c extra) = IsWholeOrAbsent extra

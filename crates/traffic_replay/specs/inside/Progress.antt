@@ -1,13 +1,11 @@
 -- What a replay has come to.
-use Rattle.std.specs.Prelude.{◌≡◌, ℕ, ◌≤◌, ◌<◌, ◌==◌, Bool, List, [], ◌∷◌, length}
+use Rattle.std.specs.Prelude.{◌≡◌, ℕ, ◌≤◌, ◌<◌, ◌==◌, Bool, Option, Some, None, List, [], ◌∷◌, length}
 use Rattle.ten_unit.specs.declared.character.Element.{Element}
 use Rattle.slot_evidence.specs.Facts.{Facts}
 use Rattle.phasing.specs.declared.reception.TheConstants.{LONGEST}
 use Rattle.line_engine.specs.Lines.{Lines}
 use Rattle.traffic_lines.specs.declared.lines.Point.{Point}
 use Rattle.traffic_lines.specs.declared.lines.Point.TheVariants as point
-use Rattle.traffic_lines.specs.declared.lines.EventLine.{EventLine}
-use Rattle.traffic_lines.specs.Lines.{IsShipEvent, IsCoastEvent}
 use Rattle.area_rules.specs.Histories.{History}
 use Rattle.area_rules.specs.Rules.{Rules}
 use Rattle.ship_station.specs.ShipRules.{ship_rules}
@@ -15,15 +13,14 @@ use Rattle.ship_station.specs.Stands.{Stands as ShipStands}
 use Rattle.coast_station.specs.CoastRules.{coast_rules}
 use Rattle.coast_station.specs.Stands.{Stands as CoastStands}
 use Rattle.call_values.specs.declared.bounds.TheConstants.{LAST_BASE}
-use Rattle.call_values.specs.declared.choices.Band.{Band}
 use Rattle.dsc_files.specs.JoinLine.{JoinLine}
-use Rattle.dsc_files.specs.PointLine.{PointLine, joined}
+use Rattle.dsc_files.specs.PointLine.{PointLine, joined, IsPointLine}
+use Rattle.traffic_lines.specs.Lines.{IsTrafficLine}
+use Rattle.line_grammar.specs.Columns.{IsColumn}
+use Rattle.line_engine.specs.declared.command.Refusal.{Refusal}
+use Rattle.line_engine.specs.declared.command.Refusal.TheVariants as refusal
 use Rattle.dsc_files.specs.declared.join.JoinLine.{JoinLine as Got}
 use Rattle.dsc_files.specs.declared.join.JoinLine.TheVariants as got
-use Rattle.dsc_files.specs.declared.traffic.PointLine.{PointLine as GotAtPoint}
-use Rattle.dsc_files.specs.declared.traffic.PointLine.TheVariants as at
-use Rattle.traffic_lines.specs.declared.lines.TrafficLine.{TrafficLine}
-use Rattle.traffic_lines.specs.declared.lines.TrafficLine.TheVariants as line
 use Rattle.join_groups.specs.Groups.{facts_of_line, names}
 use Rattle.join_groups.specs.declared.groups.TheConstants.{MOST_IN_BATCH}
 use Rattle.join_groups.specs.Holds.{HoldsSome}
@@ -114,31 +111,25 @@ abbrev pub point_behind_base : Station → Point
 point_behind_base (station.Ship s) = point.Groups 0
 point_behind_base (station.Coast s) = point.Coast
 
--- an event that a kind of station has
-abbrev pub IsEventAt : Station → EventLine → Type 0
-IsEventAt (station.Ship s) what = IsShipEvent what
-IsEventAt (station.Coast s) what = IsCoastEvent what
+-- behind how many groups a point stands, where another may follow
+abbrev pub groups_at : Point → Option ℕ
+groups_at (point.Groups held) = Some held
+groups_at _ = None
 
--- a station's line may stand where the replay is
-pub record IsReadyFor (replay : Replay) (says : TrafficLine) : Type 0 where
+-- faults of the station's lines are faults of this line at this point
+abbrev pub IsOwnLine : Point → List ℕ → Type 0
+IsOwnLine at text = (n : ℕ) → 1 ≤ n → IsColumn (IsTrafficLine at) text n → IsColumn (IsPointLine at) text n
+
+-- what is known of a replay whatever was said
+pub record IsReady (replay : Replay) : Type 0 where
   pub within : replay.base ≤ LAST_BASE
   pub heard : HoldsSome replay.heard
   pub most : length replay.groups.items ≤ 16
-  pub ship : (mmsi : ℕ) → says ≡ line.Ship mmsi → replay.point ≡ point.Station
-  pub base : (second : ℕ) → says ≡ line.Base second → (replay.point ≡ point.Base) × (second ≤ LAST_BASE)
-  pub coast : (mmsi : ℕ) (band : Band) → says ≡ line.Coast mmsi band → replay.point ≡ point.Station
-  pub group : (mmsi : ℕ) → says ≡ line.Group mmsi → IsAmongGroups replay.point × (length replay.groups.items < 16)
-  pub event : (at : ℕ) (what : EventLine) → says ≡ line.Event at what → IsEventAt replay.station what
+  pub counted : IsBehindGroups replay.point replay.groups.items
 
 -- what was read of a line of receivers has no more elements than a reception may have
 abbrev pub IsShort : Got → Type 0
 IsShort read = (group : ℕ) (e : List Element) → read ≡ got.Reception group e → length e ≤ LONGEST
-
--- what was read of a line may stand where the replay is
-pub record IsReady (replay : Replay) (read : GotAtPoint) : Type 0 where
-  pub heard : HoldsSome replay.heard
-  pub joined : (says : Got) → read ≡ at.Joined says → IsShort says
-  pub traffic : (says : TrafficLine) → read ≡ at.Traffic says → IsReadyFor replay says
 
 -- a line of receivers gives these facts of its group
 pub record IsShown (line : JoinLine) (group : ℕ) (G : Facts) : Type 0 where
@@ -151,3 +142,16 @@ pub record BringsGroup (said : Said) (says : PointLine) : Type 0 where
   pub line : JoinLine
   pub is_joined : says ≡ joined line
   pub brings : BringsTooMany (of_receivers said) line
+
+-- behind what was said this line says something more, which brings no group too many, and the replay keeps it
+pub record Takes (replay : Replay) (said : Said) (line : List ℕ) (text : List ℕ) : Type 0 where
+  pub says : PointLine
+  pub is_line : IsPointLine (point_of said) says line
+  pub few : BringsGroup said says → ⊥
+  pub keeps : Keeps replay (says ∷ said) text
+
+-- behind what was said this line is refused for this reason
+abbrev pub Refuses : Said → (line : List ℕ) → Refusal → Type 0
+Refuses said line (refusal.Column n) = IsColumn (IsPointLine (point_of said)) line n
+Refuses said line refusal.TooManyGroups = (says : PointLine) × (IsPointLine (point_of said) says line × BringsGroup said says)
+Refuses said line refusal.Memory = Unit {0}

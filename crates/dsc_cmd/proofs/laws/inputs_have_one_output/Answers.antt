@@ -11,6 +11,7 @@ laws_of c = record {
   sentences = c.lines_determine_output-3.ensures;
   replay = c.lines_determine_output-4.ensures;
   capture = c.lines_determine_output-5.ensures;
+  book = c.lines_determine_output-6.ensures;
   made = c.made_text_is_one.ensures;
 }
 

@@ -1,6 +1,6 @@
 use Rattle.std.proofs.Common.{◌∙◌, sym, ap, refl}
 use Rattle.dsc_words.specs.declared.plans.Plan.TheVariants.{Encode}
-use Rattle.dsc_cmd.proofs.MadeEndings.{made_run, join_is_not_make, evidence_is_not_make, encode_is_not_make, sentences_is_not_make, replay_is_not_make, capture_is_not_make}
+use Rattle.dsc_cmd.proofs.MadeEndings.{made_run, join_is_not_make, evidence_is_not_make, encode_is_not_make, sentences_is_not_make, replay_is_not_make, capture_is_not_make, book_is_not_make}
 use Rattle.dsc_cmd.proofs.PlanRuns.{at_plan}
 use Rattle.dsc_cmd.proofs.running.execute.Goals as goal
 
@@ -24,6 +24,9 @@ returns-in-Replay-clause-run g c = at_plan g.S.Source g.K.Sink c.in-Replay.is c.
 
 pub returns-in-Capture-clause-run : goal.returns-in-Capture-clause-run
 returns-in-Capture-clause-run g c = at_plan g.S.Source g.K.Sink c.in-Capture.is c.capture.ensures
+
+pub returns-in-Book-clause-run : goal.returns-in-Book-clause-run
+returns-in-Book-clause-run g c = at_plan g.S.Source g.K.Sink c.in-Book.is c.drive_alone-in-Book.ensures
 
 pub returns-in-Make-clause-run : goal.returns-in-Make-clause-run
 returns-in-Make-clause-run g c =
@@ -56,3 +59,6 @@ returns-in-Replay-clause-unread g c = λ n same. absurd (replay_is_not_make (sym
 
 pub returns-in-Capture-clause-unread : goal.returns-in-Capture-clause-unread
 returns-in-Capture-clause-unread g c = λ n same. absurd (capture_is_not_make (sym c.in-Capture.is ∙ same))
+
+pub returns-in-Book-clause-unread : goal.returns-in-Book-clause-unread
+returns-in-Book-clause-unread g c = λ n same. absurd (book_is_not_make (sym c.in-Book.is ∙ same))

@@ -1,4 +1,5 @@
 use Rattle.std.proofs.Common.{sym, subst}
+use Rattle.slot_join.specs.declared.joined.Extra.{Extra}
 use Rattle.line_grammar.specs.Columns.{IsColumn}
 use Rattle.dsc_texts.specs.Texts.{IsCallText}
 use Rattle.dsc_files.specs.CallLine.{IsCallLine}
@@ -7,7 +8,7 @@ use Rattle.dsc_files.proofs.CallLines.{calls_in_calls}
 use Rattle.dsc_files.proofs.calls.whole_call.Goals as goal
 
 pub returns-in-Ok : goal.returns-in-Ok
-returns-in-Ok c = c.in-Ok.ensures.read.0
+returns-in-Ok c = subst (λ (x : Extra). IsCallText (c.in-Ok.call, x) c.args.line.now) (sym c.expansion_in.ensures) c.in-Ok.ensures.read.0
 
 pub returns-in-Err : goal.returns-in-Err
 returns-in-Err c =

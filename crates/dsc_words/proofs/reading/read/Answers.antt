@@ -2,7 +2,7 @@ use Rattle.std.proofs.Common.{◌≡◌, ◌∙◌, ap₂, sym, subst, Option, S
 use Rattle.std.proofs.lemmas.Option.{IfSome_then}
 use Rattle.clap.specs.Words.{Row, Text, found_of, first_of, rows_of, subcommand_rows_of}
 use Rattle.clap.proofs.WalkLemmas.{first_value-rows}
-use Rattle.dsc_words.specs.inside.Asked.{IsAsked}
+use Rattle.dsc_words.specs.inside.CommandLine.{IsAsked}
 use Rattle.dsc_words.proofs.LongWords.{none_is_some}
 use Rattle.dsc_words.proofs.PlanWords.{same_pair, some_same}
 use Rattle.dsc_words.proofs.reading.read.Goals as goal

@@ -15,4 +15,4 @@ returns c =
     let line = c.in_ok-extend_from_slice-4.ensures.items ∙ ap (λ (l : List ℕ). l ++ 10 ∷ []) signs in
     line
     ∙ ap (λ (slots : List ℕ). ((((out ++ codes "r g") ++ decimal c.args.group) ++ codes " ") ++ map sign_of (sent slots c.args.long)) ++ 10 ∷ []) (c.deref.ensures.0 ∙ c.slots_of.ensures.slots)
-    ∙ line_appended out c.args.long c.args.group c.args.call.now c.args.extra.now
+    ∙ line_appended out c.args.long c.args.group c.args.call.now c.args.expansion.now

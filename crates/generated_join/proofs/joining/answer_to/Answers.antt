@@ -1,11 +1,10 @@
-use Rattle.std.proofs.Common.{◌≡◌, ℕ, List, ap, subst, ◌∙◌, append-nil, arith}
+use Rattle.std.proofs.Common.{◌≡◌, ℕ, None, List, ap, subst, ◌∙◌, append-nil, arith}
 use Rattle.call_values.specs.declared.calls.Call.{Call}
 use Rattle.call_grammar.specs.Spelling.{spell}
 use Rattle.time_diversity.specs.OnAir.{on_air}
 use Rattle.ten_unit.specs.declared.character.Element.{Element}
 use Rattle.slot_evidence.specs.Facts.{Facts, facts_of, facts_of_all}
 use Rattle.slot_evidence.specs.Sheet.{IsEnds}
-use Rattle.slot_join.specs.declared.joined.Extra.TheVariants.{Absent}
 use Rattle.join_groups.specs.Groups.{group_facts}
 use Rattle.encode_calls.specs.Transmissions.{list_on_air}
 use Rattle.generated_join.specs.Generator.{alert_of, heard, heard_of, lines_of_group}
@@ -19,7 +18,7 @@ pub loop-receiver-preserved : goal.loop-receiver-preserved
 loop-receiver-preserved c =
     let k = c.args.group in
     let n = c.loop-receiver.receiver in
-    let symbols = c.deref.ensures.0 ∙ c.slots_of-slots.ensures.slots ∙ ap (λ (call : Call). on_air (list_on_air call Absent)) c.alert.ensures
+    let symbols = c.deref.ensures.0 ∙ c.slots_of-slots.ensures.slots ∙ ap (λ (call : Call). on_air (list_on_air call None)) c.alert.ensures
     ∙ ap (λ (l : List ℕ). on_air l) (append-nil (spell (alert_of k))) in
     let same : c.from.result ≡ heard k n = c.from.ensures ∙ c.in_ok-elements.ensures.items ∙ ap (λ (l : List ℕ). heard_of k n l) symbols in
     let shown = subst (λ (e : List Element). IsEnds (facts_of e) c.shown_by-shown.result) same c.shown_by-shown.ensures in

@@ -8,8 +8,8 @@ use Rattle.receiver_pool.proofs.Turning.{turned_up, none_turned_up, all_turned_u
 use Rattle.receiver_pool.proofs.SeatRows.{seats_row, row_seats, posted}
 use Rattle.receiver_pool.proofs.boards.post_each.Goals as goal
 
-pub post_sheet-requires : goal.post_sheet-requires
-post_sheet-requires c =
+pub post_sheet-requires-clause-board : goal.post_sheet-requires-clause-board
+post_sheet-requires-clause-board c lives =
     let sit = c.requires.seats in
     let was = c.loop-k.invariant in
     let k = c.loop-k.k in

@@ -3,6 +3,7 @@ use Rattle.slot_evidence.specs.declared.places.Seen.{Seen}
 use Rattle.slot_evidence.specs.Facts.{no_facts, facts_of_all}
 use Rattle.slot_evidence.specs.Sheet.{IsEnds}
 use Rattle.receiver_pool.proofs.Parts.{all_joined, all_by_one}
+use Rattle.receiver_pool.proofs.Posted.{all_may}
 use Rattle.receiver_pool.proofs.pools.pool.Goals as goal
 
 pub returns-then-workers-eq1 : goal.returns-then-workers-eq1
@@ -11,4 +12,7 @@ returns-then-workers-eq1 g c = all_by_one 1 c.args.list.now c.heard_by.result (o
 pub returns : goal.returns
 returns g c =
     subst (λ (s : List Seen). IsEnds (facts_of_all c.args.list.now) s) (sym c.close.ensures)
-    (all_joined c.args.workers c.args.list.now _ (omega (arith, c.requires.workers)) (c.fork-seat.ensures.ends no_facts c.in_ok-board.ensures.empty))
+    (all_joined c.args.list.now _ (c.post_all-seat.ensures.ends no_facts c.in_ok-board.ensures.empty))
+
+pub post_all-seat-requires-clause-may : goal.post_all-seat-requires-clause-may
+post_all-seat-requires-clause-may g c lives last = all_may c.args.list.now

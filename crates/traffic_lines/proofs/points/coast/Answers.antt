@@ -1,5 +1,4 @@
-use Rattle.traffic_lines.specs.declared.lines.Point.TheVariants.{Station}
-use Rattle.traffic_lines.specs.Lines.{IsTrafficLine}
+use Rattle.traffic_lines.specs.inside.Reading.{NamesStation}
 use Rattle.traffic_lines.specs.inside.Grammars.{band, coast}
 use Rattle.traffic_lines.proofs.Languages.{exit_read}
 use Rattle.traffic_lines.proofs.LineTexts.{coast_text}
@@ -9,7 +8,7 @@ pub returns-in-Err : goal.returns-in-Err
 returns-in-Err c = c.in-Err.ensures.left band
 
 pub returns-in_err-band : goal.returns-in_err-band
-returns-in_err-band c = exit_read coast (IsTrafficLine Station) _ _ _ c.from_residual.ensures.1 (c.in-Ok.ensures.value band _ c.in_err-band.ensures)
+returns-in_err-band c = exit_read coast NamesStation _ _ _ c.from_residual.ensures.1 (c.in-Ok.ensures.value band _ c.in_err-band.ensures)
 
 pub returns : goal.returns
 returns c = coast_text _ _ _ _ c.in-Ok.ensures.lawful c.in-Ok.ensures.text c.in_ok-band.ensures

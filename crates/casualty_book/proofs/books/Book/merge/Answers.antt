@@ -1,8 +1,8 @@
-use Rattle.casualty_book.proofs.Unions.{merged, book_merged}
+use Rattle.casualty_book.proofs.Kept.{merged, kept_merged}
 use Rattle.casualty_book.proofs.books.Book.merge.Goals as goal
 
 pub invariant_of-self : goal.invariant_of-self
-invariant_of-self c = book_merged c.self.inside.rows c.other.inside.rows c.in_ok-self-inside.field-0 c.self.invariant c.other.invariant c.in_ok-self-inside.ensures
+invariant_of-self c = kept_merged c.self.inside.rows c.other.inside.rows c.in_ok-self-inside.field-0 c.self.invariant c.other.invariant c.in_ok-self-inside.ensures
 
 pub returns-clause-rows : goal.returns-clause-rows
 returns-clause-rows c =

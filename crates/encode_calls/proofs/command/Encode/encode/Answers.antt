@@ -1,6 +1,6 @@
-use Rattle.std.proofs.Common.{◌≡◌, ◌++◌, [], ◌∷◌, List, ℕ, sym, ap, ◌∙◌, append-nil}
+use Rattle.std.proofs.Common.{◌≡◌, ◌++◌, [], ◌∷◌, Option, List, ℕ, sym, ap, ◌∙◌, append-nil}
 use Rattle.call_values.specs.declared.calls.Call.{Call}
-use Rattle.slot_join.specs.declared.joined.Extra.{Extra}
+use Rattle.expansion.specs.declared.values.Sets.{Sets}
 use Rattle.dsc_files.specs.declared.calls.CallLine.{CallLine}
 use Rattle.encode_calls.specs.Encoding.{calls_of, encoded_line, encoded}
 use Rattle.encode_calls.proofs.command.Encode.encode.Goals as goal
@@ -16,7 +16,7 @@ unfolding encoded
 returns-in_ok-append_line-in-Call-clause-text g c =
     let old = c.args.out.now.items in
     let count = c.args.self.now.count in
-    let whole : Call × Extra = (c.in-Call.call, c.in-Call.extra) in
+    let whole : Call × Option Sets = (c.in-Call.call, c.in-Call.expansion) in
     c.in_ok-append_line-in-Call.ensures
     ∙ ap (λ b. old ++ encoded_line b count whole) c.is_long.ensures
     ∙ ap (λ (l : List ℕ). old ++ l) (sym (append-nil (encoded_line g.D.Dots.long count whole)))

@@ -1,16 +1,13 @@
 use Rattle.std.proofs.Common.{arith, sym, ap, subst, ◌++◌, ◌∷◌, [], ◌∙◌, append_assoc}
 use Rattle.encode_calls.specs.Encoding.{calls_of, encoded}
 use Rattle.encode_calls.specs.inside.Progress.{HasEncoded}
-use Rattle.encode_calls.proofs.Encoded.{few_encoded, line_lawful, more_encoded}
+use Rattle.encode_calls.proofs.Encoded.{few_encoded, more_encoded}
 use Rattle.encode_calls.proofs.command.EncodeCommand.take.Goals as goal
 
-pub encode-requires-clause-few : goal.encode-requires-clause-few
-encode-requires-clause-few g c =
+pub encode-requires : goal.encode-requires
+encode-requires g c =
     let ready = c.requires.ready in
     omega (arith, few_encoded _ _ _ _ ready.stands, ready.few)
-
-pub encode-requires-clause-lawful : goal.encode-requires-clause-lawful
-encode-requires-clause-lawful g c = line_lawful c.in-Ok.says c.args.line.now c.in-Ok.ensures
 
 pub returns-in_ok-encode-in-Ok-clause-stands : goal.returns-in_ok-encode-in-Ok-clause-stands
 returns-in_ok-encode-in-Ok-clause-stands g c = λ lines written h.

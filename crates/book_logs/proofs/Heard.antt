@@ -1,0 +1,80 @@
+-- what is taken of a sentence that was heard
+use Rattle.std.proofs.Common.{◌≡◌, ◌↔◌, ◌⊎◌, ℕ, Bool, true, false, ◌&&◌, ◌||◌, List, Option, Some, None, Result, Ok, Err, inl, inr, refl, sym, ap, subst, ◌∙◌}
+use Rattle.std.specs.List.{Contains}
+use Rattle.sentence_frame.specs.declared.refusals.SentenceRefusal.{SentenceRefusal}
+use Rattle.dsc_files.specs.BookLine.{is_sentence}
+use Rattle.dsc_sentences.specs.declared.dsc.DscFields.{DscFields}
+use Rattle.dsc_sentences.specs.Heard.{IsHeard}
+use Rattle.dsc_sentences.specs.Verdicts.{verdict_of}
+use Rattle.casualty_book.specs.declared.rows.BookRow.{BookRow}
+use Rattle.casualty_book.specs.Books.{HasAlsoOf}
+use Rattle.book_logs.specs.declared.command.Logs.{Logs}
+use Rattle.book_logs.specs.Telling.{GivesRow, is_refusal, is_refused}
+use Rattle.book_logs.specs.inside.Progress.{TakesOne, row_heard}
+use Rattle.book_logs.proofs.Taken.{or_false}
+
+abbrev the_answer : Option DscFields → Result (Option DscFields) SentenceRefusal
+the_answer heard = Ok heard
+
+same_heard : (a b : Option DscFields) → the_answer a ≡ the_answer b → a ≡ b
+same_heard a b e = cc
+
+same_row : (a b : BookRow) → Some a ≡ Some b → a ≡ b
+same_row a b e = cc
+
+-- a sentence gives the row of what is heard of it, and no other one
+heard_gives : (line : List ℕ) (heard : Option DscFields) → is_sentence line ≡ true → IsHeard line (Ok heard) → (row : BookRow) → row_heard heard ≡ Some row → GivesRow line row
+heard_gives line None sentence h row e = absurd (cc)
+heard_gives line (Some s) sentence h row e = record { told = record { sentence = sentence; fields = s; accepted = h.found }; row_is = e }
+
+only_gives : (line : List ℕ) (heard : Option DscFields) → IsHeard line (Ok heard) → (row : BookRow) → GivesRow line row → row_heard heard ≡ Some row
+only_gives line heard h row g = ap row_heard (same_heard heard (Some g.told.fields) (h.only g.told.fields g.told.accepted)) ∙ g.row_is
+
+rows_added : (old new : List BookRow) (gives : Option BookRow) (G : BookRow → Type 0) → ((row : BookRow) → G row ↔ (gives ≡ Some row)) → HasAlsoOf old gives new
+    → (row : BookRow) → Contains new row ↔ (Contains old row ⊎ G row)
+rows_added old new None G g e row = (
+  λ here. inl (subst (λ (l : List BookRow). Contains l row) e here),
+  λ either. elim either [
+    | inl here ↦ subst (λ (l : List BookRow). Contains l row) (sym e) here
+    | inr gives ↦ absurd (let is = (g row).0 gives in cc)
+  ],
+)
+rows_added old new (Some r) G g h row = (
+  λ here. elim ((h row).0 here) [
+    | inl before ↦ inl before
+    | inr same ↦ inr ((g row).1 (ap Some same))
+  ],
+  λ either. elim either [
+    | inl before ↦ (h row).1 (inl before)
+    | inr gives ↦ (h row).1 (inr (same_row r row ((g row).0 gives)))
+  ],
+)
+
+pub heard_taken : (old new : Logs) (line : List ℕ) (heard : Option DscFields) → is_sentence line ≡ true → IsHeard line (Ok heard)
+    → HasAlsoOf old.book (row_heard heard) new.book → new.refused ≡ old.refused → TakesOne old new line
+heard_taken old new line heard sentence h rows refused = record {
+  rows_are = rows_added old.book new.book (row_heard heard) (λ row. GivesRow line row) (λ row. (only_gives line heard h row, heard_gives line heard sentence h row)) rows;
+  refused_is =
+      let accepted : is_refused line ≡ false = ap (λ (b : Bool). b && is_refusal (verdict_of line)) sentence ∙ ap is_refusal (sym h.verdict) in
+      refused ∙ or_false old.refused ∙ ap (λ (b : Bool). old.refused || b) (sym accepted);
+}
+
+-- a sentence that is refused gives no row
+pub refused_taken : (old new : Logs) (line : List ℕ) (refusal : SentenceRefusal) → is_sentence line ≡ true → IsHeard line (Err refusal)
+    → new.book ≡ old.book → new.refused ≡ true → TakesOne old new line
+refused_taken old new line refusal sentence h book refused = record {
+  rows_are = λ row. (
+    λ here. inl (subst (λ (l : List BookRow). Contains l row) book here),
+    λ either. elim either [
+      | inl here ↦ subst (λ (l : List BookRow). Contains l row) (sym book) here
+      | inr gives ↦ absurd (let is = h.only gives.told.fields gives.told.accepted in cc)
+    ],
+  );
+  refused_is =
+      let is : is_refused line ≡ true = ap (λ (b : Bool). b && is_refusal (verdict_of line)) sentence ∙ ap is_refusal (sym h.verdict) in
+      refused ∙ sym (ap (λ (b : Bool). old.refused || b) is ∙ or_true old.refused);
+}
+  where
+    or_true : (b : Bool) → (b || true) ≡ true
+    or_true true = refl
+    or_true false = refl

@@ -1,0 +1,6 @@
+mod Moving
+mod Deliveries
+mod Splits
+mod Answered
+mod Endings
+mod Silence

@@ -1,0 +1,30 @@
+ghost use Rattle.std.specs.Prelude.{◌≡◌, ◌∷◌, ◌++◌, false, IsTrue};
+ghost use Rattle.std.specs.List.{list_any};
+ghost use Rattle.traffic_rules.specs.Sendings.{is_alert, sends};
+ghost use Rattle.ship_station.specs.Past.{is_end};
+ghost use Rattle.exchange.specs.AlertEnds.{begins_alert, ship_does, MayEnd};
+ghost use Rattle.exchange.specs.WorldHistories.{WorldEntry, WorldHistory};
+ghost use Rattle.exchange.specs.WorldRules.{Parties, IsLegal};
+
+use coast_station::acknowledgements_go_back_to_accepted_alerts;
+use ship_station::alerts_end_by_hand_or_acknowledgement;
+
+/// The law that in an exchange the ship's distress alert ends only at a cancel, or where an acknowledgement comes to it that the coast
+/// station sent: of an alert that the ship sent before, that came to the coast station before, and whose identity was accepted there, in
+/// every legal history. That alert may belong to an earlier emergency of the ship. It does nothing.
+pub fn alerts_end_by_cancel_or_acknowledgement()
+    ensures { (who : Parties) (later earlier : WorldHistory) (ended : WorldEntry) → IsLegal who (later ++ ended ∷ earlier)
+        → IsTrue (ship_does is_end ended) → MayEnd who.ship.own ended.event earlier }
+{
+    alerts_end_by_hand_or_acknowledgement();
+    acknowledgements_go_back_to_accepted_alerts();
+}
+
+/// The law that in an exchange the ship sends no distress alert after the end of one, before the next event that begins one, however many
+/// acknowledgements come, in every legal history. It does nothing.
+pub fn no_alert_after_an_end()
+    ensures { (who : Parties) (later earlier : WorldHistory) (ended : WorldEntry) → IsLegal who (later ++ ended ∷ earlier)
+        → IsTrue (ship_does is_end ended) → list_any begins_alert later ≡ false → list_any (ship_does (sends is_alert)) later ≡ false }
+{
+    ship_station::no_alert_after_an_end();
+}

@@ -1,0 +1,15 @@
+//! A ship and a coast station over a link that loses, repeats and reorders: every call that one end has sent may come to the other end at
+//! any time, any number of times, or never.
+#![tactic(auto)]
+
+mod events;
+mod laws;
+mod sent;
+mod steps;
+mod told;
+mod worlds;
+
+pub use events::WorldEvent;
+pub use laws::{alerts_end_by_cancel_or_acknowledgement, no_alert_after_an_end};
+pub use told::{Outcome, Told};
+pub use worlds::World;

@@ -1,0 +1,4 @@
+mod Telling
+mod Sending
+mod Polling
+mod Posting

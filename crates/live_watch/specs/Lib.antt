@@ -1,0 +1,3 @@
+pub mod Told
+pub mod Watching
+pub mod inside

@@ -1,0 +1,145 @@
+//! A watch: workers post what receptions show on a board, and a watcher beside them polls it.
+ghost use Rattle.std.specs.Prelude.{◌≡◌, ◌↔◌, ℕ, ◌≤◌, true, All, IfOk, length};
+ghost use Rattle.std.specs.Thread.{IsSync, IsSend};
+ghost use Rattle.slot_evidence.specs.Facts.{Facts, facts_of_all, union};
+ghost use Rattle.slot_evidence.specs.Sheet.{IsEnds};
+ghost use Rattle.receiver_pool.specs.Posting.{MayAllBePosted};
+ghost use Rattle.receiver_pool.specs.Views.{given_sheet, seen_sheet};
+ghost use Rattle.slot_evidence.specs.Allowed.{IsAllowed};
+ghost use Rattle.live_watch.specs.Told.{IsWatched};
+ghost use Rattle.live_watch.specs.inside.Known.{known_facts, AreAllAllowed};
+ghost use Rattle.live_watch.specs.inside.Posted.{IsUnreported};
+
+use crate::laws::told_calls;
+use crate::watchers::{News, Watcher};
+use call_values::Call;
+use phasing::LONGEST;
+use receiver_pool::{Allowed, Board, Gate, Seat, all_facts_may_be_posted, post_all};
+use slot_evidence::{Reception, Sheet, ends_are_kept, sheet_has_facts, sheet_is_lawful};
+use slot_join::alike_facts_have_one_answer;
+use std::alloc::{AllocError, Global};
+use std::marker::Brand;
+use std::thread::{Threads, join};
+
+/// A watcher polls at most so often while workers post.
+const MOST_POLLS: u32 = 64;
+
+/// Polls until a call is told, at most 64 times.
+fn poll_meanwhile<A: Allowed>(mut watcher: Watcher<A>, board: &Board<A>) -> Watcher<A>
+    requires { watcher.seat.table ≡ board.now }
+    ensures board { result.seat.table ≡ board.now }
+    ensures share { result.seat.view.share ≡ watcher.seat.view.share }
+    ensures given { given_sheet result.seat.view ≡ given_sheet watcher.seat.view }
+{
+    for _ in 0..MOST_POLLS {
+        let (next, news) = watcher.poll(board);
+        watcher = next;
+        if let News::New(_) = news {
+            return watcher;
+        }
+    }
+    watcher
+}
+
+/// The workers post beside a watcher, which enters the gate with their number first thing.
+fn post_beside<A: Allowed, R: Threads + Sync, G: Gate>(
+    rt: &R,
+    board: &Board<A>,
+    watcher: Watcher<A>,
+    seat: Seat<A>,
+    list: &[Reception],
+    workers: u32,
+    gate: &G,
+) -> (Watcher<A>, Seat<A>)
+    requires sync { IsSync R.row × IsSync A.row × IsSend A.row × IsSync G.row }
+    requires board { (watcher.seat.table ≡ board.now) × (seat.table ≡ board.now) }
+    requires may { MayAllBePosted A.facts list.now }
+    requires workers { (1 ≤ workers) × (workers ≤ seat.view.share) }
+    requires short { All (λ heard. length heard ≤ LONGEST) list.now }
+    ensures board { (result.0.seat.table ≡ board.now) × (result.1.table ≡ board.now) }
+    ensures share { (result.0.seat.view.share ≡ watcher.seat.view.share) × (result.1.view.share ≡ seat.view.share) }
+    ensures given { given_sheet result.0.seat.view ≡ given_sheet watcher.seat.view }
+    ensures ends { (F : Facts) → IsEnds F (given_sheet seat.view) → IsEnds (union F (facts_of_all list.now)) (given_sheet result.1.view) }
+{
+    join(
+        rt,
+        move || -> Watcher<A>
+            requires { IsSync G.row × (watcher.seat.table ≡ board.now) }
+            ensures { (result.seat.table ≡ board.entry.now) × (result.seat.view.share ≡ watcher.seat.view.share) × (given_sheet result.seat.view ≡ given_sheet watcher.seat.view) }
+        {
+            gate.enter(workers);
+            poll_meanwhile(watcher, board)
+        },
+        move || -> Seat<A>
+            requires { IsSync R.row × IsSync A.row × IsSend A.row × IsSync G.row × (seat.table ≡ board.now) × MayAllBePosted A.facts list.now × ((1 ≤ workers) × (workers ≤ seat.view.share)) × All (λ heard. length heard ≤ LONGEST) list.now }
+            ensures { (result.table ≡ board.entry.now) × (result.view.share ≡ seat.view.share) × ((F : Facts) → IsEnds F (given_sheet seat.view) → IsEnds (union F (facts_of_all list.entry.now)) (given_sheet result.view)) }
+        { post_all(rt, board, seat, list, workers, gate) },
+    )
+}
+
+/// Polls once more where no call was told.
+fn poll_last<A: Allowed>(watcher: Watcher<A>, board: &Board<A>) -> Watcher<A>
+    requires { watcher.seat.table ≡ board.now }
+    ensures board { result.seat.table ≡ board.now }
+    ensures share { result.seat.view.share ≡ watcher.seat.view.share }
+    ensures given { given_sheet result.seat.view ≡ given_sheet watcher.seat.view }
+    ensures last { (F : Facts) → ((p v : ℕ) → IsAllowed A.facts p v → F p v ≡ true) → IsEnds F (given_sheet watcher.seat.view) → IsUnreported F result.told }
+{
+    if watcher.told().is_some() {
+        return watcher;
+    }
+    alike_facts_have_one_answer();
+    ends_are_kept();
+    let (watcher, _news) = watcher.poll(board);
+    watcher
+}
+
+/// `watch` on a board on which the facts of the sheet and of the receptions, and no others, may be posted.
+fn watch_on<A: Allowed, R: Threads + Sync, G: Gate>(
+    rt: &R,
+    alloc: Global,
+    so_far: &Sheet,
+    list: &[Reception],
+    workers: u32,
+    gate: &G,
+) -> Result<(Sheet, Option<Call>), AllocError>
+    requires known { AreAllAllowed A.facts (known_facts so_far.now list.now) }
+    requires workers { (1 ≤ workers) × (workers ≤ 64) }
+    requires short { All (λ heard. length heard ≤ LONGEST) list.now }
+    ensures ends { IfOk result (λ watched. (F : Facts) → IsEnds F so_far.now → IsEnds (union F (facts_of_all list.now)) watched.0) }
+    ensures told { IfOk result (λ watched. (F : Facts) → IsEnds F so_far.now → IsWatched (union F (facts_of_all list.now)) watched.1) }
+{
+    told_calls();
+    alike_facts_have_one_answer();
+    ends_are_kept();
+    sheet_has_facts(so_far);
+    let (board, seat) = Board::<A>::new(alloc)?;
+    let seat = board.admit(seat, so_far);
+    let (seat, other) = board.split(seat);
+    let (watcher, seat) = post_beside(rt, &board, Watcher::new(other), seat, list, workers, gate);
+    let watcher = poll_last(watcher.with_seat(&board, seat), &board);
+    let told = watcher.told();
+    Ok((board.close(watcher.leave()), told))
+}
+
+/// Joins receptions as `pool` does, on a board that begins with a sheet, while a watcher polls it beside 1 to 64 workers: until it has told
+/// a call, at most 64 times, and once more behind them where it has told none. It answers the sheet of all facts, and the call that was
+/// told: each of its symbols was shown. None is told only where the facts report no call. The watcher enters the gate once, before its first
+/// poll, with the number `workers`. The error is want of memory.
+pub fn watch<R: Threads + Sync, G: Gate>(
+    rt: &R,
+    alloc: Global,
+    so_far: &Sheet,
+    list: &[Reception],
+    workers: u32,
+    gate: &G,
+) -> Result<(Sheet, Option<Call>), AllocError>
+    requires workers { (1 ≤ workers) × (workers ≤ 64) }
+    requires short { All (λ heard. length heard ≤ LONGEST) list.now }
+    ensures ends { IfOk result (λ watched. (F : Facts) → IsEnds F so_far.now → IsEnds (union F (facts_of_all list.now)) watched.0) }
+    ensures told { IfOk result (λ watched. (F : Facts) → IsEnds F so_far.now → IsWatched (union F (facts_of_all list.now)) watched.1) }
+{
+    all_facts_may_be_posted();
+    sheet_is_lawful(so_far);
+    watch_on::<Brand, R, G>(rt, alloc, so_far, list, workers, gate)
+}

@@ -1,0 +1,66 @@
+-- What receptions show may be posted where it is allowed, and so may the sheet of any part of it.
+use Rattle.std.proofs.Common.{◌≡◌, ℕ, zero, suc, ◌%◌, ◌<◌, ◌&&◌, ◌||◌, Bool, true, Option, Some, None, nat_lt, List, [], ◌∷◌, length, arith, ap, sym, ◌∙◌, subst, inl, inr}
+use Rattle.std.proofs.lemmas.Bool.{eqb-true, ltb-true, or_cases, or_left, or_right, and_from, and_parts}
+use Rattle.ten_unit.specs.declared.character.Element.{Element}
+use Rattle.phasing.specs.Origin.{lead_of}
+use Rattle.slot_evidence.specs.declared.places.Seen.{Seen}
+use Rattle.slot_evidence.specs.declared.places.Seen.TheVariants as seen
+use Rattle.slot_evidence.specs.Facts.{Symbols, Facts, facts_at, facts_of, facts_of_all}
+use Rattle.slot_evidence.specs.Seen.{IsSeen, symbols_in}
+use Rattle.slot_evidence.specs.Sheet.{IsEnds, seen_at}
+use Rattle.slot_evidence.specs.Allowed.{IsAllowed, OnlyAllowed}
+use Rattle.receiver_pool.specs.Facts.{all_facts}
+use Rattle.receiver_pool.specs.Posting.{MayAllBePosted}
+use Rattle.receiver_pool.specs.inside.Turns.{is_turn, taken, nth, part}
+use Rattle.receiver_pool.proofs.Listed.{every_fact}
+use Rattle.receiver_pool.proofs.Parts.{turn_yes, part_all}
+
+-- the part of some is among the part of all
+taken_among : (takes more : ℕ → Bool) (F : ℕ → Facts) (n p v : ℕ) → ((i : ℕ) → more i ≡ true) → taken takes F n p v ≡ true → taken more F n p v ≡ true
+taken_among takes more F zero p v all is = is
+taken_among takes more F (suc n) p v all is =
+    elim (or_cases _ _ is) [
+      | inl earlier ↦ or_left _ _ (taken_among takes more F n p v all earlier)
+      | inr here ↦ or_right (taken more F n p v) _ (and_from _ _ (all n) (and_parts _ _ here).1)
+    ]
+
+pub part_among : (takes : ℕ → Bool) (list : List (List Element)) (p v : ℕ) → part takes list (length list) p v ≡ true → facts_of_all list p v ≡ true
+part_among takes list p v is =
+    sym (part_all 1 list p v (omega arith))
+    ∙ taken_among takes (is_turn 1 0 1) (nth list) (length list) p v (λ i. turn_yes 1 0 1 i (omega arith) (omega arith)) is
+
+-- what is kept of symbols is among them
+kept_among : (S : Symbols) (x : Seen) (v : ℕ) → IsSeen S x → symbols_in x v ≡ true → S v ≡ true
+kept_among S seen.None v seen is = absurd (cc)
+kept_among S (seen.One w) v seen is = ap S (eqb-true v w is) ∙ seen.0
+kept_among S (seen.Differ a b) v seen is =
+    elim (or_cases _ _ is) [
+      | inl least ↦ ap S (eqb-true v a least) ∙ seen.has_least
+      | inr greatest ↦ ap S (eqb-true v b greatest) ∙ seen.has_greatest
+    ]
+
+pub sheet_among : (facts : List (ℕ × ℕ)) (F : Facts) (sheet : List Seen) → IsEnds F sheet → ((p v : ℕ) → F p v ≡ true → IsAllowed facts p v) → OnlyAllowed facts sheet
+sheet_among facts F sheet ends among p v is = among p v (kept_among (F p) (seen_at sheet p) v (ends.each p) is)
+
+-- a reception shows places and symbols that there are
+at_small : (e : List Element) (lead : Option ℕ) (p v : ℕ) → facts_at e lead p v ≡ true → (p < 64) × (v < 128)
+at_small e None p v is = absurd (cc)
+at_small e (Some lead) p v is =
+    let both = and_parts _ _ is in
+    (ltb-true p 64 both.0, ltb-true v 128 (and_parts _ _ both.1).0)
+
+fact_small : (e : List Element) (p v : ℕ) → facts_of e p v ≡ true → (p < 64) × (v < 128)
+unfolding facts_of
+fact_small e p v is = at_small e (lead_of e) p v is
+
+all_small : (list : List (List Element)) (p v : ℕ) → facts_of_all list p v ≡ true → (p < 64) × (v < 128)
+unfolding facts_of_all
+all_small [] p v is = absurd (cc)
+all_small (e ∷ list) p v is =
+    elim (or_cases _ _ is) [
+      | inl here ↦ fact_small e p v here
+      | inr later ↦ all_small list p v later
+    ]
+
+pub all_may : (list : List (List Element)) → MayAllBePosted all_facts list
+all_may list p v is = let small = all_small list p v is in every_fact p v small.0 small.1

@@ -1,0 +1,19 @@
+ghost use Rattle.std.specs.Prelude.{◌≡◌, ◌≤◌, length, map, take};
+ghost use Rattle.dsc_files.specs.inside.Reading.{element_of as element_at};
+
+use dsc_files::element_of;
+use line_engine::LONGEST_LINE;
+use ten_unit::Element;
+
+/// The elements of these signs, and lost ones behind them. The compiler makes many in a step.
+pub(crate) fn elements_of(signs: &[u8]) -> [Element; LONGEST_LINE]
+    requires { length signs.now ≤ LONGEST_LINE }
+    ensures long { length result ≡ LONGEST_LINE }
+    ensures signs { take (length signs.now) result ≡ map element_at signs.now }
+{
+    let mut elements = [Element::Lost; LONGEST_LINE];
+    for k in 0..signs.len() {
+        elements[k] = element_of(signs[k]);
+    }
+    elements
+}
