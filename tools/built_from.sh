@@ -2,6 +2,7 @@
 # Who reads this has set `top`, the folder of the repository, and `rt`, the toolchain's command or nothing, their links
 # followed.
 
+# shellcheck disable=SC2154
 out=$top/crates/dsc/out
 program=$out/dsc
 built_from=$out/built_from

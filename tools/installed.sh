@@ -1,6 +1,7 @@
 # Read by `tools/install` and `tools/uninstall`: where the files of the suite stand on a system. Who reads this has set `top`,
 # the folder of the repository, and `from`, the caller's.
 
+# shellcheck disable=SC2154
 prefix=${DESTDIR-}${PREFIX-/usr/local}
 case $prefix in
 "" | /*) ;;
@@ -13,7 +14,9 @@ documents=$prefix/share/doc/dsc
 list_installed() (
     cd "$top" || exit
     echo "man/dsc.1 $prefix/share/man/man1"
-    for file in README.md docs/*.md docs/pictures/*.svg examples/* tools/split_groups tools/explain tools/draw_receptions tools/pictures.py; do
+    for file in README.md VERSION CHANGELOG.md docs/*.md docs/pictures/*.svg examples/* examples/slurm/* \
+        tools/split_groups tools/explain tools/draw_receptions tools/soft_bits tools/make_exchange tools/pictures.py tools/shared.py; do
+        [ -f "$file" ] || continue
         folder=$documents/$file
         echo "$file ${folder%/*}"
     done

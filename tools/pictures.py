@@ -1,9 +1,10 @@
-"""What the tools that draw share: a picture of boxes and texts, its colours, and the symbols of words of ten elements."""
+"""What the tools that draw share: a picture of boxes and texts, and its colours."""
 
 import os
 from html import escape
 
-TOP = os.path.dirname(os.path.dirname(os.path.realpath(__file__)))
+from shared import TOP
+
 FONT = 'font-family="Helvetica, Arial, sans-serif"'
 INK, PALE, LOST, DX, RX, BOTH = "#1b2a38", "#f4f6f8", "#ffffff", "#bcd9f2", "#f9dfb3", "#cbe6c4"
 
@@ -38,13 +39,3 @@ class Picture:
     def save(self, name):
         with open(os.path.join(TOP, "docs", "pictures", name), "w", encoding="utf-8") as file:
             file.write(self.svg())
-
-
-def word(symbol):
-    """The ten elements of a symbol."""
-    bits = [symbol >> at & 1 for at in range(7)]
-    zeros = bits.count(0)
-    return "".join("BY"[bit] for bit in bits + [zeros >> at & 1 for at in (2, 1, 0)])
-
-
-SYMBOLS = {word(symbol): symbol for symbol in range(128)}

@@ -234,14 +234,14 @@ fn any_number_of_workers(rt: HostRuntime) -> Result<(), Fail> {
 }
 
 /// Whether no reception of a batch passes the greatest length.
-fn are_all_short(batch: &[Heard]) -> bool
+pub(crate) fn are_all_short(batch: &[Heard]) -> bool
     ensures { IsTrue result → All IsShort batch.now }
 {
     batch.iter().all(|heard| heard.reception.elements().len() <= LONGEST as usize)
 }
 
 /// A batch of two groups, whose numbers are 512 apart: group 1 has both receptions, and group 513 the second one, which comes between.
-fn two_groups(alloc: Global) -> Result<Vec<Heard>, AllocError> {
+pub(crate) fn two_groups(alloc: Global) -> Result<Vec<Heard>, AllocError> {
     let mut batch = Vec::new(alloc);
     for group in [1, 513] {
         if let Some(reception) = two_receptions(alloc)?.pop() {
@@ -258,7 +258,7 @@ fn two_groups(alloc: Global) -> Result<Vec<Heard>, AllocError> {
 }
 
 /// The sheet of a group, joined from all of its entries.
-fn sheet_of_group(entries: &[Shown], group: usize) -> Sheet {
+pub(crate) fn sheet_of_group(entries: &[Shown], group: usize) -> Sheet {
     let mut sheet = Sheet::empty();
     for entry in entries {
         if entry.group == group {

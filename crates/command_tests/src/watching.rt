@@ -1,14 +1,17 @@
 ghost use Rattle.std.specs.Prelude.{◌≡◌, ◌≤◌, All, length};
 ghost use Rattle.slot_evidence.specs.Allowed.{OnlyAllowed};
 ghost use Rattle.receiver_pool.specs.Facts.{all_facts};
+ghost use Rattle.receiver_pool.specs.Groups.{IsShort};
 
-use crate::board::{are_short, one_by_one, two_receptions};
+use crate::board::{
+    are_all_short, are_short, one_by_one, sheet_of_group, two_groups, two_receptions,
+};
 use call_grammar::spell;
 use call_values::Call;
 use dsc_symbols::worked::ALERT;
-use live_watch::{News, Watcher, watch};
+use live_watch::{BatchWatcher, News, Watcher, watch, watch_batch};
 use phasing::LONGEST;
-use receiver_pool::{AllFacts, Board, Gate, Open, all_facts_may_be_posted};
+use receiver_pool::{AllFacts, Board, Gate, Heard, Open, all_facts_may_be_posted};
 use slot_evidence::{Reception, Sheet, sheet_is_lawful};
 use std::alloc::{AllocError, Global};
 use std::sync::atomic::{AtomicBool, Ordering};
@@ -148,6 +151,73 @@ fn a_watch_begins_before_its_workers_end(rt: HostRuntime) -> Result<(), Fail> {
     assert!(rt; gate.seen.load(Ordering::SeqCst));
     assert!(rt; watched.1);
     assert_eq!(rt; watched.0, one_by_one(&list));
+    Ok(())
+}
+
+/// What a watch of the boards of groups 1 and 513 shows of group 1; whether its watcher saw the alert there; and whether it saw another call
+/// there, or any of group 513.
+fn watch_two_boards<R: Threads + Sync, G: Gate>(
+    rt: &R,
+    alloc: Global,
+    known: &[Sheet],
+    batch: &[Heard],
+    workers: u32,
+    gate: &G,
+) -> Result<(Sheet, bool, bool), AllocError>
+    requires workers { (1 ≤ workers) × (workers ≤ 64) }
+    requires short { All IsShort batch.now }
+{
+    let mut watched = Vec::new(alloc);
+    watched.push(1)?;
+    watched.push(513)?;
+    let watcher = BatchWatcher::new(alloc, watched);
+    let (entries, watcher) = watch_batch(rt, alloc, known, batch, workers, gate, watcher)?;
+    let is_first_seen = watcher.seen_of(1).is_some();
+    let is_alert_seen = is_alert(watcher.seen_of(1));
+    let is_other_seen = watcher.seen_of(513).is_some();
+    Ok((
+        sheet_of_group(&entries, 1),
+        is_alert_seen,
+        is_other_seen || is_first_seen && !is_alert_seen,
+    ))
+}
+
+// Of group 513 there is one of the two receptions, which tells no call alone.
+#[test]
+fn a_watch_of_two_boards_begins_before_its_workers_end(rt: HostRuntime) -> Result<(), Fail> {
+    let list = two_receptions(rt.alloc())?;
+    let batch = two_groups(rt.alloc())?;
+    assert!(rt; are_short(&list) && are_all_short(&batch));
+    for workers in [1, 2] {
+        let gate = WatcherFirst {
+            workers,
+            entered: AtomicBool::new(false),
+            seen: AtomicBool::new(false),
+        };
+        let (sheet, _is_alert, is_other) = watch_two_boards(
+            &rt,
+            rt.alloc(),
+            &[],
+            &batch,
+            workers,
+            &gate,
+        )?;
+        assert!(rt; gate.seen.load(Ordering::SeqCst), "{workers} workers");
+        assert_eq!(rt; sheet, one_by_one(&list), "{workers} workers");
+        assert!(rt; !is_other, "{workers} workers");
+    }
+    Ok(())
+}
+
+#[test]
+fn what_was_known_of_a_group_counts_in_a_watch(rt: HostRuntime) -> Result<(), Fail> {
+    let list = two_receptions(rt.alloc())?;
+    let batch = two_groups(rt.alloc())?;
+    assert!(rt; are_short(&list) && are_all_short(&batch));
+    let known = [Sheet::empty(), one_by_one(&list)];
+    let (_sheet, is_alert, is_other) = watch_two_boards(&rt, rt.alloc(), &known, &batch, 2, &Open)?;
+    assert!(rt; is_alert);
+    assert!(rt; !is_other);
     Ok(())
 }
 

@@ -12,7 +12,7 @@ fn words_of(alloc: Global, line: &str) -> Result<Vec<String>, AllocError> {
 }
 
 /// Word lists, and the plan that each is.
-static PLANS: [(&str, Plan); 28] = [
+static PLANS: [(&str, Plan); 34] = [
     ("dsc|join", Plan::Join { workers: 1 }),
     ("dsc|evidence", Plan::Evidence { workers: 1 }),
     ("dsc|join|--workers|1", Plan::Join { workers: 1 }),
@@ -37,9 +37,15 @@ static PLANS: [(&str, Plan); 28] = [
     ("dsc|encode|--dots=200", Plan::Encode { long: true }),
     ("dsc|sentences", Plan::Sentences),
     ("dsc|capture", Plan::Capture),
+    ("dsc|exchange", Plan::Exchange),
     ("dsc|book", Plan::Book),
     ("dsc|replay", Plan::Replay { workers: 1 }),
     ("dsc|replay|--workers=64", Plan::Replay { workers: 64 }),
+    ("dsc|watch", Plan::Watch { workers: 1 }),
+    ("dsc|watch|--workers|1", Plan::Watch { workers: 1 }),
+    ("dsc|watch|--workers|64", Plan::Watch { workers: 64 }),
+    ("dsc|watch|--workers=2", Plan::Watch { workers: 2 }),
+    ("dsc|watch|--workers=64", Plan::Watch { workers: 64 }),
     // A command with a number.
     ("dsc|make|1", Plan::Make { groups: 1 }),
     ("dsc|make|70", Plan::Make { groups: 70 }),
@@ -47,7 +53,7 @@ static PLANS: [(&str, Plan); 28] = [
 ];
 
 /// Word lists that are no plan.
-static REFUSED: [&str; 78] = [
+static REFUSED: [&str; 87] = [
     // No command, or none that there is.
     "dsc",
     "",
@@ -59,6 +65,11 @@ static REFUSED: [&str; 78] = [
     "dsc|joins",
     "dsc| join",
     "dsc|replay|--workers|65",
+    "dsc|watch|--workers|0",
+    "dsc|watch|--workers|65",
+    "dsc|watch|--workers=",
+    "dsc|watch|2",
+    "dsc|watches",
     // Help and version are no plans.
     "dsc|help",
     "dsc|help|join",
@@ -115,6 +126,10 @@ static REFUSED: [&str; 78] = [
     "dsc|capture|--workers=2",
     "dsc|capture|capture",
     "dsc|capture|1",
+    "dsc|exchange|--workers=2",
+    "dsc|exchange|exchange",
+    "dsc|exchange|--",
+    "dsc|exchanges",
     "dsc|book|book",
     "dsc|books",
     // Of the command with a number.

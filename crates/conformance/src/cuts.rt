@@ -123,6 +123,8 @@ fn lines_at_the_limit(rt: HostRuntime) -> Result<(), Fail> {
         "dsc sentences",
         "dsc replay",
         "dsc capture",
+        "dsc exchange",
+        "dsc watch",
         "dsc book",
     ] {
         for (lines, want, status) in [

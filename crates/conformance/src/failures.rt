@@ -214,6 +214,13 @@ fn devices_fail_in_join_and_evidence(rt: HostRuntime) -> Result<(), Fail> {
     Ok(())
 }
 
+// No batch ends before the input does, and so nothing is told before.
+#[test]
+fn devices_fail_in_watch(rt: HostRuntime) -> Result<(), Fail> {
+    try_failures(&rt, rt.alloc(), "dsc watch", HEARD, 1, true)?;
+    Ok(())
+}
+
 // Each kind of line of calls: with an expansion, and without one or a line feed.
 const CALLS: &str =
     "# calls\n\nalert from=338040079 nature=106 pos=1423108312 time=2019 then=100 exp enh=45894494\n\
@@ -286,5 +293,16 @@ fn devices_fail_in_a_replay_of_a_ship(rt: HostRuntime) -> Result<(), Fail> {
 #[test]
 fn devices_fail_in_a_replay_of_a_coast_station(rt: HostRuntime) -> Result<(), Fail> {
     try_failures(&rt, rt.alloc(), "dsc replay", COAST, 1, false)?;
+    Ok(())
+}
+
+// Each kind of line of an exchange, with a refused event and a call that was never sent.
+const LINK: &str =
+    "# a link\nstation ship 338040079\nstation coast 002241022 mf\nbase 1714594740\n\ns 0 position 1423108312\ns 0 delay 210000\n\
+s 0 alert nature=106 then=100\nc 5000 get 0\nc 7000 accept 338040079 60000\nc 65000 tick\ns 65001 get 0\ns 65002 get 1\ns 1 tick";
+
+#[test]
+fn devices_fail_in_an_exchange(rt: HostRuntime) -> Result<(), Fail> {
+    try_failures(&rt, rt.alloc(), "dsc exchange", LINK, 1, false)?;
     Ok(())
 }

@@ -104,6 +104,25 @@ const ROWS: [(&str, u32, Entries); 9] = [
     (" --workers 64", 300, (128, 126, 0)),
 ];
 
+// Those of a watch: in each batch of receptions all workers enter once, and a watcher beside them.
+const WATCHED: [(&str, u32, Entries); 4] = [
+    ("dsc watch", 0, (0, 0, 0)),
+    ("dsc watch", 2, (2, 1, 0)),
+    ("dsc watch --workers 2", 300, (6, 4, 0)),
+    ("dsc watch --workers 64", 2, (65, 64, 0)),
+];
+
+#[test]
+fn entries_of_a_watch_are_counted(rt: HostRuntime) -> Result<(), Fail> {
+    let alloc = rt.alloc();
+    for (words, count, want) in WATCHED {
+        let input = receptions(alloc, "", count, "")?;
+        let got = entries(&rt, alloc, words, input)?;
+        assert_eq!(rt; got, want, "{words} {count}");
+    }
+    Ok(())
+}
+
 #[test]
 fn entries_are_counted(rt: HostRuntime) -> Result<(), Fail> {
     let alloc = rt.alloc();

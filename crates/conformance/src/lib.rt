@@ -7,6 +7,8 @@ mod cuts;
 #[cfg(test)]
 mod encoding;
 #[cfg(test)]
+mod exchanges;
+#[cfg(test)]
 mod expansions;
 #[cfg(test)]
 mod failures;
@@ -36,5 +38,7 @@ mod signals;
 mod streams;
 #[cfg(test)]
 mod streams_captured;
+#[cfg(test)]
+mod watches;
 #[cfg(test)]
 mod workers;

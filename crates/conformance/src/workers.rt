@@ -44,6 +44,22 @@ fn two_workers_meet_in_the_gate(rt: HostRuntime) -> Result<(), Fail> {
     Ok(())
 }
 
+// The watcher is the third: workers who ended before it began would wait for it in vain.
+#[test]
+fn a_watcher_and_its_workers_meet_in_the_gate(rt: HostRuntime) -> Result<(), Fail> {
+    let alloc = rt.alloc();
+    let (_written, entered, met) = met(
+        &rt,
+        alloc,
+        "dsc watch --workers 2",
+        two_damaged(alloc)?,
+        3,
+    )?;
+    assert_eq!(rt; entered, 3);
+    assert_eq!(rt; met, 3);
+    Ok(())
+}
+
 #[test]
 fn workers_of_a_replay_meet_where_a_group_is_heard(rt: HostRuntime) -> Result<(), Fail> {
     let alloc = rt.alloc();
@@ -116,6 +132,10 @@ fn workers_change_no_answer(rt: HostRuntime) -> Result<(), Fail> {
         (
             "dsc evidence",
             ["dsc evidence --workers 3", "dsc evidence --workers=64"],
+        ),
+        (
+            "dsc watch",
+            ["dsc watch --workers 2", "dsc watch --workers 64"],
         ),
     ] {
         let (want, status) = joined(&rt, alloc, alone, mixed(alloc)?)?;

@@ -1,5 +1,7 @@
 mod Behind
 mod SentGroups
+mod ToldCalls
+mod SentWatches
 mod EncodedCalls
 mod PlanRuns
 mod MadeEndings

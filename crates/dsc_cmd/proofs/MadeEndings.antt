@@ -9,7 +9,7 @@ use Rattle.line_engine.specs.Faults.{IsFaultless}
 use Rattle.line_engine.specs.Output.{IsWhole, Asks}
 use Rattle.line_engine.specs.Endings.{IsFinished, IsOfFault, IsBrokenOff, IsRest, TellsWhole, CutsOff, TellsFront}
 use Rattle.line_engine.specs.Runs.{IsRun}
-use Rattle.dsc_words.specs.declared.plans.Plan.TheVariants.{Join, Evidence, Encode, Sentences, Replay, Make, Capture, Book}
+use Rattle.dsc_words.specs.declared.plans.Plan.TheVariants.{Join, Evidence, Encode, Sentences, Replay, Make, Capture, Watch, Exchange, Book}
 use Rattle.generated_join.specs.Summary.{IsMade}
 use Rattle.dsc_cmd.specs.Plans.{made_meaning, source_of, WritesSummary, CutsOffSummary}
 
@@ -165,6 +165,12 @@ sentences_is_not_make e = cc
 
 pub replay_is_not_make : {m n : ℕ} → Replay m ≡ Make n → ⊥
 replay_is_not_make e = cc
+
+pub watch_is_not_make : {m n : ℕ} → Watch m ≡ Make n → ⊥
+watch_is_not_make e = cc
+
+pub exchange_is_not_make : {n : ℕ} → Exchange ≡ Make n → ⊥
+exchange_is_not_make e = cc
 
 pub capture_is_not_make : {n : ℕ} → Capture ≡ Make n → ⊥
 capture_is_not_make e = cc

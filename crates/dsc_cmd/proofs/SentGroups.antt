@@ -65,7 +65,7 @@ found P (t ∷ all) k each among = elim (or_cases (t.group == k) (is_among (map 
 ]
 
 -- the line of a group whose receptions heard one call
-tells_sent : Laws → (said : List JoinLine) (text : List ℕ) (status : ℕ) (is_text : IsJoinText said text status) (k : ℕ) (call : Call) (tail : List ℕ) (receptions : List (List Element))
+pub tells_sent : Laws → (said : List JoinLine) (text : List ℕ) (status : ℕ) (is_text : IsJoinText said text status) (k : ℕ) (call : Call) (tail : List ℕ) (receptions : List (List Element))
     → IsOfCall said k call tail receptions → TellsSent is_text.all k call tail receptions
 tells_sent laws said text status is_text k call tail receptions of =
     let one = found (λ told. TellsAnswer (group_facts said told.group) told) is_text.all k is_text.each (is_text.groups.named k ∙ of.named) in

@@ -1,4 +1,5 @@
 pub mod Plans
 pub mod Heard
 pub mod Sent
+pub mod ToldSent
 pub mod Encoded

@@ -8,7 +8,7 @@ use Rattle.line_engine.specs.Output.{IsOutput}
 use Rattle.line_engine.specs.Determined.{BeginsWith}
 use Rattle.line_engine.specs.Endings.{IsRest, Writes, WritesFront, CutsOff, TellsFront}
 use Rattle.dsc_words.specs.declared.plans.Plan.{Plan}
-use Rattle.dsc_words.specs.declared.plans.Plan.TheVariants.{Join, Evidence, Encode, Sentences, Replay, Make, Capture, Book}
+use Rattle.dsc_words.specs.declared.plans.Plan.TheVariants.{Join, Evidence, Encode, Sentences, Replay, Make, Capture, Watch, Exchange, Book}
 use Rattle.dsc_words.specs.Words.{IsPlan}
 use Rattle.join_groups.specs.Output.{TellsAnswer, TellsEvidence}
 use Rattle.join_groups.specs.Meanings.{groups_meaning}
@@ -17,6 +17,8 @@ use Rattle.sentence_files.specs.Telling.{sentences_meaning}
 use Rattle.traffic_replay.specs.Meaning.{replay_meaning}
 use Rattle.generated_join.specs.Summary.{IsMade}
 use Rattle.stream_capture.specs.Telling.{capture_meaning}
+use Rattle.watch_groups.specs.Meaning.{watch_meaning}
+use Rattle.station_exchange.specs.Meaning.{exchange_meaning}
 use Rattle.book_logs.specs.Telling.{book_meaning}
 
 -- what `make n` writes at the end, whatever the lines: the summary of the join of n generated groups
@@ -30,7 +32,7 @@ made_meaning n = record {
 
 -- what the lines of each command's input mean: of receptions and evidence, the answer of each group, or its ends; of calls, their transmissions;
 -- of calls and sentences, the sentences of the calls and verdicts; of a traffic file, what its station does; of a stream, the answer at each of
--- its starts; of logs of sentences, the book of casualties; `make` has no input
+-- its starts; of a file of an exchange, what its two stations do; of logs of sentences, the book of casualties; `make` has no input
 abbrev pub meaning_of : Plan → Meaning
 meaning_of (Join workers) = groups_meaning TellsAnswer
 meaning_of (Evidence workers) = groups_meaning TellsEvidence
@@ -39,7 +41,14 @@ meaning_of Sentences = sentences_meaning
 meaning_of (Replay workers) = replay_meaning
 meaning_of (Make n) = made_meaning n
 meaning_of Capture = capture_meaning
+meaning_of (Watch workers) = watch_meaning
+meaning_of Exchange = exchange_meaning
 meaning_of Book = book_meaning
+
+-- the commands whose lines ask for one text: all but `watch`, which may tell a call earlier than it must
+abbrev pub HasOneOutput : Plan → Type 0
+HasOneOutput (Watch workers) = ⊥
+HasOneOutput _ = Unit {0}
 
 -- the input that a command has where this is left of the source: all of it, and no byte for `make`, which leaves the source alone
 abbrev pub input_of : Plan → Option (List ℕ) → Option (List ℕ)

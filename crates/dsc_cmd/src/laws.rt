@@ -11,7 +11,7 @@ ghost use Rattle.line_engine.specs.Faults.{IsFirstFault};
 ghost use Rattle.line_engine.specs.Output.{IsOutput};
 ghost use Rattle.line_engine.specs.Determined.{IsDetermined};
 ghost use Rattle.dsc_words.specs.declared.plans.Plan.{Plan};
-ghost use Rattle.dsc_cmd.specs.Plans.{meaning_of};
+ghost use Rattle.dsc_cmd.specs.Plans.{meaning_of, HasOneOutput};
 ghost use Rattle.dsc_cmd.specs.Encoded.{IsHeardWhole, IsOfEncoded, TellsCall};
 
 use generated_join::made_text_is_one;
@@ -29,11 +29,11 @@ pub fn encoded_calls_are_reported()
     transmissions_are_answered();
 }
 
-/// The law that each command's input has one output: its lines ask for one text and status, and have one first fault. It does
-/// nothing.
+/// The law that each command's input has one first fault, and that of each but `watch` it has one output: its lines ask for one text
+/// and status. It does nothing.
 pub fn inputs_have_one_output()
-    ensures determined { (plan : Plan) → IsDetermined (meaning_of plan) }
-    ensures output { (plan : Plan) (lines : Lines) (a b : List ℕ) (s t : ℕ) → IsOutput (meaning_of plan) lines a s → IsOutput (meaning_of plan) lines b t → (a ≡ b) × (s ≡ t) }
+    ensures determined { (plan : Plan) → HasOneOutput plan → IsDetermined (meaning_of plan) }
+    ensures output { (plan : Plan) → HasOneOutput plan → (lines : Lines) (a b : List ℕ) (s t : ℕ) → IsOutput (meaning_of plan) lines a s → IsOutput (meaning_of plan) lines b t → (a ≡ b) × (s ≡ t) }
     ensures fault { (plan : Plan) (lines : Lines) (m n : ℕ) (a b : Fault) → IsFirstFault (meaning_of plan) lines m a → IsFirstFault (meaning_of plan) lines n b → (m ≡ n) × (a ≡ b) }
 {
     join_groups::lines_determine_output();
@@ -41,6 +41,7 @@ pub fn inputs_have_one_output()
     sentence_files::lines_determine_output();
     traffic_replay::lines_determine_output();
     stream_capture::lines_determine_output();
+    station_exchange::lines_determine_output();
     book_logs::lines_determine_output();
     made_text_is_one();
 }

@@ -3,11 +3,12 @@ ghost use Rattle.dsc_streams.specs.Streams.{Rises, Told};
 ghost use Rattle.line_engine.specs.Endings.{IsFinished, IsOfFault, IsBrokenOff, Writes, WritesFront, TellsWhole, TellsFault, TellsSoFar, TellsFront, CutsOff, TakesAtMost};
 ghost use Rattle.line_engine.specs.Runs.{IsRun};
 ghost use Rattle.dsc_words.specs.Words.{IsInRange, IsPlan};
-ghost use Rattle.dsc_words.specs.declared.plans.Plan.TheVariants.{Join as joins, Make as makes};
+ghost use Rattle.dsc_words.specs.declared.plans.Plan.TheVariants.{Join as joins, Make as makes, Watch as watches};
 ghost use Rattle.dsc_words.specs.declared.plans.Plan.{Plan as Planned};
-ghost use Rattle.dsc_cmd.specs.Plans.{meaning_of, input_of, source_of, words_refused, IsQuietPlan, IsUnplanned, CutsOffWords, CutsOffPlan, TellsPlanFront, WritesSummary, WritesFrontOfOutput};
+ghost use Rattle.dsc_cmd.specs.Plans.{meaning_of, input_of, source_of, words_refused, HasOneOutput, IsQuietPlan, IsUnplanned, CutsOffWords, CutsOffPlan, TellsPlanFront, WritesSummary, WritesFrontOfOutput};
 ghost use Rattle.stream_capture.specs.Telling.{capture_meaning};
 ghost use Rattle.dsc_cmd.specs.Sent.{ReportsSent};
+ghost use Rattle.dsc_cmd.specs.ToldSent.{sent_meaning};
 
 use crate::laws::inputs_have_one_output;
 use crate::making::make;
@@ -17,16 +18,20 @@ use dsc_words::{Plan, PlanError, one_plan, plan_of};
 use encode_calls::{Encode, LongDots, ShortDots};
 use join_groups::{Answers, Ends, tell_groups};
 use line_engine::{Command, MOST_TAKEN, drive};
+use live_watch::told_calls;
 use receiver_pool::Gate;
 use sentence_files::Sentences;
 use slot_evidence::ends_are_kept;
 use slot_join::{
-    alike_facts_have_one_answer, intact_copies_report_the_call, sent_call_is_answered,
+    alike_facts_have_one_answer, heard_calls_show_no_other, intact_copies_report_the_call,
+    sent_call_is_answered,
 };
+use station_exchange::exchange;
 use std::alloc::Global;
 use std::thread::Threads;
 use stream_capture::Capturing;
 use traffic_replay::replay;
+use watch_groups::watch_groups;
 
 /// Writes a text and flushes the sink.
 pub(crate) fn write_flushed<K: Sink>(sink: &mut K, text: &[u8]) -> Result<(), Failed>
@@ -123,6 +128,8 @@ fn execute<R: Threads + Sync, S: Source, K: Sink, G: Gate>(
         Plan::Replay { workers } => replay(rt, alloc, source, sink, u32::from(workers), gate),
         Plan::Make { groups } => make(alloc, groups, sink, gate),
         Plan::Capture => capture(alloc, source, sink),
+        Plan::Watch { workers } => watch_groups(rt, alloc, source, sink, u32::from(workers), gate),
+        Plan::Exchange => exchange(alloc, source, sink),
         Plan::Book => drive_alone(alloc, Logs::new(alloc), source, sink),
     }
 }
@@ -138,6 +145,8 @@ fn execute<R: Threads + Sync, S: Source, K: Sink, G: Gate>(
 /// | `sentences` | for each line of a call its DSC sentence, and the DSE sentence of its expansion; for each sentence a verdict |
 /// | `replay [--workers N]` | for each event line of a traffic file what the station does, or why it refuses the event |
 /// | `capture` | for each start of a stream of elements its origin and the answer to its facts |
+/// | `watch [--workers N]` | a call of each group as soon as a batch of 256 receptions ends that reports it, and at the end what `join` writes |
+/// | `exchange` | for each event line of a file of an exchange what it gives at its end, the ship or the coast station: what the end does, or why it refuses the event, or that no such call was sent |
 /// | `book` | each row that the DSC sentences of logs give, once, by rising order: who was in distress, who acknowledged and relayed it |
 /// | `make N` | the summary of the join of N generated groups, of four receptions each; nothing is read |
 ///
@@ -145,8 +154,8 @@ fn execute<R: Threads + Sync, S: Source, K: Sink, G: Gate>(
 ///
 /// | Status | What it says |
 /// |---|---|
-/// | 0 | all was written: in `join` and `make` a call was reported of each group |
-/// | 1 | all was written, and some group has another answer; in `sentences` and `book` some sentence was refused; in `replay` some event was refused, or some heard group has another answer; in `capture` some start has another answer |
+/// | 0 | all was written: in `join`, `watch` and `make` a call was reported of each group |
+/// | 1 | all was written, and some group has another answer; in `sentences` and `book` some sentence was refused; in `replay` some event was refused, or some heard group has another answer; in `capture` some start has another answer; in `exchange` some event was refused, or no call of some delivery's number was sent |
 /// | 2 | the words are no command: nothing was read, and `dsc: words refused` was written |
 /// | 3 | a line is ill-formed, and the line of this first fault was written, as `dsc: line 3 column 7` |
 /// | 4 | the source failed: what the lines so far gave was written |
@@ -172,6 +181,11 @@ pub fn run<R: Threads + Sync, S: Source, K: Sink, G: Gate>(
     ensures sent { (n : ℕ) → IsPlan (map string_bytes words.now) (joins n) → IsFinished result
         → ReportsSent (S.left source.old) (S.left source.new) (K.written sink.old) (K.written sink.new) (K.flushed sink.new) result }
 
+    // Of `watch`, however it ends: of such a group no other call than this one is told, and behind the told calls stands what join tells of it. Only
+    // where there was no memory for the words was nothing begun.
+    ensures told_sent { (n : ℕ) → IsPlan (map string_bytes words.now) (watches n)
+        → IsRun sent_meaning S.Source K.Sink source.old source.new sink.old sink.new result ⊎ ((result ≡ 6) × (source.new ≡ source.old) × (sink.new ≡ sink.old)) }
+
     // Exactly the summary of the answers that the generated groups determine; of the source nothing is read.
     ensures made { (n : ℕ) → IsPlan (map string_bytes words.now) (makes n) → IsFinished result
         → WritesSummary n (K.written sink.old) (K.written sink.new) (K.flushed sink.new) result }
@@ -187,7 +201,7 @@ pub fn run<R: Threads + Sync, S: Source, K: Sink, G: Gate>(
         → TellsFault (meaning_of plan) (input_of plan (S.left source.old)) (input_of plan (S.left source.new)) (K.written sink.old) (K.written sink.new) (K.flushed sink.new) result }
     ensures stopped { (plan : Planned) → IsPlan (map string_bytes words.now) plan → result ≡ 4
         → TellsSoFar (meaning_of plan) (input_of plan (S.left source.old)) (input_of plan (S.left source.new)) (K.written sink.old) (K.written sink.new) }
-    ensures front { (plan : Planned) → IsPlan (map string_bytes words.now) plan → IsBrokenOff result
+    ensures front { (plan : Planned) → IsPlan (map string_bytes words.now) plan → HasOneOutput plan → IsBrokenOff result
         → WritesFrontOfOutput (meaning_of plan) (input_of plan (S.left source.old)) (input_of plan (S.left source.new)) (K.written sink.old) (K.written sink.new) }
     ensures read_fault { result ≡ 4 → Rises (S.faults source.old) (S.faults source.new) }
     ensures write_fault { result ≡ 5 → Rises (K.faults sink.old) (K.faults sink.new) }
@@ -214,6 +228,8 @@ pub fn run<R: Threads + Sync, S: Source, K: Sink, G: Gate>(
             alike_facts_have_one_answer();
             sent_call_is_answered();
             intact_copies_report_the_call();
+            heard_calls_show_no_other();
+            told_calls();
             inputs_have_one_output();
             execute(rt, alloc, plan, source, sink, gate)
         }

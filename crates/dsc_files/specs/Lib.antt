@@ -5,5 +5,6 @@ pub mod SentenceLine
 pub mod StreamLine
 pub mod BookLine
 pub mod PointLine
+pub mod WorldLine
 pub mod Lines
 pub mod inside

@@ -10,6 +10,11 @@ use Rattle.traffic_lines.specs.declared.lines.Point.{Point}
 use Rattle.traffic_lines.specs.declared.lines.TrafficLine.{TrafficLine}
 use Rattle.traffic_lines.specs.declared.lines.TrafficLine.TheVariants.{Ship, Coast, Base, Group, Event}
 use Rattle.traffic_lines.specs.Lines.{IsTrafficLine}
+use Rattle.traffic_lines.specs.Anywhere.{exchange_of_ship, exchange_of_coast}
+use Rattle.traffic_lines.specs.declared.worlds.Entry as entries
+use Rattle.traffic_lines.specs.declared.worlds.Entry.TheVariants.{AtShip, AtCoast}
+use Rattle.traffic_lines.specs.declared.worlds.WorldLine.{WorldLine}
+use Rattle.traffic_lines.specs.declared.worlds.WorldLine.TheVariants as world
 use Rattle.dsc_files.specs.declared.lines.FileKind.{FileKind}
 use Rattle.dsc_files.specs.declared.lines.FileKind.TheVariants as kind
 use Rattle.dsc_files.specs.declared.lines.Line.{Line}
@@ -31,6 +36,7 @@ use Rattle.dsc_files.specs.CallLine.{extra_of, IsCallLine}
 use Rattle.dsc_files.specs.SentenceLine.{IsSentenceLine}
 use Rattle.dsc_files.specs.StreamLine.{IsStreamLine}
 use Rattle.dsc_files.specs.BookLine.{IsBookLine}
+use Rattle.dsc_files.specs.WorldLine.{IsWorldFileLine}
 use Rattle.dsc_files.specs.PointLine.{PointLine, joined, traffic, IsPointLine}
 
 -- the facts of evidence: each pair's place showed its symbol
@@ -121,6 +127,18 @@ line_of_stream (x ∷ e) = line.Stream (x ∷ e)
 abbrev pub ReadsStream : List ℕ → Result Line LineFault → Type 0
 ReadsStream text answer = ReadsWithRoom IsStreamLine (λ e read. read ≡ line_of_stream e) text answer
 
+-- what an event line of an exchange says, and what a line of a file of an exchange says
+abbrev pub line_of_entry : entries.Entry → Line
+line_of_entry (AtShip moment what) = line.AtShip moment (exchange_of_ship what)
+line_of_entry (AtCoast moment what) = line.AtCoast moment (exchange_of_coast what)
+
+abbrev pub line_of_world : Option WorldLine → Line
+line_of_world None = line.Nothing
+line_of_world (Some (world.Ship mmsi)) = line.Ship mmsi
+line_of_world (Some (world.Coast mmsi band)) = line.Coast mmsi band
+line_of_world (Some (world.Base second)) = line.Base second
+line_of_world (Some (world.Entry entry)) = line_of_entry entry
+
 -- the answer for a line of a file of this kind
 abbrev pub ReadsLine : FileKind → List ℕ → Result Line LineFault → Type 0
 ReadsLine kind.Join text answer = ReadsWithRoom IsLine (IsTold Says line_of_join) text answer
@@ -129,3 +147,4 @@ ReadsLine kind.Sentence text answer = ReadsAlways IsSentenceLine line_of_sentenc
 ReadsLine (kind.Traffic point) text answer = ReadsWithRoom (IsPointLine point) (IsTold SaysAtPoint line_of_point) text answer
 ReadsLine kind.Stream text answer = ReadsStream text answer
 ReadsLine kind.Book text answer = ReadsAlways IsBookLine line_of_book text answer
+ReadsLine (kind.Exchange point) text answer = ReadsAlways (IsWorldFileLine point) line_of_world text answer

@@ -1,4 +1,4 @@
-ghost use Rattle.std.specs.Prelude.{◌≡◌, ℕ, List, Result, Ok};
+ghost use Rattle.std.specs.Prelude.{◌≡◌, ◌≤◌, ℕ, List, Option, Result, Ok};
 ghost use Rattle.call_values.specs.declared.calls.Call.{Call};
 ghost use Rattle.call_values.specs.Calls.{IsCall};
 ghost use Rattle.slot_join.specs.declared.joined.Extra.{Extra};
@@ -16,12 +16,17 @@ ghost use Rattle.dsc_files.specs.SentenceLine.{IsSentenceLine, SayTheSame};
 ghost use Rattle.dsc_files.specs.declared.books.BookLine.{BookLine};
 ghost use Rattle.dsc_files.specs.BookLine.{IsBookLine};
 ghost use Rattle.ten_unit.specs.declared.character.Element.{Element};
-ghost use Rattle.dsc_files.specs.StreamLine.{IsStreamLine};
 ghost use Rattle.dsc_files.specs.PointLine.{PointLine, IsPointLine};
 ghost use Rattle.traffic_lines.specs.declared.lines.Point.{Point as At};
+ghost use Rattle.line_grammar.specs.Columns.{IsColumn};
+ghost use Rattle.traffic_lines.specs.declared.worlds.ExchangePoint.{ExchangePoint};
+ghost use Rattle.traffic_lines.specs.declared.worlds.WorldLine.{WorldLine};
+ghost use Rattle.traffic_lines.specs.Worlds.{IsWorldLine};
+ghost use Rattle.dsc_files.specs.StreamLine.{IsNothing, IsStreamLine};
+ghost use Rattle.dsc_files.specs.WorldLine.{IsWorldFileLine};
 
 use dsc_texts::texts_tell_calls_apart;
-use traffic_lines::{one_traffic_line, traffic_lines_begin};
+use traffic_lines::{one_traffic_line, one_world_line, traffic_lines_begin};
 
 /// The law that a line of join's input says one thing. It does nothing.
 pub fn one_line()
@@ -58,6 +63,19 @@ pub fn one_stream_line()
 /// The law that a line of a log of sentences says one thing. It does nothing.
 pub fn one_book_line()
     ensures { (a b : BookLine) (text : List ℕ) → IsBookLine a text → IsBookLine b text → a ≡ b }
+{}
+
+/// The law that a line at a point of a file of an exchange says one thing. It does nothing.
+pub fn one_exchange_line()
+    ensures { (point : ExchangePoint) (a b : Option WorldLine) (text : List ℕ) → IsWorldFileLine point a text → IsWorldFileLine point b text → a ≡ b }
+{
+    one_world_line();
+}
+
+/// The law that the column of a line that says something is the same whether or not lines that say nothing stand in the file. It does
+/// nothing.
+pub fn exchange_columns()
+    ensures { (point : ExchangePoint) (text : List ℕ) (n : ℕ) → (IsNothing text → ⊥) → 1 ≤ n → IsColumn (IsWorldLine point) text n → IsColumn (IsWorldFileLine point) text n }
 {}
 
 /// The law that of the text that `put_call` writes of a call and of the expansion behind it, reading a line of calls can answer

@@ -13,6 +13,7 @@ mod receptions;
 mod sentences;
 mod streams;
 mod traffic;
+mod worlds;
 
 pub use books::{BookLine, book_line};
 pub use calls::{CallLine, call_line};
@@ -23,8 +24,8 @@ pub use dsc_streams::{
 pub use dsc_texts::{put_answer, put_answer_line, put_call};
 pub use join::{JoinLine, join_line};
 pub use laws::{
-    one_book_line, one_call_line, one_line, one_point_line, one_sentence_line, one_stream_line,
-    written_calls_are_read,
+    exchange_columns, one_book_line, one_call_line, one_exchange_line, one_line, one_point_line,
+    one_sentence_line, one_stream_line, written_calls_are_read,
 };
 pub use lines::{FileKind, Line, LineFault};
 pub use reading::line_of;
@@ -32,4 +33,5 @@ pub use receptions::element_of;
 pub use sentences::{SentenceLine, sentence_line};
 pub use streams::stream_line;
 pub use traffic::{PointLine, joined_line, point_line};
-pub use traffic_lines::{EventLine, Point, TrafficLine};
+pub use traffic_lines::{EventLine, ExchangeLine, ExchangePoint, Point, TrafficLine, WorldLine};
+pub use worlds::{says_nothing, world_line};

@@ -1,6 +1,6 @@
-ghost use Rattle.std.specs.Prelude.{◌≡◌};
+ghost use Rattle.std.specs.Prelude.{◌≡◌, Some};
 ghost use Rattle.dsc_files.specs.CallLine as calls;
-ghost use Rattle.dsc_files.specs.Lines.{line_of_book, line_of_call, line_of_join, line_of_point, line_of_sentence, line_of_traffic};
+ghost use Rattle.dsc_files.specs.Lines.{line_of_book, line_of_call, line_of_entry, line_of_join, line_of_point, line_of_sentence, line_of_traffic, line_of_world};
 ghost use Rattle.dsc_files.specs.declared.lines.LineFault.TheVariants.{NoMemory};
 
 use crate::books::BookLine;
@@ -14,7 +14,7 @@ use slot_evidence::{Reception, Sheet};
 use slot_join::Extra;
 use std::alloc::AllocError;
 use thiserror::Error;
-use traffic_lines::{EventLine, Point, TrafficLine};
+use traffic_lines::{Entry, EventLine, ExchangeLine, ExchangePoint, Point, TrafficLine, WorldLine};
 
 /// Which lines a file has.
 #[derive(Clone, Copy, Debug, PartialEq, Eq)]
@@ -31,6 +31,8 @@ pub enum FileKind {
     Stream,
     /// Sentences.
     Book,
+    /// An exchange of a ship and a coast station, at this point.
+    Exchange(ExchangePoint),
 }
 
 /// What a line says.
@@ -58,6 +60,10 @@ pub enum Line {
     Event { at: u32, what: EventLine },
     /// The stream goes on with these elements, at least one.
     Stream(Reception),
+    /// So many milliseconds after the base this happens at the ship of an exchange.
+    AtShip { at: u32, what: ExchangeLine },
+    /// So many milliseconds after the base this happens at the coast station of an exchange.
+    AtCoast { at: u32, what: ExchangeLine },
 }
 
 impl From<JoinLine> for Line {
@@ -139,6 +145,36 @@ impl From<PointLine> for Line {
         match says {
             PointLine::Joined(says) => Line::from(says),
             PointLine::Traffic(says) => Line::from(says),
+        }
+    }
+}
+
+impl From<Entry> for Line {
+    ghost from_gives = { λ says line. line ≡ line_of_entry says };
+
+    fn from(says: Entry) -> Line {
+        match says {
+            Entry::AtShip { at, what } => Line::AtShip {
+                at,
+                what: ExchangeLine::from(what),
+            },
+            Entry::AtCoast { at, what } => Line::AtCoast {
+                at,
+                what: ExchangeLine::from(what),
+            },
+        }
+    }
+}
+
+impl From<WorldLine> for Line {
+    ghost from_gives = { λ says line. line ≡ line_of_world (Some says) };
+
+    fn from(says: WorldLine) -> Line {
+        match says {
+            WorldLine::Ship(mmsi) => Line::Ship(mmsi),
+            WorldLine::Coast(mmsi, band) => Line::Coast(mmsi, band),
+            WorldLine::Base(second) => Line::Base(second),
+            WorldLine::Entry(entry) => Line::from(entry),
         }
     }
 }

@@ -7,6 +7,7 @@ use crate::lines::{FileKind, Line, LineFault};
 use crate::sentences::sentence_line;
 use crate::streams::added_line;
 use crate::traffic::point_line;
+use crate::worlds::world_line;
 use std::alloc::Global;
 
 /// Reads one line of a file of this kind, without its end. An error is the column of a line that is ill-formed, or want of
@@ -34,6 +35,11 @@ pub fn line_of(alloc: Global, kind: FileKind, bytes: &[u8]) -> Result<Line, Line
         FileKind::Stream => added_line(alloc, bytes),
         FileKind::Book => match book_line(bytes) {
             Ok(says) => Ok(Line::from(says)),
+            Err(n) => Err(LineFault::Column(n)),
+        },
+        FileKind::Exchange(point) => match world_line(point, bytes) {
+            Ok(None) => Ok(Line::Nothing),
+            Ok(Some(says)) => Ok(Line::from(says)),
             Err(n) => Err(LineFault::Column(n)),
         },
     }

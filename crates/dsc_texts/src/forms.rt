@@ -264,22 +264,46 @@ fn service<T: Tail>(bytes: &[u8]) -> Result<(Call, T), usize>
     further(&test(bytes), &positions)
 }
 
-/// Reads a call that is no distress call.
+/// Reads a call that is no distress call. The form that the bytes are of ends the search.
 fn other_call<T: Tail>(bytes: &[u8]) -> Result<(Call, T), usize>
     ensures { ReadsForm (grammar.other_calls T.grammar) (last 4) (parts_with T.parts) bytes.now result }
 {
+    let to_all = all_ships(bytes);
+    if to_all.is_ok() {
+        return to_all;
+    }
+    let to_area = area_call(bytes);
+    if to_area.is_ok() {
+        return to_area;
+    }
+    let to_group = group_call(bytes);
+    if to_group.is_ok() {
+        return to_group;
+    }
     let to_one = further(&individual(bytes), &service(bytes));
-    let to_some = further(&group_call(bytes), &to_one);
-    let to_others = further(&area_call(bytes), &to_some);
-    further(&all_ships(bytes), &to_others)
+    let to_some = further(&to_group, &to_one);
+    let to_others = further(&to_area, &to_some);
+    further(&to_all, &to_others)
 }
 
-/// Reads a call of any form. An error is how many bytes are left at the fault.
+/// Reads a call of any form. The form that the bytes are of ends the search. An error is how many bytes are left at the fault.
 pub fn any_call<T: Tail>(bytes: &[u8]) -> Result<(Call, T), usize>
     ensures { ReadsForm (grammar.calls T.grammar) (λ p. p) (parts_with T.parts) bytes.now result }
 {
+    let told = alert(bytes);
+    if told.is_ok() {
+        return told;
+    }
+    let answer = ack(bytes);
+    if answer.is_ok() {
+        return answer;
+    }
+    let relayed = relay(bytes);
+    if relayed.is_ok() {
+        return relayed;
+    }
     let others = further(&relay_ack(bytes), &other_call(bytes));
-    let relays = further(&relay(bytes), &others);
-    let answers = further(&ack(bytes), &relays);
-    further(&alert(bytes), &answers)
+    let relays = further(&relayed, &others);
+    let answers = further(&answer, &relays);
+    further(&told, &answers)
 }

@@ -14,7 +14,7 @@ use Rattle.clap.proofs.WalkLemmas.{both}
 use Rattle.dsc_words.specs.Words.{HasWorkers, IsDots, IsGroups, IsCommand, IsInRange, IsNumber, IsOption, IsPlan, IsWorkers}
 use Rattle.dsc_words.specs.inside.CommandLine.{dsc, with_number, with_option, IsAsked}
 use Rattle.dsc_words.specs.declared.plans.Plan.{Plan}
-use Rattle.dsc_words.specs.declared.plans.Plan.TheVariants.{Join, Evidence, Encode, Sentences, Replay, Make, Capture, Book}
+use Rattle.dsc_words.specs.declared.plans.Plan.TheVariants.{Join, Evidence, Encode, Sentences, Replay, Make, Capture, Watch, Exchange, Book}
 use Rattle.dsc_words.proofs.LongWords.{IsBare, IsName, none_is_some, same_text}
 use Rattle.dsc_words.proofs.Turns.{HasNoDashes}
 use Rattle.dsc_words.proofs.OptionTurns.{leaf}
@@ -199,6 +199,9 @@ has_evidence = record { undashed = refl; met = refl; fault = λ ws. refl; rows =
 has_replay : HasCommandWithWorkers (codes "replay")
 has_replay = record { undashed = refl; met = refl; fault = λ ws. refl; rows = λ ws. refl }
 
+has_watch : HasCommandWithWorkers (codes "watch")
+has_watch = record { undashed = refl; met = refl; fault = λ ws. refl; rows = λ ws. refl }
+
 has_encode : Has (codes "encode") (with_option (codes "encode") (codes "dots"))
 has_encode = record { undashed = refl; met = refl; fault = λ ws. refl; rows = λ ws. refl }
 
@@ -214,6 +217,9 @@ has_make = record { undashed = refl; met = refl; fault = λ ws. refl; rows = λ 
 
 has_capture : HasNoOption (codes "capture")
 has_capture = record { undashed = refl; met = refl; fault = λ ws. refl; rows = λ ws. refl }
+
+has_exchange : HasNoOption (codes "exchange")
+has_exchange = record { undashed = refl; met = refl; fault = λ ws. refl; rows = λ ws. refl }
 
 has_book : HasNoOption (codes "book")
 has_book = record { undashed = refl; met = refl; fault = λ ws. refl; rows = λ ws. refl }
@@ -241,11 +247,13 @@ asked_is_plan words undashed passes found rows plan gives asked =
     go e behind (Join n) asked = with_workers (codes "join") has_join e behind n asked
     go e behind (Evidence n) asked = with_workers (codes "evidence") has_evidence e behind n asked
     go e behind (Replay n) asked = with_workers (codes "replay") has_replay e behind n asked
+    go e behind (Watch n) asked = with_workers (codes "watch") has_watch e behind n asked
     go e behind (Encode long) asked =
         let got = option_entered (codes "encode") (codes "dots") has_encode words e behind found rows gives asked.0 in
         (got.0, (got.1.0, got.1.1, subst (λ (g : Option Text). IsDots g long) got.1.2 asked.1))
     go e behind Sentences asked = alone (codes "sentences") has_sentences e behind asked
     go e behind Capture asked = alone (codes "capture") has_capture e behind asked
+    go e behind Exchange asked = alone (codes "exchange") has_exchange e behind asked
     go e behind Book asked = alone (codes "book") has_book e behind asked
     go e behind (Make n) asked =
         let got = entered_as (codes "make") (with_number (codes "make")) has_make words e found rows gives asked.0 in
@@ -271,10 +279,12 @@ plan_is_taken words plan is = subst (λ (ws : List Text). Taken ws plan) (sym is
     go word ws (Join n) c = with_workers (codes "join") has_join (Join n) word ws n (λ given workers. (refl, workers)) c
     go word ws (Evidence n) c = with_workers (codes "evidence") has_evidence (Evidence n) word ws n (λ given workers. (refl, workers)) c
     go word ws (Replay n) c = with_workers (codes "replay") has_replay (Replay n) word ws n (λ given workers. (refl, workers)) c
+    go word ws (Watch n) c = with_workers (codes "watch") has_watch (Watch n) word ws n (λ given workers. (refl, workers)) c
     go word ws (Encode long) (at, (given, words_are, dots)) =
         option_words_taken (codes "encode") (codes "dots") has_encode dots_name (Encode long) is.name word ws given at words_are (dots_bare given long dots) (refl, dots)
     go word ws Sentences (at, none) = alone (codes "sentences") has_sentences Sentences word ws at none refl
     go word ws Capture (at, none) = alone (codes "capture") has_capture Capture word ws at none refl
+    go word ws Exchange (at, none) = alone (codes "exchange") has_exchange Exchange word ws at none refl
     go word ws Book (at, none) = alone (codes "book") has_book Book word ws at none refl
     go word ws (Make n) (at, (text, words_are, number)) =
         let taken = number_taken (codes "make") text (number_bare 1000 n text (omega arith) number) in
@@ -293,6 +303,8 @@ plan_in_range words plan is = go is.rest plan is.is_command
     go ws (Replay n) c = workers_in_range ws n c.1
     go ws (Make n) c = (c.1.2.1, c.1.2.2)
     go ws Capture c = tt
+    go ws (Watch n) c = workers_in_range ws n c.1
+    go ws Exchange c = tt
     go ws Book c = tt
 
 -- the plan that a command and its option's text ask for, where they ask for one
@@ -305,7 +317,9 @@ plan_at name given =
     else (if bytes_eq name (codes "replay") then Some (Replay (workers_at given))
     else (if bytes_eq name (codes "make") then Some (Make (groups_at given))
     else (if bytes_eq name (codes "capture") then Some Capture
-    else (if bytes_eq name (codes "book") then Some Book else None)))))))
+    else (if bytes_eq name (codes "watch") then Some (Watch (workers_at given))
+    else (if bytes_eq name (codes "exchange") then Some Exchange
+    else (if bytes_eq name (codes "book") then Some Book else None)))))))))
 
 asked_at : (name : Text) (given : Option Text) (plan : Plan) → IsAsked name given plan → plan_at name given ≡ Some plan
 asked_at name given (Join n) (is, workers) = ap (λ c. plan_at c given) is ∙ ap (λ k. Some (Join k)) (workers_are given n workers)
@@ -313,6 +327,8 @@ asked_at name given (Evidence n) (is, workers) = ap (λ c. plan_at c given) is �
 asked_at name given (Encode long) (is, dots) = ap (λ c. plan_at c given) is ∙ ap (λ b. Some (Encode b)) (long_is_at given long dots)
 asked_at name given Sentences is = ap (λ c. plan_at c given) is
 asked_at name given Capture is = ap (λ c. plan_at c given) is
+asked_at name given (Watch n) (is, workers) = ap (λ c. plan_at c given) is ∙ ap (λ k. Some (Watch k)) (workers_are given n workers)
+asked_at name given Exchange is = ap (λ c. plan_at c given) is
 asked_at name given Book is = ap (λ c. plan_at c given) is
 asked_at name given (Replay n) (is, workers) = ap (λ c. plan_at c given) is ∙ ap (λ k. Some (Replay k)) (workers_are given n workers)
 asked_at name given (Make n) (is, groups) = ap (λ c. plan_at c given) is ∙ ap (λ k. Some (Make k)) (groups_are given n groups)

@@ -1,7 +1,7 @@
 -- The words of the command line: this project's profile.
 use Rattle.std.specs.Prelude.{◌≡◌, ◌⊎◌, ◌≤◌, ◌++◌, ◌∷◌, ℕ, List, [], Option, Some, None, codes, decimal, Bool, false, if◌then◌else◌}
 use Rattle.dsc_words.specs.declared.plans.Plan.{Plan}
-use Rattle.dsc_words.specs.declared.plans.Plan.TheVariants.{Join, Evidence, Encode, Sentences, Replay, Make, Capture, Book}
+use Rattle.dsc_words.specs.declared.plans.Plan.TheVariants.{Join, Evidence, Encode, Sentences, Replay, Make, Capture, Watch, Exchange, Book}
 
 abbrev pub Text : Type 0
 Text = List ℕ
@@ -52,6 +52,8 @@ IsCommand command words Sentences = (command ≡ codes "sentences") × (words �
 IsCommand command words (Replay n) = (command ≡ codes "replay") × HasWorkers words n
 IsCommand command words (Make n) = (command ≡ codes "make") × HasGroups words n
 IsCommand command words Capture = (command ≡ codes "capture") × (words ≡ [])
+IsCommand command words (Watch n) = (command ≡ codes "watch") × HasWorkers words n
+IsCommand command words Exchange = (command ≡ codes "exchange") × (words ≡ [])
 IsCommand command words Book = (command ≡ codes "book") × (words ≡ [])
 
 -- the words are the program's name, a command, and the words of its option or its number
@@ -71,4 +73,6 @@ IsInRange Sentences = Unit {0}
 IsInRange (Replay n) = (1 ≤ n) × (n ≤ 64)
 IsInRange (Make n) = (1 ≤ n) × (n ≤ 1000)
 IsInRange Capture = Unit {0}
+IsInRange (Watch n) = (1 ≤ n) × (n ≤ 64)
+IsInRange Exchange = Unit {0}
 IsInRange Book = Unit {0}

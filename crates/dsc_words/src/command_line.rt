@@ -36,6 +36,8 @@ fn with_last_commands<'a>(alloc: Global, program: Command<'a>) -> Result<Command
     let program = program.subcommand(with_option(alloc, "replay", "workers")?)?;
     let program = program.subcommand(with_number(alloc, "make")?)?;
     let program = program.subcommand(Command::new(alloc, "capture"))?;
+    let program = program.subcommand(with_option(alloc, "watch", "workers")?)?;
+    let program = program.subcommand(Command::new(alloc, "exchange"))?;
     let program = program.subcommand(Command::new(alloc, "book"))?;
     Ok(program)
 }

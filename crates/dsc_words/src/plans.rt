@@ -21,6 +21,11 @@ pub enum Plan {
     Make { groups: u16 },
     /// `capture`: every call of a stream of elements.
     Capture,
+    /// `watch [--workers N]`: a call of each group as soon as a batch ends that reports it, and at the end what `join` says. 1 to 64
+    /// workers, 1 where none are given.
+    Watch { workers: u8 },
+    /// `exchange`: a ship and a coast station over a link, by the events of a file.
+    Exchange,
     /// `book`: the book of casualties of logs of sentences.
     Book,
 }

@@ -90,6 +90,10 @@ fn asked(command: &str, given: Option<&str>) -> Option<Plan>
             groups: groups(given)?,
         }),
         "capture" => Some(Plan::Capture),
+        "watch" => Some(Plan::Watch {
+            workers: workers(given)?,
+        }),
+        "exchange" => Some(Plan::Exchange),
         "book" => Some(Plan::Book),
         _ => None,
     }

@@ -4,6 +4,7 @@ ghost use Rattle.slot_evidence.specs.Sheet.{IsEnds};
 ghost use Rattle.join_groups.specs.Holds.{Holds, HoldsSome, IsFull, named_with, facts_with, facts_without, number_in};
 
 use line_engine::Refusal;
+use live_watch::{BatchWatcher, WatchedJoiner};
 use phasing::LONGEST;
 use receiver_pool::{Heard, Joiner, meet_at, take_at};
 use slot_evidence::{Reception, Sheet};
@@ -124,6 +125,26 @@ impl Groups {
         }
     }
 
+    /// Takes what a receiver heard of a group, at most 1,000,000 elements, into the batch, and leaves the batch open. A group too many
+    /// leaves all as it was.
+    pub fn wait(&mut self, group: u32, heard: Reception) -> Result<(), Refusal>
+        requires short { length heard ≤ LONGEST }
+        requires ready { HoldsSome self.old }
+        ensures ok { OnOk result ((named : ℕ → Bool) (F : ℕ → Facts) → Holds self.old named F
+            → (IsFull named group → ⊥) × Holds self.new (named_with group named) (facts_with group (facts_of heard) F)) }
+        ensures err { IfErr result (λ refusal. (refusal ≡ Refusal.Memory) ⊎ ((named : ℕ → Bool) (F : ℕ → Facts) → Holds self.old named F
+            → (refusal ≡ Refusal.TooManyGroups) × IsFull named group)) }
+        ensures kept { IfErr result (λ refusal. refusal ≢ Refusal.Memory → self.new ≡ self.old) }
+    {
+        match self.number_of(group) {
+            Ok(number) => {
+                self.put(number, heard)?;
+                Ok(())
+            }
+            Err(refusal) => Err(refusal),
+        }
+    }
+
     /// Whether the batch holds as many receptions as it may.
     fn is_full(&self) -> bool
         ensures { result ≡ nat_le MOST_IN_BATCH (length self.now.batch.items) }
@@ -161,6 +182,31 @@ impl Groups {
             self.batch.clear();
         }
         Ok(())
+    }
+
+    /// Ends the batch as `close_batch` does, with workers whom a watcher looks on.
+    pub fn close_watched<W: WatchedJoiner>(
+        &mut self,
+        workers: &W,
+        watcher: BatchWatcher,
+    ) -> Result<BatchWatcher, AllocError>
+        requires ready { HoldsSome self.old }
+        requires joins { W.can_join workers.now }
+        ensures holds { OnOk result ((named : ℕ → Bool) (F : ℕ → Facts) → Holds self.old named F → Holds self.new named F) }
+        ensures empty { OnOk result (self.new.batch.items ≡ []) }
+    {
+        if self.batch.is_empty() {
+            return Ok(watcher);
+        }
+        let watcher = workers.join_watched(watcher, &mut self.sheets, &self.batch)?;
+        self.batch.reserve_exact(MOST_IN_BATCH)?;
+        self.batch.clear();
+        Ok(watcher)
+    }
+
+    /// The number of a group, if it has one.
+    pub fn number(&self, group: u32) -> Option<usize> {
+        self.numbers.get(&group).copied()
     }
 
     /// The sheet of a group, whose facts then begin anew. It is that of no facts where the group isn't known. The batch has ended.

@@ -53,3 +53,20 @@ pub fn take_read<W: Joiner>(groups: &mut Groups, workers: &W, read: JoinLine) ->
         JoinLine::Evidence { group, sheet } => groups.meet(group, &sheet),
     }
 }
+
+/// The same of workers who join a batch only where it is closed.
+pub fn take_waiting(groups: &mut Groups, read: JoinLine) -> Result<(), Refusal>
+    requires short { IsShort read }
+    requires ready { HoldsSome groups.old }
+    ensures ok { OnOk result ((said : List Line) (line : Line) → Keeps groups.old said → Says line read
+        → (BringsTooMany said line → ⊥) × Keeps groups.new (said ++ line ∷ [])) }
+    ensures err { IfErr result (λ refusal. (refusal ≡ Refusal.Memory) ⊎ ((said : List Line) (line : Line) → Keeps groups.old said
+        → Says line read → (refusal ≡ Refusal.TooManyGroups) × BringsTooMany said line)) }
+    ensures kept { IfErr result (λ refusal. refusal ≢ Refusal.Memory → groups.new ≡ groups.old) }
+{
+    match read {
+        JoinLine::Nothing => Ok(()),
+        JoinLine::Reception { group, elements } => groups.wait(group, elements),
+        JoinLine::Evidence { sheet, group } => groups.meet(group, &sheet),
+    }
+}

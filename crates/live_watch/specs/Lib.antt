@@ -1,3 +1,4 @@
+pub mod Joining
 pub mod Told
 pub mod Watching
 pub mod inside

@@ -1,10 +1,14 @@
 //! A call told while receivers still post: a watcher's seat looks at the board on which they join it.
 #![tactic(auto)]
 
+mod batches;
 mod laws;
+mod showing;
 mod watchers;
 mod watching;
 
+pub use batches::{BatchWatcher, SeenCall, WatchedJoiner, WatchedWorkers, watch_batch};
 pub use laws::told_calls;
+pub use showing::{call_to_tell, shows_call};
 pub use watchers::{News, Watcher};
 pub use watching::watch;

@@ -22,7 +22,7 @@ use std::marker::Brand;
 use std::thread::{Threads, join};
 
 /// A watcher polls at most so often while workers post.
-const MOST_POLLS: u32 = 64;
+pub(crate) const MOST_POLLS: u32 = 64;
 
 /// Polls until a call is told, at most 64 times.
 fn poll_meanwhile<A: Allowed>(mut watcher: Watcher<A>, board: &Board<A>) -> Watcher<A>

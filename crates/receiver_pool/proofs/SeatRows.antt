@@ -1,5 +1,7 @@
 -- A row of boards, and rows of their seats and sheets.
-use Rattle.std.proofs.Common.{◌≡◌, ℕ, ◌+◌, ◌-◌, ◌/◌, ◌≤◌, List, [], length, refl, arith, sym, ◌∙◌, subst}
+use Rattle.std.proofs.Common.{◌≡◌, ℕ, ◌+◌, ◌-◌, ◌/◌, ◌<◌, ◌≤◌, List, [], length, set, slice_index_or, refl, arith, sym, ◌∙◌, subst, inl, inr}
+use Rattle.std.proofs.lemmas.Bool.{cases_eq}
+use Rattle.std.proofs.lemmas.List.{length-set, get_or-set_same, get_or-set_other}
 use Rattle.atomic_table.specs.Seated.{TableId}
 use Rattle.slot_evidence.specs.Facts.{Facts, union}
 use Rattle.slot_evidence.specs.declared.places.Seen.{Seen}
@@ -8,7 +10,7 @@ use Rattle.slot_evidence.proofs.PublicLaws.{IsEnds-same}
 use Rattle.receiver_pool.specs.Views.{given_sheet}
 use Rattle.receiver_pool.specs.Groups.{AreSheets}
 use Rattle.receiver_pool.specs.Seats.{Held}
-use Rattle.receiver_pool.specs.inside.Rows.{IsSeatOf, AreSeats, no_table, no_seat, table_at}
+use Rattle.receiver_pool.specs.Rows.{IsSeatOf, AreSeats, no_table, no_seat, table_at}
 use Rattle.receiver_pool.proofs.Turning.{Row}
 
 -- what stands at each place
@@ -79,4 +81,26 @@ same_seats share amount F G boards seats same alike are = record {
   each = λ k below.
       let seat = are.each k below in
       record { table = seat.table; amount = seat.amount ∙ same; ends = IsEnds-same (F k) (G k) _ (alike k) seat.ends };
+}
+
+-- a seat looked: it keeps its board, its share and what it posted
+pub looked : (share : ℕ) (F : Facts) (board : TableId) (old new : Held) → new.table ≡ board → new.view.share ≡ old.view.share
+    → given_sheet new.view ≡ given_sheet old.view → IsSeatOf board share F old → IsSeatOf board share F new
+looked share F board old new table shares given was = record {
+  table = table;
+  amount = shares ∙ was.amount;
+  ends = subst (λ (s : List Seen). IsEnds F s) (sym given) was.ends;
+}
+
+-- one seat of a row became another of its board
+pub seats_set : (share : ℕ) (F : ℕ → Facts) (boards : List TableId) (seats : List Held) (k : ℕ) (new : Held) → k < length boards
+    → Seats share F boards k new → AreSeats share F boards seats → AreSeats share F boards (set seats k new)
+seats_set share F boards seats k new inside held are = record {
+  count = length-set seats k new ∙ are.count;
+  each = λ j below. elim (cases_eq j k) [
+    | inl here ↦
+        subst (λ (i : ℕ). Seats share F boards i (slice_index_or (set seats k new) i no_seat)) (sym here)
+        (subst (Seats share F boards k) (sym (get_or-set_same seats k new no_seat (omega (arith, are.count)))) held)
+    | inr apart ↦ subst (Seats share F boards j) (sym (get_or-set_other seats k j new no_seat apart)) (are.each j below)
+  ];
 }

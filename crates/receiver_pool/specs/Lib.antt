@@ -7,5 +7,6 @@ pub mod Facts
 pub mod Posting
 pub mod Events
 pub mod Groups
+pub mod Rows
 pub mod Joining
 pub mod inside

@@ -3,5 +3,4 @@ pub mod Tells
 pub mod Through
 pub mod Turns
 pub mod Numbers
-pub mod Rows
 pub mod Worked

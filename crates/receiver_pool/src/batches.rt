@@ -6,7 +6,7 @@ ghost use Rattle.slot_evidence.specs.Sheet.{IsEnds};
 ghost use Rattle.receiver_pool.specs.Groups.{facts_of_group, AreSheets, IsShort, Shows};
 ghost use Rattle.receiver_pool.specs.inside.Turns.{is_turn};
 ghost use Rattle.receiver_pool.specs.inside.Numbers.{ArePlaces, place_part};
-ghost use Rattle.receiver_pool.specs.inside.Rows.{AreSeats, Sit};
+ghost use Rattle.receiver_pool.specs.Rows.{AreSeats, Sit};
 
 use crate::allowed::AllFacts;
 use crate::batch_groups::{entries_of, number_groups, shown_to};
@@ -72,7 +72,7 @@ fn work<G: Gate>(
 
 /// The workers from `low` on and below `high`, by halves of halves in threads of their own. Each has a seat of every board.
 #[cycle(groups)]
-fn fork_groups<R: Threads + Sync, G: Gate>(
+pub(crate) fn fork_groups<R: Threads + Sync, G: Gate>(
     rt: &R,
     alloc: Global,
     boards: &[Board<AllFacts>],
@@ -120,8 +120,12 @@ fn fork_groups<R: Threads + Sync, G: Gate>(
     Ok(joined)
 }
 
-/// All workers. An empty thread comes first: a kernel may put the first new thread on the processor of the one that starts it, where it
-/// waits until that one has done its own share. The worker started behind it then has another processor, and begins at once.
+/// A batch of fewer receptions than this gains nothing from an empty thread.
+const FEW: usize = 16;
+
+/// All workers. An empty thread comes first, but where the batch is small: a kernel may put the first new thread on the processor of the
+/// one that starts it, where it waits until that one has done its own share. The worker started behind it then has another processor, and
+/// begins at once.
 fn start_groups<R: Threads + Sync, G: Gate>(
     rt: &R,
     alloc: Global,
@@ -139,6 +143,11 @@ fn start_groups<R: Threads + Sync, G: Gate>(
     requires places { ArePlaces (length batch.now) (length boards.now) places.now }
     ensures { IfOk result (λ v. (share : ℕ) (F : ℕ → Facts) → AreSeats share F boards.now seats.items → AreSeats share (λ k. union (F k) (place_part (is_turn workers 0 workers) batch.now places.now (length batch.now) k)) boards.now v.items) }
 {
+    if batch.len() < FEW {
+        return fork_groups(
+            rt, alloc, boards, seats, batch, places, 0, workers, workers, gate,
+        );
+    }
     let (_, joined) = join(
         rt,
         || {},

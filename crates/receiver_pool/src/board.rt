@@ -139,8 +139,22 @@ impl<A: Allowed> Board<A> {
         ensures given { given_sheet result.0.view ≡ given_sheet seat.view }
         ensures exact { (F : Facts) → ((p v : ℕ) → IsAllowed A.facts p v → F p v ≡ true) → IsEnds F (given_sheet seat.view) → IsEnds F result.1 }
     {
-        let sheet = look(&self.words, &mut seat.token);
+        let sheet = self.look_at(&mut seat);
         (seat, sheet)
+    }
+
+    /// The same of a seat that is lent.
+    pub fn look_at(&self, seat: &mut Seat<A>) -> Sheet
+        requires { seat.old.table ≡ self.now }
+        ensures board { seat.new.table ≡ self.now }
+        ensures share { seat.new.view.share ≡ seat.old.view.share }
+        ensures places { (p : ℕ) → p < 64 → IsLooked A.facts p (place_at seat.old.view p) (place_at seat.new.view p) }
+        ensures sheet { result ≡ seen_sheet seat.new.view }
+        ensures allowed { OnlyAllowed A.facts result }
+        ensures given { given_sheet seat.new.view ≡ given_sheet seat.old.view }
+        ensures exact { (F : Facts) → ((p v : ℕ) → IsAllowed A.facts p v → F p v ≡ true) → IsEnds F (given_sheet seat.old.view) → IsEnds F result }
+    {
+        look(&self.words, &mut seat.token)
     }
 
     /// Ends the board, and answers all that was admitted through the seats that were joined into this one. Condition: the seat has the whole share.

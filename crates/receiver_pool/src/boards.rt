@@ -1,11 +1,11 @@
 //! A row of boards, one for each group of a batch, and a seat of each.
-ghost use Rattle.std.specs.Prelude.{◌≡◌, ℕ, ◌+◌, ◌-◌, ◌/◌, IfOk, length};
+ghost use Rattle.std.specs.Prelude.{◌≡◌, ℕ, ◌+◌, ◌-◌, ◌/◌, ◌<◌, IfOk, length};
 ghost use Rattle.slot_evidence.specs.Facts.{Facts, no_facts, union};
 ghost use Rattle.slot_evidence.specs.Sheet.{IsEnds};
 ghost use Rattle.slot_evidence.specs.Allowed.{OnlyAllowed};
 ghost use Rattle.receiver_pool.specs.Views.{given_sheet};
 ghost use Rattle.receiver_pool.specs.Groups.{AreSheets};
-ghost use Rattle.receiver_pool.specs.inside.Rows.{AreSeats, Sit};
+ghost use Rattle.receiver_pool.specs.Rows.{AreSeats, Sit};
 
 use crate::allowed::{AllFacts, Allowed, all_facts_may_be_posted};
 use crate::board::Board;
@@ -93,6 +93,15 @@ pub(crate) fn join_each(
         let k = others.len();
         boards[k].join_into(&mut seats[k], other);
     }
+}
+
+/// Looks at the board with this number through its seat: what the seat then saw of each place.
+pub fn look_at(boards: &[Board<AllFacts>], seats: &mut [Seat<AllFacts>], number: usize) -> Sheet
+    requires seats { Sit 1 boards.now seats.old }
+    requires number { number < length boards.now }
+    ensures { (share : ℕ) (F : ℕ → Facts) → AreSeats share F boards.now seats.old → AreSeats share F boards.now seats.new }
+{
+    boards[number].look_at(&mut seats[number])
 }
 
 /// Closes each board with its whole seat: the sheets of what was posted on them.

@@ -4,6 +4,7 @@
 mod allowed;
 mod batch_groups;
 mod batches;
+mod beside;
 mod board;
 mod boards;
 mod gate;
@@ -19,7 +20,9 @@ mod workers;
 
 pub use allowed::{AllFacts, Allowed, all_facts_may_be_posted};
 pub use batches::{meet_at, pool_groups, take_at};
+pub use beside::{Beside, pool_groups_beside};
 pub use board::Board;
+pub use boards::look_at;
 pub use gate::{Gate, Open};
 pub use heard::{Heard, Shown};
 pub use laws::{one_core, seats_are_at_rest, whole_share};
@@ -27,4 +30,4 @@ pub use meeting::Meeting;
 pub use pools::{pool, post_all};
 pub use seats::{Seat, WHOLE};
 pub use slot_evidence::Reception;
-pub use workers::{Joiner, Workers};
+pub use workers::{Joiner, Workers, meet_entries};

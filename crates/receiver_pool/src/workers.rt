@@ -77,7 +77,7 @@ fn read_by(_entered: &Entered, heard: &Reception) -> Sheet
 }
 
 /// Takes what was shown of groups into their sheets.
-fn meet_entries(sheets: &mut [Sheet], entries: &[Shown])
+pub fn meet_entries(sheets: &mut [Sheet], entries: &[Shown])
     requires { All (IsOneOf (length sheets.old)) entries.now }
     ensures { (F G : ℕ → Facts) (n : ℕ) → AreSheets F sheets.old n → AreShown G entries.now → AreSheets (λ k. union (F k) (G k)) sheets.new n }
 {

@@ -18,11 +18,17 @@ fn append_act(out: &mut Vec<u8>, at: u32, act: &Act) -> Result<(), AllocError>
     Ok(())
 }
 
-/// Appends the lines of acts.
-fn append_acts(out: &mut Vec<u8>, at: u32, acts: &[Act]) -> Result<(), AllocError>
-    ensures { OnOk result (out.new.items ≡ out.old.items ++ flat_map (act_line at) acts.now) }
+/// Appends the lines of acts, each behind what names the station: nothing where an output has one station.
+pub fn append_acts(
+    out: &mut Vec<u8>,
+    station: &[u8],
+    at: u32,
+    acts: &[Act],
+) -> Result<(), AllocError>
+    ensures { OnOk result (out.new.items ≡ out.old.items ++ flat_map (λ act. station.now ++ act_line at act) acts.now) }
 {
     for act in acts {
+        out.extend_from_slice(station)?;
         append_act(out, at, act)?;
     }
     Ok(())
@@ -30,7 +36,11 @@ fn append_acts(out: &mut Vec<u8>, at: u32, acts: &[Act]) -> Result<(), AllocErro
 
 /// Appends the line of a refusal.
 #[tactic(auto, unfolding(crate::specs::Answers::refusal_line))]
-fn append_refusal(out: &mut Vec<u8>, at: u32, refusal: &StationRefusal) -> Result<(), AllocError>
+pub fn append_refusal(
+    out: &mut Vec<u8>,
+    at: u32,
+    refusal: &StationRefusal,
+) -> Result<(), AllocError>
     ensures { OnOk result (out.new.items ≡ out.old.items ++ refusal_line at refusal.now) }
 {
     out.extend_from_slice(&put_refused(at, refusal))?;
@@ -50,7 +60,7 @@ pub fn append_answer(
 {
     match answer {
         Ok(()) => {
-            append_acts(out, at, acts)?;
+            append_acts(out, b"", at, acts)?;
             Ok(true)
         }
         Err(refusal) => {

@@ -206,6 +206,7 @@ fn lines_of_points_say_what_they_say(rt: HostRuntime) -> Result<(), Fail> {
         return Err("no event")?;
     };
     assert_eq!(rt; (at, what), (7, EventLine::Heard(3)));
+    let ship = FileKind::Traffic(Point::Ship);
     let Line::Evidence { group, .. } = line_of(rt.alloc(), ship, b"e g5 0:112")? else {
         return Err("no evidence")?;
     };

@@ -19,3 +19,5 @@ mod numbers;
 mod sentences;
 #[cfg(test)]
 mod traffic;
+#[cfg(test)]
+mod worlds;

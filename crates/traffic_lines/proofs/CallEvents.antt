@@ -1,5 +1,5 @@
 -- events that name a call
-use Rattle.std.proofs.Common.{◌≡◌, ℕ, ◌+◌, ◌-◌, List, ◌++◌, length, codes, Ok, Err, ◌⊎◌, inl, inr, refl, sym, ◌∙◌, ap, arith}
+use Rattle.std.proofs.Common.{◌≡◌, ℕ, ◌+◌, ◌-◌, List, ◌++◌, length, codes, Ok, Err, refl, sym, ◌∙◌, ap, arith}
 use Rattle.std.proofs.lemmas.List.{append_cancel_left}
 use Rattle.call_values.specs.declared.calls.Call.{Call}
 use Rattle.call_values.specs.declared.calls.Call.TheVariants.{Service}
@@ -13,15 +13,11 @@ use Rattle.line_grammar.specs.Grammar.{anything, word, none}
 use Rattle.line_grammar.specs.inside.Reading.{after}
 use Rattle.line_grammar.proofs.Chains.{after_list, word_missed}
 use Rattle.line_grammar.proofs.Repeats.{read_stops}
-use Rattle.line_grammar.proofs.Stops.{IsChoice}
-use Rattle.traffic_lines.specs.declared.lines.EventLine.{EventLine}
-use Rattle.traffic_lines.specs.declared.lines.EventLine.TheVariants.{Position, Delay, Alert, Cancel, Tick, Send, Answer, Hear, Heard, Accept, Relay}
 use Rattle.traffic_lines.specs.Lines.{IsHear, IsSend}
-use Rattle.traffic_lines.specs.inside.Reading.{IsCallEvent}
 use Rattle.traffic_lines.proofs.Languages.{HasLine, IsBehind, IsFronts, Stops-behind, Stops-front, stops_column, found_stops}
 
 -- a word in front of a line
-IsWord : List ℕ → List ℕ → Type 0
+unfoldable pub IsWord : List ℕ → List ℕ → Type 0
 IsWord text front = front ≡ text
 
 word_fronts : (text : List ℕ) → IsFronts (IsWord text) (word text anything)
@@ -31,18 +27,18 @@ word_fronts text = record {
   of = λ parts bytes h. (text, h.0, refl, h.1);
 }
 
-one_word : (text a b r s : List ℕ) → IsWord text a → IsWord text b → a ++ r ≡ b ++ s → (a ≡ b) × (r ≡ s)
+pub one_word : (text a b r s : List ℕ) → IsWord text a → IsWord text b → a ++ r ≡ b ++ s → (a ≡ b) × (r ≡ s)
 unfolding IsWord
 one_word text a b r s h k e = (h ∙ sym k, append_cancel_left text r s (sym (ap (λ (l : List ℕ). l ++ r) h) ∙ e ∙ ap (λ (l : List ℕ). l ++ s) k))
 
 -- where the word isn't, its fault is the line's; and where it is, the fault behind it
-missed : {V W : Type 0} (text : List ℕ) (M : V → List ℕ → Type 0) (L : W → List ℕ → Type 0) → IsBehind (IsWord text) M L → HasLine M → (bytes : List ℕ) (left : ℕ) → after text bytes ≡ Err left
+pub missed : {V W : Type 0} (text : List ℕ) (M : V → List ℕ → Type 0) (L : W → List ℕ → Type 0) → IsBehind (IsWord text) M L → HasLine M → (bytes : List ℕ) (left : ℕ) → after text bytes ≡ Err left
     → IsColumn L bytes (length bytes + 1 - left)
 missed text M L behind some bytes left h =
     stops_column L bytes left
     (Stops-front (IsWord text) (word text anything) M L bytes left (word_fronts text) behind some (read_stops (word text anything) bytes left refl (word_missed text anything bytes left h)))
 
-fault_behind : {V W : Type 0} (text : List ℕ) (M : V → List ℕ → Type 0) (L : W → List ℕ → Type 0) → IsBehind (IsWord text) M L → HasLine M → (bytes rest : List ℕ) (left : ℕ) → after text bytes ≡ Ok rest
+pub fault_behind : {V W : Type 0} (text : List ℕ) (M : V → List ℕ → Type 0) (L : W → List ℕ → Type 0) → IsBehind (IsWord text) M L → HasLine M → (bytes rest : List ℕ) (left : ℕ) → after text bytes ≡ Ok rest
     → IsColumn M rest (length rest + 1 - left) → IsColumn L bytes (length bytes + 1 - left)
 unfolding IsWord
 fault_behind text M L behind some bytes rest left h k =
@@ -95,27 +91,3 @@ send_fault bytes rest left h k = fault_behind (codes "send ") IsBareCallText IsS
 
 pub some_send : HasLine IsSend
 some_send = record { value = some_bare_text.value; text = codes "send " ++ some_bare_text.text; line = (some_bare_text.text, some_bare_text.line, refl) }
-
--- either of them
-call_back : (e : EventLine) (bytes : List ℕ) → IsCallEvent e bytes → ((call : Call) × IsHear call bytes) ⊎ ((call : Call) × IsSend call bytes)
-call_back (Hear call) bytes h = inl (call, h)
-call_back (Send call) bytes h = inr (call, h)
-call_back (Position p) bytes h = absurd h
-call_back (Delay ms) bytes h = absurd h
-call_back (Alert n c) bytes h = absurd h
-call_back Cancel bytes h = absurd h
-call_back Tick bytes h = absurd h
-call_back (Answer n accepts) bytes h = absurd h
-call_back (Heard group) bytes h = absurd h
-call_back (Accept ship d) bytes h = absurd h
-call_back (Relay ship to ask) bytes h = absurd h
-
-pub call_choice : IsChoice IsHear IsSend IsCallEvent
-call_choice = record {
-  left = λ call bytes h. (Hear call, h);
-  right = λ call bytes h. (Send call, h);
-  back = call_back;
-}
-
-pub some_call_event : HasLine IsCallEvent
-some_call_event = record { value = Hear some_hear.value; text = some_hear.text; line = some_hear.line }

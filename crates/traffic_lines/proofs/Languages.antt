@@ -1,5 +1,5 @@
 -- languages of lines: where one stops, and where one stops that stands behind a front
-use Rattle.std.proofs.Common.{◌≡◌, ℕ, zero, suc, ◌+◌, ◌-◌, ◌<◌, ◌≤◌, min, true, List, ◌∷◌, ◌++◌, length, take, drop, Result, Ok, Err, IsErrAnd, inl, inr, refl, sym, ◌∙◌, ap, subst, append_assoc, length-append, length-drop, arith}
+use Rattle.std.proofs.Common.{◌≡◌, ℕ, zero, suc, ◌+◌, ◌-◌, ◌<◌, ◌≤◌, min, true, List, ◌∷◌, ◌++◌, length, take, drop, Result, Ok, Err, IfOk, IfErr, IsErrAnd, inl, inr, refl, sym, ◌∙◌, ap, subst, append_assoc, length-append, length-drop, arith}
 use Rattle.std.proofs.lemmas.List.{take-append-drop, take-append-le}
 use Rattle.line_grammar.specs.Columns.{Begins, IsColumn}
 use Rattle.line_grammar.specs.Grammar.{Grammar, either, Parts, Spells}
@@ -172,3 +172,9 @@ Stops-front IsFront G M L bytes left fronts h some s = record {
       s.past p q e short (record { value = k.0; rest = b.rest; whole = k.1 });
   none = λ w k. let m = line_of_front IsFront G M L w bytes fronts h k in s.none m.0 m.1;
 }
+
+-- what was read was lawful and stood there, or it was missed
+pub value_read : {W : Type 0} (G : Grammar) (L : W → List ℕ → Type 0) (P Q : W → Type 0) (bytes : List ℕ) (r : Result W ℕ) → ((w : W) → P w → Q w → L w bytes) → IfOk r P → IfOk r Q
+    → IfErr r (λ left. read G bytes ≡ Err left) → ReadsBy G L bytes r
+value_read G L P Q bytes (Ok w) is h k e = is w h k
+value_read G L P Q bytes (Err left) is h k e = e

@@ -5,3 +5,7 @@ mod EventTexts
 mod CallEvents
 mod LineTexts
 mod OneLine
+mod EntryTexts
+mod OtherIdentities
+mod WorldLines
+mod OneWorld

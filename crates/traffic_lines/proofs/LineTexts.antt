@@ -36,7 +36,7 @@ use Rattle.traffic_lines.proofs.Languages.{HasLine, IsBehind, IsFronts, Stops-be
 use Rattle.traffic_lines.proofs.Tokens.{number_told}
 
 -- a band
-band_of : (parts : Parts) (bytes : List ℕ) → Spells band parts bytes → (b : Band) × IsBandText b bytes
+pub band_of : (parts : Parts) (bytes : List ℕ) → Spells band parts bytes → (b : Band) × IsBandText b bytes
 band_of parts bytes h =
     elim (choice_back (lone (codes " mf")) (either (lone (codes " hf")) (lone (codes " vhf"))) parts bytes h) [
       | inl k ↦ (Mf, lone_of (codes " mf") k.0 bytes k.1)
@@ -46,7 +46,7 @@ band_of parts bytes h =
       ])
     ]
 
-band_is : (b : Band) (bytes : List ℕ) → IsBandText b bytes → (parts : Parts) × Spells band parts bytes
+pub band_is : (b : Band) (bytes : List ℕ) → IsBandText b bytes → (parts : Parts) × Spells band parts bytes
 band_is Mf bytes e = let k = lone_is (codes " mf") bytes e in (first k.0, k.1)
 band_is Hf bytes e = let k = lone_is (codes " hf") bytes e in (second (first k.0), k.1)
 band_is Vhf bytes e = let k = lone_is (codes " vhf") bytes e in (second (second k.0), k.1)
@@ -178,33 +178,33 @@ pub moment_list : (bytes rest back : List ℕ) (at : ℕ) → bytes ≡ decimal 
 moment_list bytes rest back at e h = e ∙ ap (λ (l : List ℕ). decimal at ++ l) (after_list (codes " ") rest back h)
 
 -- the lines of L are these events behind their moments
-pub record HasEvents (M : EventLine → List ℕ → Type 0) (L : TrafficLine → List ℕ → Type 0) : Type 0 where
-  pub to : (at : ℕ) (what : EventLine) (back text : List ℕ) → at < 2 ^ 32 → M what back → text ≡ decimal at ++ (codes " " ++ back) → L (Event at what) text
-  pub of : (line : TrafficLine) (text : List ℕ) → L line text → (at : ℕ) × (what : EventLine) × (back : List ℕ) × (at < 2 ^ 32) × M what back × (text ≡ decimal at ++ (codes " " ++ back))
+pub record HasEvents {V W : Type 0} (event : ℕ → V → W) (M : V → List ℕ → Type 0) (L : W → List ℕ → Type 0) : Type 0 where
+  pub to : (at : ℕ) (what : V) (back text : List ℕ) → at < 2 ^ 32 → M what back → text ≡ decimal at ++ (codes " " ++ back) → L (event at what) text
+  pub of : (line : W) (text : List ℕ) → L line text → (at : ℕ) × (what : V) × (back : List ℕ) × (at < 2 ^ 32) × M what back × (text ≡ decimal at ++ (codes " " ++ back))
 
-event_of : (M : EventLine → List ℕ → Type 0) (L : TrafficLine → List ℕ → Type 0) → HasEvents M L → (line : TrafficLine) (bytes : List ℕ) → L line bytes
-    → (front : List ℕ) × (back : List ℕ) × (what : EventLine) × IsMoment front × M what back × (bytes ≡ front ++ back)
-event_of M L has line bytes h =
+event_of : {V W : Type 0} (event : ℕ → V → W) (M : V → List ℕ → Type 0) (L : W → List ℕ → Type 0) → HasEvents event M L → (line : W) (bytes : List ℕ) → L line bytes
+    → (front : List ℕ) × (back : List ℕ) × (what : V) × IsMoment front × M what back × (bytes ≡ front ++ back)
+event_of event M L has line bytes h =
     let k = has.of line bytes h in
     (decimal k.0 ++ codes " ", k.2, k.1, (k.0, k.3, refl), k.4, k.5 ∙ sym (append_assoc (decimal k.0) (codes " ") k.2))
 
-moment_behind : (M : EventLine → List ℕ → Type 0) (L : TrafficLine → List ℕ → Type 0) → HasEvents M L → IsBehind IsMoment M L
-moment_behind M L has = record {
-  to = λ front back what is h. (Event is.0 what, has.to is.0 what back (front ++ back) is.1 h (ap (λ (l : List ℕ). l ++ back) is.2 ∙ append_assoc (decimal is.0) (codes " ") back));
-  of = event_of M L has;
+moment_behind : {V W : Type 0} (event : ℕ → V → W) (M : V → List ℕ → Type 0) (L : W → List ℕ → Type 0) → HasEvents event M L → IsBehind IsMoment M L
+moment_behind event M L has = record {
+  to = λ front back what is h. (event is.0 what, has.to is.0 what back (front ++ back) is.1 h (ap (λ (l : List ℕ). l ++ back) is.2 ∙ append_assoc (decimal is.0) (codes " ") back));
+  of = event_of event M L has;
   one = same_moment;
 }
 
-pub no_moment : (M : EventLine → List ℕ → Type 0) (L : TrafficLine → List ℕ → Type 0) → HasEvents M L → HasLine M → (bytes : List ℕ) (left : ℕ) → read moment bytes ≡ Err left
+pub no_moment : {V W : Type 0} (event : ℕ → V → W) (M : V → List ℕ → Type 0) (L : W → List ℕ → Type 0) → HasEvents event M L → HasLine M → (bytes : List ℕ) (left : ℕ) → read moment bytes ≡ Err left
     → IsColumn L bytes (length bytes + 1 - left)
-no_moment M L has some bytes left h =
-    stops_column L bytes left (Stops-front IsMoment moment M L bytes left moment_fronts (moment_behind M L has) some (read_stops moment bytes left refl h))
+no_moment event M L has some bytes left h =
+    stops_column L bytes left (Stops-front IsMoment moment M L bytes left moment_fronts (moment_behind event M L has) some (read_stops moment bytes left refl h))
 
-pub no_event : (M : EventLine → List ℕ → Type 0) (L : TrafficLine → List ℕ → Type 0) → HasEvents M L → HasLine M → (bytes back : List ℕ) (at left : ℕ) → at < 2 ^ 32
+pub no_event : {V W : Type 0} (event : ℕ → V → W) (M : V → List ℕ → Type 0) (L : W → List ℕ → Type 0) → HasEvents event M L → HasLine M → (bytes back : List ℕ) (at left : ℕ) → at < 2 ^ 32
     → bytes ≡ decimal at ++ (codes " " ++ back) → IsColumn M back (length back + 1 - left) → IsColumn L bytes (length bytes + 1 - left)
-no_event M L has some bytes back at left small e k =
+no_event event M L has some bytes back at left small e k =
     let list = e ∙ sym (append_assoc (decimal at) (codes " ") back) in
-    stops_column L bytes left (Stops-behind IsMoment M L bytes (decimal at ++ codes " ") back left (moment_behind M L has) (at, small, refl) list (found_stops M back left some k))
+    stops_column L bytes left (Stops-behind IsMoment M L bytes (decimal at ++ codes " ") back left (moment_behind event M L has) (at, small, refl) list (found_stops M back left some k))
 
 -- the events of a ship
 ship_line_of : (line : TrafficLine) (text : List ℕ) → IsTrafficLine point.Ship line text
@@ -215,7 +215,7 @@ ship_line_of (Base s) text h = absurd h.0
 ship_line_of (Group m) text h = absurd h.0
 ship_line_of (Event at what) text h = let k = h.1 in (at, what, k.0, k.1, (h.0, k.2), k.3)
 
-pub ship_has : HasEvents IsShipText (IsTrafficLine point.Ship)
+pub ship_has : HasEvents Event IsShipText (IsTrafficLine point.Ship)
 ship_has = record {
   to = λ at what back text small h e. (h.0, (back, small, h.1, e));
   of = ship_line_of;
@@ -233,7 +233,7 @@ coast_line_of (Base s) text h = absurd h.0
 coast_line_of (Group m) text h = absurd h.0
 coast_line_of (Event at what) text h = let k = h.1 in (at, what, k.0, k.1, (h.0, k.2), k.3)
 
-pub coast_has : HasEvents IsCoastText (IsTrafficLine point.Coast)
+pub coast_has : HasEvents Event IsCoastText (IsTrafficLine point.Coast)
 coast_has = record {
   to = λ at what back text small h e. (h.0, (back, small, h.1, e));
   of = coast_line_of;

@@ -1,4 +1,4 @@
--- The lines of ships' and of coast stations' files among the lines of both: this project's profile.
+-- The lines of ships' and of coast stations' files, and of both ends of an exchange, among the lines of both: this project's profile.
 use Rattle.std.specs.Prelude.{ℕ, Option, Some, None}
 use Rattle.traffic_lines.specs.declared.lines.EventLine.{EventLine}
 use Rattle.traffic_lines.specs.declared.lines.EventLine.TheVariants as event
@@ -14,6 +14,12 @@ use Rattle.traffic_lines.specs.declared.lines.StationLine.{StationLine}
 use Rattle.traffic_lines.specs.declared.lines.StationLine.TheVariants as station
 use Rattle.traffic_lines.specs.declared.lines.ShipBodyLine.{ShipBodyLine}
 use Rattle.traffic_lines.specs.declared.lines.ShipBodyLine.TheVariants as body
+use Rattle.traffic_lines.specs.declared.worlds.ShipEntry.{ShipEntry}
+use Rattle.traffic_lines.specs.declared.worlds.ShipEntry.TheVariants as of_ship
+use Rattle.traffic_lines.specs.declared.worlds.CoastEntry.{CoastEntry}
+use Rattle.traffic_lines.specs.declared.worlds.CoastEntry.TheVariants as of_coast
+use Rattle.traffic_lines.specs.declared.worlds.ExchangeLine.{ExchangeLine}
+use Rattle.traffic_lines.specs.declared.worlds.ExchangeLine.TheVariants as exchange
 use Rattle.traffic_lines.specs.declared.lines.Point.{Point}
 use Rattle.traffic_lines.specs.declared.lines.Point.TheVariants as point
 
@@ -57,3 +63,12 @@ line_of_coast says = line.Event says.0 (event_of_coast says.1)
 abbrev pub ship_point : Option ℕ → Point
 ship_point (Some held) = point.Groups held
 ship_point None = point.Ship
+
+-- what an event line of an exchange says behind its moment, at the ship and at the coast station
+abbrev pub exchange_of_ship : ShipEntry → ExchangeLine
+exchange_of_ship (of_ship.Own what) = exchange.Event (event_of_ship (at_ship.Own what))
+exchange_of_ship (of_ship.Get number) = exchange.Get number
+
+abbrev pub exchange_of_coast : CoastEntry → ExchangeLine
+exchange_of_coast (of_coast.Own what) = exchange.Event (event_of_coast (at_coast.Own what))
+exchange_of_coast (of_coast.Get number) = exchange.Get number

@@ -1,4 +1,5 @@
 pub mod Lines
 pub mod Anywhere
 pub mod Readings
+pub mod Worlds
 pub mod inside

@@ -1,12 +1,13 @@
-//! The lines of ships' and of coast stations' files in types of both.
+//! The lines of ships' and of coast stations' files, and of both ends of an exchange, in types of both.
 ghost use Rattle.std.specs.Prelude.{◌≡◌};
-ghost use Rattle.traffic_lines.specs.Anywhere.{event_of_ship, event_of_coast, line_of_station, line_of_ship};
+ghost use Rattle.traffic_lines.specs.Anywhere.{event_of_ship, event_of_coast, exchange_of_ship, exchange_of_coast, line_of_station, line_of_ship};
 ghost use Rattle.traffic_lines.specs.declared.lines.ShipLine.TheVariants as ship;
 ghost use Rattle.traffic_lines.specs.declared.lines.CoastLine.TheVariants as coast;
 
 use crate::lines::{
     CoastLine, CoastOwn, EventLine, ShipBodyLine, ShipLine, ShipOwn, StationLine, TrafficLine,
 };
+use crate::worlds::{CoastEntry, ExchangeLine, ShipEntry};
 
 impl From<ShipOwn> for EventLine {
     ghost from_gives = { λ says line. line ≡ event_of_ship (ship.Own says) };
@@ -83,6 +84,28 @@ impl From<ShipBodyLine> for TrafficLine {
                 at,
                 what: EventLine::from(what),
             },
+        }
+    }
+}
+
+impl From<ShipEntry> for ExchangeLine {
+    ghost from_gives = { λ says line. line ≡ exchange_of_ship says };
+
+    fn from(says: ShipEntry) -> ExchangeLine {
+        match says {
+            ShipEntry::Own(own) => ExchangeLine::Event(EventLine::from(own)),
+            ShipEntry::Get(number) => ExchangeLine::Get(number),
+        }
+    }
+}
+
+impl From<CoastEntry> for ExchangeLine {
+    ghost from_gives = { λ says line. line ≡ exchange_of_coast says };
+
+    fn from(says: CoastEntry) -> ExchangeLine {
+        match says {
+            CoastEntry::Own(own) => ExchangeLine::Event(EventLine::from(own)),
+            CoastEntry::Get(number) => ExchangeLine::Get(number),
         }
     }
 }

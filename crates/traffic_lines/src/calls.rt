@@ -1,9 +1,8 @@
 ghost use Rattle.std.specs.Prelude.{◌≡◌, ◌+◌, ◌-◌, ◌≤◌, length};
 ghost use Rattle.traffic_lines.specs.Lines.{IsHear, IsSend};
-ghost use Rattle.traffic_lines.specs.inside.Reading.{Finds, IsCallEvent, SaysCall};
+ghost use Rattle.traffic_lines.specs.inside.Reading.{Finds, SaysAtBoth, SaysHearing};
 
-use crate::choices::further;
-use crate::shared::Shared;
+use crate::shared::{Hearing, Shared};
 use dsc_texts::{read_bare_call, read_call};
 use line_grammar::word;
 
@@ -16,30 +15,23 @@ fn left_at(text: &[u8], column: usize) -> usize
 }
 
 /// Reads a call that is heard; an expansion behind it says nothing. An error is how many bytes are left at the fault.
-fn hear(bytes: &[u8]) -> Result<Shared, usize>
-    ensures { Finds IsHear SaysCall bytes.now result }
+pub(crate) fn hear(bytes: &[u8]) -> Result<Hearing, usize>
+    ensures { Finds IsHear SaysHearing bytes.now result }
 {
     let text = word(b"hear ", bytes)?;
     match read_call(text) {
-        Ok((call, _)) => Ok(Shared::Hear(call)),
+        Ok((call, _)) => Ok(Hearing::Hear(call)),
         Err(column) => Err(left_at(text, column)),
     }
 }
 
 /// Reads a call that is to be sent, behind which no expansion may stand. An error is how many bytes are left at the fault.
-fn send(bytes: &[u8]) -> Result<Shared, usize>
-    ensures { Finds IsSend SaysCall bytes.now result }
+pub(crate) fn send(bytes: &[u8]) -> Result<Shared, usize>
+    ensures { Finds IsSend SaysAtBoth bytes.now result }
 {
     let text = word(b"send ", bytes)?;
     match read_bare_call(text) {
         Ok(call) => Ok(Shared::Send(call)),
         Err(column) => Err(left_at(text, column)),
     }
-}
-
-/// Reads an event that names a call. An error is how many bytes are left at the fault.
-pub(crate) fn call_event(bytes: &[u8]) -> Result<Shared, usize>
-    ensures { Finds IsCallEvent SaysCall bytes.now result }
-{
-    further(&hear(bytes), &send(bytes))
 }

@@ -1,11 +1,12 @@
 //! The events of a coast station at a ship's distress alert.
 ghost use Rattle.line_grammar.specs.Grammar.{finish};
+ghost use Rattle.traffic_lines.specs.Worlds.{IsCoastOwnText};
 ghost use Rattle.traffic_lines.specs.inside.Grammars as grammar;
-ghost use Rattle.traffic_lines.specs.inside.Reading.{ReadsBy, IsAskText, IsDelayText, SaysAtCoast};
+ghost use Rattle.traffic_lines.specs.inside.Reading.{ReadsBy, IsAskText, IsDelayText};
 
 use crate::choices::further;
 use crate::fields::{labelled, only};
-use crate::lines::{CoastLine, CoastOwn};
+use crate::lines::CoastOwn;
 use crate::words::lone_value;
 use call_values::{CoastDelay, Mmsi, To};
 use line_grammar::end;
@@ -34,15 +35,15 @@ fn perhaps_delay(bytes: &[u8]) -> Result<Option<CoastDelay>, usize>
 }
 
 /// Reads an alert that is accepted. An error is how many bytes are left at the fault.
-pub fn accept(bytes: &[u8]) -> Result<CoastLine, usize>
-    ensures { ReadsBy grammar.accept SaysAtCoast bytes.now result }
+pub fn accept(bytes: &[u8]) -> Result<CoastOwn, usize>
+    ensures { ReadsBy grammar.accept IsCoastOwnText bytes.now result }
 {
     let (ship, rest) = match labelled::<Mmsi>(b"accept ", bytes) {
         Ok(parts) => parts,
         Err(left) => return Err(left),
     };
     let delay = perhaps_delay(rest)?;
-    Ok(CoastLine::Own(CoastOwn::Accept(ship, delay)))
+    Ok(CoastOwn::Accept(ship, delay))
 }
 
 /// Reads whether a relay asks for an acknowledgement. An error is how many bytes are left at the fault.
@@ -55,8 +56,8 @@ fn ask_or_tell(bytes: &[u8]) -> Result<bool, usize>
 }
 
 /// Reads an alert that is relayed. An error is how many bytes are left at the fault.
-pub fn relay(bytes: &[u8]) -> Result<CoastLine, usize>
-    ensures { ReadsBy grammar.relay SaysAtCoast bytes.now result }
+pub fn relay(bytes: &[u8]) -> Result<CoastOwn, usize>
+    ensures { ReadsBy grammar.relay IsCoastOwnText bytes.now result }
 {
     let (ship, rest) = match labelled::<Mmsi>(b"relay ", bytes) {
         Ok(parts) => parts,
@@ -67,5 +68,5 @@ pub fn relay(bytes: &[u8]) -> Result<CoastLine, usize>
         Err(left) => return Err(left),
     };
     let ask = ask_or_tell(rest)?;
-    Ok(CoastLine::Own(CoastOwn::Relay(ship, to, ask)))
+    Ok(CoastOwn::Relay(ship, to, ask))
 }

@@ -1,12 +1,21 @@
 ghost use Rattle.std.specs.Prelude.{◌≡◌, ◌∷◌, ℕ, List};
 ghost use Rattle.traffic_lines.specs.declared.lines.TrafficLine.{TrafficLine};
+ghost use Rattle.traffic_lines.specs.declared.worlds.WorldLine.{WorldLine};
 ghost use Rattle.traffic_lines.specs.Lines.{IsFirstByte, IsLineText};
+ghost use Rattle.traffic_lines.specs.Worlds.{IsWorldLineText};
 
 use dsc_texts::texts_tell_calls_apart;
 
 /// The law that a line says one thing, wherever it stands. It does nothing.
 pub fn one_traffic_line()
     ensures { (a b : TrafficLine) (text : List ℕ) → IsLineText a text → IsLineText b text → a ≡ b }
+{
+    texts_tell_calls_apart();
+}
+
+/// The law that a line of a file of an exchange says one thing, wherever it stands. It does nothing.
+pub fn one_world_line()
+    ensures { (a b : WorldLine) (text : List ℕ) → IsWorldLineText a text → IsWorldLineText b text → a ≡ b }
 {
     texts_tell_calls_apart();
 }

@@ -11,7 +11,7 @@ use crate::lines::{CoastLine, ShipBodyLine};
 use line_grammar::word;
 
 /// The moment and the blank at the front of these bytes, and what follows them. An error is how many bytes are left at the fault.
-fn moment(bytes: &[u8]) -> Result<(u32, &[u8]), usize>
+pub fn moment(bytes: &[u8]) -> Result<(u32, &[u8]), usize>
     ensures small { IfOk result (λ parts. parts.0 < 2 ^ 32) }
     ensures list { IfOk result (λ parts. bytes.now ≡ decimal parts.0 ++ (codes " " ++ parts.1.now)) }
     ensures left { IfErr result (λ left. read grammar.moment bytes.now ≡ Err left) }

@@ -2,7 +2,7 @@ ghost use Rattle.std.specs.Prelude.{◌<◌};
 ghost use Rattle.traffic_lines.specs.Lines.{IsTrafficLine};
 ghost use Rattle.traffic_lines.specs.declared.lines.Point.TheVariants.{Station, Base, Groups};
 ghost use Rattle.traffic_lines.specs.inside.Grammars as grammar;
-ghost use Rattle.traffic_lines.specs.inside.Reading.{Finds, ReadsBy, IsBandText, IsGroupLine, NamesBase, NamesStation, SaysGroup, SaysInShip};
+ghost use Rattle.traffic_lines.specs.inside.Reading.{Finds, ReadsBy, IsBandText, IsGroupLine, NamesBase, NamesShip, NamesStation, SaysGroup, SaysInShip};
 
 use crate::choices::further;
 use crate::fields::{BaseSecond, labelled, only};
@@ -14,16 +14,23 @@ use call_values::{Band, Mmsi};
 /// How many groups a ship belongs to at most.
 const MOST_SHIP_GROUPS: u8 = 16;
 
+/// Reads a ship's identity. An error is how many bytes are left at the fault.
+pub fn ship_identity(bytes: &[u8]) -> Result<Mmsi, usize>
+    ensures { ReadsBy grammar.ship NamesShip bytes.now result }
+{
+    only(b"station ship ", bytes)
+}
+
 /// Reads that the station is a ship. An error is how many bytes are left at the fault.
 fn ship(bytes: &[u8]) -> Result<StationLine, usize>
     ensures { ReadsBy grammar.ship NamesStation bytes.now result }
 {
-    let mmsi: Mmsi = only(b"station ship ", bytes)?;
+    let mmsi = ship_identity(bytes)?;
     Ok(StationLine::Ship(mmsi))
 }
 
 /// Reads a band. An error is how many bytes are left at the fault.
-fn band(bytes: &[u8]) -> Result<Band, usize>
+pub fn band(bytes: &[u8]) -> Result<Band, usize>
     ensures { ReadsBy grammar.band IsBandText bytes.now result }
 {
     let mf = lone_value(b" mf", Band::Mf, bytes);

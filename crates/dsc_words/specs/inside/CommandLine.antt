@@ -4,7 +4,7 @@ use Rattle.clap.specs.Words.{App, Rule, Shape, Text, new_app, new_rule, with_sub
 use Rattle.clap.specs.Simple.{new_shape, on_top}
 use Rattle.dsc_words.specs.Words.{IsDots, IsGroups, IsWorkers}
 use Rattle.dsc_words.specs.declared.plans.Plan.{Plan}
-use Rattle.dsc_words.specs.declared.plans.Plan.TheVariants.{Join, Evidence, Encode, Sentences, Replay, Make, Capture, Book}
+use Rattle.dsc_words.specs.declared.plans.Plan.TheVariants.{Join, Evidence, Encode, Sentences, Replay, Make, Capture, Watch, Exchange, Book}
 
 -- an option that takes a number
 abbrev pub option_rule : Text → Rule
@@ -42,10 +42,12 @@ with_first_commands before =
 -- a program with the commands behind these, one a line
 abbrev pub with_last_commands : App → App
 with_last_commands before =
-    with_subcommand (with_subcommand (with_subcommand (with_subcommand before
+    with_subcommand (with_subcommand (with_subcommand (with_subcommand (with_subcommand (with_subcommand before
     (with_option (codes "replay") (codes "workers")))
     (with_number (codes "make")))
     (new_shape (codes "capture")))
+    (with_option (codes "watch") (codes "workers")))
+    (new_shape (codes "exchange")))
     (new_shape (codes "book"))
 
 -- the program with all its commands
@@ -61,4 +63,6 @@ IsAsked command given Sentences = command ≡ codes "sentences"
 IsAsked command given (Replay n) = (command ≡ codes "replay") × IsWorkers given n
 IsAsked command given (Make n) = (command ≡ codes "make") × IsGroups given n
 IsAsked command given Capture = command ≡ codes "capture"
+IsAsked command given (Watch n) = (command ≡ codes "watch") × IsWorkers given n
+IsAsked command given Exchange = command ≡ codes "exchange"
 IsAsked command given Book = command ≡ codes "book"

@@ -1,8 +1,9 @@
 -- The grammars by which traffic lines are read: this project's profile.
-use Rattle.std.specs.Prelude.{List, ℕ, codes}
+use Rattle.std.specs.Prelude.{List, [], ◌∷◌, ℕ, ◌+◌, ◌-◌, ◌==◌, if◌then◌else◌, codes}
 use Rattle.call_values.specs.declared.bounds.TheConstants as bounds
 use Rattle.dsc_texts.specs.CallGrammar.{address, identity, labelled, nature, comm, position as position_token}
-use Rattle.line_grammar.specs.Tokens.{Token, free_number}
+use Rattle.line_grammar.specs.Shapes.{fixed_number}
+use Rattle.line_grammar.specs.Tokens.{Token, free_number, shaped}
 use Rattle.line_grammar.specs.Grammar.{Grammar, finish, anything, word, field, either}
 
 -- a value behind a word, to the end of the line
@@ -54,9 +55,9 @@ ask_or_tell = either (lone (codes " ask")) (lone (codes " tell"))
 abbrev pub relay : Grammar
 relay = labelled (codes "relay ") identity (labelled (codes " to=") address ask_or_tell)
 
--- the events of both kinds of stations, of a ship and of a coast station, but for those that name a call
+-- the own events of both kinds of stations, of a ship and of a coast station, but for those that name a call
 abbrev pub shared_events : Grammar
-shared_events = either tick (either heard (either answer decline))
+shared_events = either tick (either answer decline)
 
 abbrev pub ship_events : Grammar
 ship_events = either position (either delay (either alert (either cancel shared_events)))
@@ -86,3 +87,26 @@ group = only (codes "group ") identity
 -- a moment and a blank, with anything behind them
 abbrev pub moment : Grammar
 moment = field (free_number 0 4294967295) (word (codes " ") anything)
+
+-- a call that comes from the other end of an exchange
+abbrev pub get : Grammar
+get = only (codes "get ") (free_number 0 4294967295)
+
+-- the identities below this one and above it, and of the first and of the last those on the other side
+abbrev pub below : ℕ → ℕ × ℕ
+below mmsi = if mmsi == 0 then (1, bounds.LAST_IDENTITY) else (0, mmsi - 1)
+
+abbrev pub above : ℕ → ℕ × ℕ
+above mmsi = if mmsi == bounds.LAST_IDENTITY then (0, mmsi - 1) else (mmsi + 1, bounds.LAST_IDENTITY)
+
+-- the identities but for this one, as ranges of numbers
+abbrev pub others : ℕ → List (ℕ × ℕ)
+others mmsi = below mmsi ∷ above mmsi ∷ []
+
+-- an identity but this one
+abbrev pub other_identity : ℕ → Token
+other_identity mmsi = shaped (fixed_number 9 (others mmsi))
+
+-- a coast station of an identity but this one
+abbrev pub other_coast : ℕ → Grammar
+other_coast mmsi = labelled (codes "station coast ") (other_identity mmsi) band

@@ -1,6 +1,6 @@
 use Rattle.std.proofs.Common.{◌∙◌, sym, ap, refl}
 use Rattle.dsc_words.specs.declared.plans.Plan.TheVariants.{Encode}
-use Rattle.dsc_cmd.proofs.MadeEndings.{made_run, join_is_not_make, evidence_is_not_make, encode_is_not_make, sentences_is_not_make, replay_is_not_make, capture_is_not_make, book_is_not_make}
+use Rattle.dsc_cmd.proofs.MadeEndings.{made_run, join_is_not_make, evidence_is_not_make, encode_is_not_make, sentences_is_not_make, replay_is_not_make, capture_is_not_make, watch_is_not_make, exchange_is_not_make, book_is_not_make}
 use Rattle.dsc_cmd.proofs.PlanRuns.{at_plan}
 use Rattle.dsc_cmd.proofs.running.execute.Goals as goal
 
@@ -27,6 +27,12 @@ returns-in-Capture-clause-run g c = at_plan g.S.Source g.K.Sink c.in-Capture.is 
 
 pub returns-in-Book-clause-run : goal.returns-in-Book-clause-run
 returns-in-Book-clause-run g c = at_plan g.S.Source g.K.Sink c.in-Book.is c.drive_alone-in-Book.ensures
+
+pub returns-in-Watch-clause-run : goal.returns-in-Watch-clause-run
+returns-in-Watch-clause-run g c = at_plan g.S.Source g.K.Sink c.in-Watch.is c.watch_groups.ensures
+
+pub returns-in-Exchange-clause-run : goal.returns-in-Exchange-clause-run
+returns-in-Exchange-clause-run g c = at_plan g.S.Source g.K.Sink c.in-Exchange.is c.exchange.ensures
 
 pub returns-in-Make-clause-run : goal.returns-in-Make-clause-run
 returns-in-Make-clause-run g c =
@@ -62,3 +68,9 @@ returns-in-Capture-clause-unread g c = λ n same. absurd (capture_is_not_make (s
 
 pub returns-in-Book-clause-unread : goal.returns-in-Book-clause-unread
 returns-in-Book-clause-unread g c = λ n same. absurd (book_is_not_make (sym c.in-Book.is ∙ same))
+
+pub returns-in-Watch-clause-unread : goal.returns-in-Watch-clause-unread
+returns-in-Watch-clause-unread g c = λ n same. absurd (watch_is_not_make (sym c.in-Watch.is ∙ same))
+
+pub returns-in-Exchange-clause-unread : goal.returns-in-Exchange-clause-unread
+returns-in-Exchange-clause-unread g c = λ n same. absurd (exchange_is_not_make (sym c.in-Exchange.is ∙ same))

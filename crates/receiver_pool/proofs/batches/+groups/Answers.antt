@@ -4,7 +4,7 @@ use Rattle.slot_evidence.specs.Facts.{Facts, union}
 use Rattle.receiver_pool.specs.Seats.{Held}
 use Rattle.receiver_pool.specs.inside.Turns.{is_turn}
 use Rattle.receiver_pool.specs.inside.Numbers.{nth_at, place_part}
-use Rattle.receiver_pool.specs.inside.Rows.{AreSeats}
+use Rattle.receiver_pool.specs.Rows.{AreSeats}
 use Rattle.receiver_pool.proofs.Parts.{part_halves, fold_twice}
 use Rattle.receiver_pool.proofs.Turning.{lent_whole}
 use Rattle.receiver_pool.proofs.SeatRows.{same_seats}

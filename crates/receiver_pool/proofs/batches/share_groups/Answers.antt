@@ -6,7 +6,7 @@ use Rattle.receiver_pool.specs.declared.seats.TheConstants.{WHOLE}
 use Rattle.receiver_pool.specs.Groups.{AreSheets}
 use Rattle.receiver_pool.specs.inside.Turns.{is_turn}
 use Rattle.receiver_pool.specs.inside.Numbers.{place_part}
-use Rattle.receiver_pool.specs.inside.Rows.{AreSeats}
+use Rattle.receiver_pool.specs.Rows.{AreSeats}
 use Rattle.receiver_pool.proofs.Parts.{same_sheets}
 use Rattle.receiver_pool.proofs.batches.share_groups.Goals as goal
 

@@ -5,7 +5,7 @@ use Rattle.receiver_pool.specs.Groups.{AreSheets}
 use Rattle.receiver_pool.specs.Seats.{Held}
 use Rattle.receiver_pool.specs.inside.Turns.{is_turn}
 use Rattle.receiver_pool.specs.inside.Numbers.{place_part}
-use Rattle.receiver_pool.specs.inside.Rows.{AreSeats}
+use Rattle.receiver_pool.specs.Rows.{AreSeats}
 use Rattle.receiver_pool.proofs.Turning.{lent_whole}
 use Rattle.receiver_pool.proofs.batches.work.Goals as goal
 

@@ -1,7 +1,7 @@
 use Rattle.std.proofs.Common.{◌≡◌, length}
 use Rattle.slot_evidence.specs.Facts.{no_facts}
 use Rattle.receiver_pool.specs.declared.seats.TheConstants.{WHOLE}
-use Rattle.receiver_pool.specs.inside.Rows.{AreSeats}
+use Rattle.receiver_pool.specs.Rows.{AreSeats}
 use Rattle.receiver_pool.proofs.boards.boards_for.Given as goal
 
 abbrev pub invariant-loop : goal.invariant-loop

@@ -4,7 +4,7 @@ use Rattle.slot_evidence.specs.declared.places.Seen.{Seen}
 use Rattle.slot_evidence.specs.Sheet.{IsEnds}
 use Rattle.receiver_pool.specs.Views.{given_sheet}
 use Rattle.receiver_pool.specs.declared.seats.TheConstants.{WHOLE}
-use Rattle.receiver_pool.specs.inside.Rows.{no_table, no_seat, table_at}
+use Rattle.receiver_pool.specs.Rows.{no_table, no_seat, table_at}
 use Rattle.receiver_pool.proofs.Turning.{Row, turned_down, all_turned_down, row_length, row_shorter, row_last}
 use Rattle.receiver_pool.proofs.SeatRows.{Seats, row_sheets}
 use Rattle.receiver_pool.proofs.boards.close_into.Goals as goal

@@ -1,6 +1,6 @@
 use Rattle.std.proofs.Common.{◌≡◌, ℕ, ◌+◌, ◌≤◌, length}
 use Rattle.slot_evidence.specs.Facts.{Facts, union}
-use Rattle.receiver_pool.specs.inside.Rows.{AreSeats, no_seat}
+use Rattle.receiver_pool.specs.Rows.{AreSeats, no_seat}
 use Rattle.receiver_pool.proofs.Turning.{Turned, Row}
 use Rattle.receiver_pool.proofs.SeatRows.{Seats}
 use Rattle.receiver_pool.proofs.boards.join_each.Given as goal

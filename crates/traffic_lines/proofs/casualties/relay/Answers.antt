@@ -1,7 +1,7 @@
 use Rattle.std.proofs.Common.{codes}
 use Rattle.dsc_texts.specs.CallGrammar.{address, labelled}
 use Rattle.traffic_lines.specs.inside.Grammars.{ask_or_tell, relay}
-use Rattle.traffic_lines.specs.inside.Reading.{SaysAtCoast}
+use Rattle.traffic_lines.specs.Worlds.{IsCoastOwnText}
 use Rattle.traffic_lines.proofs.EventTexts.{relay_text}
 use Rattle.traffic_lines.proofs.Languages.{exit_read}
 use Rattle.traffic_lines.proofs.casualties.relay.Goals as goal
@@ -14,7 +14,7 @@ returns-in-Err-labelled c = c.in-Ok.ensures.value (labelled (codes " to=") addre
 
 pub returns-in_err-ask : goal.returns-in_err-ask
 returns-in_err-ask c =
-    exit_read relay SaysAtCoast _ _ _ c.from_residual.ensures.1
+    exit_read relay IsCoastOwnText _ _ _ c.from_residual.ensures.1
     (c.in-Ok.ensures.value (labelled (codes " to=") address ask_or_tell) _ (c.in-Ok-labelled.ensures.value ask_or_tell _ c.in_err-ask.ensures))
 
 pub returns : goal.returns

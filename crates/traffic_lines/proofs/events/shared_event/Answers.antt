@@ -1,12 +1,10 @@
 use Rattle.line_grammar.specs.Grammar.{either}
-use Rattle.traffic_lines.specs.inside.Grammars.{tick, heard, answer, decline}
+use Rattle.traffic_lines.specs.inside.Grammars.{tick, answer, decline}
 use Rattle.traffic_lines.specs.inside.Reading.{SaysAtBoth}
 use Rattle.traffic_lines.proofs.Languages.{further_by}
 use Rattle.traffic_lines.proofs.events.shared_event.Goals as goal
 
 pub returns : goal.returns
 returns c =
-    let answers = either answer decline in
-    further_by tick (either heard answers) SaysAtBoth _ _ _ _ c.further.ensures c.tick.ensures
-    (further_by heard answers SaysAtBoth _ _ _ _ c.further-others-2.ensures c.heard.ensures
-    (further_by answer decline SaysAtBoth _ _ _ _ c.further-others.ensures c.answer.ensures c.decline.ensures))
+    further_by tick (either answer decline) SaysAtBoth _ _ _ _ c.further.ensures c.tick.ensures
+    (further_by answer decline SaysAtBoth _ _ _ _ c.further-others.ensures c.answer.ensures c.decline.ensures)

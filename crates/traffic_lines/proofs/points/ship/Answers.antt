@@ -4,4 +4,4 @@ use Rattle.traffic_lines.proofs.Languages.{exit_read}
 use Rattle.traffic_lines.proofs.points.ship.Goals as goal
 
 pub returns-in_err-mmsi : goal.returns-in_err-mmsi
-returns-in_err-mmsi c = exit_read ship NamesStation _ _ _ c.from_residual.ensures.1 c.in_err-mmsi.ensures.left
+returns-in_err-mmsi c = exit_read ship NamesStation _ _ _ c.from_residual.ensures.1 c.in_err-mmsi.ensures

@@ -1,0 +1,36 @@
+use Rattle.std.proofs.Common.{◌≡◌, ℕ, ◌+◌, ◌/◌, Bool, true, false, ◌||◌, List, length, refl, sym, ◌∙◌, subst}
+use Rattle.atomic_table.specs.Seated.{TableId}
+use Rattle.slot_evidence.specs.Facts.{no_facts}
+use Rattle.receiver_pool.specs.declared.seats.TheConstants.{WHOLE}
+use Rattle.receiver_pool.specs.Groups.{AreSheets}
+use Rattle.receiver_pool.specs.inside.Turns.{is_turn}
+use Rattle.receiver_pool.specs.inside.Numbers.{place_part}
+use Rattle.receiver_pool.specs.Rows.{AreSeats}
+use Rattle.receiver_pool.proofs.SeatRows.{same_seats}
+use Rattle.receiver_pool.proofs.beside.share_beside.Goals as goal
+
+or_false : (a : Bool) → (a || false) ≡ a
+or_false true = refl
+or_false false = refl
+
+pub close_each-requires : goal.close_each-requires
+close_each-requires g c =
+    let part = place_part (is_turn c.args.workers 0 c.args.workers) c.args.batch.now c.args.places.now (length c.args.batch.now) in
+    let two = c.in_ok-seats.ensures in
+    let joined = c.in_ok-beside.ensures (WHOLE / 2) (WHOLE / 2) (λ k. no_facts) (λ k. no_facts)
+    (subst (λ (bs : List TableId). AreSeats (WHOLE / 2) (λ k. no_facts) bs c.in_ok-seats.seats.items) (c.deref.ensures.value ∙ sym c.deref-2.ensures.value) two.0)
+    (subst (λ (bs : List TableId). AreSeats (WHOLE / 2) (λ k. no_facts) bs c.in_ok-seats.others.items) (c.deref.ensures.value ∙ sym c.deref-2.ensures.value) two.1) in
+    let whole = subst (λ (bs : List TableId). AreSeats WHOLE part bs c.in_ok-beside.joined.items) c.deref-2.ensures.value
+    (same_seats (WHOLE / 2 + WHOLE / 2) WHOLE _ part c.deref-2.result.now c.in_ok-beside.joined.items refl (λ k p v. or_false (part k p v)) joined) in
+    (part, whole)
+
+pub returns : goal.returns
+returns g c =
+    let part = place_part (is_turn c.args.workers 0 c.args.workers) c.args.batch.now c.args.places.now (length c.args.batch.now) in
+    let two = c.in_ok-seats.ensures in
+    let joined = c.in_ok-beside.ensures (WHOLE / 2) (WHOLE / 2) (λ k. no_facts) (λ k. no_facts)
+    (subst (λ (bs : List TableId). AreSeats (WHOLE / 2) (λ k. no_facts) bs c.in_ok-seats.seats.items) (c.deref.ensures.value ∙ sym c.deref-2.ensures.value) two.0)
+    (subst (λ (bs : List TableId). AreSeats (WHOLE / 2) (λ k. no_facts) bs c.in_ok-seats.others.items) (c.deref.ensures.value ∙ sym c.deref-2.ensures.value) two.1) in
+    let whole = subst (λ (bs : List TableId). AreSeats WHOLE part bs c.in_ok-beside.joined.items) c.deref-2.ensures.value
+    (same_seats (WHOLE / 2 + WHOLE / 2) WHOLE _ part c.deref-2.result.now c.in_ok-beside.joined.items refl (λ k p v. or_false (part k p v)) joined) in
+    subst (λ (n : ℕ). AreSheets part c.in_ok-sheets.sheets.items n) c.in_ok-boards.ensures.count (c.in_ok-sheets.ensures part whole)

@@ -1,0 +1,39 @@
+-- A row of boards, and a seat of each: this project's profile.
+use Rattle.std.specs.Prelude.{◌≡◌, ℕ, ◌<◌, ◌≤◌, List, [], length, slice_index_or}
+use Rattle.atomic_table.specs.Seated.{TableId}
+use Rattle.slot_evidence.specs.Facts.{Facts}
+use Rattle.slot_evidence.specs.Sheet.{IsEnds}
+use Rattle.receiver_pool.specs.Views.{spent, given_sheet}
+use Rattle.receiver_pool.specs.Seats.{Held}
+
+-- what stands where there is no board, and no seat
+abbrev pub no_table : TableId
+no_table = record { words = 0; slots = 0; views_name = 0; atom = 0; block = 0; offset = 0; slot_names = [] }
+
+abbrev pub no_seat : Held
+no_seat = record { table = no_table; view = spent }
+
+-- the board with this number, and the seat with this number
+abbrev pub table_at : List TableId → ℕ → TableId
+table_at boards k = slice_index_or boards k no_table
+
+abbrev pub seat_at : List Held → ℕ → Held
+seat_at seats k = slice_index_or seats k no_seat
+
+-- a seat of this board with this share, which posted these facts
+pub record IsSeatOf (board : TableId) (share : ℕ) (F : Facts) (seat : Held) : Type 0 where
+  pub table : seat.table ≡ board
+  pub amount : seat.view.share ≡ share
+  pub ends : IsEnds F (given_sheet seat.view)
+
+-- a seat of each board, with one share, which posted the facts of its group
+pub record AreSeats (share : ℕ) (F : ℕ → Facts) (boards : List TableId) (seats : List Held) : Type 0 where
+  pub count : length seats ≡ length boards
+  pub each : (k : ℕ) → k < length boards → IsSeatOf (table_at boards k) share (F k) (seat_at seats k)
+
+-- there is a seat of each board, with one share that is large enough
+pub record Sit (least : ℕ) (boards : List TableId) (seats : List Held) : Type 0 where
+  pub share : ℕ
+  pub enough : least ≤ share
+  pub facts : ℕ → Facts
+  pub are_seats : AreSeats share facts boards seats

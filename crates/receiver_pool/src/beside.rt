@@ -1,0 +1,162 @@
+//! Receptions of many groups read by several workers, while somebody beside them looks at their boards.
+ghost use Rattle.std.specs.Prelude.{ℕ, ◌+◌, ◌/◌, ◌≤◌, All, IfOk, length};
+ghost use Rattle.std.specs.Thread.{IsSync, IsSend};
+ghost use Rattle.slot_evidence.specs.Facts.{Facts, no_facts, union};
+ghost use Rattle.receiver_pool.specs.Groups.{facts_of_group, AreSheets, IsShort, Shows};
+ghost use Rattle.receiver_pool.specs.inside.Turns.{is_turn};
+ghost use Rattle.receiver_pool.specs.inside.Numbers.{ArePlaces, place_part};
+ghost use Rattle.receiver_pool.specs.Rows.{AreSeats, Sit};
+
+use crate::allowed::AllFacts;
+use crate::batch_groups::{entries_of, number_groups};
+use crate::batches::fork_groups;
+use crate::board::Board;
+use crate::boards::{boards_for, close_each, join_each, split_each};
+use crate::gate::Gate;
+use crate::heard::{Heard, Shown};
+use crate::seats::{Seat, WHOLE};
+use slot_evidence::Sheet;
+use std::alloc::{AllocError, Global};
+use std::thread::{Threads, join};
+
+/// Somebody beside the workers of a batch, who looks at their boards while they post.
+pub trait Beside: Drop + Send {
+    /// Goes round the boards, with a seat of each: the k-th board is that of the k-th group. What was known of a group before the batch
+    /// is the sheet with the group's number. Each seat keeps its board, its share and what was posted through it.
+    fn go_round(
+        &mut self,
+        known: &[Sheet],
+        groups: &[usize],
+        boards: &[Board<AllFacts>],
+        seats: &mut [Seat<AllFacts>],
+    )
+        requires { Sit 1 boards.now seats.old }
+        ensures { (share : ℕ) (F : ℕ → Facts) → AreSeats share F boards.now seats.old → AreSeats share F boards.now seats.new };
+}
+
+/// What is done beside the workers, behind the gate, which is entered with their number.
+fn go_beside<G: Gate, B: Beside>(
+    known: &[Sheet],
+    groups: &[usize],
+    boards: &[Board<AllFacts>],
+    mut seats: Vec<Seat<AllFacts>>,
+    workers: u32,
+    gate: &G,
+    mut beside: B,
+) -> (B, Vec<Seat<AllFacts>>)
+    requires { Sit 1 boards.now seats.items }
+    ensures { (share : ℕ) (F : ℕ → Facts) → AreSeats share F boards.now seats.items → AreSeats share F boards.now result.1.items }
+{
+    gate.enter(workers);
+    beside.go_round(known, groups, boards, &mut seats);
+    (beside, seats)
+}
+
+/// All workers, and somebody beside them, each with a seat of every board.
+fn fork_beside<R: Threads + Sync, G: Gate, B: Beside>(
+    rt: &R,
+    alloc: Global,
+    known: &[Sheet],
+    groups: &[usize],
+    boards: &[Board<AllFacts>],
+    seats: Vec<Seat<AllFacts>>,
+    others: Vec<Seat<AllFacts>>,
+    batch: &[Heard],
+    places: &[usize],
+    workers: u32,
+    gate: &G,
+    beside: B,
+) -> Result<(B, Vec<Seat<AllFacts>>), AllocError>
+    requires sync { IsSync R.row × IsSync G.row × IsSend B.row }
+    requires workers { 1 ≤ workers }
+    requires seats { Sit workers boards.now seats.items }
+    requires others { Sit 1 boards.now others.items }
+    requires short { All IsShort batch.now }
+    requires places { ArePlaces (length batch.now) (length boards.now) places.now }
+    ensures { IfOk result (λ v. (share other : ℕ) (F H : ℕ → Facts) → AreSeats share F boards.now seats.items → AreSeats other H boards.now others.items
+        → AreSeats (share + other) (λ k. union (union (F k) (place_part (is_turn workers 0 workers) batch.now places.now (length batch.now) k)) (H k)) boards.now v.1.items) }
+{
+    let (first, joined) = join(
+        rt,
+        move || -> (B, Vec<Seat<AllFacts>>)
+            requires { IsSync G.row × IsSend B.row × Sit 1 boards.now others.items }
+            ensures { (share : ℕ) (F : ℕ → Facts) → AreSeats share F boards.entry.now others.items → AreSeats share F boards.entry.now result.1.items }
+        { go_beside(known, groups, boards, others, workers, gate, beside) },
+        move || -> Result<Vec<Seat<AllFacts>>, AllocError>
+            requires { IsSync R.row × IsSync G.row × (1 ≤ workers) × Sit workers boards.now seats.items × All IsShort batch.now × ArePlaces (length batch.now) (length boards.now) places.now }
+            ensures { IfOk result (λ v. (share : ℕ) (F : ℕ → Facts) → AreSeats share F boards.entry.now seats.items → AreSeats share (λ k. union (F k) (place_part (is_turn workers 0 workers) batch.entry.now places.entry.now (length batch.entry.now) k)) boards.entry.now v.items) }
+        {
+            fork_groups(
+                rt, alloc, boards, seats, batch, places, 0, workers, workers, gate,
+            )
+        },
+    );
+    let (beside, others) = first;
+    let mut joined = joined?;
+    join_each(boards, &mut joined, others);
+    Ok((beside, joined))
+}
+
+/// Two seats of each board, of its whole seat.
+fn halved(
+    alloc: Global,
+    boards: &[Board<AllFacts>],
+    mut seats: Vec<Seat<AllFacts>>,
+) -> Result<(Vec<Seat<AllFacts>>, Vec<Seat<AllFacts>>), AllocError>
+    requires { AreSeats WHOLE (λ k. no_facts) boards.now seats.items }
+    ensures { IfOk result (λ v. AreSeats (WHOLE / 2) (λ k. no_facts) boards.now v.0.items × AreSeats (WHOLE / 2) (λ k. no_facts) boards.now v.1.items) }
+{
+    let others = split_each(alloc, boards, &mut seats)?;
+    Ok((seats, others))
+}
+
+/// What the batch shows of each of its groups, and what somebody brings who went round their boards.
+fn share_beside<R: Threads + Sync, G: Gate, B: Beside>(
+    rt: &R,
+    alloc: Global,
+    known: &[Sheet],
+    groups: &[usize],
+    batch: &[Heard],
+    places: &[usize],
+    workers: u32,
+    gate: &G,
+    beside: B,
+) -> Result<(Vec<Sheet>, B), AllocError>
+    requires workers { (1 ≤ workers) × (workers ≤ 64) }
+    requires short { All IsShort batch.now }
+    requires places { ArePlaces (length batch.now) (length groups.now) places.now }
+    ensures { IfOk result (λ v. AreSheets (place_part (is_turn workers 0 workers) batch.now places.now (length batch.now)) v.0.items (length groups.now)) }
+{
+    let (boards, seats) = boards_for(alloc, groups.len())?;
+    let (seats, others) = halved(alloc, &boards, seats)?;
+    let (beside, joined) = fork_beside(
+        rt, alloc, known, groups, &boards, seats, others, batch, places, workers, gate, beside,
+    )?;
+    let sheets = close_each(alloc, boards, joined)?;
+    Ok((sheets, beside))
+}
+
+/// What a batch of receptions shows, as `pool_groups` says it, while somebody looks at the boards on which its workers post. This one has
+/// a thread beside theirs, also where one worker works alone; all are made by one fork. Behind the gate, which is entered once with the
+/// number `workers`, it goes round the boards with what was known of the groups before. The answer is an entry for each group that the batch
+/// names, and the one who looked. The error is want of memory.
+pub fn pool_groups_beside<R: Threads + Sync, G: Gate, B: Beside>(
+    rt: &R,
+    alloc: Global,
+    known: &[Sheet],
+    batch: &[Heard],
+    workers: u32,
+    gate: &G,
+    beside: B,
+) -> Result<(Vec<Shown>, B), AllocError>
+    requires workers { (1 ≤ workers) × (workers ≤ 64) }
+    requires short { All IsShort batch.now }
+    ensures { IfOk result (λ v. Shows (facts_of_group batch.now) batch.now v.0.items) }
+{
+    let (groups, places) = number_groups(alloc, batch)?;
+    let (sheets, beside) = share_beside(
+        rt, alloc, known, &groups, batch, &places, workers, gate, beside,
+    )?;
+    let entries = entries_of(alloc, &groups, &sheets)?;
+    Ok((entries, beside))
+}

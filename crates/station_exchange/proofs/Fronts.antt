@@ -1,0 +1,73 @@
+-- The text of lines begins with that of the first of them.
+use Rattle.std.proofs.Common.{◌≡◌, ◌⊎◌, inl, inr, ℕ, Option, Some, None, List, [], ◌∷◌, ◌++◌, refl, sym, ap, subst, ◌∙◌, append_assoc, append-nil}
+use Rattle.traffic_lines.specs.declared.worlds.WorldLine.{WorldLine}
+use Rattle.traffic_lines.specs.declared.worlds.WorldLine.TheVariants.{Ship, Coast, Base, Entry}
+use Rattle.line_engine.specs.Lines.{Lines}
+use Rattle.line_engine.specs.Determined.{BeginsWith}
+use Rattle.exchange.specs.WorldHistories.{ends_of}
+use Rattle.exchange.specs.WorldRules.{answer_behind}
+use Rattle.station_exchange.specs.Events.{event_of}
+use Rattle.station_exchange.specs.Said.{Said, base_of, parties_of, world_of, AreSaid}
+use Rattle.station_exchange.specs.Output.{text_of, entry_lines}
+
+begins_itself : (text : List ℕ) → BeginsWith text text
+begins_itself text = ([], sym (append-nil text))
+
+begins_further : (whole middle text : List ℕ) → BeginsWith whole middle → BeginsWith middle text → BeginsWith whole text
+begins_further whole middle text a b = (b.0 ++ a.0, a.1 ∙ ap (λ (t : List ℕ). t ++ a.0) b.1 ∙ append_assoc text b.0 a.0)
+
+-- one line more
+one_more : (last : Option WorldLine) (said : Said) → BeginsWith (text_of (world_of (last ∷ said))) (text_of (world_of said))
+one_more None said = begins_itself (text_of (world_of said))
+one_more (Some (Ship mmsi)) said = begins_itself (text_of (world_of said))
+one_more (Some (Coast mmsi band)) said = begins_itself (text_of (world_of said))
+one_more (Some (Base second)) said = begins_itself (text_of (world_of said))
+one_more (Some (Entry entry)) said =
+    let event = event_of (base_of said) entry in
+    (entry_lines (record { event = event; gave = answer_behind (parties_of said) (ends_of (world_of said)) event }), refl)
+
+-- what the first lines said
+pub record IsFront (first : Lines) (whole : List ℕ) : Type 0 where
+  pub said : Said
+  pub are_said : AreSaid said first
+  pub begins : BeginsWith whole (text_of (world_of said))
+
+-- the last line is the first lines' own, or one of the later ones
+no_more : (first later : Lines) → [] ≡ first ++ later → first ≡ []
+no_more [] later e = refl
+no_more (l ∷ first) later e = absurd (cc)
+
+tails : {x y : List ℕ} {xs ys : Lines} → x ∷ xs ≡ y ∷ ys → (x ≡ y) × (xs ≡ ys)
+tails e = (cc, cc)
+
+none_later : (first later : Lines) → first ++ later ≡ [] → later ≡ []
+none_later [] later e = e
+none_later (l ∷ first) later e = absurd (cc)
+
+last_of : (first later before : Lines) (text : List ℕ) → first ++ later ≡ before ++ text ∷ [] → (later ≡ []) ⊎ ((rest : Lines) × (before ≡ first ++ rest))
+last_of [] later before text e = inr (before, refl)
+last_of (l ∷ first) later [] text e = inl (none_later first later (tails e).1)
+last_of (l ∷ first) later (b ∷ before) text e =
+    elim (last_of first later before text (tails e).1) [
+      | inl none ↦ inl none
+      | inr rest ↦ inr (rest.0, ap (λ (h : List ℕ). h ∷ before) (sym (tails e).0) ∙ ap (λ (t : Lines). l ∷ t) rest.1)
+    ]
+
+further : (first : Lines) (whole middle : List ℕ) → BeginsWith whole middle → IsFront first middle → IsFront first whole
+further first whole middle begins f =
+    record { said = f.said; are_said = f.are_said; begins = begins_further whole middle (text_of (world_of f.said)) begins f.begins }
+
+all_of : (said : Said) (lines first later : Lines) → lines ≡ first ++ later → later ≡ [] → AreSaid said lines → IsFront first (text_of (world_of said))
+all_of said lines first later e none are = record {
+  said = said;
+  are_said = subst (AreSaid said) (e ∙ ap (λ (l : Lines). first ++ l) none ∙ append-nil first) are;
+  begins = begins_itself (text_of (world_of said));
+}
+
+pub front_of : (said : Said) (lines first later : Lines) → lines ≡ first ++ later → AreSaid said lines → IsFront first (text_of (world_of said))
+front_of [] lines first later e are = record { said = []; are_said = no_more first later (sym are ∙ e); begins = begins_itself [] }
+front_of (last ∷ said) lines first later e are =
+    elim (last_of first later are.0 are.1 (sym e ∙ are.2)) [
+      | inl none ↦ all_of (last ∷ said) lines first later e none are
+      | inr rest ↦ further first (text_of (world_of (last ∷ said))) (text_of (world_of said)) (one_more last said) (front_of said are.0 first rest.0 rest.1 are.4)
+    ]

@@ -1,0 +1,5 @@
+mod Unique
+mod Fronts
+mod Determined
+mod Happened
+mod Further

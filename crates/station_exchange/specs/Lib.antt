@@ -1,0 +1,5 @@
+pub mod Output
+pub mod Events
+pub mod Said
+pub mod Meaning
+pub mod inside

@@ -1,0 +1,3 @@
+pub mod Happens
+pub mod Progress
+pub mod Gives

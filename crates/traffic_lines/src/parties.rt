@@ -1,0 +1,69 @@
+//! The coast station of an exchange, which is another than its ship.
+ghost use Rattle.std.specs.Prelude.{◌≡◌, ◌≢◌, ◌++◌, true, IfOk, IfErr, Ok, Err};
+ghost use Rattle.call_values.specs.Identity.{IsMmsi};
+ghost use Rattle.line_grammar.specs.Shapes.{digits};
+ghost use Rattle.line_grammar.specs.inside.Reading.{read_token};
+ghost use Rattle.line_grammar.specs.inside.Soundness.{are_ranges};
+ghost use Rattle.traffic_lines.specs.inside.Grammars as grammar;
+ghost use Rattle.traffic_lines.specs.inside.Reading.{NamesOther, ReadsBy};
+
+use crate::points::band;
+use call_values::bounds::LAST_IDENTITY;
+use call_values::{Band, Mmsi};
+use line_grammar::{fixed_number, word};
+
+/// The identities below this one; of the first, those above it.
+fn below(mmsi: u32) -> (u64, u64)
+    requires { IsMmsi mmsi }
+    ensures { result ≡ grammar.below mmsi }
+{
+    if mmsi == 0 {
+        (1, LAST_IDENTITY as u64)
+    } else {
+        (0, mmsi as u64 - 1)
+    }
+}
+
+/// The identities above this one; of the last, those below it.
+fn above(mmsi: u32) -> (u64, u64)
+    requires { IsMmsi mmsi }
+    ensures { result ≡ grammar.above mmsi }
+{
+    if mmsi == LAST_IDENTITY {
+        (0, mmsi as u64 - 1)
+    } else {
+        (mmsi as u64 + 1, LAST_IDENTITY as u64)
+    }
+}
+
+/// The identities but for this one, as ranges of numbers.
+fn others(mmsi: u32) -> [(u64, u64); 2]
+    requires { IsMmsi mmsi }
+    ensures ranges { result ≡ grammar.others mmsi }
+    ensures some { are_ranges 9 result ≡ true }
+{
+    [below(mmsi), above(mmsi)]
+}
+
+/// Reads the number of an identity but this one, and what follows it. An error is how many bytes are left at the fault.
+fn other_number(mmsi: u32, bytes: &[u8]) -> Result<(u64, &[u8]), usize>
+    requires { IsMmsi mmsi }
+    ensures lawful { IfOk result (λ parts. IsMmsi parts.0) }
+    ensures other { IfOk result (λ parts. parts.0 ≢ mmsi) }
+    ensures value { IfOk result (λ parts. read_token (grammar.other_identity mmsi) bytes.now ≡ Ok (digits 9 parts.0, parts.1.now)) }
+    ensures left { IfErr result (λ left. read_token (grammar.other_identity mmsi) bytes.now ≡ Err left) }
+{
+    let ranges = others(mmsi);
+    let (number, rest) = fixed_number(9, &ranges, bytes)?;
+    Ok((number, rest))
+}
+
+/// Reads a coast station's identity but this one, and its band. An error is how many bytes are left at the fault.
+pub fn other_coast(mmsi: Mmsi, bytes: &[u8]) -> Result<(Mmsi, Band), usize>
+    ensures { ReadsBy (grammar.other_coast mmsi) (NamesOther mmsi) bytes.now result }
+{
+    let rest = word(b"station coast ", bytes)?;
+    let (number, rest) = other_number(mmsi.number(), rest)?;
+    let band = band(rest)?;
+    Ok((Mmsi::new(number as u32).unwrap(), band))
+}

@@ -1,0 +1,5 @@
+mod Calls
+mod Looks
+mod Batches
+mod Kept
+mod Ends

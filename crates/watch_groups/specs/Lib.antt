@@ -1,0 +1,3 @@
+pub mod Telling
+pub mod Meaning
+pub mod inside

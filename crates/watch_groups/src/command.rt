@@ -1,0 +1,173 @@
+ghost use Rattle.std.specs.Prelude.{◌≡◌, ◌≢◌, ◌⊎◌, ℕ, ◌+◌, ◌<◌, ◌≤◌, ◌++◌, ◌∷◌, [], true, List, length, IfOk, IfErr, OnOk};
+ghost use Rattle.line_engine.specs.Lines.{Lines};
+ghost use Rattle.line_engine.specs.Commands.{IsTakenBehind, IsRefusedBehind, KeepsText, StandsBelow};
+ghost use Rattle.line_engine.specs.Endings.{IsFinished};
+ghost use Rattle.dsc_files.specs.JoinLine.{JoinLine as Line};
+ghost use Rattle.dsc_files.specs.Lines.{Says};
+ghost use Rattle.join_groups.specs.Meanings.{BringsTooMany};
+ghost use Rattle.join_groups.specs.Holds.{HoldsSome};
+ghost use Rattle.join_groups.specs.Groups.{is_among, is_named};
+ghost use Rattle.join_groups.specs.declared.groups.Groups.{Groups as Held};
+ghost use Rattle.join_groups.specs.inside.Kept.{Keeps, IsShort};
+ghost use Rattle.watch_groups.specs.Meaning.{watch_meaning};
+ghost use Rattle.watch_groups.specs.Telling.{told_text};
+ghost use Rattle.watch_groups.specs.inside.Names.{Names};
+ghost use Rattle.watch_groups.specs.inside.Kept.{Watches, StandsFor, LooksThrough};
+ghost use Rattle.watch_groups.specs.inside.Gives.{gives_told};
+
+use crate::telling::{Told, look_through, note, watcher_of};
+use dsc_files::{JoinLine, LineFault, join_line, one_line};
+use dsc_streams::Status;
+use join_groups::{Answers, Groups, MOST_IN_BATCH, take_waiting, tell_all};
+use line_engine::{Command, Refusal};
+use live_watch::{WatchedJoiner, told_calls};
+use std::alloc::{AllocError, Global};
+
+/// The command that tells a call of each group as soon as a batch ends that reports it, and at the input's end answers as `join` does.
+/// Workers join its receptions while a watcher looks on.
+#[derive(Drop)]
+pub struct WatchGroups<W: WatchedJoiner> {
+    alloc: Global,
+    workers: W,
+    groups: Groups,
+    /// How many receptions the open batch has.
+    heard: usize,
+    /// The groups that its lines named.
+    named: Vec<u32>,
+    told: Vec<Told>,
+}
+
+/// What a line names.
+#[derive(Clone, Copy, Debug, PartialEq, Eq)]
+enum Named {
+    Nothing,
+    /// A group, by evidence.
+    Evidence(u32),
+    /// A group, by a reception.
+    Reception(u32),
+}
+
+/// What a line that was read names.
+fn named_by(read: &JoinLine) -> Named
+    ensures { (line : Line) → Says line read.now → Names line result }
+{
+    match read {
+        JoinLine::Nothing => Named::Nothing,
+        JoinLine::Evidence { group, .. } => Named::Evidence(*group),
+        JoinLine::Reception { group, .. } => Named::Reception(*group),
+    }
+}
+
+impl<W: WatchedJoiner> WatchGroups<W> {
+    /// The command before its first line.
+    pub fn new(alloc: Global, workers: W) -> WatchGroups<W>
+        ensures stands { StandsFor result.groups result.named.items result.told.items result.heard [] [] }
+        ensures workers { result.workers ≡ workers }
+    {
+        told_calls();
+        WatchGroups {
+            alloc,
+            workers,
+            groups: Groups::new(alloc),
+            heard: 0,
+            named: Vec::new(alloc),
+            told: Vec::new(alloc),
+        }
+    }
+
+    /// Ends the open batch, and tells the calls of the groups that its lines named.
+    fn end_batch(&mut self, out: &mut Vec<u8>) -> Result<(), AllocError>
+        requires joins { W.can_join self.old.workers }
+        requires ready { HoldsSome self.old.groups }
+        ensures workers { OnOk result (self.new.workers ≡ self.old.workers) }
+        ensures ended { OnOk result ((self.new.groups.batch.items ≡ []) × (self.new.named.items ≡ []) × (self.new.heard ≡ 0)) }
+        ensures keeps { OnOk result ((said : List Line) → Keeps self.old.groups said → Keeps self.new.groups said) }
+        ensures told { OnOk result ((said : List Line) → Keeps self.old.groups said → ((k : ℕ) → is_among self.old.named.items k ≡ true → is_named said k ≡ true)
+            → LooksThrough said self.old.named.items [] self.old.told.items out.old.items self.new.told.items out.new.items) }
+    {
+        let begun = watcher_of(self.alloc, &self.groups, &self.named, &self.told)?;
+        let watcher = self.groups.close_watched(&self.workers, begun)?;
+        look_through(&self.groups, &watcher, &mut self.named, &mut self.told, out)?;
+        self.heard = 0;
+        Ok(())
+    }
+
+    /// Counts a line behind which the groups are as they are now. A reception may end the batch.
+    fn count(&mut self, named: Named, out: &mut Vec<u8>) -> Result<(), AllocError>
+        requires joins { W.can_join self.old.workers }
+        requires ready { HoldsSome self.old.groups }
+        requires few { self.old.heard < MOST_IN_BATCH }
+        ensures workers { OnOk result (self.new.workers ≡ self.old.workers) }
+        ensures stands { OnOk result ((before : Held) (said : List Line) (line : Line) (written : List ℕ) → Watches before self.old.named.items self.old.told.items self.old.heard said
+            → Keeps self.old.groups (said ++ line ∷ []) → Names line named → written ++ out.old.items ≡ told_text self.old.told.items
+            → Watches self.new.groups self.new.named.items self.new.told.items self.new.heard (said ++ line ∷ []) × (written ++ out.new.items ≡ told_text self.new.told.items)) }
+    {
+        told_calls();
+        match named {
+            Named::Nothing => Ok(()),
+            Named::Evidence(group) => {
+                note(&mut self.named, group)?;
+                Ok(())
+            }
+            Named::Reception(group) => {
+                note(&mut self.named, group)?;
+                self.heard += 1;
+                if self.heard == MOST_IN_BATCH {
+                    self.end_batch(out)?;
+                }
+                Ok(())
+            }
+        }
+    }
+
+    /// Takes a line that was read.
+    fn take_line(&mut self, read: JoinLine, out: &mut Vec<u8>) -> Result<(), Refusal>
+        requires short { IsShort read }
+        requires joins { W.can_join self.old.workers }
+        requires ready { (said : List Line) × Keeps self.old.groups said }
+        requires says { (line : Line) × Says line read }
+        requires few { self.old.heard < MOST_IN_BATCH }
+        ensures workers { OnOk result (self.new.workers ≡ self.old.workers) }
+        ensures stands { OnOk result ((said : List Line) (line : Line) (written : List ℕ) → Watches self.old.groups self.old.named.items self.old.told.items self.old.heard said
+            → Says line read → written ++ out.old.items ≡ told_text self.old.told.items
+            → (BringsTooMany said line → ⊥) × Watches self.new.groups self.new.named.items self.new.told.items self.new.heard (said ++ line ∷ []) × (written ++ out.new.items ≡ told_text self.new.told.items)) }
+        ensures refused { IfErr result (λ refusal. (refusal ≡ Refusal.Memory) ⊎ ((said : List Line) (line : Line) → Keeps self.old.groups said
+            → Says line read → (refusal ≡ Refusal.TooManyGroups) × BringsTooMany said line)) }
+        ensures unsaid { IfErr result (λ refusal. refusal ≢ Refusal.Memory → out.new.items ≡ out.old.items) }
+    {
+        let named = named_by(&read);
+        match take_waiting(&mut self.groups, read) {
+            Ok(()) => {
+                self.count(named, out)?;
+                Ok(())
+            }
+            Err(refusal) => Err(refusal),
+        }
+    }
+}
+
+impl<W: WatchedJoiner> Command for WatchGroups<W> {
+    ghost meaning = { watch_meaning };
+
+    ghost stands_for = { λ command lines text. W.can_join command.workers × StandsFor command.groups command.named.items command.told.items command.heard lines text };
+
+    fn take(&mut self, line: &[u8], out: &mut Vec<u8>) -> Result<(), Refusal> {
+        one_line();
+        match join_line(self.alloc, line) {
+            Ok(read) => self.take_line(read, out),
+            Err(LineFault::Column(n)) => Err(Refusal::Column(n)),
+            Err(LineFault::NoMemory) => Err(Refusal::Memory),
+        }
+    }
+
+    fn finish(&mut self, out: &mut Vec<u8>) -> Result<Status, AllocError> {
+        self.end_batch(out)?;
+        if tell_all::<Answers>(&self.groups, out)? {
+            Ok(Status::new(0))
+        } else {
+            Ok(Status::new(1))
+        }
+    }
+
+    ghost gives = { λ command lines text stands. gives_told stands.1 };
+}

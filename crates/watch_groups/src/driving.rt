@@ -1,0 +1,50 @@
+ghost use Rattle.std.specs.Prelude.{◌≤◌, All, IfOk};
+ghost use Rattle.line_engine.specs.Runs.{IsRun};
+ghost use Rattle.receiver_pool.specs.Groups.{facts_of_group, IsShort, Shows};
+ghost use Rattle.watch_groups.specs.Meaning.{watch_meaning};
+
+use crate::command::WatchGroups;
+use dsc_streams::{Sink, Source, Status};
+use line_engine::drive;
+use live_watch::{BatchWatcher, WatchedWorkers, watch_batch};
+use receiver_pool::{Gate, Heard, Shown};
+use slot_evidence::Sheet;
+use std::alloc::{AllocError, Global};
+use std::thread::Threads;
+
+/// Reads lines of receptions and evidence to their end. As soon as a batch of 256 receptions ends, a call is told of each group that
+/// the lines so far report and of which none was told; so it is at the input's end, and the answer of each group follows, by rising
+/// number. So many workers, 1 to 64, read the receptions of a batch, and a watcher beside them goes round their boards, with one fork: it may
+/// see a group's call while they still post.
+///
+/// | Status | What it says |
+/// |---|---|
+/// | 0 | all was written, and a call was reported of each group |
+/// | 1 | all was written, and no call was reported of some group |
+/// | 3 | a line is ill-formed: calls may have been told, and the line of this first fault was written behind them |
+/// | 4 | the source failed: what was told so far was written |
+/// | 5 | the sink failed: a front of the text may have been written |
+/// | 6 | there was no memory: a front of what was told so far may have been written |
+/// | 7 | a limit was passed, 65,536 lines, 4,200 bytes in one or 1,024 groups: as with 3 |
+#[inline(never)]
+pub fn watch_groups<R: Threads + Sync, S: Source, K: Sink, G: Gate>(
+    rt: &R,
+    alloc: Global,
+    source: &mut S,
+    sink: &mut K,
+    workers: u32,
+    gate: &G,
+) -> Status
+    requires { (1 ≤ workers) × (workers ≤ 64) }
+    ensures { IsRun watch_meaning S.Source K.Sink source.old source.new sink.old sink.new result }
+{
+    let join = |known: &[Sheet], batch: &[Heard], watcher: BatchWatcher| -> Result<
+        (Vec<Shown>, BatchWatcher),
+        AllocError,
+    >
+        requires { (1 ≤ workers) × (workers ≤ 64) × All IsShort batch.now }
+        ensures { IfOk result (λ v. Shows (facts_of_group batch.now) batch.now v.0.items) }
+    { watch_batch(rt, alloc, known, batch, workers, gate, watcher) };
+    let mut command = WatchGroups::new(alloc, WatchedWorkers { join });
+    drive(alloc, &mut command, source, sink)
+}

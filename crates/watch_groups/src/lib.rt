@@ -1,0 +1,10 @@
+//! Calls told while an input is still read: the command `watch`, which tells a call of each group as soon as a batch ends that reports it.
+#![tactic(auto)]
+
+mod command;
+mod driving;
+mod telling;
+
+pub use command::WatchGroups;
+pub use driving::watch_groups;
+pub use telling::Told;
