@@ -1,7 +1,7 @@
 -- The lines of a station's acts, one row for each: this project's profile.
 use Rattle.std.specs.Prelude.{ℕ, List, codes, decimal}
-use Rattle.area_rules.specs.declared.acts.Act.{Act}
-use Rattle.area_rules.specs.declared.acts.Act.TheVariants.{Send, Shown, Held, Answered, GaveUp, Distress, AlertEnded, CasualtyClosed}
+use Rattle.traffic_rules.specs.declared.acts.Act.{Act}
+use Rattle.traffic_rules.specs.declared.acts.Act.TheVariants.{Send, Shown, Held, Answered, GaveUp, Distress, AlertEnded, CasualtyClosed}
 use Rattle.line_grammar.specs.Shapes.{digits}
 use Rattle.line_grammar.specs.Grammar.{Grammar, finish, word, none, part, written}
 use Rattle.dsc_texts.specs.CallGrammar.{identity, labelled, ship_in_distress}

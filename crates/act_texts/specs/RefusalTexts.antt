@@ -1,7 +1,7 @@
 -- The lines of a station's refusals, one row for each: this project's profile.
 use Rattle.std.specs.Prelude.{ℕ, List, ◌++◌, codes, decimal}
-use Rattle.area_rules.specs.declared.refusals.StationRefusal.{StationRefusal}
-use Rattle.area_rules.specs.declared.refusals.StationRefusal.TheVariants.{AlertActive, NoAlert, NoSuchCall, Full, NeedsDelay, NotSendable, NoCasualty, TimeBack}
+use Rattle.traffic_rules.specs.declared.refusals.StationRefusal.{StationRefusal}
+use Rattle.traffic_rules.specs.declared.refusals.StationRefusal.TheVariants.{AlertActive, NoAlert, NoSuchCall, Full, NeedsDelay, NotSendable, NoCasualty, TimeBack}
 use Rattle.line_grammar.specs.Shapes.{digits}
 use Rattle.line_grammar.specs.Grammar.{Grammar, finish, word, none, part, written}
 use Rattle.dsc_texts.specs.CallGrammar.{identity, labelled}

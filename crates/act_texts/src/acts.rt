@@ -3,10 +3,10 @@ ghost use Rattle.arrayvec.specs.ArrayVec.{array_vec_len};
 ghost use Rattle.act_texts.specs.ActTexts.{act_text, told_act};
 
 use crate::moments::{append_labelled, append_moment};
-use area_rules::Act;
 use arrayvec::ArrayVec;
 use dsc_texts::{append_call, append_digits, append_ship_in_distress};
 use text_pieces::append;
+use traffic_rules::Act;
 
 /// An act's line at a moment in milliseconds, without the line feed (this project's profile): `0 send 5 alert from=..`,
 /// `7 shown`, `0 held 1`, `9 answered 1`, `600000 gaveup 1`, `0 distress casualty=..`, `221000 ended` or

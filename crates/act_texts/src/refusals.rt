@@ -3,10 +3,10 @@ ghost use Rattle.arrayvec.specs.ArrayVec.{array_vec_len};
 ghost use Rattle.act_texts.specs.RefusalTexts.{refusal_text, told_refusal};
 
 use crate::moments::{append_labelled, append_moment};
-use area_rules::StationRefusal;
 use arrayvec::ArrayVec;
 use dsc_texts::append_digits;
 use text_pieces::append;
+use traffic_rules::StationRefusal;
 
 /// A refusal's line at a moment in milliseconds, without the line feed (this project's profile): `0 refused ` and one of
 /// `alertactive`, `noalert`, `nosuchcall 3`, `full`, `needsdelay`, `notsendable`, `nocasualty 338158137` and

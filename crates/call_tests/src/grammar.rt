@@ -1,6 +1,8 @@
 use call_grammar::*;
 use call_values::{Call, End};
 use dsc_symbols::worked::ALERT;
+use std::alloc::Global;
+use std::test::Fail;
 
 /// How many symbols, the second format specifier aside, a walk takes, and where it ends.
 fn walk_through(list: &[u8]) -> (usize, Step) {
@@ -30,19 +32,28 @@ fn the_standard_alert(rt: HostRuntime) {
 }
 
 #[test]
-fn spelled_and_read(rt: HostRuntime) {
-    let (_, step) = walk_through(&ALERT[1..]);
-    let Step::Done(call) = step else {
-        assert!(rt; false, "{step:?}");
-        return;
+fn spelled_and_read(rt: HostRuntime) -> Result<(), Fail> {
+    let Step::Done(call) = walk_through(&ALERT[1..]).1 else {
+        return Err("not read")?;
     };
     assert_eq!(rt; spell(&call).as_slice(), ALERT.as_slice());
-    assert_eq!(rt; read(&ALERT), Ok((call, 20)));
+    let mut list = ALERT.as_slice().to_vec(rt.alloc())?;
+    assert_eq!(rt; read(&list), Ok((call, 20)));
+    list.push(112)?;
+    assert_eq!(rt; read(&list), Ok((call, 20)));
+    Ok(())
+}
+
+#[test]
+fn refused_lists(rt: HostRuntime) {
+    assert_eq!(rt; read(&[]), Err(ReadRefusal::Short(0)));
     assert_eq!(rt; read(&ALERT[..19]), Err(ReadRefusal::Short(19)));
     assert_eq!(rt; read(&ALERT[1..]), Err(ReadRefusal::Outside(1, 33)));
     let mut list = ALERT;
     list[19] = 117;
     assert_eq!(rt; read(&list), Err(ReadRefusal::Outside(19, 117)));
+    list[18] = 122;
+    assert_eq!(rt; read(&list), Err(ReadRefusal::Outside(18, 122)));
     list[17] = 79;
     let wrong = ReadRefusal::Check {
         n: 17,
@@ -93,106 +104,42 @@ fn is_end_wanted_once(list: &[u8]) -> bool {
     false
 }
 
-#[test]
-fn each_form_and_each_address(rt: HostRuntime) {
-    let lists: [(&str, &[u8]); 14] = [
-        ("an alert", &ALERT),
-        (
-            "an acknowledgement",
-            &[
-                116, 116, 112, 0, 22, 41, 2, 20, 110, 33, 80, 40, 7, 90, 106, 14, 23, 10, 83, 12,
-                20, 19, 100, 127, 125, 127, 127,
-            ],
-        ),
-        (
-            "a relay to all ships",
-            &[
-                116, 116, 112, 0, 22, 41, 2, 20, 112, 33, 80, 40, 7, 90, 106, 14, 23, 10, 83, 12,
-                20, 19, 100, 117, 105, 117, 117,
-            ],
-        ),
-        (
-            "a relay to an area",
-            &[
-                102, 102, 14, 30, 84, 2, 2, 112, 0, 22, 41, 2, 20, 112, 33, 80, 40, 7, 90, 106, 14,
-                23, 10, 83, 12, 20, 19, 100, 127, 53, 127, 127,
-            ],
-        ),
-        (
-            "a relay acknowledged to a group",
-            &[
-                114, 114, 0, 22, 41, 2, 20, 112, 33, 80, 40, 7, 90, 112, 33, 80, 40, 7, 90, 106,
-                14, 23, 10, 83, 12, 20, 19, 100, 122, 100, 122, 122,
-            ],
-        ),
-        (
-            "a relay to one station",
-            &[
-                120, 120, 0, 22, 41, 2, 20, 112, 33, 81, 58, 13, 70, 112, 33, 80, 40, 7, 90, 106,
-                14, 23, 10, 83, 12, 20, 19, 100, 117, 100, 117, 117,
-            ],
-        ),
-        (
-            "a call to all ships",
-            &[
-                116, 116, 108, 0, 22, 41, 2, 20, 100, 126, 90, 0, 16, 126, 126, 126, 127, 96, 127,
-                127,
-            ],
-        ),
-        (
-            "an area call",
-            &[
-                102, 102, 14, 30, 84, 2, 2, 108, 0, 22, 41, 2, 20, 100, 126, 126, 126, 126, 126,
-                126, 126, 127, 2, 127, 127,
-            ],
-        ),
-        (
-            "a group call in tens of hertz",
-            &[
-                114, 114, 0, 22, 41, 2, 20, 110, 33, 80, 40, 7, 90, 109, 126, 41, 23, 45, 67, 2,
-                18, 20, 127, 9, 127, 127,
-            ],
-        ),
-        (
-            "a call to one station on channels",
-            &[
-                120, 120, 0, 22, 41, 2, 20, 100, 33, 80, 40, 7, 90, 109, 126, 31, 23, 45, 126, 126,
-                126, 122, 3, 122, 122,
-            ],
-        ),
-        (
-            "a call to one station with a position",
-            &[
-                120, 120, 0, 22, 41, 2, 20, 100, 33, 80, 40, 7, 90, 104, 100, 55, 99, 99, 99, 99,
-                99, 117, 28, 117, 117,
-            ],
-        ),
-        (
-            "a test",
-            &[
-                120, 120, 0, 22, 41, 2, 20, 108, 33, 80, 40, 7, 90, 118, 126, 126, 126, 126, 126,
-                126, 126, 117, 68, 117, 117,
-            ],
-        ),
-        (
-            "a position asked for",
-            &[
-                120, 120, 33, 81, 58, 13, 70, 100, 0, 22, 41, 2, 20, 121, 126, 126, 126, 126, 126,
-                126, 126, 117, 70, 117, 117,
-            ],
-        ),
-        (
-            "a position told",
-            &[
-                120, 120, 0, 22, 41, 2, 20, 100, 33, 81, 58, 13, 70, 121, 126, 55, 14, 23, 10, 83,
-                12, 19, 2, 122, 35, 122, 122,
-            ],
-        ),
-    ];
-    for (name, list) in lists {
-        assert!(rt; is_read_back(list), "{name}");
-        assert!(rt; is_end_wanted_once(list), "{name}");
+/// A list of each form and each address, worked by hand.
+const LISTS: [&str; 14] = [
+    "an alert: 112 112 33 80 40 7 90 106 14 23 10 83 12 20 19 100 127 78 127 127",
+    "an acknowledgement: 116 116 112 0 22 41 2 20 110 33 80 40 7 90 106 14 23 10 83 12 20 19 100 127 125 127 127",
+    "a relay to all ships: 116 116 112 0 22 41 2 20 112 33 80 40 7 90 106 14 23 10 83 12 20 19 100 117 105 117 117",
+    "a relay to an area: 102 102 14 30 84 2 2 112 0 22 41 2 20 112 33 80 40 7 90 106 14 23 10 83 12 20 19 100 127 53 127 127",
+    "a relay acknowledged to a group: 114 114 0 22 41 2 20 112 33 80 40 7 90 112 33 80 40 7 90 106 14 23 10 83 12 20 19 100 122 100 122 122",
+    "a relay to one station: 120 120 0 22 41 2 20 112 33 81 58 13 70 112 33 80 40 7 90 106 14 23 10 83 12 20 19 100 117 100 117 117",
+    "a call to all ships: 116 116 108 0 22 41 2 20 100 126 90 0 16 126 126 126 127 96 127 127",
+    "an area call: 102 102 14 30 84 2 2 108 0 22 41 2 20 100 126 126 126 126 126 126 126 127 2 127 127",
+    "a group call in tens of hertz: 114 114 0 22 41 2 20 110 33 80 40 7 90 109 126 41 23 45 67 2 18 20 127 9 127 127",
+    "a call to one station on channels: 120 120 0 22 41 2 20 100 33 80 40 7 90 109 126 31 23 45 126 126 126 122 3 122 122",
+    "a call to one station with a position: 120 120 0 22 41 2 20 100 33 80 40 7 90 104 100 55 99 99 99 99 99 117 28 117 117",
+    "a test: 120 120 0 22 41 2 20 108 33 80 40 7 90 118 126 126 126 126 126 126 126 117 68 117 117",
+    "a position asked for: 120 120 33 81 58 13 70 100 0 22 41 2 20 121 126 126 126 126 126 126 126 117 70 117 117",
+    "a position told: 120 120 0 22 41 2 20 100 33 81 58 13 70 121 126 55 14 23 10 83 12 19 2 122 35 122 122",
+];
+
+/// The symbols of a list that is written as their numbers.
+fn symbols_of(alloc: Global, list: &str) -> Result<Vec<u8>, Fail> {
+    let mut symbols = Vec::new(alloc);
+    for number in list.split_whitespace() {
+        symbols.push(number.parse()?)?;
     }
+    Ok(symbols)
+}
+
+#[test]
+fn each_form_and_each_address(rt: HostRuntime) -> Result<(), Fail> {
+    for row in LISTS {
+        let (_name, list) = row.split_once(": ").ok_or("no name")?;
+        let list = symbols_of(rt.alloc(), list)?;
+        assert!(rt; is_read_back(&list), "{row}");
+        assert!(rt; is_end_wanted_once(&list), "{row}");
+    }
+    Ok(())
 }
 
 #[test]

@@ -1,70 +1,92 @@
 use call_values::*;
 
+/// What is made of one number.
+#[derive(Clone, Copy, Debug)]
+enum Made {
+    Identity,
+    Nature,
+    Communications,
+    FirstTelecommand,
+    SecondTelecommand,
+    AlertDelay,
+    CoastDelay,
+}
+
+/// The number of what is made of this one.
+fn number_of(made: Made, n: u32) -> Option<u32> {
+    let symbol = u8::try_from(n).unwrap_or(0);
+    match made {
+        Made::Identity => Mmsi::new(n).map(|mmsi| mmsi.number()),
+        Made::Nature => Nature::new(symbol).map(|nature| nature.number().into()),
+        Made::Communications => Comm::new(symbol).map(|comm| comm.number().into()),
+        Made::FirstTelecommand => First::new(symbol).map(|first| first.number().into()),
+        Made::SecondTelecommand => Second::new(symbol).map(|second| second.number().into()),
+        Made::AlertDelay => AlertDelay::new(n).map(|delay| delay.number()),
+        Made::CoastDelay => CoastDelay::new(n).map(|delay| delay.number()),
+    }
+}
+
+/// Numbers at the edges: those of which something is made, and those of which nothing is.
+const EDGES: [(Made, &[u32], &[u32]); 7] = [
+    (Made::Identity, &[0, 999_999_999], &[1_000_000_000]),
+    (Made::Nature, &[100, 110, 112], &[99, 111, 113]),
+    (Made::Communications, &[100, 126], &[99, 102, 127]),
+    (
+        Made::FirstTelecommand,
+        &[100, 101, 103, 104, 106, 109, 113, 115, 126],
+        &[99, 102, 105, 107, 110, 112, 118, 121, 127],
+    ),
+    (
+        Made::SecondTelecommand,
+        &[100, 113, 126],
+        &[99, 114, 125, 127],
+    ),
+    (Made::AlertDelay, &[210_000, 270_000], &[209_999, 270_001]),
+    (Made::CoastDelay, &[60_000, 165_000], &[59_999, 165_001]),
+];
+
 #[test]
-fn identities_and_symbols_at_the_edges(rt: HostRuntime) {
-    for (n, is) in [(0, true), (999_999_999, true), (1_000_000_000, false)] {
-        assert_eq!(rt;
-            Mmsi::new(n).map(|mmsi| mmsi.number()),
-            is.then_some(n),
-            "identity {n}"
-        );
+fn numbers_at_the_edges(rt: HostRuntime) {
+    for (kind, inside, outside) in EDGES {
+        for n in inside {
+            assert_eq!(rt; number_of(kind, *n), Some(*n), "{kind:?} {n}");
+        }
+        for n in outside {
+            assert_eq!(rt; number_of(kind, *n), None, "{kind:?} {n}");
+        }
     }
-    for (n, is) in [
-        (99, false),
-        (100, true),
-        (110, true),
-        (111, false),
-        (112, true),
-        (113, false),
-    ] {
-        assert_eq!(rt;
-            Nature::new(n).map(|nature| nature.number()),
-            is.then_some(n),
-            "nature {n}"
-        );
-    }
-    for (n, is) in [
-        (99, false),
-        (100, true),
-        (102, false),
-        (126, true),
-        (127, false),
-    ] {
-        assert_eq!(rt;
-            Comm::new(n).map(|comm| comm.number()),
-            is.then_some(n),
-            "communications {n}"
-        );
+}
+
+/// What is known of a place that is made of a quadrant, and of degrees and minutes of latitude and of longitude.
+fn known_place(parts: [u8; 5]) -> Option<Option<Fix>> {
+    Position::new(fix_of(parts)).map(|position| position.known())
+}
+
+fn fix_of(parts: [u8; 5]) -> Fix {
+    Fix {
+        quadrant: parts[0],
+        lat_deg: parts[1],
+        lat_min: parts[2],
+        lon_deg: parts[3],
+        lon_min: parts[4],
     }
 }
 
 #[test]
 fn places_at_the_edges(rt: HostRuntime) {
-    for (place, is) in [
-        ([0, 0, 0, 0, 0], true),
-        ([3, 90, 0, 180, 0], true),
-        ([3, 89, 59, 179, 59], true),
-        ([4, 0, 0, 0, 0], false),
-        ([0, 90, 1, 0, 0], false),
-        ([0, 91, 0, 0, 0], false),
-        ([0, 0, 60, 0, 0], false),
-        ([0, 0, 0, 180, 1], false),
-        ([0, 0, 0, 181, 0], false),
-        ([0, 0, 0, 0, 60], false),
+    for parts in [[0, 0, 0, 0, 0], [3, 90, 0, 180, 0], [3, 89, 59, 179, 59]] {
+        assert_eq!(rt; known_place(parts), Some(Some(fix_of(parts))), "{parts:?}");
+    }
+    for parts in [
+        [4, 0, 0, 0, 0],
+        [0, 90, 1, 0, 0],
+        [0, 91, 0, 0, 0],
+        [0, 0, 60, 0, 0],
+        [0, 0, 0, 180, 1],
+        [0, 0, 0, 181, 0],
+        [0, 0, 0, 0, 60],
     ] {
-        let [quadrant, lat_deg, lat_min, lon_deg, lon_min] = place;
-        let fix = Fix {
-            quadrant,
-            lat_deg,
-            lat_min,
-            lon_deg,
-            lon_min,
-        };
-        assert_eq!(rt;
-            Position::new(fix).map(|position| position.known()),
-            is.then_some(Some(fix)),
-            "at {place:?}"
-        );
+        assert_eq!(rt; known_place(parts), None, "{parts:?}");
     }
     assert_eq!(rt; Position::unknown().known(), None);
 }
@@ -78,51 +100,6 @@ fn times_at_the_edges(rt: HostRuntime) {
         );
     }
     assert_eq!(rt; HourMinute::unknown().known(), None);
-}
-
-#[test]
-fn telecommands_at_the_edges(rt: HostRuntime) {
-    for (n, is) in [
-        (99, false),
-        (100, true),
-        (101, true),
-        (102, false),
-        (103, true),
-        (104, true),
-        (105, false),
-        (106, true),
-        (107, false),
-        (109, true),
-        (110, false),
-        (112, false),
-        (113, true),
-        (115, true),
-        (118, false),
-        (121, false),
-        (126, true),
-        (127, false),
-    ] {
-        assert_eq!(rt;
-            First::new(n).map(|first| first.number()),
-            is.then_some(n),
-            "first telecommand {n}"
-        );
-    }
-    for (n, is) in [
-        (99, false),
-        (100, true),
-        (113, true),
-        (114, false),
-        (125, false),
-        (126, true),
-        (127, false),
-    ] {
-        assert_eq!(rt;
-            Second::new(n).map(|second| second.number()),
-            is.then_some(n),
-            "second telecommand {n}"
-        );
-    }
 }
 
 #[test]
@@ -164,31 +141,5 @@ fn fields_at_the_edges(rt: HostRuntime) {
         (Field::tens(10_000_000), None),
     ] {
         assert_eq!(rt; made.map(|field| field.kind()), kind);
-    }
-}
-
-#[test]
-fn delays_at_the_edges(rt: HostRuntime) {
-    for (milliseconds, is) in [
-        (209_999, false),
-        (210_000, true),
-        (270_000, true),
-        (270_001, false),
-    ] {
-        assert_eq!(rt;
-            AlertDelay::new(milliseconds).map(|delay| delay.number()),
-            is.then_some(milliseconds)
-        );
-    }
-    for (milliseconds, is) in [
-        (59_999, false),
-        (60_000, true),
-        (165_000, true),
-        (165_001, false),
-    ] {
-        assert_eq!(rt;
-            CoastDelay::new(milliseconds).map(|delay| delay.number()),
-            is.then_some(milliseconds)
-        );
     }
 }

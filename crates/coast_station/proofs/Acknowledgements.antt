@@ -10,11 +10,11 @@ use Rattle.call_values.specs.declared.calls.Call.{Call}
 use Rattle.call_values.specs.declared.calls.Call.TheVariants as call
 use Rattle.call_values.specs.declared.calls.Casualty.{Casualty}
 use Rattle.call_values.specs.declared.choices.Band.{Band}
-use Rattle.area_rules.specs.declared.acts.Act.{Act}
-use Rattle.area_rules.specs.declared.acts.Act.TheVariants as act
-use Rattle.area_rules.specs.Histories.{Entry, History, does, since}
-use Rattle.area_rules.specs.Rules.{Legal, Follows}
-use Rattle.area_rules.proofs.PublicLaws.{follows_rules, legal_before}
+use Rattle.traffic_rules.specs.declared.acts.Act.{Act}
+use Rattle.traffic_rules.specs.declared.acts.Act.TheVariants as act
+use Rattle.traffic_rules.specs.Histories.{Entry, History, does, since}
+use Rattle.traffic_rules.specs.Rules.{Legal, Follows}
+use Rattle.traffic_rules.proofs.PublicLaws.{follows_rules, legal_before}
 use Rattle.traffic_rules.specs.Hearing.{heard_due}
 use Rattle.traffic_rules.specs.Repeating.{repeats}
 use Rattle.coast_station.specs.declared.events.CoastWhat.{CoastWhat}

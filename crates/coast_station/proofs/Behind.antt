@@ -5,7 +5,7 @@ use Rattle.std.specs.List.{list_any}
 use Rattle.call_values.specs.Delays.{IsCoastDelay}
 use Rattle.call_values.specs.declared.calls.Call.TheVariants as call
 use Rattle.call_values.specs.declared.calls.Casualty.{Casualty}
-use Rattle.area_rules.specs.Histories.{Entry, History, does, last_told, since}
+use Rattle.traffic_rules.specs.Histories.{Entry, History, does, last_told, since}
 use Rattle.coast_station.specs.declared.events.CoastWhat.{CoastWhat}
 use Rattle.coast_station.specs.declared.events.CoastWhat.TheVariants.{Accept, Heard}
 use Rattle.coast_station.specs.declared.casualties.OpenCasualty.{OpenCasualty}

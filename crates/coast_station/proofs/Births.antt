@@ -4,7 +4,7 @@ use Rattle.std.proofs.lemmas.Bool.{false≢true, or_parts, cond-true, cond-false
 use Rattle.std.specs.List.{list_any}
 use Rattle.std.specs.Option.{option_map}
 use Rattle.call_values.specs.declared.calls.Casualty.{Casualty}
-use Rattle.area_rules.specs.Histories.{Entry, History, does, last_told}
+use Rattle.traffic_rules.specs.Histories.{Entry, History, does, last_told}
 use Rattle.coast_station.specs.declared.events.CoastWhat.{CoastWhat}
 use Rattle.coast_station.specs.declared.events.CoastWhat.TheVariants.{Accept, Tick, Relay, Send, Answer, Heard}
 use Rattle.coast_station.specs.declared.casualties.OpenCasualty.{OpenCasualty}

@@ -7,11 +7,11 @@ use Rattle.call_values.specs.declared.calls.Call.TheVariants as call
 use Rattle.call_values.specs.declared.calls.Casualty.{Casualty}
 use Rattle.call_values.specs.declared.choices.Band.{Band}
 use Rattle.call_values.specs.declared.parts.To.{To}
-use Rattle.area_rules.specs.declared.acts.Act.{Act}
-use Rattle.area_rules.specs.declared.acts.Act.TheVariants as act
-use Rattle.area_rules.specs.declared.refusals.StationRefusal.TheVariants.{NoCasualty, NotSendable}
-use Rattle.area_rules.specs.Histories.{History}
-use Rattle.area_rules.specs.Holding.{Places}
+use Rattle.traffic_rules.specs.declared.acts.Act.{Act}
+use Rattle.traffic_rules.specs.declared.acts.Act.TheVariants as act
+use Rattle.traffic_rules.specs.declared.refusals.StationRefusal.TheVariants.{NoCasualty, NotSendable}
+use Rattle.traffic_rules.specs.Histories.{History}
+use Rattle.traffic_rules.specs.Holding.{Places}
 use Rattle.traffic_rules.specs.HeldTold.{holds}
 use Rattle.traffic_rules.specs.HeldTold as told
 use Rattle.traffic_rules.specs.Hearing.{heard_due}

@@ -3,7 +3,7 @@ use Rattle.std.proofs.Common.{◌≡◌, ℕ, ◌==◌, ◌&&◌, ◌||◌, not,
 use Rattle.std.proofs.lemmas.Bool.{false≢true, true≢false, or_parts, or_from, eqb-true, eqb-false, ne_eqb, and_left, and_right}
 use Rattle.std.specs.List.{list_any, filter}
 use Rattle.call_values.specs.declared.calls.Casualty.{Casualty}
-use Rattle.area_rules.specs.Histories.{History, does}
+use Rattle.traffic_rules.specs.Histories.{History, does}
 use Rattle.coast_station.specs.declared.events.CoastWhat.{CoastWhat}
 use Rattle.coast_station.specs.Casualties.{where_of, ends, alert_at, is_alert, delay_at, since_end, is_born, open_casualty, with_alert, born}
 use Rattle.coast_station.specs.Events.{alert_in}

@@ -6,14 +6,14 @@ use Rattle.std.specs.Prelude.{OnOk, OnErr}
 use Rattle.call_values.specs.declared.calls.Call.{Call}
 use Rattle.call_values.specs.declared.calls.Call.TheVariants as call
 use Rattle.call_values.specs.declared.choices.Band.{Band}
-use Rattle.area_rules.specs.declared.acts.Act.{Act}
-use Rattle.area_rules.specs.declared.acts.Act.TheVariants as act
-use Rattle.area_rules.specs.declared.refusals.StationRefusal.{StationRefusal}
-use Rattle.area_rules.specs.declared.refusals.StationRefusal.TheVariants.{NoCasualty, NeedsDelay}
+use Rattle.traffic_rules.specs.declared.acts.Act.{Act}
+use Rattle.traffic_rules.specs.declared.acts.Act.TheVariants as act
+use Rattle.traffic_rules.specs.declared.refusals.StationRefusal.{StationRefusal}
+use Rattle.traffic_rules.specs.declared.refusals.StationRefusal.TheVariants.{NoCasualty, NeedsDelay}
 use Rattle.area_rules.specs.Addressing.{is_for_coast}
-use Rattle.area_rules.specs.Histories.{History, last_moment}
-use Rattle.area_rules.specs.Holding.{Places}
-use Rattle.area_rules.specs.Rules.{refusal_or, continued, Legal}
+use Rattle.traffic_rules.specs.Histories.{History, last_moment}
+use Rattle.traffic_rules.specs.Holding.{Places}
+use Rattle.traffic_rules.specs.Rules.{refusal_or, continued, Legal}
 use Rattle.traffic_rules.specs.Giving.{answer_with}
 use Rattle.traffic_rules.specs.Hearing.{heard_due}
 use Rattle.traffic_rules.specs.Repeating.{repeats}
@@ -34,7 +34,7 @@ use Rattle.coast_station.proofs.Changes.{find_open, named, silent_open, closed_o
 use Rattle.coast_station.proofs.HeldOn.{held_goes_on}
 use Rattle.coast_station.proofs.Silence.{sent_ends, relayed_ends, answered_ends, heard_ends, repeats_end}
 use Rattle.coast_station.proofs.Origins.{none_from}
-use Rattle.coast_station.proofs.Frame.{on_ok, on_err, goes_on}
+use Rattle.traffic_rules.proofs.PublicLaws.{on_ok, on_err, goes_on}
 
 some_from : {A : Type 0} (o : Option A) → is_some o ≡ true → (x : A) × (o ≡ Some x)
 some_from (Some x) is = (x, refl)
@@ -153,7 +153,7 @@ answer_same who h coast at what keeps =
 
 -- what it keeps afterwards is what the history tells with the event put last
 pub keeps_afterwards : (who : Station) (h : History CoastWhat) (old : Coast) (at : ℕ) (what : CoastWhat) → Keeps old who h → Legal (coast_rules who) h → refusal_at who h what ≡ None
-    → Keeps (afterwards old at what) who (record { at = at; what = what; acts = due_at who h at what } ∷ h)
+    → Keeps (record (afterwards old at what) { last = at }) who (record { at = at; what = what; acts = due_at who h at what } ∷ h)
 keeps_afterwards who h old at what keeps legal none = record {
   own = keeps.own;
   band = keeps.band;
@@ -170,7 +170,7 @@ keeps_afterwards who h old at what keeps legal none = record {
 -- a station that is as it was after a refusal, and keeps this after an accepted event, stands for its history as this goes on
 pub goes : (who : Station) (h : History CoastWhat) (at : ℕ) (what : CoastWhat) (old new : Coast) (result : Result (Unit {0}) StationRefusal) (acts : List Act)
     → last_moment h ≤ at → IsCoastWhat what → Stands old who h → answer_with result acts ≡ answer_by old at what
-    → OnErr result (new ≡ old) → OnOk result (new ≡ afterwards old at what) → Stands new who (continued (coast_rules who) h at what)
+    → OnErr result (new ≡ old) → OnOk result (new ≡ record (afterwards old at what) { last = at }) → Stands new who (continued (coast_rules who) h at what)
 goes who h at what old new result acts late event stands answer same after =
     goes_on (coast_rules who) h at what (λ (g : History CoastWhat). Keeps new who g) result acts late event stands.0 (answer ∙ answer_same who h old at what stands.1)
     (on_err result (λ is. subst (λ (coast : Coast). Keeps coast who h) (sym is) stands.1) same)

@@ -5,7 +5,6 @@ mod Changes
 mod HeldOn
 mod Sendings
 mod Silence
-mod Frame
 mod Among
 mod Origins
 mod Behind

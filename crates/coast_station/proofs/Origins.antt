@@ -5,10 +5,10 @@ use Rattle.std.specs.List.{list_any, filter}
 use Rattle.call_values.specs.declared.calls.Call.{Call}
 use Rattle.call_values.specs.declared.calls.Call.TheVariants as call
 use Rattle.call_values.specs.declared.calls.Casualty.{Casualty}
-use Rattle.area_rules.specs.declared.acts.Act.{Act}
-use Rattle.area_rules.specs.declared.acts.Act.TheVariants as act
-use Rattle.area_rules.specs.Histories.{History}
-use Rattle.area_rules.specs.Rules.{Legal}
+use Rattle.traffic_rules.specs.declared.acts.Act.{Act}
+use Rattle.traffic_rules.specs.declared.acts.Act.TheVariants as act
+use Rattle.traffic_rules.specs.Histories.{History}
+use Rattle.traffic_rules.specs.Rules.{Legal}
 use Rattle.traffic_rules.specs.Hearing.{heard_due}
 use Rattle.traffic_rules.specs.Repeating.{repeats}
 use Rattle.coast_station.specs.declared.events.CoastWhat.{CoastWhat}

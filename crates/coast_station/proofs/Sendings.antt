@@ -5,13 +5,13 @@ use Rattle.call_values.specs.declared.calls.Call.{Call}
 use Rattle.call_values.specs.declared.calls.Call.TheVariants as call
 use Rattle.call_values.specs.declared.choices.Band.{Band}
 use Rattle.call_values.specs.declared.parts.To.{To}
-use Rattle.area_rules.specs.declared.acts.Act.{Act}
-use Rattle.area_rules.specs.declared.acts.Act.TheVariants as act
-use Rattle.area_rules.specs.declared.refusals.StationRefusal.TheVariants.{NoCasualty}
-use Rattle.area_rules.specs.Histories.{Entry, History}
-use Rattle.area_rules.specs.Holding.{Places}
-use Rattle.area_rules.specs.Rules.{Follows}
-use Rattle.area_rules.proofs.PublicLaws.{follows_rules}
+use Rattle.traffic_rules.specs.declared.acts.Act.{Act}
+use Rattle.traffic_rules.specs.declared.acts.Act.TheVariants as act
+use Rattle.traffic_rules.specs.declared.refusals.StationRefusal.TheVariants.{NoCasualty}
+use Rattle.traffic_rules.specs.Histories.{Entry, History}
+use Rattle.traffic_rules.specs.Holding.{Places}
+use Rattle.traffic_rules.specs.Rules.{Follows}
+use Rattle.traffic_rules.proofs.PublicLaws.{follows_rules}
 use Rattle.traffic_rules.specs.Occurrences.{is_tick}
 use Rattle.traffic_rules.specs.Sending.{refused_full}
 use Rattle.traffic_rules.specs.Sendings.{asking, sends, is_holding}

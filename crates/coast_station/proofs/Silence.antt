@@ -6,9 +6,9 @@ use Rattle.call_values.specs.declared.calls.Call.{Call}
 use Rattle.call_values.specs.declared.calls.Call.TheVariants as call
 use Rattle.call_values.specs.declared.calls.Casualty.{Casualty}
 use Rattle.call_values.specs.declared.parts.To.{To}
-use Rattle.area_rules.specs.Histories.{History}
-use Rattle.area_rules.specs.Holding.{Places}
-use Rattle.area_rules.specs.Rules.{Legal}
+use Rattle.traffic_rules.specs.Histories.{History}
+use Rattle.traffic_rules.specs.Holding.{Places}
+use Rattle.traffic_rules.specs.Rules.{Legal}
 use Rattle.traffic_rules.specs.Sending.{is_sendable, send_refusal, send_due}
 use Rattle.traffic_rules.specs.Answering.{answer_due}
 use Rattle.traffic_rules.specs.Hearing.{heard_due}

@@ -3,9 +3,9 @@ use Rattle.std.proofs.Common.{◌≡◌, ℕ, true, None, if◌then◌else◌, O
 use Rattle.call_values.specs.declared.calls.Call.{Call}
 use Rattle.call_values.specs.declared.calls.Call.TheVariants as call
 use Rattle.call_values.specs.declared.calls.Casualty.{Casualty}
-use Rattle.area_rules.specs.declared.refusals.StationRefusal.{StationRefusal}
-use Rattle.area_rules.specs.Holding.{Places}
-use Rattle.area_rules.specs.Rules.{refusal_or}
+use Rattle.traffic_rules.specs.declared.refusals.StationRefusal.{StationRefusal}
+use Rattle.traffic_rules.specs.Holding.{Places}
+use Rattle.traffic_rules.specs.Rules.{refusal_or}
 use Rattle.traffic_rules.specs.Hearing.{heard_refusal, heard_due}
 use Rattle.traffic_rules.specs.After.{after_hearing}
 use Rattle.coast_station.specs.declared.events.CoastWhat.TheVariants.{Heard}
@@ -33,8 +33,8 @@ module _ (coast : Coast) (at : ℕ) (c : Call) (traffic : IsTraffic coast.own at
       ∙ ap (refusal_or (refusal_at_call coast.casualties coast.held c)) (sym (traffic.due coast.casualties coast.held))
       ∙ ap (λ b. refusal_or (if b then refusal_at_call coast.casualties coast.held c else None) (if b then at_call coast.own coast.casualties coast.held c else [])) (sym is)
 
-  pub after_traffic : record coast { last = at; held = after_hearing coast.held c at } ≡ afterwards coast at (Heard c)
+  pub after_traffic : record coast { held = after_hearing coast.held c at } ≡ afterwards coast at (Heard c)
   after_traffic =
-      ap (λ (l : Places). record coast { last = at; held = l }) (sym (traffic.held_ones coast.held))
-      ∙ ap (λ (cs : List OpenCasualty). record coast { last = at; casualties = cs; held = held_after_call at c coast.held }) (sym (traffic.open_ones coast.casualties))
-      ∙ ap (λ b. record coast { last = at; casualties = if b then after_call at c coast.casualties else coast.casualties; held = if b then held_after_call at c coast.held else coast.held }) (sym is)
+      ap (λ (l : Places). record coast { held = l }) (sym (traffic.held_ones coast.held))
+      ∙ ap (λ (cs : List OpenCasualty). record coast { casualties = cs; held = held_after_call at c coast.held }) (sym (traffic.open_ones coast.casualties))
+      ∙ ap (λ b. record coast { casualties = if b then after_call at c coast.casualties else coast.casualties; held = if b then held_after_call at c coast.held else coast.held }) (sym is)

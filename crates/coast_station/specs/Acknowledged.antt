@@ -6,7 +6,7 @@ use Rattle.call_values.specs.declared.bounds.TheConstants.{SHORTEST_COAST_DELAY}
 use Rattle.call_values.specs.declared.calls.Call.TheVariants as call
 use Rattle.call_values.specs.declared.calls.Casualty.{Casualty}
 use Rattle.call_values.specs.declared.choices.Band.{Band}
-use Rattle.area_rules.specs.Histories.{Entry, History}
+use Rattle.traffic_rules.specs.Histories.{Entry, History}
 use Rattle.coast_station.specs.declared.events.CoastWhat.{CoastWhat}
 use Rattle.coast_station.specs.declared.events.CoastWhat.TheVariants.{Accept, Heard}
 use Rattle.coast_station.specs.Accepting.{waits}

@@ -5,9 +5,9 @@ use Rattle.std.specs.Option.{option_to_list, option_map}
 use Rattle.call_values.specs.declared.calls.Call.{Call}
 use Rattle.call_values.specs.declared.calls.Call.TheVariants as call
 use Rattle.call_values.specs.declared.calls.Casualty.{Casualty}
-use Rattle.area_rules.specs.declared.acts.Act.{Act}
-use Rattle.area_rules.specs.declared.acts.Act.TheVariants.{Send, CasualtyClosed}
-use Rattle.area_rules.specs.Histories.{Entry, History, does, last_told, since}
+use Rattle.traffic_rules.specs.declared.acts.Act.{Act}
+use Rattle.traffic_rules.specs.declared.acts.Act.TheVariants.{Send, CasualtyClosed}
+use Rattle.traffic_rules.specs.Histories.{Entry, History, does, last_told, since}
 use Rattle.coast_station.specs.declared.events.CoastWhat.{CoastWhat}
 use Rattle.coast_station.specs.declared.casualties.OpenCasualty.{OpenCasualty}
 use Rattle.coast_station.specs.Events.{alert_in, delay_for}

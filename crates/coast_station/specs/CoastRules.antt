@@ -5,14 +5,14 @@ use Rattle.call_values.specs.declared.calls.Call.{Call}
 use Rattle.call_values.specs.declared.calls.Call.TheVariants as call
 use Rattle.call_values.specs.declared.choices.Band.{Band}
 use Rattle.call_values.specs.declared.parts.To.{To}
-use Rattle.area_rules.specs.declared.acts.Act.{Act}
-use Rattle.area_rules.specs.declared.acts.Act.TheVariants as act
-use Rattle.area_rules.specs.declared.refusals.StationRefusal.{StationRefusal}
-use Rattle.area_rules.specs.declared.refusals.StationRefusal.TheVariants.{NoCasualty, Full}
+use Rattle.traffic_rules.specs.declared.acts.Act.{Act}
+use Rattle.traffic_rules.specs.declared.acts.Act.TheVariants as act
+use Rattle.traffic_rules.specs.declared.refusals.StationRefusal.{StationRefusal}
+use Rattle.traffic_rules.specs.declared.refusals.StationRefusal.TheVariants.{NoCasualty, Full}
 use Rattle.area_rules.specs.Addressing.{is_for_coast}
-use Rattle.area_rules.specs.Histories.{History}
-use Rattle.area_rules.specs.Holding.{Places}
-use Rattle.area_rules.specs.Rules.{Rules}
+use Rattle.traffic_rules.specs.Histories.{History}
+use Rattle.traffic_rules.specs.Holding.{Places}
+use Rattle.traffic_rules.specs.Rules.{Rules}
 use Rattle.call_values.specs.Views.{sender_of}
 use Rattle.traffic_rules.specs.Answering.{answer_refusal, answer_due}
 use Rattle.traffic_rules.specs.Hearing.{heard_refusal, heard_due}

@@ -1,7 +1,7 @@
 -- The first entries of histories that tell of something: this project's profile. Histories have their newest entry first.
 use Rattle.std.specs.Prelude.{Bool, Option, None, is_some, [], ◌∷◌, if◌then◌else◌}
 use Rattle.std.specs.List.{list_any}
-use Rattle.area_rules.specs.Histories.{Entry, History}
+use Rattle.traffic_rules.specs.Histories.{Entry, History}
 
 module _ {What : Type 0} where
   -- the first entry that is such, and all after it; none where none is

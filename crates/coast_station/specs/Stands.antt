@@ -1,7 +1,7 @@
 -- The histories that a coast station stands for: this project's profile.
 use Rattle.std.specs.Prelude.{◌≡◌}
-use Rattle.area_rules.specs.Histories.{History, last_moment}
-use Rattle.area_rules.specs.Rules.{Legal}
+use Rattle.traffic_rules.specs.Histories.{History, last_moment}
+use Rattle.traffic_rules.specs.Rules.{Legal}
 use Rattle.coast_station.specs.declared.events.CoastWhat.{CoastWhat}
 use Rattle.coast_station.specs.declared.coasts.Coast.{Coast}
 use Rattle.coast_station.specs.Casualties.{open_casualties}

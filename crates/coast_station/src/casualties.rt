@@ -1,13 +1,13 @@
 ghost use Rattle.std.specs.Prelude.{◌≡◌, ◌<◌, ◌≤◌, ◌==◌, [], ◌∷◌, ◌++◌, IfSome, IsErr, OnOk, OnErr, length, position, slice_set, is_none, ◌&&◌, ◌↔◌, IsTrue};
-ghost use Rattle.area_rules.specs.declared.refusals.StationRefusal.TheVariants as refusal;
+ghost use Rattle.traffic_rules.specs.declared.refusals.StationRefusal.TheVariants as refusal;
 ghost use Rattle.coast_station.specs.Accepting as accepting;
 ghost use Rattle.coast_station.specs.inside.Left as left;
 
-use area_rules::{Act, Acts, StationRefusal, has_passed, put};
 use arrayvec::ArrayVec;
 use call_values::{Call, Casualty, CoastDelay, Comm, HourMinute, Mmsi, Nature, Position};
 use dsc_symbols::{natures, telecommands};
 use std::marker::Model;
+use traffic_rules::{Act, Acts, StationRefusal, has_passed, put};
 
 /// The most casualties that a station keeps open at once (this project's profile).
 pub const MOST_CASUALTIES: usize = 16;

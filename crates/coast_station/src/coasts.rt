@@ -1,6 +1,6 @@
 ghost use Rattle.std.specs.Prelude.{◌≡◌, true, [], Ok, OnOk, OnErr};
-ghost use Rattle.area_rules.specs.Histories.{History};
-ghost use Rattle.area_rules.specs.Rules.{listed, answer_to, continued};
+ghost use Rattle.traffic_rules.specs.Histories.{History};
+ghost use Rattle.traffic_rules.specs.Rules.{listed, answer_to, continued};
 ghost use Rattle.traffic_rules.specs.Giving.{answer_with};
 ghost use Rattle.call_values.specs.declared.calls.Call.TheVariants as form;
 ghost use Rattle.coast_station.specs.declared.events.CoastWhat.{CoastWhat as What};
@@ -12,10 +12,12 @@ ghost use Rattle.coast_station.specs.inside.Afterwards.{answer_by, afterwards};
 
 use crate::casualties::{Casualties, OpenCasualty, acknowledgement};
 use crate::events::{CoastEvent, CoastWhat};
-use area_rules::{Act, Acts, HeldCalls, StationRefusal, for_coast, time_back};
+use area_rules::for_coast;
 use arrayvec::ArrayVec;
 use call_values::{Band, Call, Casualty, CoastDelay, Mmsi, To};
-use traffic_rules::{answer, give, hear, repeat, send};
+use traffic_rules::{
+    Act, Acts, HeldCalls, StationRefusal, answer, give, hear, repeat, send, time_back,
+};
 
 /// A coast station, which goes from event to event.
 #[derive(Drop)]
@@ -81,21 +83,22 @@ impl Coast {
     fn handle(&mut self, at: u64, what: &CoastWhat, acts: &mut Acts) -> Result<(), StationRefusal>
         requires { acts.old.items ≡ [] }
         ensures answer { answer_with result acts.new.items ≡ answer_by self.old at what.now }
-        ensures after { OnOk result (self.new ≡ afterwards self.old at what.now) }
+        ensures after { OnOk result (self.new ≡ record (afterwards self.old at what.now) { last = at }) }
         ensures none { OnErr result (acts.new.items ≡ []) }
         ensures unchanged { OnErr result (self.new ≡ self.old) }
     {
         match *what {
-            CoastWhat::Accept(mmsi, delay) => self.accept(at, mmsi, delay, acts),
-            CoastWhat::Tick => {
-                self.tick(at, acts);
-                Ok(())
+            CoastWhat::Accept(mmsi, delay) => self.accept(at, mmsi, delay, acts)?,
+            CoastWhat::Tick => self.tick(at, acts),
+            CoastWhat::Relay(mmsi, to, ask) => self.relay(at, mmsi, to, ask, acts)?,
+            CoastWhat::Send(call) => send(&mut self.held, self.own, &call, at, acts)?,
+            CoastWhat::Answer(number, accepts) => {
+                answer(&mut self.held, self.own, number, accepts, acts)?;
             }
-            CoastWhat::Relay(mmsi, to, ask) => self.relay(at, mmsi, to, ask, acts),
-            CoastWhat::Send(call) => self.send(at, &call, acts),
-            CoastWhat::Answer(number, accepts) => self.answer(at, number, accepts, acts),
-            CoastWhat::Heard(call) => self.hear(at, &call, acts),
+            CoastWhat::Heard(call) => self.hear(at, &call, acts)?,
         }
+        self.last = at;
+        Ok(())
     }
 
     /// Accepts the alert of a ship, and acknowledges it where that is due at once.
@@ -118,7 +121,6 @@ impl Coast {
         if waits(self.band) && delay.is_none() {
             return Err(StationRefusal::NeedsDelay);
         }
-        self.last = at;
         if casualty.delay.is_some() {
             return Ok(());
         }
@@ -140,7 +142,6 @@ impl Coast {
     {
         self.casualties.acknowledge_due(self.own, at, acts);
         repeat(&mut self.held, at, acts);
-        self.last = at;
     }
 
     /// Tells the alert of a ship on.
@@ -163,39 +164,6 @@ impl Coast {
         };
         let relay = relay(self.own, to, &told.alert, ask);
         send(&mut self.held, self.own, &relay, at, acts)?;
-        self.last = at;
-        Ok(())
-    }
-
-    /// Sends a call of the operator.
-    fn send(&mut self, at: u64, call: &Call, acts: &mut Acts) -> Result<(), StationRefusal>
-        requires { acts.old.items ≡ [] }
-        ensures answer { answer_with result acts.new.items ≡ answer_by self.old at (What.Send call.now) }
-        ensures after { OnOk result (self.new ≡ afterwards self.old at (What.Send call.now)) }
-        ensures none { OnErr result (acts.new.items ≡ []) }
-        ensures unchanged { OnErr result (self.new ≡ self.old) }
-    {
-        send(&mut self.held, self.own, call, at, acts)?;
-        self.last = at;
-        Ok(())
-    }
-
-    /// Answers a call that was got.
-    fn answer(
-        &mut self,
-        at: u64,
-        number: u8,
-        accepts: bool,
-        acts: &mut Acts,
-    ) -> Result<(), StationRefusal>
-        requires { acts.old.items ≡ [] }
-        ensures answer { answer_with result acts.new.items ≡ answer_by self.old at (What.Answer number accepts) }
-        ensures after { OnOk result (self.new ≡ afterwards self.old at (What.Answer number accepts)) }
-        ensures none { OnErr result (acts.new.items ≡ []) }
-        ensures unchanged { OnErr result (self.new ≡ self.old) }
-    {
-        answer(&mut self.held, self.own, number, accepts, acts)?;
-        self.last = at;
         Ok(())
     }
 
@@ -208,7 +176,6 @@ impl Coast {
         ensures unchanged { OnErr result (self.new ≡ self.old) }
     {
         if !is_for(self.own, call) {
-            self.last = at;
             return Ok(());
         }
         match *call {
@@ -219,7 +186,6 @@ impl Coast {
             }
             _ => {
                 hear(&mut self.held, self.own, None, call, at, acts)?;
-                self.last = at;
                 Ok(())
             }
         }
@@ -240,7 +206,6 @@ impl Coast {
         ensures unchanged { OnErr result (self.new ≡ self.old) }
     {
         self.casualties.note(alert, at)?;
-        self.last = at;
         give(acts, Act::Distress(*alert));
         Ok(())
     }
@@ -252,7 +217,6 @@ impl Coast {
         ensures answer { Ok acts.new.items ≡ answer_by self.old at (What.Heard (form.Ack from casualty.now)) }
         ensures after { self.new ≡ afterwards self.old at (What.Heard (form.Ack from casualty.now)) }
     {
-        self.last = at;
         match self.casualties.find(casualty.mmsi) {
             Some(_) => {
                 self.casualties.close(casualty.mmsi);

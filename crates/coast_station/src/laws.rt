@@ -1,9 +1,9 @@
 ghost use Rattle.std.specs.Prelude.{◌≡◌, ◌==◌, ◌+◌, ◌≤◌, ◌∷◌, ◌++◌, ℕ, Bool, List, false, IsTrue};
 ghost use Rattle.std.specs.List.{list_any};
-ghost use Rattle.area_rules.specs.declared.acts.Act.{Act};
-ghost use Rattle.area_rules.specs.declared.acts.Act.TheVariants as act;
-ghost use Rattle.area_rules.specs.Histories.{Entry, History, does};
-ghost use Rattle.area_rules.specs.Rules.{Legal};
+ghost use Rattle.traffic_rules.specs.declared.acts.Act.{Act};
+ghost use Rattle.traffic_rules.specs.declared.acts.Act.TheVariants as act;
+ghost use Rattle.traffic_rules.specs.Histories.{Entry, History, does};
+ghost use Rattle.traffic_rules.specs.Rules.{Legal};
 ghost use Rattle.call_values.specs.declared.calls.Call.{Call};
 ghost use Rattle.call_values.specs.declared.calls.Call.TheVariants as call;
 ghost use Rattle.call_values.specs.declared.calls.Casualty.{Casualty};

@@ -1,13 +1,12 @@
 ghost use Rattle.std.specs.Prelude.{◌≡◌, ◌≤◌, ◌⊎◌, All, IsTrue, length};
 ghost use Rattle.slot_evidence.specs.Allowed.{OnlyAllowed};
 ghost use Rattle.receiver_pool.specs.Groups.{IsShort};
-ghost use Rattle.receiver_pool.specs.inside.Worked.{two_facts};
+ghost use Rattle.evidence_board.specs.inside.Worked.{two_facts};
 
 use dsc_symbols::worked::ALERT_SLOTS;
+use evidence_board::{Allowed, Board, Seat, WHOLE};
 use phasing::LONGEST;
-use receiver_pool::{
-    Allowed, Board, Gate, Heard, Meeting, Open, Seat, Shown, WHOLE, pool, pool_groups,
-};
+use receiver_pool::{Gate, Heard, Meeting, Open, Shown, pool, pool_groups};
 use slot_evidence::{Reception, Seen, Sheet, shown_by};
 use std::alloc::{AllocError, Global};
 use std::process::Abort;
@@ -157,11 +156,10 @@ fn the_open_gate_lets_pass(rt: HostRuntime) -> Result<(), Fail> {
 fn reception(alloc: Global, lost: &[usize]) -> Result<Reception, AllocError> {
     let mut elements = Vec::new(alloc);
     for (slot, symbol) in ALERT_SLOTS.iter().enumerate() {
-        if lost.contains(&slot) {
-            elements.extend_from_slice(&[Element::Lost; 10])?;
-        } else {
-            elements.extend_from_slice(&word(*symbol % 128))?;
-        }
+        let is_lost = lost.contains(&slot);
+        let sent = word(*symbol % 128);
+        let heard = if is_lost { [Element::Lost; 10] } else { sent };
+        elements.extend_from_slice(&heard)?;
     }
     Ok(Reception::from(elements))
 }
@@ -202,6 +200,13 @@ pub(crate) fn one_by_one(list: &[Reception]) -> Sheet
         sheet.meet(&shown_by(heard));
     }
     sheet
+}
+
+/// The sheet of the two receptions.
+pub(crate) fn whole_sheet(rt: &impl Abort, alloc: Global) -> Result<Sheet, Fail> {
+    let list = two_receptions(alloc)?;
+    assert!(rt; are_short(&list));
+    Ok(one_by_one(&list))
 }
 
 #[test]
@@ -290,10 +295,9 @@ fn receptions_without_an_origin_show_nothing(rt: HostRuntime) -> Result<(), Fail
 
 #[test]
 fn groups_of_a_batch(rt: HostRuntime) -> Result<(), Fail> {
-    let list = two_receptions(rt.alloc())?;
+    let whole = whole_sheet(&rt, rt.alloc())?;
     let batch = two_groups(rt.alloc())?;
-    assert!(rt; are_short(&list) && are_all_short(&batch));
-    let whole = one_by_one(&list);
+    assert!(rt; are_all_short(&batch));
     for workers in [1, 2, 3, 64] {
         let entries = pool_groups(&rt, rt.alloc(), &batch, workers, &Open)?;
         assert_eq!(rt; entries.len(), 2);

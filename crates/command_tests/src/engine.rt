@@ -144,6 +144,12 @@ fn compare(rt: &impl Abort, run: &(u8, Vec<u8>), status: u8, text: &[u8]) {
     assert_eq!(rt; run.1.as_slice(), text);
 }
 
+/// That a run over too much ended with status 7, and with this text.
+fn compare_end(rt: &impl Abort, run: &(u8, Vec<u8>), end: &[u8]) {
+    assert_eq!(rt; run.0, 7);
+    assert!(rt; run.1.ends_with(end));
+}
+
 /// Lines of so many bytes each, which a line feed ends.
 fn lines_of_length(alloc: Global, count: u32, length: usize) -> Result<Vec<u8>, AllocError> {
     let mut bytes = Vec::new(alloc);
@@ -188,13 +194,9 @@ fn lines_are_told(rt: HostRuntime) -> Result<(), Fail> {
 fn endless_sources_end(rt: HostRuntime) -> Result<(), Fail> {
     let run = of_endless(rt.alloc(), b'a')?;
     compare(&rt, &run, 7, b"dsc: line 1 too long\n");
-    let (status, text) = of_endless(rt.alloc(), b'\n')?;
-    assert_eq!(rt; status, 7);
-    assert_eq!(rt; text.len(), 65_536 + 31);
-    assert!(rt;
-        text.as_slice()
-            .ends_with(b"\n\ndsc: line 65537 too many lines\n")
-    );
+    let run = of_endless(rt.alloc(), b'\n')?;
+    compare_end(&rt, &run, b"\n\ndsc: line 65537 too many lines\n");
+    assert_eq!(rt; run.1.len(), 65_536 + 31);
     Ok(())
 }
 
@@ -217,31 +219,35 @@ fn each_failing_call_is_told(rt: HostRuntime) -> Result<(), Fail> {
     Ok(())
 }
 
-#[test]
-fn longest_lines_cross_the_buffer(rt: HostRuntime) -> Result<(), Fail> {
-    let mut input = lines_of_length(rt.alloc(), 32, LONGEST_LINE)?;
-    let run = echoed(rt.alloc(), &input, 200_000, &[], &[])?;
-    compare(&rt, &run, 0, &input);
-    let _feed = input.pop();
-    input.push(b'a')?;
-    let (status, told) = echoed(rt.alloc(), &input, 200_000, &[], &[])?;
-    assert_eq!(rt; status, 7);
-    assert!(rt; told.as_slice().ends_with(b"a\ndsc: line 32 too long\n"));
+/// That lines are said again in whole, and that with these bytes behind them a run ends with this text.
+fn try_limit(
+    rt: &impl Abort,
+    alloc: Global,
+    lines: &[u8],
+    piece: usize,
+    more: &[u8],
+    end: &[u8],
+) -> Result<(), AllocError>
+    requires { 1 ≤ piece }
+{
+    compare(rt, &echoed(alloc, lines, piece, &[], &[])?, 0, lines);
+    let mut longer = lines.to_vec(alloc)?;
+    longer.extend_from_slice(more)?;
+    compare_end(rt, &echoed(alloc, &longer, piece, &[], &[])?, end);
     Ok(())
 }
 
+// The longest lines cross the buffer.
 #[test]
-fn lines_are_counted(rt: HostRuntime) -> Result<(), Fail> {
-    let mut input = lines_of_length(rt.alloc(), 65_536, 1)?;
-    let run = echoed(rt.alloc(), &input, 3, &[], &[])?;
-    compare(&rt, &run, 0, &input);
-    input.push(b'!')?;
-    let (status, told) = echoed(rt.alloc(), &input, 3, &[], &[])?;
-    assert_eq!(rt; status, 7);
-    assert!(rt;
-        told.as_slice()
-            .ends_with(b"a\na\ndsc: line 65537 too many lines\n")
-    );
+fn lines_at_the_limits(rt: HostRuntime) -> Result<(), Fail> {
+    let alloc = rt.alloc();
+    let longest = lines_of_length(alloc, 32, LONGEST_LINE)?;
+    let longer = vec![in alloc; b'a'; LONGEST_LINE + 1]?;
+    let too_long = b"a\ndsc: line 33 too long\n";
+    try_limit(&rt, alloc, &longest, 200_000, &longer, too_long)?;
+    let most = lines_of_length(alloc, 65_536, 1)?;
+    let too_many = b"a\na\ndsc: line 65537 too many lines\n";
+    try_limit(&rt, alloc, &most, 3, b"!", too_many)?;
     Ok(())
 }
 

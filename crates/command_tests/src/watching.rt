@@ -1,6 +1,6 @@
 ghost use Rattle.std.specs.Prelude.{◌≡◌, ◌≤◌, All, length};
 ghost use Rattle.slot_evidence.specs.Allowed.{OnlyAllowed};
-ghost use Rattle.receiver_pool.specs.Facts.{all_facts};
+ghost use Rattle.evidence_board.specs.Facts.{all_facts};
 ghost use Rattle.receiver_pool.specs.Groups.{IsShort};
 
 use crate::board::{
@@ -9,9 +9,10 @@ use crate::board::{
 use call_grammar::spell;
 use call_values::Call;
 use dsc_symbols::worked::ALERT;
+use evidence_board::{AllFacts, Board, all_facts_may_be_posted};
 use live_watch::{BatchWatcher, News, Watcher, watch, watch_batch};
 use phasing::LONGEST;
-use receiver_pool::{AllFacts, Board, Gate, Heard, Open, all_facts_may_be_posted};
+use receiver_pool::{Gate, Heard, Open};
 use slot_evidence::{Reception, Sheet, sheet_is_lawful};
 use std::alloc::{AllocError, Global};
 use std::sync::atomic::{AtomicBool, Ordering};
@@ -167,10 +168,9 @@ fn watch_two_boards<R: Threads + Sync, G: Gate>(
     requires workers { (1 ≤ workers) × (workers ≤ 64) }
     requires short { All IsShort batch.now }
 {
-    let mut watched = Vec::new(alloc);
-    watched.push(1)?;
-    watched.push(513)?;
-    let watcher = BatchWatcher::new(alloc, watched);
+    let mut watcher = BatchWatcher::new(alloc);
+    watcher.add(1)?;
+    watcher.add(513)?;
     let (entries, watcher) = watch_batch(rt, alloc, known, batch, workers, gate, watcher)?;
     let is_first_seen = watcher.seen_of(1).is_some();
     let is_alert_seen = is_alert(watcher.seen_of(1));

@@ -58,10 +58,10 @@ fn alert_line(alloc: Global, dots: usize) -> Result<Vec<u8>, AllocError> {
 #[test]
 fn the_worked_alert_encoded(rt: HostRuntime) -> Result<(), Fail> {
     let alloc = rt.alloc();
-    for (words, dots) in [
-        ("dsc encode", 20),
-        ("dsc encode --dots=20", 20),
-        ("dsc encode --dots 200", 200),
+    for (dots, words) in [
+        (20, "dsc encode"),
+        (20, "dsc encode --dots=20"),
+        (200, "dsc encode --dots 200"),
     ] {
         let input = Vec::from_slice(alloc, ALERT.as_bytes())?;
         compare(&rt, alloc, words, input, &alert_line(alloc, dots)?, 0)?;

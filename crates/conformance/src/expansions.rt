@@ -1,5 +1,6 @@
-use crate::receptions::{Row, WHOLE, compare_receptions};
+use crate::receptions::{Row, WHOLE, compare, line};
 use slot_join::{Extra, Joined, Sheet, report};
+use std::alloc::{AllocError, Global};
 use std::test::Fail;
 use time_diversity::on_air;
 
@@ -9,48 +10,53 @@ const EXPANDED: [u8; 29] = [
     89, 44, 94, 127, 29, 127, 127,
 ];
 
-// A whole reception of both.
-const WHOLE_EXPANDED: Row = Row {
-    last: 70,
-    want: "g0 reported alert from=338040079 nature=106 pos=1423108312 time=2019 then=100 exp enh=45894494\n",
-    ..WHOLE
-};
+const ALERT: &str = "g0 reported alert from=338040079 nature=106 pos=1423108312 time=2019 then=100";
 
-const ROWS: [Row; 6] = [
-    WHOLE_EXPANDED,
-    Row {
-        name: "only up to the expansion's check",
-        last: 65,
-        ..WHOLE_EXPANDED
-    },
-    Row {
-        name: "another end of sequence behind the expansion's check",
-        other: &[(66, 117), (68, 122)],
-        ..WHOLE_EXPANDED
-    },
-    Row {
-        name: "the first two digits lost",
-        lost: &[54, 59],
-        want: "g0 reported alert from=338040079 nature=106 pos=1423108312 time=2019 then=100 broken 21\n",
-        ..WHOLE_EXPANDED
-    },
-    Row {
-        name: "a wrong check of the expansion",
-        other: &[(64, 30), (69, 30)],
-        want: "g0 reported alert from=338040079 nature=106 pos=1423108312 time=2019 then=100 broken 26\n",
-        ..WHOLE_EXPANDED
-    },
-    Row {
-        name: "a specifier that no expansion has",
-        other: &[(52, 101), (57, 101)],
-        want: "g0 reported alert from=338040079 nature=106 pos=1423108312 time=2019 then=100 broken 20\n",
-        ..WHOLE_EXPANDED
-    },
+// What is lost of the expansion, or another symbol, and the place at which it is broken.
+const BROKEN: [(&[usize], &[(usize, u8)], u8); 3] = [
+    // The first two digits lost.
+    (&[54, 59], &[], 21),
+    // A wrong check of the expansion.
+    (&[], &[(64, 30), (69, 30)], 26),
+    // A specifier that no expansion has.
+    (&[], &[(52, 101), (57, 101)], 20),
 ];
 
+fn expanded_line(alloc: Global, row: &Row) -> Result<Vec<u8>, AllocError> {
+    line(alloc, &on_air(&EXPANDED), row)
+}
+
 #[test]
-fn receptions_of_an_alert_and_its_expansion(rt: HostRuntime) -> Result<(), Fail> {
-    compare_receptions(&rt, rt.alloc(), &on_air(&EXPANDED), &ROWS)?;
+fn whole_expansions(rt: HostRuntime) -> Result<(), Fail> {
+    let alloc = rt.alloc();
+    let want = format!(in alloc; "{ALERT} exp enh=45894494\n")?;
+    // In whole, only up to the expansion's check, and with another end of sequence behind it.
+    let other: &[(usize, u8)] = &[(66, 117), (68, 122)];
+    for (last, other) in [(70, &[][..]), (65, &[]), (70, other)] {
+        let row = Row {
+            last,
+            other,
+            ..WHOLE
+        };
+        let heard = expanded_line(alloc, &row)?;
+        compare(&rt, alloc, "dsc join", heard, want.as_bytes(), 0)?;
+    }
+    Ok(())
+}
+
+#[test]
+fn broken_expansions(rt: HostRuntime) -> Result<(), Fail> {
+    let alloc = rt.alloc();
+    for (lost, other, place) in BROKEN {
+        let row = Row {
+            lost,
+            other,
+            ..WHOLE
+        };
+        let heard = expanded_line(alloc, &row)?;
+        let want = format!(in alloc; "{ALERT} broken {place}\n")?;
+        compare(&rt, alloc, "dsc join", heard, want.as_bytes(), 0)?;
+    }
     Ok(())
 }
 

@@ -1,10 +1,12 @@
 //! Devices of which each call fails in turn: what a run has written then, and its status.
 
+use crate::gates::CountedSource;
 use crate::receptions::words_of;
-use dsc_cmd::{ByteSink, ByteSource, Failed, Sink, Source, SureSink, SureSource, run};
+use dsc_cmd::{ByteSink, ByteSource, Failed, Sink, SureSink, SureSource, run};
 use receiver_pool::Open;
 use std::alloc::{AllocError, Global};
 use std::process::Abort;
+use std::sync::atomic::{AtomicU32, Ordering};
 use std::test::Fail;
 use std::thread::Threads;
 
@@ -12,27 +14,6 @@ use std::thread::Threads;
 const ROOM: usize = 16_384;
 
 const MOST_CALLS: u64 = 16_384;
-
-// A source in memory that counts its reads.
-#[derive(Drop)]
-struct CountedSource {
-    source: SureSource,
-    reads: u64,
-}
-
-impl Source for CountedSource {
-    ghost use Rattle.std.specs.Prelude.{Some};
-    ghost use Rattle.dsc_streams.specs.Sure.{no_faults};
-
-    ghost left = { λ s. Some s.source.left };
-
-    ghost faults = { λ _. no_faults };
-
-    fn read(&mut self, into: &mut [u8]) -> Result<usize, Failed> {
-        self.reads = self.reads.saturating_add(1);
-        self.source.read(into)
-    }
-}
 
 // A sink in memory that counts its writes and flushes together.
 #[derive(Drop)]
@@ -84,9 +65,10 @@ fn whole_run<R: Threads + Sync>(
     case: &Case<'_>,
 ) -> Result<Whole, AllocError> {
     let piece = case.piece.max(1);
+    let reads = AtomicU32::new(0);
     let mut source = CountedSource {
         source: SureSource::new(case.input.to_vec(alloc)?, piece),
-        reads: 0,
+        reads: &reads,
     };
     let mut sink = CountedSink {
         sink: SureSink::new(alloc, ROOM, piece)?,
@@ -96,7 +78,7 @@ fn whole_run<R: Threads + Sync>(
     Ok(Whole {
         written: sink.sink.bytes().to_vec(alloc)?,
         status: status.number(),
-        reads: source.reads,
+        reads: reads.load(Ordering::SeqCst).into(),
         writes: sink.calls,
     })
 }
@@ -170,7 +152,7 @@ fn try_failures<R: Threads + Sync + Abort>(
     input: &str,
     status: u8,
     is_quiet: bool,
-) -> Result<(), AllocError> {
+) -> Result<(), Fail> {
     let list = words_of(alloc, words)?;
     for piece in [1, 64] {
         let case = Case {
@@ -194,69 +176,77 @@ fn try_failures<R: Threads + Sync + Abort>(
 }
 
 // Each kind of line of receptions and evidence, the last one without its line feed.
-const HEARD: &str =
-    "# heard\n\nr\nr YB-\nr g1\nr g7 BY-YB\ne\ne 8:22 8:14\ne g1\ne g2 0:112 1:112 2:33 3:80 4:40 5:7 6:90 7:106 8:14 9:23 10:10 11:83 12:12 13:20 14:19 15:100 16:127 17:78\ne g7 63:127";
+const HEARD: &str = "\
+# heard
+
+r
+r YB-
+r g1
+r g7 BY-YB
+e
+e 8:22 8:14
+e g1
+e g2 0:112 1:112 2:33 3:80 4:40 5:7 6:90 7:106 8:14 9:23 10:10 11:83 12:12 13:20 14:19 15:100 16:127 17:78
+e g7 63:127";
 
 #[test]
 fn devices_fail_in_join_and_evidence(rt: HostRuntime) -> Result<(), Fail> {
     let alloc = rt.alloc();
     try_failures(&rt, alloc, "dsc join", HEARD, 1, true)?;
-    try_failures(
-        &rt,
-        alloc,
-        "dsc join --workers 2",
-        "r g2 YB-\ne g1 63:127 0:112",
-        1,
-        true,
-    )?;
+    let few = "r g2 YB-\ne g1 63:127 0:112";
+    try_failures(&rt, alloc, "dsc join --workers 2", few, 1, true)?;
     try_failures(&rt, alloc, "dsc evidence", HEARD, 0, true)?;
-    try_failures(&rt, alloc, "dsc evidence", "e 0:1\nr \n", 3, true)?;
-    Ok(())
+    try_failures(&rt, alloc, "dsc evidence", "e 0:1\nr \n", 3, true)
 }
 
 // No batch ends before the input does, and so nothing is told before.
 #[test]
 fn devices_fail_in_watch(rt: HostRuntime) -> Result<(), Fail> {
-    try_failures(&rt, rt.alloc(), "dsc watch", HEARD, 1, true)?;
-    Ok(())
+    try_failures(&rt, rt.alloc(), "dsc watch", HEARD, 1, true)
 }
 
 // Each kind of line of calls: with an expansion, and without one or a line feed.
-const CALLS: &str =
-    "# calls\n\nalert from=338040079 nature=106 pos=1423108312 time=2019 then=100 exp enh=45894494\n\
+const CALLS: &str = "\
+# calls
+
+alert from=338040079 nature=106 pos=1423108312 time=2019 then=100 exp enh=45894494
 test to=002241022 cat=108 from=338040079 end=117";
 
 #[test]
 fn devices_fail_in_encode(rt: HostRuntime) -> Result<(), Fail> {
     let alloc = rt.alloc();
     try_failures(&rt, alloc, "dsc encode", CALLS, 0, false)?;
-    try_failures(&rt, alloc, "dsc encode", "#\nx\n", 3, false)?;
-    Ok(())
+    try_failures(&rt, alloc, "dsc encode", "#\nx\n", 3, false)
 }
 
 // Calls, and sentences of both kinds that are accepted and refused.
-const SENTENCES: &str = "# sentences\n\ntest to=002241022 cat=108 from=338040079 end=117\n\
-alert from=338040079 nature=106 pos=1423108312 time=2019 then=100 exp enh=45894494\n\
-$CDDSC,12,3380400790,12,06,00,1423108312,2019,,,S,*2F\r\n\
-$CDDSE,1,1,A,3380400790,00,45894494*1B\r\n\
-$CDDSC,12,3380400790,12,06,00,1423108312,2019,,,S,*2E\r\n$";
+const SENTENCES: &str = "\
+# sentences
+
+test to=002241022 cat=108 from=338040079 end=117
+alert from=338040079 nature=106 pos=1423108312 time=2019 then=100 exp enh=45894494
+$CDDSC,12,3380400790,12,06,00,1423108312,2019,,,S,*2F\r
+$CDDSE,1,1,A,3380400790,00,45894494*1B\r
+$CDDSC,12,3380400790,12,06,00,1423108312,2019,,,S,*2E\r
+$";
 
 #[test]
 fn devices_fail_in_sentences(rt: HostRuntime) -> Result<(), Fail> {
-    let alloc = rt.alloc();
-    try_failures(&rt, alloc, "dsc sentences", SENTENCES, 1, false)?;
-    Ok(())
+    try_failures(&rt, rt.alloc(), "dsc sentences", SENTENCES, 1, false)
 }
 
 // Each kind of line of a stream. It has two starts, the first one before its first element, and lost elements between them.
-const STREAM: &str = "# a stream\n\ns YBYYYYYBBYBYYYBYYBYB\ns YBYYYYYBBY-\ns ---------YBYYYYYBBY\n\
+const STREAM: &str = "\
+# a stream
+
+s YBYYYYYBBYBYYYBYYBYB
+s YBYYYYYBBY-
+s ---------YBYYYYYBBY
 s YYYYBYYBBYYBYYYYYBBY";
 
 #[test]
 fn devices_fail_in_capture(rt: HostRuntime) -> Result<(), Fail> {
-    let alloc = rt.alloc();
-    try_failures(&rt, alloc, "dsc capture", STREAM, 1, false)?;
-    Ok(())
+    try_failures(&rt, rt.alloc(), "dsc capture", STREAM, 1, false)
 }
 
 #[test]
@@ -264,45 +254,74 @@ fn devices_fail_in_book(rt: HostRuntime) -> Result<(), Fail> {
     let alloc = rt.alloc();
     let log =
         "# a log\n\n$CDDSC,12,3380400790,12,06,00,1423108312,2019,,,S,*2F\r\n$CDDSE,1,1,A,3380400790,00,45894494*1B\n$";
-    try_failures(&rt, alloc, "dsc book", log, 1, true)?;
-    Ok(())
+    try_failures(&rt, alloc, "dsc book", log, 1, true)
 }
 
 // Each kind of line of a ship's traffic file, with events that are refused and a group that isn't reported.
-const SHIP: &str =
-    "# a ship\nstation ship 338158137\nbase 1714594740\ngroup 023380001\n\n0 position 1423108312\n0 delay 210000\n\
-0 alert nature=106 then=100\n1 alert nature=106 then=100\n210000 tick\n\
-220000 hear ack from=002241022 casualty=338158137 nature=106 pos=1423108312 time=2019 then=100\n\
-220001 cancel\n220002 hear test to=338158137 cat=108 from=002241022 end=117\n\
-220003 hear one to=338158137 cat=100 from=002241022 first=109 second=126 f1=none f2=none end=117\n220004 answer 1\n\
-220005 send test to=002241022 cat=108 from=338158137 end=117\n220006 decline 1\n\
-r g4 YB-\ne g5 0:112 1:112 2:33 3:80 4:40 5:7 6:90 7:106 8:14 9:23 10:10 11:83 12:12 13:20 14:19 15:100 16:127 17:78\n\
-220007 heard g5\n220008 heard g4\n1 tick";
+const SHIP: &str = "\
+# a ship
+station ship 338158137
+base 1714594740
+group 023380001
+
+0 position 1423108312
+0 delay 210000
+0 alert nature=106 then=100
+1 alert nature=106 then=100
+210000 tick
+220000 hear ack from=002241022 casualty=338158137 nature=106 pos=1423108312 time=2019 then=100
+220001 cancel
+220002 hear test to=338158137 cat=108 from=002241022 end=117
+220003 hear one to=338158137 cat=100 from=002241022 first=109 second=126 f1=none f2=none end=117
+220004 answer 1
+220005 send test to=002241022 cat=108 from=338158137 end=117
+220006 decline 1
+r g4 YB-
+e g5 0:112 1:112 2:33 3:80 4:40 5:7 6:90 7:106 8:14 9:23 10:10 11:83 12:12 13:20 14:19 15:100 16:127 17:78
+220007 heard g5
+220008 heard g4
+1 tick";
 
 // Each kind of line of a coast station's traffic file that a ship's has not.
-const COAST: &str = "station coast 002241022 mf\nbase 0\n\
-0 hear alert from=338040079 nature=106 pos=1423108312 time=2019 then=100\n1 accept 338040079\n2 accept 338040079 60000\n\
-3 relay 338040079 to=area:1430840202 tell\n4 relay 338040079 to=all ask\n60000 tick\n60001 relay 338040079 to=all ask";
+const COAST: &str = "\
+station coast 002241022 mf
+base 0
+0 hear alert from=338040079 nature=106 pos=1423108312 time=2019 then=100
+1 accept 338040079
+2 accept 338040079 60000
+3 relay 338040079 to=area:1430840202 tell
+4 relay 338040079 to=all ask
+60000 tick
+60001 relay 338040079 to=all ask";
 
 #[test]
 fn devices_fail_in_a_replay_of_a_ship(rt: HostRuntime) -> Result<(), Fail> {
-    try_failures(&rt, rt.alloc(), "dsc replay", SHIP, 1, false)?;
-    Ok(())
+    try_failures(&rt, rt.alloc(), "dsc replay", SHIP, 1, false)
 }
 
 #[test]
 fn devices_fail_in_a_replay_of_a_coast_station(rt: HostRuntime) -> Result<(), Fail> {
-    try_failures(&rt, rt.alloc(), "dsc replay", COAST, 1, false)?;
-    Ok(())
+    try_failures(&rt, rt.alloc(), "dsc replay", COAST, 1, false)
 }
 
 // Each kind of line of an exchange, with a refused event and a call that was never sent.
-const LINK: &str =
-    "# a link\nstation ship 338040079\nstation coast 002241022 mf\nbase 1714594740\n\ns 0 position 1423108312\ns 0 delay 210000\n\
-s 0 alert nature=106 then=100\nc 5000 get 0\nc 7000 accept 338040079 60000\nc 65000 tick\ns 65001 get 0\ns 65002 get 1\ns 1 tick";
+const LINK: &str = "\
+# a link
+station ship 338040079
+station coast 002241022 mf
+base 1714594740
+
+s 0 position 1423108312
+s 0 delay 210000
+s 0 alert nature=106 then=100
+c 5000 get 0
+c 7000 accept 338040079 60000
+c 65000 tick
+s 65001 get 0
+s 65002 get 1
+s 1 tick";
 
 #[test]
 fn devices_fail_in_an_exchange(rt: HostRuntime) -> Result<(), Fail> {
-    try_failures(&rt, rt.alloc(), "dsc exchange", LINK, 1, false)?;
-    Ok(())
+    try_failures(&rt, rt.alloc(), "dsc exchange", LINK, 1, false)
 }

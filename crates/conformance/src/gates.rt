@@ -10,12 +10,12 @@ use std::thread::Threads;
 
 // A source in memory that counts its reads where others see the count.
 #[derive(Drop)]
-struct Seen<'a> {
-    source: SureSource,
-    reads: &'a AtomicU32,
+pub(crate) struct CountedSource<'a> {
+    pub(crate) source: SureSource,
+    pub(crate) reads: &'a AtomicU32,
 }
 
-impl Source for Seen<'_> {
+impl Source for CountedSource<'_> {
     ghost use Rattle.std.specs.Prelude.{Some};
     ghost use Rattle.dsc_streams.specs.Sure.{no_faults};
 
@@ -67,7 +67,7 @@ fn entries<R: Threads + Sync>(
         others: AtomicU32::new(0),
         early: AtomicU32::new(0),
     };
-    let mut source = Seen {
+    let mut source = CountedSource {
         source: SureSource::new(input, 64),
         reads: &reads,
     };

@@ -54,8 +54,7 @@ fn groups_by_rising_number(rt: HostRuntime) -> Result<(), Fail> {
 fn evidence_of_a_reception(rt: HostRuntime) -> Result<(), Fail> {
     let alloc = rt.alloc();
     let heard = line(alloc, &ALERT_SLOTS, &WHOLE)?;
-    compare(&rt, alloc, "dsc evidence", heard, EVIDENCE.as_bytes(), 0)?;
-    Ok(())
+    compare(&rt, alloc, "dsc evidence", heard, EVIDENCE.as_bytes(), 0)
 }
 
 // Evidence near each receiver and the join at the centre, with a reception that stands beside the other's evidence, in both orders.

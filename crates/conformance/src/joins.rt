@@ -1,105 +1,57 @@
 use crate::receptions::{
-    DX_AND_PLACE_7, REPORTED, Row, Run, WHOLE, compare, compare_receptions, compare_runs, line,
-    two_damaged,
+    DX_AND_PLACE_7, Damaged, REPORTED, Row, Run, THREE_DX, WHOLE, compare, compare_receptions,
+    compare_runs, line, two_damaged,
 };
 use dsc_symbols::worked::ALERT_SLOTS;
 use std::test::Fail;
 use time_diversity::on_air;
 
-const ROWS: [Row; 14] = [
-    Row {
-        name: "without dots",
-        dots: 0,
-        ..WHOLE
-    },
-    Row {
-        name: "after seven dots",
-        dots: 7,
-        ..WHOLE
-    },
-    Row {
-        name: "from slot 9 on",
-        dots: 0,
-        first: 9,
-        ..WHOLE
-    },
-    Row {
-        name: "three DX phasing symbols alone",
-        last: 16,
-        lost: &[1, 3, 5, 6, 7, 8, 9, 10, 11, 12, 13, 14, 15],
-        want: "g0 missing 0\n",
-        status: 1,
-        ..WHOLE
-    },
-    Row {
-        name: "RX copies but that of place 7",
-        lost: DX_AND_PLACE_7,
-        want: "g0 missing 7\n",
-        status: 1,
-        ..WHOLE
-    },
-    Row {
-        name: "second format lost",
-        lost: &[14, 19],
-        want: "g0 missing 1\n",
-        status: 1,
-        ..WHOLE
-    },
-    Row {
-        name: "two-way error in one copy",
-        other: &[(28, 22)],
-        want: "g0 differ 8 14 22\n",
-        status: 1,
-        ..WHOLE
-    },
-    Row {
-        name: "wrong check",
-        other: &[(46, 79), (51, 79)],
-        want: "g0 check 17 78 79\n",
-        status: 1,
-        ..WHOLE
-    },
-    Row {
-        name: "tenth identity digit",
-        other: &[(24, 91), (29, 91)],
-        want: "g0 outside 6 91\n",
-        status: 1,
-        ..WHOLE
-    },
-    Row {
-        name: "first end lost",
-        lost: &[44, 49],
-        ..WHOLE
-    },
-    Row {
-        name: "first end and check lost",
-        lost: &[44, 46, 49, 51],
-        want: "g0 missing 17\n",
-        status: 1,
-        ..WHOLE
-    },
-    Row {
-        name: "all ends lost",
-        lost: &[44, 48, 49, 50],
-        want: "g0 missing 16\n",
-        status: 1,
-        ..WHOLE
-    },
-    Row {
-        name: "first end lost, the later ones differ",
-        lost: &[44, 49],
-        other: &[(48, 117)],
-        want: "g0 missing 16\n",
-        status: 1,
-        ..WHOLE
-    },
-    Row {
-        name: "a test call's format",
-        other: &[(12, 120), (14, 120), (17, 120), (19, 120)],
-        want: "g0 outside 7 106\n",
-        status: 1,
-        ..WHOLE
-    },
+const DAMAGED: [Damaged; 10] = [
+    (
+        "RX copies but that of place 7",
+        DX_AND_PLACE_7,
+        &[],
+        "g0 missing 7\n",
+    ),
+    ("second format lost", &[14, 19], &[], "g0 missing 1\n"),
+    (
+        "two-way error in one copy",
+        &[],
+        &[(28, 22)],
+        "g0 differ 8 14 22\n",
+    ),
+    (
+        "wrong check",
+        &[],
+        &[(46, 79), (51, 79)],
+        "g0 check 17 78 79\n",
+    ),
+    (
+        "tenth identity digit",
+        &[],
+        &[(24, 91), (29, 91)],
+        "g0 outside 6 91\n",
+    ),
+    ("first end lost", &[44, 49], &[], REPORTED),
+    (
+        "first end and check lost",
+        &[44, 46, 49, 51],
+        &[],
+        "g0 missing 17\n",
+    ),
+    ("all ends lost", &[44, 48, 49, 50], &[], "g0 missing 16\n"),
+    (
+        "first end lost, the later ones differ",
+        &[44, 49],
+        &[(48, 117)],
+        "g0 missing 16\n",
+    ),
+    (
+        "a test call's format",
+        &[],
+        &[(12, 120), (14, 120), (17, 120), (19, 120)],
+        "g0 outside 7 106\n",
+    ),
 ];
 
 // The list of a test call from 338040079 to 002241022.
@@ -108,33 +60,18 @@ const TEST_CALL: [u8; 25] = [
     117, 68, 117, 117,
 ];
 
-// A whole reception of it.
-const WHOLE_TEST_CALL: Row = Row {
-    last: 62,
-    want: "g0 reported test to=002241022 cat=108 from=338040079 end=117\n",
-    ..WHOLE
-};
+const TEST_CALL_REPORTED: &str = "g0 reported test to=002241022 cat=108 from=338040079 end=117\n";
 
-const TEST_CALL_ROWS: [Row; 4] = [
-    WHOLE_TEST_CALL,
-    Row {
-        name: "second format lost",
-        lost: &[14, 19],
-        ..WHOLE_TEST_CALL
-    },
-    Row {
-        name: "first format lost",
-        lost: &[12, 17],
-        ..WHOLE_TEST_CALL
-    },
-    Row {
-        name: "first end lost, the later ones are another call's",
-        lost: &[54, 59],
-        other: &[(58, 122), (60, 122)],
-        want: "g0 missing 21\n",
-        status: 1,
-        ..WHOLE_TEST_CALL
-    },
+const DAMAGED_TEST_CALL: [Damaged; 4] = [
+    ("whole", &[], &[], TEST_CALL_REPORTED),
+    ("second format lost", &[14, 19], &[], TEST_CALL_REPORTED),
+    ("first format lost", &[12, 17], &[], TEST_CALL_REPORTED),
+    (
+        "first end lost, the later ones are another call's",
+        &[54, 59],
+        &[(58, 122), (60, 122)],
+        "g0 missing 21\n",
+    ),
 ];
 
 // Lines at the edges of their grammar.
@@ -175,24 +112,39 @@ const REFUSED: [&str; 11] = [
 ];
 
 #[test]
-fn receptions_of_one_alert(rt: HostRuntime) -> Result<(), Fail> {
-    compare_receptions(&rt, rt.alloc(), &ALERT_SLOTS, &ROWS)?;
-    Ok(())
+fn damaged_receptions_of_one_alert(rt: HostRuntime) -> Result<(), Fail> {
+    compare_receptions(&rt, rt.alloc(), &ALERT_SLOTS, &DAMAGED)
+}
+
+#[test]
+fn receptions_that_begin_or_end_elsewhere(rt: HostRuntime) -> Result<(), Fail> {
+    let alloc = rt.alloc();
+    for (dots, first) in [(20, 0), (0, 0), (7, 0), (0, 9)] {
+        let row = Row {
+            dots,
+            first,
+            ..WHOLE
+        };
+        let heard = line(alloc, &ALERT_SLOTS, &row)?;
+        compare(&rt, alloc, "dsc join", heard, REPORTED.as_bytes(), 0)?;
+    }
+    let heard = line(alloc, &ALERT_SLOTS, &THREE_DX)?;
+    compare(&rt, alloc, "dsc join", heard, b"g0 missing 0\n", 1)
 }
 
 #[test]
 fn two_receptions_of_one_alert(rt: HostRuntime) -> Result<(), Fail> {
     let alloc = rt.alloc();
     let input = two_damaged(alloc)?;
-    compare(&rt, alloc, "dsc join", input, REPORTED.as_bytes(), 0)?;
-    Ok(())
+    compare(&rt, alloc, "dsc join", input, REPORTED.as_bytes(), 0)
 }
 
 #[test]
 fn a_clean_and_a_damaged_reception_in_both_orders(rt: HostRuntime) -> Result<(), Fail> {
     let alloc = rt.alloc();
-    let clean = line(alloc, &ALERT_SLOTS, &ROWS[0])?;
-    let damaged = line(alloc, &ALERT_SLOTS, &ROWS[6])?;
+    let other = &[(28, 22)];
+    let clean = line(alloc, &ALERT_SLOTS, &WHOLE)?;
+    let damaged = line(alloc, &ALERT_SLOTS, &Row { other, ..WHOLE })?;
     for (first, second) in [(&clean, &damaged), (&damaged, &clean)] {
         let mut input = first.as_slice().to_vec(alloc)?;
         input.extend_from_slice(second)?;
@@ -202,9 +154,8 @@ fn a_clean_and_a_damaged_reception_in_both_orders(rt: HostRuntime) -> Result<(),
 }
 
 #[test]
-fn receptions_of_one_test_call(rt: HostRuntime) -> Result<(), Fail> {
-    compare_receptions(&rt, rt.alloc(), &on_air(&TEST_CALL), &TEST_CALL_ROWS)?;
-    Ok(())
+fn damaged_receptions_of_one_test_call(rt: HostRuntime) -> Result<(), Fail> {
+    compare_receptions(&rt, rt.alloc(), &on_air(&TEST_CALL), &DAMAGED_TEST_CALL)
 }
 
 #[test]
@@ -223,8 +174,7 @@ fn as_many_lost_elements_as_a_line_holds(rt: HostRuntime) -> Result<(), Fail> {
 
 #[test]
 fn faults_of_lines(rt: HostRuntime) -> Result<(), Fail> {
-    compare_runs(&rt, rt.alloc(), "dsc join", &FAULTS)?;
-    Ok(())
+    compare_runs(&rt, rt.alloc(), "dsc join", &FAULTS)
 }
 
 #[test]

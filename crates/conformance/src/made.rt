@@ -3,28 +3,18 @@ use dsc_cmd::{Source, SureSink, SureSource, run};
 use receiver_pool::Open;
 use std::test::Fail;
 
-// Words, what is written, and the status.
-const MADE: [(&str, &str, u8); 4] = [
-    (
-        "dsc make 6",
-        "groups 6\nreceptions 24\nreported 6\nmissing 0\n",
-        0,
-    ),
-    (
-        "dsc make 7",
-        "groups 7\nreceptions 28\nreported 6\nmissing 1\n",
-        1,
-    ),
-    ("dsc make 0", "dsc: words refused\n", 2),
-    ("dsc make 07", "dsc: words refused\n", 2),
-];
-
 // A generated join leaves the source alone.
 #[test]
 fn generated_joins(rt: HostRuntime) -> Result<(), Fail> {
     let alloc = rt.alloc();
-    for (line, want, status) in MADE {
-        let words = words_of(alloc, line)?;
+    for (number, want, status) in [
+        ("6", "groups 6\nreceptions 24\nreported 6\nmissing 0\n", 0),
+        ("7", "groups 7\nreceptions 28\nreported 6\nmissing 1\n", 1),
+        ("0", "dsc: words refused\n", 2),
+        ("07", "dsc: words refused\n", 2),
+    ] {
+        let line = format!(in alloc; "dsc make {number}")?;
+        let words = words_of(alloc, &line)?;
         let mut source = SureSource::new(Vec::from_slice(alloc, b"r X\n")?, 8);
         let mut sink = SureSink::new(alloc, 256, 16)?;
         let ended = run(&rt, alloc, &words, &mut source, &mut sink, &Open);

@@ -5,36 +5,38 @@ use dsc_symbols::worked::ALERT_SLOTS;
 use receiver_pool::Open;
 use std::alloc::{AllocError, Global};
 use std::process::Abort;
+use std::test::Fail;
 use std::thread::Threads;
 use ten_unit::{Element, word};
 
 pub(crate) const REPORTED: &str =
     "g0 reported alert from=338040079 nature=106 pos=1423108312 time=2019 then=100\n";
 
-// A reception of these slots: so many elements of the dot pattern in front, the slots from the first
-// on and before the last, some of them lost and some of them another symbol; and what is answered.
+// A reception: so many elements of the dot pattern in front, the slots from the first on and before the last, some of them
+// lost and some of them another symbol.
 #[derive(Clone, Copy)]
 pub(crate) struct Row {
-    pub(crate) name: &'static str,
     pub(crate) dots: usize,
     pub(crate) first: usize,
     pub(crate) last: usize,
     pub(crate) lost: &'static [usize],
     pub(crate) other: &'static [(usize, u8)],
-    pub(crate) want: &'static str,
-    pub(crate) status: u8,
 }
 
-// A whole reception of an alert, behind 20 dots: rows say what differs.
+// A whole reception behind 20 dots: rows say what differs.
 pub(crate) const WHOLE: Row = Row {
-    name: "whole",
     dots: 20,
     first: 0,
-    last: 52,
+    last: usize::MAX,
     lost: &[],
     other: &[],
-    want: REPORTED,
-    status: 0,
+};
+
+// A reception that shows three DX phasing symbols and nothing else.
+pub(crate) const THREE_DX: Row = Row {
+    last: 16,
+    lost: &[1, 3, 5, 6, 7, 8, 9, 10, 11, 12, 13, 14, 15],
+    ..WHOLE
 };
 
 // The slots that are lost where the RX copies alone are left, but for that of place 7.
@@ -80,6 +82,14 @@ pub(crate) fn line(alloc: Global, slots: &[u8], row: &Row) -> Result<Vec<u8>, Al
     }
     text.push(b'\n')?;
     Ok(text)
+}
+
+// The traffic file of a ship that receives a whole alert of group 0, with these events behind it.
+pub(crate) fn heard_at_a_ship(alloc: Global, events: &str) -> Result<Vec<u8>, AllocError> {
+    let mut file = Vec::from_slice(alloc, b"station ship 338158137\nbase 0\n")?;
+    file.extend_from_slice(&line(alloc, &ALERT_SLOTS, &WHOLE)?)?;
+    file.extend_from_slice(events.as_bytes())?;
+    Ok(file)
 }
 
 // Two receptions of one alert, neither of which tells it alone.
@@ -131,7 +141,7 @@ pub(crate) fn compare<R: Threads + Sync + Abort>(
     input: Vec<u8>,
     want: &[u8],
     status: u8,
-) -> Result<(), AllocError> {
+) -> Result<(), Fail> {
     let (written, ended) = joined(rt, alloc, words, input)?;
     assert_eq!(rt; written.as_slice(), want, "{words}");
     assert_eq!(rt; ended, status, "{words}");
@@ -147,7 +157,7 @@ pub(crate) fn compare_runs<R: Threads + Sync + Abort>(
     alloc: Global,
     words: &str,
     runs: &[Run],
-) -> Result<(), AllocError> {
+) -> Result<(), Fail> {
     for (input, want, status) in runs {
         let input = Vec::from_slice(alloc, input.as_bytes())?;
         compare(rt, alloc, words, input, want.as_bytes(), *status)?;
@@ -155,23 +165,33 @@ pub(crate) fn compare_runs<R: Threads + Sync + Abort>(
     Ok(())
 }
 
+// What a reception is, which of its slots are lost, which show another symbol, and what is answered.
+pub(crate) type Damaged = (
+    &'static str,
+    &'static [usize],
+    &'static [(usize, u8)],
+    &'static str,
+);
+
 // Joins receptions of these slots, each alone, and compares what is answered.
 pub(crate) fn compare_receptions<R: Threads + Sync + Abort>(
     rt: &R,
     alloc: Global,
     slots: &[u8],
-    rows: &[Row],
-) -> Result<(), AllocError> {
+    rows: &[Damaged],
+) -> Result<(), Fail> {
     for row in rows {
-        let input = line(alloc, slots, row)?;
-        compare(
-            rt,
-            alloc,
-            "dsc join",
-            input,
-            row.want.as_bytes(),
-            row.status,
-        )?;
+        let (name, lost, other, want) = *row;
+        let damaged = Row {
+            lost,
+            other,
+            ..WHOLE
+        };
+        let heard = line(alloc, slots, &damaged)?;
+        let (written, status) = joined(rt, alloc, "dsc join", heard)?;
+        assert_eq!(rt; written.as_slice(), want.as_bytes(), "{name}");
+        let is_reported = want.starts_with("g0 reported");
+        assert_eq!(rt; status, u8::from(!is_reported), "{name}");
     }
     Ok(())
 }

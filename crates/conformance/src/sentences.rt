@@ -21,7 +21,11 @@ const FILES: [Run; 11] = [
         0,
     ),
     (
-        "$CDDSC,12,3380400790,12,06,00,1423108312,2019,,,S,*2E\n#\n$CDDSC,12,3380400790,12,06,00,1423108312,2019,,,S,*2F\r\n",
+        "\
+$CDDSC,12,3380400790,12,06,00,1423108312,2019,,,S,*2E
+#
+$CDDSC,12,3380400790,12,06,00,1423108312,2019,,,S,*2F\r
+",
         "refused checksum 2F 2E\naccepted\n",
         1,
     ),
@@ -43,8 +47,7 @@ const FILES: [Run; 11] = [
 
 #[test]
 fn sentences_and_verdicts(rt: HostRuntime) -> Result<(), Fail> {
-    compare_runs(&rt, rt.alloc(), "dsc sentences", &FILES)?;
-    Ok(())
+    compare_runs(&rt, rt.alloc(), "dsc sentences", &FILES)
 }
 
 // The sentences of calls of every form, to every address and with each choice of sets are accepted.
@@ -62,8 +65,7 @@ fn sentences_of_calls_are_accepted(rt: HostRuntime) -> Result<(), Fail> {
     }
     // One sentence for each of 208 calls, and one for each of the 182 expansions behind them.
     assert_eq!(rt; want.len(), 390 * 9);
-    compare(&rt, alloc, "dsc sentences", sentences, &want, 0)?;
-    Ok(())
+    compare(&rt, alloc, "dsc sentences", sentences, &want, 0)
 }
 
 #[test]
@@ -80,6 +82,5 @@ fn a_sentence_that_is_too_long(rt: HostRuntime) -> Result<(), Fail> {
         input,
         b"refused too long 89\n",
         1,
-    )?;
-    Ok(())
+    )
 }

@@ -1,4 +1,4 @@
-use call_grammar::{ReadRefusal, read, spell};
+use call_grammar::spell;
 use call_values::worked::FIX;
 use call_values::{Call, Casualty, Comm, HourMinute, Mmsi, Nature, Position};
 use dsc_symbols::worked::{ALERT, ALERT_SLOTS};
@@ -28,27 +28,5 @@ fn an_alert_on_air(rt: HostRuntime) -> Result<(), Fail> {
     for pair in sent[..20].chunks_exact(2) {
         assert_eq!(rt; pair, [Element::B, Element::Y].as_slice());
     }
-    Ok(())
-}
-
-#[test]
-fn lists_read(rt: HostRuntime) -> Result<(), Fail> {
-    let call = alert().ok_or("its parts are in range")?;
-    let mut longer = ALERT.as_slice().to_vec(rt.alloc())?;
-    longer.push(112)?;
-    assert_eq!(rt; read(&longer), Ok((call, 20)));
-    assert_eq!(rt; read(&[]), Err(ReadRefusal::Short(0)));
-    assert_eq!(rt; read(&ALERT[..19]), Err(ReadRefusal::Short(19)));
-    let mut wrong = ALERT;
-    wrong[17] = 79;
-    let check = ReadRefusal::Check {
-        n: 17,
-        want: 78,
-        got: 79,
-    };
-    assert_eq!(rt; read(&wrong), Err(check));
-    let mut other_end = ALERT;
-    other_end[18] = 122;
-    assert_eq!(rt; read(&other_end), Err(ReadRefusal::Outside(18, 122)));
     Ok(())
 }

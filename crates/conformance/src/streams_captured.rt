@@ -1,23 +1,21 @@
-use crate::receptions::{Row, Run, WHOLE, compare, compare_runs, line};
+use crate::receptions::{Row, WHOLE, compare, compare_runs, line};
 use dsc_symbols::worked::ALERT_SLOTS;
 use std::alloc::{AllocError, Global};
 use std::test::Fail;
 
-// Small streams: no start; a comment and an empty line, which add nothing; and lines that are none of a stream.
-const SMALL: [Run; 7] = [
-    ("", "", 0),
-    ("s YBYB", "", 0),
-    ("#\n\ns -", "", 0),
-    ("s", "dsc: line 1 column 2\n", 3),
-    ("s \n", "dsc: line 1 column 3\n", 3),
-    ("s YB\ns YX", "dsc: line 2 column 4\n", 3),
-    ("r YB\n", "dsc: line 1 column 1\n", 3),
-];
-
+// No start; a comment and an empty line, which add nothing; and lines that are none of a stream.
 #[test]
 fn small_streams(rt: HostRuntime) -> Result<(), Fail> {
-    compare_runs(&rt, rt.alloc(), "dsc capture", &SMALL)?;
-    Ok(())
+    let runs = [
+        ("", "", 0),
+        ("s YBYB", "", 0),
+        ("#\n\ns -", "", 0),
+        ("s", "dsc: line 1 column 2\n", 3),
+        ("s \n", "dsc: line 1 column 3\n", 3),
+        ("s YB\ns YX", "dsc: line 2 column 4\n", 3),
+        ("r YB\n", "dsc: line 1 column 1\n", 3),
+    ];
+    compare_runs(&rt, rt.alloc(), "dsc capture", &runs)
 }
 
 // Appends the line of a stream with the elements of the worked alert, behind so many dots.
@@ -31,9 +29,10 @@ fn put_alert(alloc: Global, text: &mut Vec<u8>, dots: usize) -> Result<(), Alloc
 const FIRST: &str =
     "at 20 g0 reported alert from=338040079 nature=106 pos=1423108312 time=2019 then=100\n";
 
-const BOTH: &str =
-    "at 20 g0 reported alert from=338040079 nature=106 pos=1423108312 time=2019 then=100\n\
-at 560 g1 reported alert from=338040079 nature=106 pos=1423108312 time=2019 then=100\n";
+const BOTH: &str = "\
+at 20 g0 reported alert from=338040079 nature=106 pos=1423108312 time=2019 then=100
+at 560 g1 reported alert from=338040079 nature=106 pos=1423108312 time=2019 then=100
+";
 
 // Two alerts back to back, in two lines and with one element a line.
 #[test]
@@ -52,8 +51,7 @@ fn two_alerts_of_a_stream(rt: HostRuntime) -> Result<(), Fail> {
     }
     assert_eq!(rt; single.len(), 1_080 * 4);
     compare(&rt, alloc, "dsc capture", input, BOTH.as_bytes(), 0)?;
-    compare(&rt, alloc, "dsc capture", single, BOTH.as_bytes(), 0)?;
-    Ok(())
+    compare(&rt, alloc, "dsc capture", single, BOTH.as_bytes(), 0)
 }
 
 // The first of three alerts is decided by 1,600 elements from its origin on, and so before a fault behind them. By one less it

@@ -1,4 +1,4 @@
-use crate::receptions::{Row, WHOLE, compare, line, two_damaged, words_of};
+use crate::receptions::{THREE_DX, compare, line, two_damaged, words_of};
 use dsc_cmd::{ByteSource, SureSink, run};
 use dsc_symbols::worked::ALERT_SLOTS;
 use receiver_pool::Open;
@@ -6,8 +6,10 @@ use std::test::Fail;
 
 const TOLD: &str = "told g0 alert from=338040079 nature=106 pos=1423108312 time=2019 then=100\n";
 
-const BOTH: &str = "told g0 alert from=338040079 nature=106 pos=1423108312 time=2019 then=100\n\
-g0 reported alert from=338040079 nature=106 pos=1423108312 time=2019 then=100\n";
+const BOTH: &str = "\
+told g0 alert from=338040079 nature=106 pos=1423108312 time=2019 then=100
+g0 reported alert from=338040079 nature=106 pos=1423108312 time=2019 then=100
+";
 
 #[test]
 fn a_call_is_told_and_then_reported(rt: HostRuntime) -> Result<(), Fail> {
@@ -21,14 +23,8 @@ fn a_call_is_told_and_then_reported(rt: HostRuntime) -> Result<(), Fail> {
 #[test]
 fn no_call_is_told_of_three_phasing_symbols(rt: HostRuntime) -> Result<(), Fail> {
     let alloc = rt.alloc();
-    let row = Row {
-        last: 16,
-        lost: &[1, 3, 5, 6, 7, 8, 9, 10, 11, 12, 13, 14, 15],
-        ..WHOLE
-    };
-    let input = line(alloc, &ALERT_SLOTS, &row)?;
-    compare(&rt, alloc, "dsc watch", input, b"g0 missing 0\n", 1)?;
-    Ok(())
+    let input = line(alloc, &ALERT_SLOTS, &THREE_DX)?;
+    compare(&rt, alloc, "dsc watch", input, b"g0 missing 0\n", 1)
 }
 
 // The first batch ends with the last reception, and the source fails behind the comment: the call was told by then.

@@ -1,76 +1,57 @@
 //! Workers: they meet in the gate, and change no answer.
 
-use crate::receptions::{REPORTED, WHOLE, compare, joined, line, two_damaged, words_of};
+use crate::receptions::{REPORTED, compare, heard_at_a_ship, joined, two_damaged, words_of};
 use dsc_cmd::{SureSink, SureSource, run};
-use dsc_symbols::worked::ALERT_SLOTS;
 use receiver_pool::Meeting;
 use std::alloc::{AllocError, Global};
+use std::process::Abort;
 use std::test::Fail;
 use std::thread::Threads;
 
-// What a run wrote whose workers wait for so many in the gate; how many entered it, and how many of them met.
-fn met<R: Threads + Sync>(
+// What a run wrote whose workers wait for so many in the gate: so many enter it, once each, and all of them meet.
+fn written_as_met<R: Threads + Sync + Abort>(
     rt: &R,
     alloc: Global,
     words: &str,
     input: Vec<u8>,
     awaited: u32,
-) -> Result<(Vec<u8>, u32, u32), AllocError> {
-    let words = words_of(alloc, words)?;
+) -> Result<Vec<u8>, Fail> {
+    let list = words_of(alloc, words)?;
     let gate = Meeting::of(awaited);
     let mut source = SureSource::new(input, 4096);
     let mut sink = SureSink::new(alloc, 4096, 4096)?;
-    let _status = run(rt, alloc, &words, &mut source, &mut sink, &gate);
-    Ok((sink.bytes().to_vec(alloc)?, gate.entered(), gate.met()))
+    let _status = run(rt, alloc, &list, &mut source, &mut sink, &gate);
+    assert_eq!(rt; gate.entered(), awaited, "{words}");
+    assert_eq!(rt; gate.met(), awaited, "{words}");
+    Ok(sink.bytes().to_vec(alloc)?)
 }
 
+// One worker enters the gate once. The watcher is the third of its run: workers who ended before it began would wait for it
+// in vain.
 #[test]
-fn one_worker_enters_the_gate_once(rt: HostRuntime) -> Result<(), Fail> {
+fn workers_meet_in_the_gate(rt: HostRuntime) -> Result<(), Fail> {
     let alloc = rt.alloc();
-    let (written, entered, _met) = met(&rt, alloc, "dsc join", two_damaged(alloc)?, 1)?;
-    assert_eq!(rt; written.as_slice(), REPORTED.as_bytes());
-    assert_eq!(rt; entered, 1);
-    Ok(())
-}
-
-#[test]
-fn two_workers_meet_in_the_gate(rt: HostRuntime) -> Result<(), Fail> {
-    let alloc = rt.alloc();
-    for words in ["dsc join --workers 2", "dsc evidence --workers 2"] {
-        let (_written, entered, met) = met(&rt, alloc, words, two_damaged(alloc)?, 2)?;
-        assert_eq!(rt; entered, 2, "{words}");
-        assert_eq!(rt; met, 2, "{words}");
+    for (words, awaited) in [
+        ("dsc join", 1),
+        ("dsc join --workers 2", 2),
+        ("dsc evidence --workers 2", 2),
+        ("dsc watch --workers 2", 3),
+    ] {
+        let alone = words.strip_suffix(" --workers 2").unwrap_or(words);
+        let (want, _status) = joined(&rt, alloc, alone, two_damaged(alloc)?)?;
+        let written = written_as_met(&rt, alloc, words, two_damaged(alloc)?, awaited)?;
+        assert_eq!(rt; written, want, "{words}");
     }
-    Ok(())
-}
-
-// The watcher is the third: workers who ended before it began would wait for it in vain.
-#[test]
-fn a_watcher_and_its_workers_meet_in_the_gate(rt: HostRuntime) -> Result<(), Fail> {
-    let alloc = rt.alloc();
-    let (_written, entered, met) = met(
-        &rt,
-        alloc,
-        "dsc watch --workers 2",
-        two_damaged(alloc)?,
-        3,
-    )?;
-    assert_eq!(rt; entered, 3);
-    assert_eq!(rt; met, 3);
     Ok(())
 }
 
 #[test]
 fn workers_of_a_replay_meet_where_a_group_is_heard(rt: HostRuntime) -> Result<(), Fail> {
     let alloc = rt.alloc();
-    let mut input = Vec::from_slice(alloc, b"station ship 338158137\nbase 0\n")?;
-    input.extend_from_slice(&line(alloc, &ALERT_SLOTS, &WHOLE)?)?;
-    input.extend_from_slice(b"7 heard g0\n")?;
-    let (written, entered, met) = met(&rt, alloc, "dsc replay --workers 2", input, 2)?;
+    let input = heard_at_a_ship(alloc, "7 heard g0\n")?;
+    let written = written_as_met(&rt, alloc, "dsc replay --workers 2", input, 2)?;
     let want = b"7 distress casualty=338040079 nature=106 pos=1423108312 time=2019 then=100\n";
     assert_eq!(rt; written.as_slice(), want.as_slice());
-    assert_eq!(rt; entered, 2);
-    assert_eq!(rt; met, 2);
     Ok(())
 }
 
@@ -84,8 +65,7 @@ fn full_batches(rt: HostRuntime) -> Result<(), Fail> {
         input.extend_from_slice(&lines)?;
     }
     let want = REPORTED.as_bytes();
-    compare(&rt, alloc, "dsc join --workers 3", input, want, 0)?;
-    Ok(())
+    compare(&rt, alloc, "dsc join --workers 3", input, want, 0)
 }
 
 // The two receptions stand at both sides of the end of a batch.

@@ -1,9 +1,9 @@
 -- the calls that a station sent are those of its entries' acts
 use Rattle.std.proofs.Common.{◌≡◌, ℕ, zero, suc, ◌⊎◌, inl, inr, Some, None, List, [], ◌∷◌, ◌++◌, slice_get, refl, ap}
 use Rattle.call_values.specs.declared.calls.Call.{Call}
-use Rattle.area_rules.specs.declared.acts.Act.{Act}
-use Rattle.area_rules.specs.declared.acts.Act.TheVariants as act
-use Rattle.area_rules.specs.Histories.{Entry, History}
+use Rattle.traffic_rules.specs.declared.acts.Act.{Act}
+use Rattle.traffic_rules.specs.declared.acts.Act.TheVariants as act
+use Rattle.traffic_rules.specs.Histories.{Entry, History}
 use Rattle.exchange.specs.Sent.{calls_of, sent_by}
 
 abbrev pub IsIn : Call → List Call → Type 0

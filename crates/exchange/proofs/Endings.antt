@@ -1,15 +1,16 @@
 -- at which events the ship's alert ends
 use Rattle.std.proofs.Common.{◌≡◌, ℕ, inl, inr, Bool, Option, Some, None, List, [], ◌∷◌, ◌++◌, slice_get, refl, sym, ◌∙◌, ap, subst}
+use Rattle.std.proofs.lemmas.Bool.{or_left, or_right}
 use Rattle.std.specs.Prelude.{IsTrue}
 use Rattle.std.specs.List.{list_any}
 use Rattle.std.specs.Option.{option_map}
 use Rattle.call_values.specs.declared.calls.Call.{Call}
 use Rattle.call_values.specs.declared.calls.Call.TheVariants as call
 use Rattle.call_values.specs.declared.calls.Casualty.{Casualty}
-use Rattle.area_rules.specs.declared.acts.Act.{Act}
-use Rattle.area_rules.specs.declared.acts.Act.TheVariants as act
-use Rattle.area_rules.specs.Histories.{Entry, History, does}
-use Rattle.area_rules.specs.Rules.{Legal}
+use Rattle.traffic_rules.specs.declared.acts.Act.{Act}
+use Rattle.traffic_rules.specs.declared.acts.Act.TheVariants as act
+use Rattle.traffic_rules.specs.Histories.{Entry, History, does}
+use Rattle.traffic_rules.specs.Rules.{Legal}
 use Rattle.ship_station.specs.declared.events.ShipWhat.{ShipWhat}
 use Rattle.ship_station.specs.declared.events.ShipWhat.TheVariants as at_ship
 use Rattle.ship_station.specs.Events.{MayEndAlert}
@@ -27,7 +28,7 @@ use Rattle.exchange.specs.WorldHistories.{Given, did, refuses, nothing, WorldEnt
 use Rattle.exchange.specs.WorldRules.{Parties, IsOwnOfShip, IsOwnOfCoast, IsFromOutside, AreAnswered, IsLegal}
 use Rattle.exchange.proofs.Answered.{answered_before, coast_legal, ship_at, ship_history}
 use Rattle.exchange.proofs.Deliveries.{Sends, sent_at}
-use Rattle.exchange.proofs.Splits.{either_true, left_true, right_true, none_is, some_same, accepted_there, lift}
+use Rattle.exchange.proofs.Splits.{either_true, none_is, some_same, accepted_there, lift}
 
 heard_same : (a b : Call) → at_coast.Heard a ≡ at_coast.Heard b → a ≡ b
 heard_same a b h = cc
@@ -119,9 +120,9 @@ module _ (goes_back : GoesBack) (who : Parties) (earlier : WorldHistory) (legal 
         acknowledged = sent_there ack (sent_by (ends_of first.earlier).ship) first.here.event first.here.gave s.sent first.entry s.sends;
         heard = heard_there (call.Alert casualty) second.earlier second.here.event second.here.gave g.heard outside second.entry g.alert;
         accepted = elim (either_true (accepts mmsi s.sent.what) (list_any accepting g.between) g.accepted) [
-          | inl this ↦ left_true (accepts_casualty mmsi first.here) (list_any (accepts_casualty mmsi) second.later)
+          | inl this ↦ or_left (accepts_casualty mmsi first.here) (list_any (accepts_casualty mmsi) second.later)
               (accepted_there mmsi (sent_by (ends_of first.earlier).ship) first.here.event first.here.gave s.sent first.entry this)
-          | inr others ↦ right_true (accepts_casualty mmsi first.here) (list_any (accepts_casualty mmsi) second.later) (second.accepted others)
+          | inr others ↦ or_right (accepts_casualty mmsi first.here) (list_any (accepts_casualty mmsi) second.later) (second.accepted others)
         ];
       }
 

@@ -1,9 +1,9 @@
 -- how an end moves at an event
 use Rattle.std.proofs.Common.{◌≡◌, ℕ, Option, Some, None, List, refl, ◌∙◌, ap}
-use Rattle.area_rules.specs.declared.acts.Act.{Act}
-use Rattle.area_rules.specs.declared.refusals.StationRefusal.{StationRefusal}
-use Rattle.area_rules.specs.Histories.{History}
-use Rattle.area_rules.specs.Rules.{Rules, refusal_or, unless_refused, refused, answer_to, continued}
+use Rattle.traffic_rules.specs.declared.acts.Act.{Act}
+use Rattle.traffic_rules.specs.declared.refusals.StationRefusal.{StationRefusal}
+use Rattle.traffic_rules.specs.Histories.{History}
+use Rattle.traffic_rules.specs.Rules.{Rules, refusal_or, unless_refused, refused, answer_to, continued}
 use Rattle.exchange.specs.WorldHistories.{Given}
 use Rattle.exchange.specs.WorldRules.{given_by}
 use Rattle.exchange.specs.inside.Moves.{after_event}

@@ -1,13 +1,13 @@
 -- after the end of its alert the ship sends no alert in an exchange until an event begins one
 use Rattle.std.proofs.Common.{◌≡◌, ℕ, ◌&&◌, ◌||◌, Bool, true, false, Option, Some, None, List, [], ◌∷◌, ◌++◌, slice_get, refl, sym, ◌∙◌, ap, subst}
-use Rattle.std.proofs.lemmas.Bool.{false≢true, or_from}
+use Rattle.std.proofs.lemmas.Bool.{false≢true, or_from, or_parts}
 use Rattle.std.specs.Prelude.{IsTrue}
 use Rattle.std.specs.List.{list_any}
 use Rattle.std.specs.Option.{option_map}
 use Rattle.call_values.specs.declared.calls.Call.{Call}
-use Rattle.area_rules.specs.declared.acts.Act.{Act}
-use Rattle.area_rules.specs.Histories.{Entry, History, does, NoneIs}
-use Rattle.area_rules.specs.Rules.{Legal}
+use Rattle.traffic_rules.specs.declared.acts.Act.{Act}
+use Rattle.traffic_rules.specs.Histories.{Entry, History, does, NoneIs}
+use Rattle.traffic_rules.specs.Rules.{Legal}
 use Rattle.traffic_rules.specs.Sendings.{is_alert, sends}
 use Rattle.ship_station.specs.declared.events.ShipWhat.{ShipWhat}
 use Rattle.ship_station.specs.declared.events.ShipWhat.TheVariants as at_ship
@@ -22,10 +22,6 @@ use Rattle.exchange.specs.WorldHistories.{Given, did, refuses, nothing, WorldEnt
 use Rattle.exchange.specs.WorldRules.{Parties, AreAnswered, IsLegal}
 use Rattle.exchange.proofs.Answered.{ship_there, ship_at, ship_history}
 use Rattle.exchange.proofs.Splits.{none_is, some_same, ship_part}
-
-neither : (a b : Bool) → (a || b) ≡ false → (a ≡ false) × (b ≡ false)
-neither false b h = (refl, h)
-neither true b h = absurd (false≢true (sym h))
 
 not_accepted : (b : Bool) → (b && true) ≡ false → b ≡ false
 not_accepted true h = h
@@ -56,16 +52,16 @@ module _ (test : Entry ShipWhat → Bool) where
 
   none_but : (o : Option (Entry ShipWhat)) (h : History ShipWhat) → NoneIs test (with_entry o h) → NoneIs test h
   none_but None h none = none
-  none_but (Some y) h none = (neither (test y) (list_any test h) none).1
+  none_but (Some y) h none = (or_parts (test y) (list_any test h) none).1
 
   not_one : (o : Option (Entry ShipWhat)) (h : History ShipWhat) (y : Entry ShipWhat) → o ≡ Some y → NoneIs test (with_entry o h) → test y ≡ false
   not_one None h y is none = absurd (none_is y is)
-  not_one (Some z) h y is none = ap test (sym (some_same z y is)) ∙ (neither (test z) (list_any test h) none).0
+  not_one (Some z) h y is none = ap test (sym (some_same z y is)) ∙ (or_parts (test z) (list_any test h) none).0
 
 none_begins : (later w : WorldHistory) → list_any begins_alert later ≡ false → NoneIs begins_at_ship (ship_part later w)
 none_begins [] w none = refl
 none_begins (e ∷ later) w none =
-    let parts = neither (begins_alert e) (list_any begins_alert later) none in
+    let parts = or_parts (begins_alert e) (list_any begins_alert later) none in
     none_with begins_at_ship (ship_entry (ends_of (later ++ w)) e) (ship_part later w)
     (λ y. λ is. begins_not (sent_by (ends_of (later ++ w)).coast) e.event e.gave y is parts.0)
     (none_begins later w parts.1)

@@ -1,10 +1,10 @@
 -- splits of the histories of both ends, in that of the exchange
 use Rattle.std.proofs.Common.{◌≡◌, ℕ, ◌⊎◌, inl, inr, ◌&&◌, ◌||◌, Bool, true, false, Option, Some, None, List, [], ◌∷◌, ◌++◌, slice_get, refl, ◌∙◌, ap}
-use Rattle.std.proofs.lemmas.Bool.{false≢true}
+use Rattle.std.proofs.lemmas.Bool.{false≢true, or_left, or_right}
 use Rattle.std.specs.List.{list_any}
 use Rattle.std.specs.Option.{option_map}
 use Rattle.call_values.specs.declared.calls.Call.{Call}
-use Rattle.area_rules.specs.Histories.{Entry, History}
+use Rattle.traffic_rules.specs.Histories.{Entry, History}
 use Rattle.ship_station.specs.declared.events.ShipWhat.{ShipWhat}
 use Rattle.coast_station.specs.declared.events.CoastWhat.{CoastWhat}
 use Rattle.coast_station.specs.declared.events.CoastWhat.TheVariants as at_coast
@@ -28,14 +28,6 @@ pub record Lifted (w : WorldHistory) (front back : History CoastWhat) (x : Entry
 pub either_true : (a b : Bool) → (a || b) ≡ true → (a ≡ true) ⊎ (b ≡ true)
 either_true true b h = inl refl
 either_true false b h = inr h
-
-pub right_true : (a b : Bool) → b ≡ true → (a || b) ≡ true
-right_true true b h = refl
-right_true false b h = h
-
-pub left_true : (a b : Bool) → a ≡ true → (a || b) ≡ true
-left_true true b h = refl
-left_true false b h = absurd (false≢true h)
 
 pub none_is : {What : Type 0} (x : Entry What) → None ≡ Some x → ⊥
 none_is x h = cc
@@ -85,7 +77,7 @@ lift_by mmsi e w back x None entry front is rec =
       order = ap (λ (l : WorldHistory). e ∷ l) r.order;
       entry = r.entry;
       rest = r.rest;
-      accepted = λ h. right_true (accepts_casualty mmsi e) (list_any (accepts_casualty mmsi) r.later) (r.accepted h);
+      accepted = λ h. or_right (accepts_casualty mmsi e) (list_any (accepts_casualty mmsi) r.later) (r.accepted h);
     }
 lift_by mmsi e w back x (Some y) entry [] is rec =
     record {
@@ -109,9 +101,9 @@ lift_by mmsi e w back x (Some y) entry (f ∷ front) is rec =
       entry = r.entry;
       rest = r.rest;
       accepted = λ h. elim (either_true (accepts mmsi f.what) (list_any accepting front) h) [
-        | inl this ↦ left_true (accepts_casualty mmsi e) (list_any (accepts_casualty mmsi) r.later)
+        | inl this ↦ or_left (accepts_casualty mmsi e) (list_any (accepts_casualty mmsi) r.later)
             (accepted_there mmsi (sent_by (ends_of w).ship) e.event e.gave y entry (ap accepting same ∙ this))
-        | inr others ↦ right_true (accepts_casualty mmsi e) (list_any (accepts_casualty mmsi) r.later) (r.accepted others)
+        | inr others ↦ or_right (accepts_casualty mmsi e) (list_any (accepts_casualty mmsi) r.later) (r.accepted others)
       ];
     }
 

@@ -1,10 +1,10 @@
 -- The calls that a station sends: this project's profile.
 use Rattle.std.specs.Prelude.{Result, Ok, Err, List, [], ◌∷◌, ◌++◌}
 use Rattle.call_values.specs.declared.calls.Call.{Call}
-use Rattle.area_rules.specs.declared.acts.Act.{Act}
-use Rattle.area_rules.specs.declared.acts.Act.TheVariants.{Send}
-use Rattle.area_rules.specs.declared.refusals.StationRefusal.{StationRefusal}
-use Rattle.area_rules.specs.Histories.{History}
+use Rattle.traffic_rules.specs.declared.acts.Act.{Act}
+use Rattle.traffic_rules.specs.declared.acts.Act.TheVariants.{Send}
+use Rattle.traffic_rules.specs.declared.refusals.StationRefusal.{StationRefusal}
+use Rattle.traffic_rules.specs.Histories.{History}
 
 -- the calls that acts send, in order, each once, however often in a row it is sent
 abbrev pub calls_of : List Act → List Call

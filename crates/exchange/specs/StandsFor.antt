@@ -1,7 +1,7 @@
 -- The histories that an exchange stands for: this project's profile.
 use Rattle.std.specs.Prelude.{◌≡◌, List}
 use Rattle.call_values.specs.declared.calls.Call.{Call}
-use Rattle.area_rules.specs.declared.acts.Act.{Act}
+use Rattle.traffic_rules.specs.declared.acts.Act.{Act}
 use Rattle.ship_station.specs.declared.ships.Ship.{Ship}
 use Rattle.ship_station.specs.Stands.{Stands as ShipStands}
 use Rattle.coast_station.specs.declared.coasts.Coast.{Coast}

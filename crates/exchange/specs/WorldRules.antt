@@ -1,10 +1,10 @@
 -- What each event of an exchange gives, and the histories that follow this: this project's profile.
 use Rattle.std.specs.Prelude.{◌≡◌, ℕ, Option, Some, None, Result, Ok, Err, List, [], ◌∷◌, slice_get}
 use Rattle.call_values.specs.declared.calls.Call.{Call}
-use Rattle.area_rules.specs.declared.acts.Act.{Act}
-use Rattle.area_rules.specs.declared.refusals.StationRefusal.{StationRefusal}
-use Rattle.area_rules.specs.Histories.{History}
-use Rattle.area_rules.specs.Rules.{Rules, Legal, answer_to}
+use Rattle.traffic_rules.specs.declared.acts.Act.{Act}
+use Rattle.traffic_rules.specs.declared.refusals.StationRefusal.{StationRefusal}
+use Rattle.traffic_rules.specs.Histories.{History}
+use Rattle.traffic_rules.specs.Rules.{Rules, Legal, answer_to}
 use Rattle.ship_station.specs.declared.events.ShipWhat.{ShipWhat}
 use Rattle.ship_station.specs.declared.events.ShipWhat.TheVariants as at_ship
 use Rattle.ship_station.specs.ShipRules.{Identities, ship_rules}

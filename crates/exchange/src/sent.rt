@@ -1,8 +1,8 @@
 ghost use Rattle.std.specs.Prelude.{◌≡◌, ◌+◌, ◌≤◌, ◌++◌, length, vec_len, vec_capacity};
 ghost use Rattle.exchange.specs.Sent.{calls_of};
 
-use area_rules::Act;
 use call_values::Call;
+use traffic_rules::Act;
 
 /// How many calls an end sends at one event at most.
 pub(crate) const MOST_SENT: usize = 32;

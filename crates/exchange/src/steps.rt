@@ -1,6 +1,6 @@
 ghost use Rattle.std.specs.Prelude.{◌≡◌, ◌+◌, ◌≤◌, ◌++◌, Some, slice_get, vec_len, vec_capacity};
-ghost use Rattle.area_rules.specs.Histories.{History};
-ghost use Rattle.area_rules.specs.Rules.{answer_to};
+ghost use Rattle.traffic_rules.specs.Histories.{History};
+ghost use Rattle.traffic_rules.specs.Rules.{answer_to};
 ghost use Rattle.ship_station.specs.declared.events.ShipWhat.{ShipWhat as AtShip};
 ghost use Rattle.ship_station.specs.declared.events.ShipWhat.TheVariants as at_ship;
 ghost use Rattle.ship_station.specs.ShipRules.{Identities, ship_rules};
@@ -16,10 +16,10 @@ ghost use Rattle.exchange.specs.inside.Moves.{calls_given, delivery, after_event
 
 use crate::sent::{MOST_SENT, note_sent};
 use crate::told::Outcome;
-use area_rules::{Acts, StationRefusal};
 use call_values::Call;
 use coast_station::{Coast, CoastEvent, CoastWhat};
 use ship_station::{Ship, ShipEvent, ShipWhat};
+use traffic_rules::{Acts, StationRefusal};
 
 /// Notes the calls that an end sent, and tells what it gave.
 fn outcome_of(answer: Result<(), StationRefusal>, sent: &mut Vec<Call>, acts: &Acts) -> Outcome

@@ -1,4 +1,4 @@
-use area_rules::{Acts, StationRefusal};
+use traffic_rules::{Acts, StationRefusal};
 
 /// What a step of an exchange gives (this project's profile).
 #[derive(Debug, PartialEq, Eq, Drop)]

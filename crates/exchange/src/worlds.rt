@@ -7,12 +7,12 @@ use crate::events::WorldEvent;
 use crate::sent::MOST_SENT;
 use crate::steps::{coast_gets, ship_gets, step_coast, step_ship};
 use crate::told::{Outcome, Told};
-use area_rules::Acts;
 use call_values::{Band, Call, Mmsi};
 use coast_station::Coast;
 use ship_station::Ship;
 use std::alloc::{AllocError, Global};
 use std::marker::Model;
+use traffic_rules::Acts;
 
 /// A ship and a coast station, with the calls that each has sent. Contracts see the stations and the lists, and not how much room is kept
 /// for these.

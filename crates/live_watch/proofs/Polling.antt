@@ -18,8 +18,8 @@ use Rattle.slot_join.specs.declared.joined.Joined.TheVariants.{Reported}
 use Rattle.slot_join.specs.declared.joined.Extra.{Extra}
 use Rattle.slot_join.specs.Answer.{IsAnswer}
 use Rattle.slot_join.specs.OneCall.{AreOneCalls, IsMissing, IsCallOrMissing}
-use Rattle.receiver_pool.specs.Views.{View, blank, place_at, kept_of, seen_sheet}
-use Rattle.receiver_pool.specs.Looks.{IsLooked}
+use Rattle.evidence_board.specs.Views.{View, blank, place_at, kept_of, seen_sheet}
+use Rattle.evidence_board.specs.Looks.{IsLooked}
 use Rattle.live_watch.specs.declared.watchers.News.{News}
 use Rattle.live_watch.specs.declared.watchers.News.TheVariants as news
 use Rattle.live_watch.specs.Watching.{Reports, IsNews, IsNewsOf, CarriesCall, SawCall}

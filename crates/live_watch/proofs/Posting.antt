@@ -18,7 +18,7 @@ use Rattle.slot_join.specs.declared.joined.Joined.{Joined}
 use Rattle.slot_join.specs.declared.joined.Joined.TheVariants.{Reported}
 use Rattle.slot_join.specs.declared.joined.Extra.{Extra}
 use Rattle.slot_join.specs.Answer.{IsAnswer}
-use Rattle.receiver_pool.specs.Facts.{all_facts}
+use Rattle.evidence_board.specs.Facts.{all_facts}
 use Rattle.receiver_pool.specs.Posting.{MayAllBePosted}
 use Rattle.live_watch.specs.Told.{IsTold, IsWatched}
 use Rattle.live_watch.specs.declared.watchers.News.{News}

@@ -8,8 +8,8 @@ use Rattle.slot_join.specs.declared.joined.Joined.TheVariants.{Reported}
 use Rattle.slot_join.specs.declared.joined.Extra.{Extra}
 use Rattle.slot_join.specs.Answer.{IsAnswer}
 use Rattle.slot_join.specs.OneCall.{IsMissing}
-use Rattle.receiver_pool.specs.Seats.{Held}
-use Rattle.receiver_pool.specs.Views.{View, place_at}
+use Rattle.evidence_board.specs.Seats.{Held}
+use Rattle.evidence_board.specs.Views.{View, place_at}
 use Rattle.live_watch.specs.declared.watchers.News.{News}
 use Rattle.live_watch.specs.declared.watchers.News.TheVariants as news
 

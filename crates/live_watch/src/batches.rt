@@ -2,14 +2,14 @@
 ghost use Rattle.std.specs.Prelude.{◌≡◌, ℕ, ◌<◌, ◌≤◌, All, IfOk, length};
 ghost use Rattle.slot_evidence.specs.Facts.{Facts, union};
 ghost use Rattle.receiver_pool.specs.Groups.{facts_of_group, AreSheets, Belongs, IsShort, Shows};
-ghost use Rattle.receiver_pool.specs.Rows.{AreSeats, Sit};
+ghost use Rattle.receiver_pool.specs.Rows.{AreAsBefore, Sit};
 ghost use Rattle.live_watch.specs.Joining.{JoinsWatched};
 
 use crate::watching::MOST_POLLS;
 use call_values::Call;
+use evidence_board::{AllFacts, Board, Seat};
 use receiver_pool::{
-    AllFacts, Beside, Board, Gate, Heard, Seat, Shown, look_at, meet_entries, pool_groups,
-    pool_groups_beside,
+    Beside, Gate, Heard, Shown, look_at, meet_entries, pool_groups, pool_groups_beside,
 };
 use slot_evidence::Sheet;
 use slot_join::{Joined, report};
@@ -17,32 +17,102 @@ use std::alloc::{AllocError, Global};
 use std::thread::Threads;
 
 /// A call that a watcher saw of a group, by the group's number.
-#[derive(Clone, Copy, Debug, PartialEq, Eq)]
-pub struct SeenCall {
-    pub group: usize,
-    pub call: Call,
+#[derive(Clone, Copy)]
+struct SeenCall {
+    group: usize,
+    call: Call,
 }
 
-/// How many looks a watcher makes at the boards of a batch at most, but that it goes round them once at least.
-const MOST_LOOKS: usize = 256;
+/// A group that a watcher watches.
+#[derive(Drop)]
+struct Watched {
+    /// Its number.
+    group: usize,
+    /// Where its board stands among those of the batch.
+    board: Option<usize>,
+    /// What the last look at its board showed.
+    shown: Option<Sheet>,
+    /// Whether a call of it was seen.
+    is_seen: bool,
+}
 
-/// A watcher of a batch. It goes round the boards of the groups that it watches until it has seen a call of each, at most 64 times; of
-/// many groups it goes round less often, so that it makes 256 looks at most, and once at least. What was known of a group before the batch
-/// counts with what its board shows.
+impl Watched {
+    /// Whether there is nothing more to be seen of it: a call was, or the batch has no board of it.
+    fn is_done(&self) -> bool {
+        self.is_seen || self.board.is_none()
+    }
+
+    /// Takes in what a look showed, together with what was known of the group. A call for which there is no memory counts as none.
+    fn take_look(&mut self, known: &[Sheet], sheet: Sheet, seen: &mut Vec<SeenCall>) {
+        let mut all = sheet;
+        if let Some(before) = known.get(self.group) {
+            all.meet(before);
+        }
+        self.shown = Some(sheet);
+        if let Joined::Reported { call, .. } = report(&all) {
+            let group = self.group;
+            self.is_seen = seen.push(SeenCall { group, call }).is_ok();
+        }
+    }
+
+    /// Whether the last look showed the same.
+    fn is_unchanged(&self, sheet: &Sheet) -> bool {
+        match &self.shown {
+            Some(shown) => *shown == *sheet,
+            None => false,
+        }
+    }
+
+    /// Looks at its board, where a call is still to be seen. The same sheet as at the last look has the same report.
+    fn look_once(
+        &mut self,
+        known: &[Sheet],
+        boards: &[Board<AllFacts>],
+        seats: &mut [Seat<AllFacts>],
+        seen: &mut Vec<SeenCall>,
+    )
+        requires { Sit 1 boards.now seats.old }
+        ensures { AreAsBefore boards.now seats.old seats.new }
+    {
+        let Some(number) = self.board else {
+            return;
+        };
+        if self.is_seen || number >= boards.len() {
+            return;
+        }
+        let sheet = look_at(boards, seats, number);
+        if !self.is_unchanged(&sheet) {
+            self.take_look(known, sheet, seen);
+        }
+    }
+}
+
+/// A watcher of a batch. It goes round the boards of the groups that it watches until it has seen a call of each, at most 64 times. What
+/// was known of a group before the batch counts with what its board shows.
 #[derive(Drop)]
 pub struct BatchWatcher {
-    /// The numbers of the groups.
-    watched: Vec<usize>,
+    watched: Vec<Watched>,
     seen: Vec<SeenCall>,
 }
 
 impl BatchWatcher {
-    /// A watcher of the groups with these numbers.
-    pub fn new(alloc: Global, watched: Vec<usize>) -> BatchWatcher {
+    /// A watcher of no group.
+    pub fn new(alloc: Global) -> BatchWatcher {
         BatchWatcher {
-            watched,
+            watched: Vec::new(alloc),
             seen: Vec::new(alloc),
         }
+    }
+
+    /// Watches the group with this number too. The error is want of memory.
+    pub fn add(&mut self, group: usize) -> Result<(), AllocError> {
+        self.watched.push(Watched {
+            group,
+            board: None,
+            shown: None,
+            is_seen: false,
+        })?;
+        Ok(())
     }
 
     /// The call that it saw of the group with this number, if any.
@@ -55,64 +125,26 @@ impl BatchWatcher {
         None
     }
 
-    /// Whether it has seen a call of each.
+    /// Finds the board of each group: the k-th board is that of the k-th of these groups.
+    fn find_boards(&mut self, groups: &[usize]) {
+        for one in &mut self.watched {
+            let number = one.group;
+            one.board = groups.iter().position(|group| *group == number);
+        }
+    }
+
+    /// Whether nothing more is to be seen of any group.
     fn is_done(&self) -> bool {
-        self.seen.len() >= self.watched.len()
-    }
-
-    /// How often it goes round the boards at most.
-    fn rounds(&self) -> usize {
-        let watched = self.watched.len().max(1);
-        (MOST_LOOKS / watched).min(MOST_POLLS as usize).max(1)
-    }
-
-    /// Whether it watches this group and has seen no call of it.
-    fn is_open(&self, group: usize) -> bool {
-        self.watched.contains(&group) && self.seen_of(group).is_none()
-    }
-
-    /// Takes in what a look showed of a group. A call for which there is no memory counts as none.
-    fn take_look(&mut self, group: usize, sheet: &Sheet) {
-        if let Joined::Reported { call, .. } = report(sheet) {
-            let _ = self.seen.push(SeenCall { group, call });
-        }
-    }
-
-    /// Looks at the board with this number, that of this group, where a call of it is still to be seen.
-    fn look_once(
-        &mut self,
-        known: &[Sheet],
-        group: usize,
-        boards: &[Board<AllFacts>],
-        seats: &mut [Seat<AllFacts>],
-        number: usize,
-    )
-        requires { Sit 1 boards.now seats.old }
-        ensures { (share : ℕ) (F : ℕ → Facts) → AreSeats share F boards.now seats.old → AreSeats share F boards.now seats.new }
-    {
-        if number >= boards.len() || !self.is_open(group) {
-            return;
-        }
-        let mut sheet = look_at(boards, seats, number);
-        if let Some(before) = known.get(group) {
-            sheet.meet(before);
-        }
-        self.take_look(group, &sheet);
+        self.watched.iter().all(|one| one.is_done())
     }
 
     /// Looks once at the board of each group of which a call is still to be seen.
-    fn go_once(
-        &mut self,
-        known: &[Sheet],
-        groups: &[usize],
-        boards: &[Board<AllFacts>],
-        seats: &mut [Seat<AllFacts>],
-    )
+    fn go_once(&mut self, known: &[Sheet], boards: &[Board<AllFacts>], seats: &mut [Seat<AllFacts>])
         requires { Sit 1 boards.now seats.old }
-        ensures { (share : ℕ) (F : ℕ → Facts) → AreSeats share F boards.now seats.old → AreSeats share F boards.now seats.new }
+        ensures { AreAsBefore boards.now seats.old seats.new }
     {
-        for (number, group) in groups.iter().enumerate() {
-            self.look_once(known, *group, boards, seats, number);
+        for one in &mut self.watched {
+            one.look_once(known, boards, seats, &mut self.seen);
         }
     }
 }
@@ -125,11 +157,12 @@ impl Beside for BatchWatcher {
         boards: &[Board<AllFacts>],
         seats: &mut [Seat<AllFacts>],
     ) {
-        for _ in 0..self.rounds() {
+        self.find_boards(groups);
+        for _ in 0..MOST_POLLS {
             if self.is_done() {
                 return;
             }
-            self.go_once(known, groups, boards, seats);
+            self.go_once(known, boards, seats);
         }
     }
 }
@@ -150,7 +183,7 @@ pub fn watch_batch<R: Threads + Sync, G: Gate>(
     requires short { All IsShort batch.now }
     ensures { IfOk result (λ v. Shows (facts_of_group batch.now) batch.now v.0.items) }
 {
-    if watcher.is_done() {
+    if watcher.watched.is_empty() {
         let entries = pool_groups(rt, alloc, batch, workers, gate)?;
         return Ok((entries, watcher));
     }

@@ -7,7 +7,7 @@ mod showing;
 mod watchers;
 mod watching;
 
-pub use batches::{BatchWatcher, SeenCall, WatchedJoiner, WatchedWorkers, watch_batch};
+pub use batches::{BatchWatcher, WatchedJoiner, WatchedWorkers, watch_batch};
 pub use laws::told_calls;
 pub use showing::{call_to_tell, shows_call};
 pub use watchers::{News, Watcher};

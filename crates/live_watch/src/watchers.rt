@@ -6,14 +6,14 @@ ghost use Rattle.slot_evidence.specs.Facts.{Facts, union};
 ghost use Rattle.slot_evidence.specs.Sheet.{IsEnds};
 ghost use Rattle.slot_evidence.specs.Allowed.{IsAllowed};
 ghost use Rattle.slot_join.specs.OneCall.{AreOneCalls};
-ghost use Rattle.receiver_pool.specs.Looks.{IsLooked};
-ghost use Rattle.receiver_pool.specs.Views.{place_at, given_sheet, seen_sheet};
+ghost use Rattle.evidence_board.specs.Looks.{IsLooked};
+ghost use Rattle.evidence_board.specs.Views.{place_at, given_sheet, seen_sheet};
 ghost use Rattle.live_watch.specs.Watching.{IsNews, IsNewsOf, CarriesCall, SawCall};
 ghost use Rattle.live_watch.specs.inside.Posted.{call_in, IsFirst, IsToldOn};
 
 use call_grammar::lists_are_short;
 use call_values::Call;
-use receiver_pool::{Allowed, Board, Seat, seats_are_at_rest};
+use evidence_board::{Allowed, Board, Seat, seats_are_at_rest};
 use slot_evidence::{Sheet, sheet_has_facts};
 use slot_join::{Joined, looks_report_the_call, one_answer, report};
 use std::marker::Model;

@@ -1,12 +1,3 @@
-mod Listed
-mod Folds
-mod OnePlace
-mod StepKinds
-mod Changes
-mod Loads
-mod Rests
-mod Core
-mod Unions
 mod Parts
 mod Posted
 mod Entries

@@ -1,18 +1,21 @@
 -- What receptions show may be posted where it is allowed, and so may the sheet of any part of it.
-use Rattle.std.proofs.Common.{◌≡◌, ℕ, zero, suc, ◌%◌, ◌<◌, ◌&&◌, ◌||◌, Bool, true, Option, Some, None, nat_lt, List, [], ◌∷◌, length, arith, ap, sym, ◌∙◌, subst, inl, inr}
-use Rattle.std.proofs.lemmas.Bool.{eqb-true, ltb-true, or_cases, or_left, or_right, and_from, and_parts}
+use Rattle.std.proofs.Common.{◌≡◌, ℕ, zero, suc, ◌<◌, ◌&&◌, ◌||◌, Bool, true, false, Option, Some, None, List, [], ◌∷◌, length, map, replicate, get_or, refl, arith, ap, sym, ◌∙◌, subst, inl, inr}
+use Rattle.std.proofs.lemmas.Bool.{cases_lt, eqb-true, ltb-true, or_cases, or_left, or_right, and_from, and_parts}
+use Rattle.std.proofs.lemmas.List.{get_or-map, get_or_past, get_or-replicate, length-replicate}
 use Rattle.ten_unit.specs.declared.character.Element.{Element}
 use Rattle.phasing.specs.Origin.{lead_of}
 use Rattle.slot_evidence.specs.declared.places.Seen.{Seen}
 use Rattle.slot_evidence.specs.declared.places.Seen.TheVariants as seen
-use Rattle.slot_evidence.specs.Facts.{Symbols, Facts, facts_at, facts_of, facts_of_all}
-use Rattle.slot_evidence.specs.Seen.{IsSeen, symbols_in}
-use Rattle.slot_evidence.specs.Sheet.{IsEnds, seen_at}
+use Rattle.slot_evidence.specs.Facts.{Symbols, Facts, facts_at, facts_of, facts_of_all, union}
+use Rattle.slot_evidence.specs.Seen.{ShowsNone, IsSeen, IsLawful, symbols_in}
+use Rattle.slot_evidence.specs.Sheet.{IsSheet, IsEnds, seen_at}
+use Rattle.slot_evidence.specs.TwoNumbers.{least_of}
 use Rattle.slot_evidence.specs.Allowed.{IsAllowed, OnlyAllowed}
-use Rattle.receiver_pool.specs.Facts.{all_facts}
+use Rattle.slot_evidence.proofs.PublicLaws.{IsEnds-same}
+use Rattle.evidence_board.specs.Facts.{all_facts}
 use Rattle.receiver_pool.specs.Posting.{MayAllBePosted}
 use Rattle.receiver_pool.specs.inside.Turns.{is_turn, taken, nth, part}
-use Rattle.receiver_pool.proofs.Listed.{every_fact}
+use Rattle.evidence_board.proofs.PublicLaws.{every_fact}
 use Rattle.receiver_pool.proofs.Parts.{turn_yes, part_all}
 
 -- the part of some is among the part of all
@@ -64,3 +67,41 @@ all_small (e ∷ list) p v is =
 
 pub all_may : (list : List (List Element)) → MayAllBePosted all_facts list
 all_may list p v is = let small = all_small list p v is in every_fact p v small.0 small.1
+
+-- a sheet with the least symbols of the empty one keeps nothing
+none_kept : (x : Seen) → IsLawful x → least_of x ≡ 128 → x ≡ seen.None
+none_kept seen.None lawful is = refl
+none_kept (seen.One v) lawful is = absurd (omega (arith, lawful, is))
+none_kept (seen.Differ a b) lawful is = absurd (omega (arith, lawful, is))
+
+blank_least : (blank : List Seen) (p : ℕ) → p < 64 → blank ≡ replicate 64 seen.None → get_or (map least_of blank) p 0 ≡ 128
+blank_least blank p below is =
+    ap (λ (s : List Seen). get_or (map least_of s) p 0) is
+    ∙ get_or-map least_of (replicate 64 seen.None) p seen.None 0 (omega (arith, length-replicate 64 seen.None))
+    ∙ ap least_of (get_or-replicate 64 p seen.None seen.None below)
+
+pub left_true : (a b : Bool) → true ≡ (a && b) → true ≡ a
+left_true true b is = refl
+left_true false b is = is
+
+-- nothing is posted of it
+pub nothing_posted : (sheet blank given : List Seen) (F G : Facts) → IsSheet sheet → blank ≡ replicate 64 seen.None → map least_of sheet ≡ map least_of blank
+    → IsEnds F given → IsEnds G sheet → IsEnds (union F G) given
+nothing_posted sheet blank given F G lawful is same f g =
+    IsEnds-same F (union F G) given (λ p v. sym (or_nothing (F p v) (G p v) (none p v))) f
+  where
+    or_nothing : (a b : Bool) → b ≡ false → (a || b) ≡ a
+    or_nothing true b e = refl
+    or_nothing false b e = e
+
+    none : (p : ℕ) → ShowsNone (G p)
+    none p =
+        elim (cases_lt p 64) [
+          | inl below ↦
+              subst (λ (x : Seen). IsSeen (G p) x)
+              (none_kept (seen_at sheet p) (lawful.lawful p)
+              (sym (get_or-map least_of sheet p seen.None 0 (omega (arith, lawful.places)))
+              ∙ ap (λ (s : List ℕ). get_or s p 0) same ∙ blank_least blank p below is))
+              (g.each p)
+          | inr above ↦ subst (λ (x : Seen). IsSeen (G p) x) (get_or_past sheet p seen.None (omega (arith, g.places))) (g.each p)
+        ]

@@ -7,9 +7,9 @@ use Rattle.slot_evidence.specs.Facts.{Facts, union}
 use Rattle.slot_evidence.specs.declared.places.Seen.{Seen}
 use Rattle.slot_evidence.specs.Sheet.{IsEnds}
 use Rattle.slot_evidence.proofs.PublicLaws.{IsEnds-same}
-use Rattle.receiver_pool.specs.Views.{given_sheet}
+use Rattle.evidence_board.specs.Views.{given_sheet}
 use Rattle.receiver_pool.specs.Groups.{AreSheets}
-use Rattle.receiver_pool.specs.Seats.{Held}
+use Rattle.evidence_board.specs.Seats.{Held}
 use Rattle.receiver_pool.specs.Rows.{IsSeatOf, AreSeats, no_table, no_seat, table_at}
 use Rattle.receiver_pool.proofs.Turning.{Row}
 

@@ -1,11 +1,4 @@
-pub mod Views
-pub mod Rule
-pub mod Steps
-pub mod Looks
-pub mod Seats
-pub mod Facts
 pub mod Posting
-pub mod Events
 pub mod Groups
 pub mod Rows
 pub mod Joining

@@ -3,8 +3,8 @@ use Rattle.std.specs.Prelude.{◌≡◌, ℕ, ◌<◌, ◌≤◌, List, [], leng
 use Rattle.atomic_table.specs.Seated.{TableId}
 use Rattle.slot_evidence.specs.Facts.{Facts}
 use Rattle.slot_evidence.specs.Sheet.{IsEnds}
-use Rattle.receiver_pool.specs.Views.{spent, given_sheet}
-use Rattle.receiver_pool.specs.Seats.{Held}
+use Rattle.evidence_board.specs.Views.{spent, given_sheet}
+use Rattle.evidence_board.specs.Seats.{Held}
 
 -- what stands where there is no board, and no seat
 abbrev pub no_table : TableId
@@ -37,3 +37,7 @@ pub record Sit (least : ℕ) (boards : List TableId) (seats : List Held) : Type 
   pub enough : least ≤ share
   pub facts : ℕ → Facts
   pub are_seats : AreSeats share facts boards seats
+
+-- behind something that was done the seats are as they were: each has its board, its share and what was posted through it
+abbrev pub AreAsBefore : List TableId → List Held → List Held → Type 0
+AreAsBefore boards before after = (share : ℕ) (F : ℕ → Facts) → AreSeats share F boards before → AreSeats share F boards after

@@ -3,7 +3,7 @@ ghost use Rattle.std.specs.Prelude.{◌≡◌, ℕ, ◌+◌, ◌<◌, ◌≤◌,
 ghost use Rattle.slot_evidence.specs.Facts.{Facts, no_facts};
 ghost use Rattle.receiver_pool.specs.Groups.{AreSheets, AreShown, IsOneOf, IsShort};
 ghost use Rattle.receiver_pool.specs.inside.Turns.{is_turn};
-ghost use Rattle.receiver_pool.specs.inside.Numbers.{AreNumbered, ArePlaces, IsBelow, IsPlaced, gathered, place_part};
+ghost use Rattle.receiver_pool.specs.inside.Numbers.{AreNumbered, ArePlaces, AreTurns, IsBelow, IsPlaced, gathered, place_part, read_by};
 
 use crate::boards::blank_sheets;
 use crate::gate::Entered;
@@ -70,6 +70,15 @@ pub(crate) fn number_groups(
     Ok((groups, places))
 }
 
+/// How workers share a batch: each reception is the turn of one of them, and goes into the sheet of its group.
+#[derive(Drop)]
+pub struct Turns {
+    /// Of each reception where its group stands among those of the batch.
+    pub places: Vec<usize>,
+    /// How many workers there are: worker w takes the receptions whose index leaves w when divided by their number.
+    pub workers: u32,
+}
+
 /// Reads a worker's receptions into the sheets of their groups.
 fn read_into(sheets: &mut [Sheet], batch: &[Heard], places: &[usize], workers: u32, worker: u32)
     requires worker { worker < workers }
@@ -89,18 +98,16 @@ pub(crate) fn shown_to(
     _entered: &Entered,
     alloc: Global,
     batch: &[Heard],
-    places: &[usize],
+    turns: &Turns,
     count: usize,
-    workers: u32,
     worker: u32,
 ) -> Result<Vec<Sheet>, AllocError>
-    requires worker { worker < workers }
-    requires short { All IsShort batch.now }
-    requires places { ArePlaces (length batch.now) count places.now }
-    ensures { IfOk result (λ v. AreSheets (place_part (is_turn workers worker (worker + 1)) batch.now places.now (length batch.now)) v.items count) }
+    requires worker { worker < turns.now.workers }
+    requires turns { AreTurns count batch.now turns.now }
+    ensures { IfOk result (λ v. AreSheets (read_by batch.now turns.now worker (worker + 1)) v.items count) }
 {
     let mut sheets = blank_sheets(alloc, count)?;
-    read_into(&mut sheets, batch, places, workers, worker);
+    read_into(&mut sheets, batch, &turns.places, turns.workers, worker);
     Ok(sheets)
 }
 

@@ -4,17 +4,14 @@ ghost use Rattle.std.specs.Thread.{IsSync, IsSend};
 ghost use Rattle.slot_evidence.specs.Facts.{Facts, no_facts, union};
 ghost use Rattle.slot_evidence.specs.Sheet.{IsEnds};
 ghost use Rattle.receiver_pool.specs.Groups.{facts_of_group, AreSheets, IsShort, Shows};
-ghost use Rattle.receiver_pool.specs.inside.Turns.{is_turn};
-ghost use Rattle.receiver_pool.specs.inside.Numbers.{ArePlaces, place_part};
-ghost use Rattle.receiver_pool.specs.Rows.{AreSeats, Sit};
+ghost use Rattle.receiver_pool.specs.inside.Numbers.{AreTurns, HavePosted, read_by};
+ghost use Rattle.receiver_pool.specs.Rows.{Sit};
 
-use crate::allowed::AllFacts;
-use crate::batch_groups::{entries_of, number_groups, shown_to};
-use crate::board::Board;
+use crate::batch_groups::{Turns, entries_of, number_groups, shown_to};
 use crate::boards::{boards_for, close_each, join_each, post_each, split_each};
 use crate::gate::{Gate, enter};
 use crate::heard::{Heard, Shown};
-use crate::seats::{Seat, WHOLE};
+use evidence_board::{AllFacts, Board, Seat, WHOLE};
 use slot_evidence::Sheet;
 use std::alloc::{AllocError, Global};
 use std::thread::{Threads, join};
@@ -45,27 +42,17 @@ fn work<G: Gate>(
     boards: &[Board<AllFacts>],
     mut seats: Vec<Seat<AllFacts>>,
     batch: &[Heard],
-    places: &[usize],
-    workers: u32,
+    turns: &Turns,
     worker: u32,
     gate: &G,
 ) -> Result<Vec<Seat<AllFacts>>, AllocError>
-    requires worker { worker < workers }
+    requires worker { worker < turns.now.workers }
     requires seats { Sit 1 boards.now seats.items }
-    requires short { All IsShort batch.now }
-    requires places { ArePlaces (length batch.now) (length boards.now) places.now }
-    ensures { IfOk result (λ v. (share : ℕ) (F : ℕ → Facts) → AreSeats share F boards.now seats.items → AreSeats share (λ k. union (F k) (place_part (is_turn workers worker (worker + 1)) batch.now places.now (length batch.now) k)) boards.now v.items) }
+    requires turns { AreTurns (length boards.now) batch.now turns.now }
+    ensures { IfOk result (λ v. HavePosted (read_by batch.now turns.now worker (worker + 1)) boards.now seats.items v.items) }
 {
     let entered = enter(gate, worker);
-    let sheets = shown_to(
-        &entered,
-        alloc,
-        batch,
-        places,
-        boards.len(),
-        workers,
-        worker,
-    )?;
+    let sheets = shown_to(&entered, alloc, batch, turns, boards.len(), worker)?;
     post_each(boards, &mut seats, &sheets);
     Ok(seats)
 }
@@ -78,42 +65,32 @@ pub(crate) fn fork_groups<R: Threads + Sync, G: Gate>(
     boards: &[Board<AllFacts>],
     mut seats: Vec<Seat<AllFacts>>,
     batch: &[Heard],
-    places: &[usize],
+    turns: &Turns,
     low: u32,
     high: u32,
-    workers: u32,
     gate: &G,
 ) -> Result<Vec<Seat<AllFacts>>, AllocError>
     requires sync { IsSync R.row × IsSync G.row }
-    requires range { (low < high) × (high ≤ workers) }
+    requires range { (low < high) × (high ≤ turns.now.workers) }
     requires seats { Sit (high - low) boards.now seats.items }
-    requires short { All IsShort batch.now }
-    requires places { ArePlaces (length batch.now) (length boards.now) places.now }
-    ensures { IfOk result (λ v. (share : ℕ) (F : ℕ → Facts) → AreSeats share F boards.now seats.items → AreSeats share (λ k. union (F k) (place_part (is_turn workers low high) batch.now places.now (length batch.now) k)) boards.now v.items) }
+    requires turns { AreTurns (length boards.now) batch.now turns.now }
+    ensures { IfOk result (λ v. HavePosted (read_by batch.now turns.now low high) boards.now seats.items v.items) }
 {
     if high - low == 1 {
-        return work(alloc, boards, seats, batch, places, workers, low, gate);
+        return work(alloc, boards, seats, batch, turns, low, gate);
     }
     let middle = low + (high - low).div_ceil(2);
     let others = split_each(alloc, boards, &mut seats)?;
     let (first, second) = join(
         rt,
         move || -> Result<Vec<Seat<AllFacts>>, AllocError>
-            requires { IsSync R.row × IsSync G.row × ((low < middle) × (middle ≤ workers)) × Sit (middle - low) boards.now seats.items × All IsShort batch.now × ArePlaces (length batch.now) (length boards.now) places.now }
-            ensures { IfOk result (λ v. (share : ℕ) (F : ℕ → Facts) → AreSeats share F boards.entry.now seats.items → AreSeats share (λ k. union (F k) (place_part (is_turn workers low middle) batch.entry.now places.entry.now (length batch.entry.now) k)) boards.entry.now v.items) }
-        {
-            fork_groups(
-                rt, alloc, boards, seats, batch, places, low, middle, workers, gate,
-            )
-        },
+            requires { IsSync R.row × IsSync G.row × ((low < middle) × (middle ≤ turns.now.workers)) × Sit (middle - low) boards.now seats.items × AreTurns (length boards.now) batch.now turns.now }
+            ensures { IfOk result (λ v. HavePosted (read_by batch.entry.now turns.entry.now low middle) boards.entry.now seats.items v.items) }
+        { fork_groups(rt, alloc, boards, seats, batch, turns, low, middle, gate) },
         move || -> Result<Vec<Seat<AllFacts>>, AllocError>
-            requires { IsSync R.row × IsSync G.row × ((middle < high) × (high ≤ workers)) × Sit (high - middle) boards.now others.items × All IsShort batch.now × ArePlaces (length batch.now) (length boards.now) places.now }
-            ensures { IfOk result (λ v. (share : ℕ) (F : ℕ → Facts) → AreSeats share F boards.entry.now others.items → AreSeats share (λ k. union (F k) (place_part (is_turn workers middle high) batch.entry.now places.entry.now (length batch.entry.now) k)) boards.entry.now v.items) }
-        {
-            fork_groups(
-                rt, alloc, boards, others, batch, places, middle, high, workers, gate,
-            )
-        },
+            requires { IsSync R.row × IsSync G.row × ((middle < high) × (high ≤ turns.now.workers)) × Sit (high - middle) boards.now others.items × AreTurns (length boards.now) batch.now turns.now }
+            ensures { IfOk result (λ v. HavePosted (read_by batch.entry.now turns.entry.now middle high) boards.entry.now others.items v.items) }
+        { fork_groups(rt, alloc, boards, others, batch, turns, middle, high, gate) },
     );
     let mut joined = first?;
     join_each(boards, &mut joined, second?);
@@ -132,33 +109,26 @@ fn start_groups<R: Threads + Sync, G: Gate>(
     boards: &[Board<AllFacts>],
     seats: Vec<Seat<AllFacts>>,
     batch: &[Heard],
-    places: &[usize],
-    workers: u32,
+    turns: &Turns,
     gate: &G,
 ) -> Result<Vec<Seat<AllFacts>>, AllocError>
     requires sync { IsSync R.row × IsSync G.row }
-    requires workers { 1 ≤ workers }
-    requires seats { Sit workers boards.now seats.items }
-    requires short { All IsShort batch.now }
-    requires places { ArePlaces (length batch.now) (length boards.now) places.now }
-    ensures { IfOk result (λ v. (share : ℕ) (F : ℕ → Facts) → AreSeats share F boards.now seats.items → AreSeats share (λ k. union (F k) (place_part (is_turn workers 0 workers) batch.now places.now (length batch.now) k)) boards.now v.items) }
+    requires workers { 1 ≤ turns.now.workers }
+    requires seats { Sit turns.now.workers boards.now seats.items }
+    requires turns { AreTurns (length boards.now) batch.now turns.now }
+    ensures { IfOk result (λ v. HavePosted (read_by batch.now turns.now 0 turns.now.workers) boards.now seats.items v.items) }
 {
+    let workers = turns.workers;
     if batch.len() < FEW {
-        return fork_groups(
-            rt, alloc, boards, seats, batch, places, 0, workers, workers, gate,
-        );
+        return fork_groups(rt, alloc, boards, seats, batch, turns, 0, workers, gate);
     }
     let (_, joined) = join(
         rt,
         || {},
         move || -> Result<Vec<Seat<AllFacts>>, AllocError>
-            requires { IsSync R.row × IsSync G.row × (1 ≤ workers) × Sit workers boards.now seats.items × All IsShort batch.now × ArePlaces (length batch.now) (length boards.now) places.now }
-            ensures { IfOk result (λ v. (share : ℕ) (F : ℕ → Facts) → AreSeats share F boards.entry.now seats.items → AreSeats share (λ k. union (F k) (place_part (is_turn workers 0 workers) batch.entry.now places.entry.now (length batch.entry.now) k)) boards.entry.now v.items) }
-        {
-            fork_groups(
-                rt, alloc, boards, seats, batch, places, 0, workers, workers, gate,
-            )
-        },
+            requires { IsSync R.row × IsSync G.row × ((1 ≤ workers) × (workers ≤ turns.now.workers)) × Sit workers boards.now seats.items × AreTurns (length boards.now) batch.now turns.now }
+            ensures { IfOk result (λ v. HavePosted (read_by batch.entry.now turns.entry.now 0 workers) boards.entry.now seats.items v.items) }
+        { fork_groups(rt, alloc, boards, seats, batch, turns, 0, workers, gate) },
     );
     joined
 }
@@ -168,22 +138,20 @@ fn share_groups<R: Threads + Sync, G: Gate>(
     rt: &R,
     alloc: Global,
     batch: &[Heard],
-    places: &[usize],
+    turns: &Turns,
     count: usize,
-    workers: u32,
     gate: &G,
 ) -> Result<Vec<Sheet>, AllocError>
-    requires workers { (1 ≤ workers) × (workers ≤ 64) }
-    requires short { All IsShort batch.now }
-    requires places { ArePlaces (length batch.now) count places.now }
-    ensures { IfOk result (λ v. AreSheets (place_part (is_turn workers 0 workers) batch.now places.now (length batch.now)) v.items count) }
+    requires workers { (1 ≤ turns.now.workers) × (turns.now.workers ≤ 64) }
+    requires turns { AreTurns count batch.now turns.now }
+    ensures { IfOk result (λ v. AreSheets (read_by batch.now turns.now 0 turns.now.workers) v.items count) }
 {
-    if workers == 1 {
+    if turns.workers == 1 {
         let entered = enter(gate, 0);
-        return shown_to(&entered, alloc, batch, places, count, 1, 0);
+        return shown_to(&entered, alloc, batch, turns, count, 0);
     }
     let (boards, seats) = boards_for(alloc, count)?;
-    let seats = start_groups(rt, alloc, &boards, seats, batch, places, workers, gate)?;
+    let seats = start_groups(rt, alloc, &boards, seats, batch, turns, gate)?;
     close_each(alloc, boards, seats)
 }
 
@@ -203,6 +171,7 @@ pub fn pool_groups<R: Threads + Sync, G: Gate>(
     ensures { IfOk result (λ v. Shows (facts_of_group batch.now) batch.now v.items) }
 {
     let (groups, places) = number_groups(alloc, batch)?;
-    let sheets = share_groups(rt, alloc, batch, &places, groups.len(), workers, gate)?;
+    let turns = Turns { places, workers };
+    let sheets = share_groups(rt, alloc, batch, &turns, groups.len(), gate)?;
     entries_of(alloc, &groups, &sheets)
 }

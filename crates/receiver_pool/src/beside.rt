@@ -3,18 +3,15 @@ ghost use Rattle.std.specs.Prelude.{ℕ, ◌+◌, ◌/◌, ◌≤◌, All, IfOk,
 ghost use Rattle.std.specs.Thread.{IsSync, IsSend};
 ghost use Rattle.slot_evidence.specs.Facts.{Facts, no_facts, union};
 ghost use Rattle.receiver_pool.specs.Groups.{facts_of_group, AreSheets, IsShort, Shows};
-ghost use Rattle.receiver_pool.specs.inside.Turns.{is_turn};
-ghost use Rattle.receiver_pool.specs.inside.Numbers.{ArePlaces, place_part};
-ghost use Rattle.receiver_pool.specs.Rows.{AreSeats, Sit};
+ghost use Rattle.receiver_pool.specs.inside.Numbers.{AreTurns, HavePosted, read_by};
+ghost use Rattle.receiver_pool.specs.Rows.{AreAsBefore, AreSeats, Sit};
 
-use crate::allowed::AllFacts;
-use crate::batch_groups::{entries_of, number_groups};
+use crate::batch_groups::{Turns, entries_of, number_groups};
 use crate::batches::fork_groups;
-use crate::board::Board;
 use crate::boards::{boards_for, close_each, join_each, split_each};
 use crate::gate::Gate;
 use crate::heard::{Heard, Shown};
-use crate::seats::{Seat, WHOLE};
+use evidence_board::{AllFacts, Board, Seat, WHOLE};
 use slot_evidence::Sheet;
 use std::alloc::{AllocError, Global};
 use std::thread::{Threads, join};
@@ -31,7 +28,7 @@ pub trait Beside: Drop + Send {
         seats: &mut [Seat<AllFacts>],
     )
         requires { Sit 1 boards.now seats.old }
-        ensures { (share : ℕ) (F : ℕ → Facts) → AreSeats share F boards.now seats.old → AreSeats share F boards.now seats.new };
+        ensures { AreAsBefore boards.now seats.old seats.new };
 }
 
 /// What is done beside the workers, behind the gate, which is entered with their number.
@@ -45,7 +42,7 @@ fn go_beside<G: Gate, B: Beside>(
     mut beside: B,
 ) -> (B, Vec<Seat<AllFacts>>)
     requires { Sit 1 boards.now seats.items }
-    ensures { (share : ℕ) (F : ℕ → Facts) → AreSeats share F boards.now seats.items → AreSeats share F boards.now result.1.items }
+    ensures { AreAsBefore boards.now seats.items result.1.items }
 {
     gate.enter(workers);
     beside.go_round(known, groups, boards, &mut seats);
@@ -62,34 +59,29 @@ fn fork_beside<R: Threads + Sync, G: Gate, B: Beside>(
     seats: Vec<Seat<AllFacts>>,
     others: Vec<Seat<AllFacts>>,
     batch: &[Heard],
-    places: &[usize],
-    workers: u32,
+    turns: &Turns,
     gate: &G,
     beside: B,
 ) -> Result<(B, Vec<Seat<AllFacts>>), AllocError>
     requires sync { IsSync R.row × IsSync G.row × IsSend B.row }
-    requires workers { 1 ≤ workers }
-    requires seats { Sit workers boards.now seats.items }
+    requires workers { 1 ≤ turns.now.workers }
+    requires seats { Sit turns.now.workers boards.now seats.items }
     requires others { Sit 1 boards.now others.items }
-    requires short { All IsShort batch.now }
-    requires places { ArePlaces (length batch.now) (length boards.now) places.now }
+    requires turns { AreTurns (length boards.now) batch.now turns.now }
     ensures { IfOk result (λ v. (share other : ℕ) (F H : ℕ → Facts) → AreSeats share F boards.now seats.items → AreSeats other H boards.now others.items
-        → AreSeats (share + other) (λ k. union (union (F k) (place_part (is_turn workers 0 workers) batch.now places.now (length batch.now) k)) (H k)) boards.now v.1.items) }
+        → AreSeats (share + other) (λ k. union (union (F k) (read_by batch.now turns.now 0 turns.now.workers k)) (H k)) boards.now v.1.items) }
 {
+    let workers = turns.workers;
     let (first, joined) = join(
         rt,
         move || -> (B, Vec<Seat<AllFacts>>)
             requires { IsSync G.row × IsSend B.row × Sit 1 boards.now others.items }
-            ensures { (share : ℕ) (F : ℕ → Facts) → AreSeats share F boards.entry.now others.items → AreSeats share F boards.entry.now result.1.items }
+            ensures { AreAsBefore boards.entry.now others.items result.1.items }
         { go_beside(known, groups, boards, others, workers, gate, beside) },
         move || -> Result<Vec<Seat<AllFacts>>, AllocError>
-            requires { IsSync R.row × IsSync G.row × (1 ≤ workers) × Sit workers boards.now seats.items × All IsShort batch.now × ArePlaces (length batch.now) (length boards.now) places.now }
-            ensures { IfOk result (λ v. (share : ℕ) (F : ℕ → Facts) → AreSeats share F boards.entry.now seats.items → AreSeats share (λ k. union (F k) (place_part (is_turn workers 0 workers) batch.entry.now places.entry.now (length batch.entry.now) k)) boards.entry.now v.items) }
-        {
-            fork_groups(
-                rt, alloc, boards, seats, batch, places, 0, workers, workers, gate,
-            )
-        },
+            requires { IsSync R.row × IsSync G.row × ((1 ≤ workers) × (workers ≤ turns.now.workers)) × Sit workers boards.now seats.items × AreTurns (length boards.now) batch.now turns.now }
+            ensures { IfOk result (λ v. HavePosted (read_by batch.entry.now turns.entry.now 0 workers) boards.entry.now seats.items v.items) }
+        { fork_groups(rt, alloc, boards, seats, batch, turns, 0, workers, gate) },
     );
     let (beside, others) = first;
     let mut joined = joined?;
@@ -117,20 +109,18 @@ fn share_beside<R: Threads + Sync, G: Gate, B: Beside>(
     known: &[Sheet],
     groups: &[usize],
     batch: &[Heard],
-    places: &[usize],
-    workers: u32,
+    turns: &Turns,
     gate: &G,
     beside: B,
 ) -> Result<(Vec<Sheet>, B), AllocError>
-    requires workers { (1 ≤ workers) × (workers ≤ 64) }
-    requires short { All IsShort batch.now }
-    requires places { ArePlaces (length batch.now) (length groups.now) places.now }
-    ensures { IfOk result (λ v. AreSheets (place_part (is_turn workers 0 workers) batch.now places.now (length batch.now)) v.0.items (length groups.now)) }
+    requires workers { (1 ≤ turns.now.workers) × (turns.now.workers ≤ 64) }
+    requires turns { AreTurns (length groups.now) batch.now turns.now }
+    ensures { IfOk result (λ v. AreSheets (read_by batch.now turns.now 0 turns.now.workers) v.0.items (length groups.now)) }
 {
     let (boards, seats) = boards_for(alloc, groups.len())?;
     let (seats, others) = halved(alloc, &boards, seats)?;
     let (beside, joined) = fork_beside(
-        rt, alloc, known, groups, &boards, seats, others, batch, places, workers, gate, beside,
+        rt, alloc, known, groups, &boards, seats, others, batch, turns, gate, beside,
     )?;
     let sheets = close_each(alloc, boards, joined)?;
     Ok((sheets, beside))
@@ -154,9 +144,8 @@ pub fn pool_groups_beside<R: Threads + Sync, G: Gate, B: Beside>(
     ensures { IfOk result (λ v. Shows (facts_of_group batch.now) batch.now v.0.items) }
 {
     let (groups, places) = number_groups(alloc, batch)?;
-    let (sheets, beside) = share_beside(
-        rt, alloc, known, &groups, batch, &places, workers, gate, beside,
-    )?;
+    let turns = Turns { places, workers };
+    let (sheets, beside) = share_beside(rt, alloc, known, &groups, batch, &turns, gate, beside)?;
     let entries = entries_of(alloc, &groups, &sheets)?;
     Ok((entries, beside))
 }

@@ -3,13 +3,11 @@ ghost use Rattle.std.specs.Prelude.{◌≡◌, ℕ, ◌+◌, ◌-◌, ◌/◌, �
 ghost use Rattle.slot_evidence.specs.Facts.{Facts, no_facts, union};
 ghost use Rattle.slot_evidence.specs.Sheet.{IsEnds};
 ghost use Rattle.slot_evidence.specs.Allowed.{OnlyAllowed};
-ghost use Rattle.receiver_pool.specs.Views.{given_sheet};
+ghost use Rattle.evidence_board.specs.Views.{given_sheet};
 ghost use Rattle.receiver_pool.specs.Groups.{AreSheets};
-ghost use Rattle.receiver_pool.specs.Rows.{AreSeats, Sit};
+ghost use Rattle.receiver_pool.specs.Rows.{AreAsBefore, AreSeats, Sit};
 
-use crate::allowed::{AllFacts, Allowed, all_facts_may_be_posted};
-use crate::board::Board;
-use crate::seats::{Seat, WHOLE};
+use evidence_board::{AllFacts, Allowed, Board, Seat, WHOLE, all_facts_may_be_posted};
 use slot_evidence::{Sheet, sheet_is_lawful};
 use std::alloc::{AllocError, Global};
 
@@ -99,7 +97,7 @@ pub(crate) fn join_each(
 pub fn look_at(boards: &[Board<AllFacts>], seats: &mut [Seat<AllFacts>], number: usize) -> Sheet
     requires seats { Sit 1 boards.now seats.old }
     requires number { number < length boards.now }
-    ensures { (share : ℕ) (F : ℕ → Facts) → AreSeats share F boards.now seats.old → AreSeats share F boards.now seats.new }
+    ensures { AreAsBefore boards.now seats.old seats.new }
 {
     boards[number].look_at(&mut seats[number])
 }

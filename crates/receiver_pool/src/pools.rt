@@ -3,15 +3,13 @@ ghost use Rattle.std.specs.Prelude.{◌≡◌, ◌+◌, ◌-◌, ◌%◌, ◌<�
 ghost use Rattle.std.specs.Thread.{IsSync, IsSend};
 ghost use Rattle.slot_evidence.specs.Facts.{Facts, facts_of, facts_of_all, union};
 ghost use Rattle.slot_evidence.specs.Sheet.{IsEnds};
-ghost use Rattle.receiver_pool.specs.Views.{given_sheet};
+ghost use Rattle.evidence_board.specs.Views.{given_sheet};
 ghost use Rattle.receiver_pool.specs.Posting.{MayAllBePosted};
 ghost use Rattle.receiver_pool.specs.inside.Turns.{is_turn, part};
 
-use crate::allowed::{AllFacts, Allowed};
-use crate::board::Board;
 use crate::boards::post_sheet;
 use crate::gate::{Entered, Gate, enter};
-use crate::seats::Seat;
+use evidence_board::{AllFacts, Allowed, Board, Seat};
 use phasing::LONGEST;
 use slot_evidence::{Reception, Sheet, shown_by};
 use std::alloc::{AllocError, Global};

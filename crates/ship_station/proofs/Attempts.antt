@@ -1,14 +1,14 @@
 -- attempts of one distress alert in legal histories
 use Rattle.std.proofs.Common.{◌≡◌, ℕ, zero, suc, ◌+◌, ◌-◌, ◌≤◌, Bool, true, false, Option, Some, None, is_some, unwrap_or, if◌then◌else◌, List, [], ◌∷◌, ◌++◌, drop, refl, sym, ◌∙◌, ap, subst, arith}
-use Rattle.std.proofs.lemmas.Bool.{false≢true, leb-true}
+use Rattle.std.proofs.lemmas.Bool.{false≢true, leb-true, or_parts}
 use Rattle.std.specs.List.{list_any, AllByRecursion}
 use Rattle.std.specs.Option.{option_to_list}
 use Rattle.call_values.specs.Delays.{IsAlertDelay}
-use Rattle.area_rules.specs.declared.acts.Act.{Act}
-use Rattle.area_rules.specs.Histories.{Entry, History, does, NoneIs, last_told}
-use Rattle.area_rules.specs.Moments.{has_passed}
-use Rattle.area_rules.specs.Rules.{Legal}
-use Rattle.area_rules.proofs.PublicLaws.{legal_before}
+use Rattle.traffic_rules.specs.declared.acts.Act.{Act}
+use Rattle.traffic_rules.specs.Histories.{Entry, History, does, NoneIs, last_told}
+use Rattle.traffic_rules.specs.Moments.{has_passed}
+use Rattle.traffic_rules.specs.Rules.{Legal}
+use Rattle.traffic_rules.proofs.PublicLaws.{legal_before}
 use Rattle.traffic_rules.specs.Hearing.{Whereabouts}
 use Rattle.traffic_rules.proofs.PublicLaws.{none_sent, none_replied}
 use Rattle.ship_station.specs.declared.events.ShipWhat.{ShipWhat}
@@ -18,7 +18,7 @@ use Rattle.ship_station.specs.Events.{IsShipWhat, delay_of, alert_of, begins_ale
 use Rattle.ship_station.specs.Past.{is_attempt, attempt_moment, kept, open_alert, last_attempt, delays_given, delays_used, delays_left}
 use Rattle.ship_station.specs.ShipRules.{Identities, attempt, at_tick, held, is_for, due_at, ship_rules}
 use Rattle.ship_station.proofs.Traffic.{attempts_missed, tick_test}
-use Rattle.ship_station.proofs.Endings.{neither, heard_attempt}
+use Rattle.ship_station.proofs.Endings.{heard_attempt}
 
 all_append : (xs ys : List ℕ) → AllByRecursion IsAlertDelay xs → AllByRecursion IsAlertDelay ys → AllByRecursion IsAlertDelay (xs ++ ys)
 all_append [] ys h k = k
@@ -51,7 +51,7 @@ pub last_is : (between earlier : History ShipWhat) (first : Entry ShipWhat) → 
     → last_told attempt_moment (between ++ first ∷ earlier) ≡ Some first.at
 last_is [] earlier first attempt none = ap (λ (b : Bool). told_by b first.at (last_told attempt_moment earlier)) attempt
 last_is (e ∷ between) earlier first attempt none =
-    let parts = neither (does is_attempt e) (list_any (does is_attempt) between) none in
+    let parts = or_parts (does is_attempt e) (list_any (does is_attempt) between) none in
     ap (λ (b : Bool). told_by b e.at (last_told attempt_moment (between ++ first ∷ earlier))) parts.0 ∙ last_is between earlier first attempt parts.1
 
 -- an attempt at a tick comes a delay after the last one

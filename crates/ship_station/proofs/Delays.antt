@@ -4,10 +4,10 @@ use Rattle.std.proofs.lemmas.Bool.{false≢true, and_parts}
 use Rattle.std.proofs.lemmas.List.{drop-append-le, drop-drop}
 use Rattle.std.specs.List.{list_any}
 use Rattle.std.specs.Option.{option_to_list}
-use Rattle.area_rules.specs.declared.acts.Act.{Act}
-use Rattle.area_rules.specs.Histories.{History, does}
-use Rattle.area_rules.specs.Moments.{has_passed}
-use Rattle.area_rules.specs.Rules.{Legal}
+use Rattle.traffic_rules.specs.declared.acts.Act.{Act}
+use Rattle.traffic_rules.specs.Histories.{History, does}
+use Rattle.traffic_rules.specs.Moments.{has_passed}
+use Rattle.traffic_rules.specs.Rules.{Legal}
 use Rattle.traffic_rules.specs.Hearing.{Whereabouts}
 use Rattle.ship_station.specs.declared.events.ShipWhat.{ShipWhat}
 use Rattle.ship_station.specs.declared.events.ShipWhat.TheVariants.{Position, Delay, Alert, Cancel, Tick, Send, Answer, Heard}

@@ -1,16 +1,16 @@
 -- the ends of a ship's distress alert in legal histories
 use Rattle.std.proofs.Common.{◌≡◌, ℕ, ◌==◌, ◌&&◌, ◌||◌, Bool, true, false, Option, Some, None, is_some, if◌then◌else◌, List, [], ◌∷◌, ◌++◌, refl, sym, ◌∙◌, ap, subst}
-use Rattle.std.proofs.lemmas.Bool.{false≢true, eqb-true}
+use Rattle.std.proofs.lemmas.Bool.{false≢true, eqb-true, or_parts}
 use Rattle.std.specs.List.{list_any}
 use Rattle.call_values.specs.declared.calls.Call.{Call}
 use Rattle.call_values.specs.declared.calls.Call.TheVariants as call
-use Rattle.area_rules.specs.declared.acts.Act.{Act}
-use Rattle.area_rules.specs.declared.acts.Act.TheVariants.{AlertEnded}
-use Rattle.area_rules.specs.Histories.{Entry, History, does, NoneIs, last_told, since}
-use Rattle.area_rules.specs.Holding.{Places}
-use Rattle.area_rules.specs.Moments.{has_passed}
-use Rattle.area_rules.specs.Rules.{Legal}
-use Rattle.area_rules.proofs.PublicLaws.{legal_before}
+use Rattle.traffic_rules.specs.declared.acts.Act.{Act}
+use Rattle.traffic_rules.specs.declared.acts.Act.TheVariants.{AlertEnded}
+use Rattle.traffic_rules.specs.Histories.{Entry, History, does, NoneIs, last_told, since}
+use Rattle.traffic_rules.specs.Holding.{Places}
+use Rattle.traffic_rules.specs.Moments.{has_passed}
+use Rattle.traffic_rules.specs.Rules.{Legal}
+use Rattle.traffic_rules.proofs.PublicLaws.{legal_before}
 use Rattle.traffic_rules.specs.Hearing.{Whereabouts, heard_due}
 use Rattle.traffic_rules.proofs.PublicLaws.{none_sent, none_replied, none_heard}
 use Rattle.ship_station.specs.declared.events.ShipWhat.{ShipWhat}
@@ -20,11 +20,6 @@ use Rattle.ship_station.specs.Events.{alert_of, begins_alert, MayEndAlert}
 use Rattle.ship_station.specs.Past.{is_attempt, is_end, kept, open_alert, last_attempt, delays_left}
 use Rattle.ship_station.specs.ShipRules.{Identities, attempt, at_tick, at_call, held, is_for, due_at, ship_rules}
 use Rattle.ship_station.proofs.Traffic.{attempts_missed, ends_missed, tick_test}
-
--- neither of two tests holds
-pub neither : (a b : Bool) → (a || b) ≡ false → (a ≡ false) × (b ≡ false)
-neither false b h = (refl, h)
-neither true b h = absurd (false≢true (sym h))
 
 off_by : (e : Entry ShipWhat) (h : History ShipWhat) (ends : Bool) → begins_alert e ≡ false → open_alert h ≡ None
     → last_told (λ e. alert_of e.what) (if ends then [] else e ∷ since (does is_end) h) ≡ None
@@ -37,7 +32,7 @@ pub off_after_end : (later earlier : History ShipWhat) (ended : Entry ShipWhat) 
 off_after_end [] earlier ended end none =
     ap (λ (b : Bool). last_told (λ e. alert_of e.what) (if b then [] else ended ∷ since (does is_end) earlier)) end
 off_after_end (e ∷ later) earlier ended end none =
-    let parts = neither (begins_alert e) (list_any begins_alert later) none in
+    let parts = or_parts (begins_alert e) (list_any begins_alert later) none in
     off_by e (later ++ ended ∷ earlier) (does is_end e) parts.0 (off_after_end later earlier ended end parts.1)
 
 -- a heard acknowledgement makes no attempt, and ends the alert where it names the ship
@@ -85,7 +80,7 @@ pub none_after_end : (who : Identities) (later earlier : History ShipWhat) (ende
 none_after_end who [] earlier ended legal end none = refl
 none_after_end who (e ∷ later) earlier ended legal end none =
     let h = later ++ ended ∷ earlier in
-    let parts = neither (begins_alert e) (list_any begins_alert later) none in
+    let parts = or_parts (begins_alert e) (list_any begins_alert later) none in
     let here : does is_attempt e ≡ false =
     ap (list_any is_attempt) legal.0.acts ∙ due_attempt who h e.at e.what (off_after_end later earlier ended end parts.1) parts.0 in
     ap (λ (b : Bool). b || list_any (does is_attempt) later) here ∙ none_after_end who later earlier ended legal.1 end parts.1

@@ -4,7 +4,7 @@ use Rattle.call_values.specs.declared.calls.Call.{Call}
 use Rattle.call_values.specs.declared.positions.Fix.{Fix}
 use Rattle.std.specs.Prelude.{Option, List}
 use Rattle.area_rules.specs.Addressing.{is_for_ship}
-use Rattle.area_rules.specs.Histories.{History}
+use Rattle.traffic_rules.specs.Histories.{History}
 use Rattle.call_values.specs.Views.{sender_of}
 use Rattle.traffic_rules.specs.Hearing.{heard_refusal}
 use Rattle.ship_station.specs.declared.events.ShipWhat.{ShipWhat}

@@ -1,7 +1,7 @@
 -- what a ship keeps after an event that gives no position and no delay, and begins no alert
 use Rattle.std.proofs.Common.{◌≡◌, ℕ, suc, ◌&&◌, Bool, true, false, Option, Some, None, is_some, unwrap_or, List, [], ◌∷◌, ◌++◌, drop, if◌then◌else◌, refl, sym, ◌∙◌, ap}
 use Rattle.std.specs.Option.{option_to_list}
-use Rattle.area_rules.specs.Histories.{Entry, History, does, last_told, since}
+use Rattle.traffic_rules.specs.Histories.{Entry, History, does, last_told, since}
 use Rattle.traffic_rules.specs.Hearing.{Whereabouts}
 use Rattle.ship_station.specs.declared.events.ShipWhat.{ShipWhat}
 use Rattle.ship_station.specs.declared.alerts.OwnAlert.{OwnAlert}

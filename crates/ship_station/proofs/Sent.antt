@@ -4,13 +4,13 @@ use Rattle.std.proofs.lemmas.Bool.{false≢true}
 use Rattle.std.specs.List.{AllByRecursion}
 use Rattle.call_values.specs.declared.calls.Call.{Call}
 use Rattle.call_values.specs.declared.calls.Call.TheVariants as call
-use Rattle.area_rules.specs.declared.acts.Act.{Act}
-use Rattle.area_rules.specs.declared.acts.Act.TheVariants.{Shown, Held, Answered, GaveUp, Distress, AlertEnded, CasualtyClosed}
-use Rattle.area_rules.specs.declared.acts.Act.TheVariants as act
-use Rattle.area_rules.specs.Histories.{Entry, History}
-use Rattle.area_rules.specs.Moments.{has_passed}
-use Rattle.area_rules.specs.Rules.{Legal}
-use Rattle.area_rules.proofs.PublicLaws.{follows_rules, legal_before}
+use Rattle.traffic_rules.specs.declared.acts.Act.{Act}
+use Rattle.traffic_rules.specs.declared.acts.Act.TheVariants.{Shown, Held, Answered, GaveUp, Distress, AlertEnded, CasualtyClosed}
+use Rattle.traffic_rules.specs.declared.acts.Act.TheVariants as act
+use Rattle.traffic_rules.specs.Histories.{Entry, History}
+use Rattle.traffic_rules.specs.Moments.{has_passed}
+use Rattle.traffic_rules.specs.Rules.{Legal}
+use Rattle.traffic_rules.proofs.PublicLaws.{follows_rules, legal_before}
 use Rattle.traffic_rules.specs.Repeating.{repeats}
 use Rattle.traffic_rules.specs.Sending.{is_sendable}
 use Rattle.traffic_rules.specs.Sendings.{is_alert}

@@ -1,11 +1,11 @@
 -- after the end of its alert a ship sends no alert until an event begins one
 use Rattle.std.proofs.Common.{◌≡◌, ℕ, inl, inr, true, false, Some, None, is_some, List, [], ◌∷◌, ◌++◌, refl, sym, ◌∙◌, ap}
-use Rattle.std.proofs.lemmas.Bool.{false≢true, or_from}
+use Rattle.std.proofs.lemmas.Bool.{false≢true, or_from, or_parts}
 use Rattle.std.specs.List.{list_any}
-use Rattle.area_rules.specs.declared.acts.Act.{Act}
-use Rattle.area_rules.specs.declared.acts.Act.TheVariants as act
-use Rattle.area_rules.specs.Histories.{Entry, History, does, NoneIs}
-use Rattle.area_rules.specs.Rules.{Legal}
+use Rattle.traffic_rules.specs.declared.acts.Act.{Act}
+use Rattle.traffic_rules.specs.declared.acts.Act.TheVariants as act
+use Rattle.traffic_rules.specs.Histories.{Entry, History, does, NoneIs}
+use Rattle.traffic_rules.specs.Rules.{Legal}
 use Rattle.traffic_rules.specs.Sendings.{is_alert, sends}
 use Rattle.ship_station.specs.declared.events.ShipWhat.{ShipWhat}
 use Rattle.ship_station.specs.declared.events.ShipWhat.TheVariants.{Alert, Tick}
@@ -14,7 +14,7 @@ use Rattle.ship_station.specs.Attempted.{IsTried}
 use Rattle.ship_station.specs.Events.{alert_of, begins_alert}
 use Rattle.ship_station.specs.Past.{is_end, open_alert}
 use Rattle.ship_station.specs.ShipRules.{Identities, ship_rules}
-use Rattle.ship_station.proofs.Endings.{neither, off_after_end}
+use Rattle.ship_station.proofs.Endings.{off_after_end}
 use Rattle.ship_station.proofs.Sent.{IsSentSo, AreSentSo, entry_so}
 
 some_is_none : (alert : OwnAlert) → Some alert ≡ None → ⊥
@@ -41,7 +41,7 @@ pub silent_after_end : (who : Identities) (later earlier : History ShipWhat) (en
 silent_after_end who [] earlier ended legal end none = refl
 silent_after_end who (e ∷ later) earlier ended legal end none =
     let h = later ++ ended ∷ earlier in
-    let parts = neither (begins_alert e) (list_any begins_alert later) none in
+    let parts = or_parts (begins_alert e) (list_any begins_alert later) none in
     or_from (does (sends is_alert) e) (list_any (does (sends is_alert)) later)
     (all_silent who.own h e.what (off_after_end later earlier ended end parts.1) parts.0 e.acts (entry_so who e h legal))
     (silent_after_end who later earlier ended legal.1 end parts.1)

@@ -1,7 +1,7 @@
 -- How a ship sends its distress alert: ITU-R M.541, distress alert attempts.
 use Rattle.std.specs.Prelude.{◌≡◌, ℕ, Some}
-use Rattle.area_rules.specs.declared.acts.Act.{Act}
-use Rattle.area_rules.specs.Histories.{History}
+use Rattle.traffic_rules.specs.declared.acts.Act.{Act}
+use Rattle.traffic_rules.specs.Histories.{History}
 use Rattle.ship_station.specs.declared.events.ShipWhat.{ShipWhat}
 use Rattle.ship_station.specs.declared.events.ShipWhat.TheVariants.{Alert, Tick}
 use Rattle.ship_station.specs.declared.alerts.OwnAlert.{OwnAlert}

@@ -7,7 +7,7 @@ use Rattle.call_values.specs.Delays.{IsAlertDelay}
 use Rattle.call_values.specs.Positions.{IsPosition}
 use Rattle.dsc_symbols.specs.Natures.{IsNature}
 use Rattle.dsc_symbols.specs.Telecommands.{IsComm}
-use Rattle.area_rules.specs.Histories.{Entry}
+use Rattle.traffic_rules.specs.Histories.{Entry}
 use Rattle.traffic_rules.specs.Occurrences.{Occurrence, ticks, answers, hears, other}
 use Rattle.traffic_rules.specs.Hearing.{Whereabouts}
 use Rattle.ship_station.specs.declared.events.ShipWhat.{ShipWhat}

@@ -1,10 +1,10 @@
 -- What a ship's history tells: attempts of 5 calls, and the delays between them, are those of ITU-R M.541, distress alert attempts; that an
 -- operator lists the delays is this project's profile.
 use Rattle.std.specs.Prelude.{ℕ, ◌==◌, ◌&&◌, Bool, true, false, Option, Some, None, unwrap_or, List, drop, if◌then◌else◌}
-use Rattle.area_rules.specs.declared.acts.Act.{Act}
-use Rattle.area_rules.specs.declared.acts.Act.TheVariants.{Send, AlertEnded}
+use Rattle.traffic_rules.specs.declared.acts.Act.{Act}
+use Rattle.traffic_rules.specs.declared.acts.Act.TheVariants.{Send, AlertEnded}
 use Rattle.traffic_rules.specs.Hearing.{Whereabouts}
-use Rattle.area_rules.specs.Histories.{Entry, History, does, last_told, all_told, how_many, since}
+use Rattle.traffic_rules.specs.Histories.{Entry, History, does, last_told, all_told, how_many, since}
 use Rattle.ship_station.specs.declared.events.ShipWhat.{ShipWhat}
 use Rattle.ship_station.specs.declared.events.ShipWhat.TheVariants.{Tick}
 use Rattle.ship_station.specs.declared.alerts.OwnAlert.{OwnAlert}

@@ -3,16 +3,16 @@
 use Rattle.std.specs.Prelude.{ℕ, ◌==◌, ◌&&◌, Bool, Option, Some, None, is_some, is_none, List, [], ◌∷◌, ◌++◌, length, not, if◌then◌else◌}
 use Rattle.call_values.specs.declared.calls.Call.{Call}
 use Rattle.call_values.specs.declared.calls.Call.TheVariants as call
-use Rattle.area_rules.specs.declared.acts.Act.{Act}
-use Rattle.area_rules.specs.declared.acts.Act.TheVariants.{Distress, AlertEnded}
-use Rattle.area_rules.specs.declared.acts.Act.TheVariants as act
-use Rattle.area_rules.specs.declared.refusals.StationRefusal.{StationRefusal}
-use Rattle.area_rules.specs.declared.refusals.StationRefusal.TheVariants.{AlertActive, NoAlert, Full, NeedsDelay}
+use Rattle.traffic_rules.specs.declared.acts.Act.{Act}
+use Rattle.traffic_rules.specs.declared.acts.Act.TheVariants.{Distress, AlertEnded}
+use Rattle.traffic_rules.specs.declared.acts.Act.TheVariants as act
+use Rattle.traffic_rules.specs.declared.refusals.StationRefusal.{StationRefusal}
+use Rattle.traffic_rules.specs.declared.refusals.StationRefusal.TheVariants.{AlertActive, NoAlert, Full, NeedsDelay}
 use Rattle.area_rules.specs.Addressing.{is_for_ship}
-use Rattle.area_rules.specs.Histories.{History}
-use Rattle.area_rules.specs.Holding.{Places}
-use Rattle.area_rules.specs.Moments.{has_passed}
-use Rattle.area_rules.specs.Rules.{Rules}
+use Rattle.traffic_rules.specs.Histories.{History}
+use Rattle.traffic_rules.specs.Holding.{Places}
+use Rattle.traffic_rules.specs.Moments.{has_passed}
+use Rattle.traffic_rules.specs.Rules.{Rules}
 use Rattle.call_values.specs.Views.{sender_of}
 use Rattle.traffic_rules.specs.HeldTold.{all_held}
 use Rattle.traffic_rules.specs.Sending.{send_refusal, send_due}

@@ -1,7 +1,7 @@
 -- The histories that a ship stands for: this project's profile.
 use Rattle.std.specs.Prelude.{◌≡◌}
-use Rattle.area_rules.specs.Histories.{History, last_moment}
-use Rattle.area_rules.specs.Rules.{Legal}
+use Rattle.traffic_rules.specs.Histories.{History, last_moment}
+use Rattle.traffic_rules.specs.Rules.{Legal}
 use Rattle.ship_station.specs.declared.events.ShipWhat.{ShipWhat}
 use Rattle.ship_station.specs.declared.ships.Ship.{Ship}
 use Rattle.ship_station.specs.Past.{kept, open_alert, last_attempt, delays_left}

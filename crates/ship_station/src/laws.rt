@@ -1,9 +1,9 @@
 ghost use Rattle.std.specs.Prelude.{◌≡◌, ℕ, ◌+◌, ◌≤◌, ◌⊎◌, Bool, false, List, ◌∷◌, ◌++◌, IsTrue};
 ghost use Rattle.call_values.specs.declared.calls.Call.{Call};
-ghost use Rattle.area_rules.specs.declared.acts.Act.{Act};
-ghost use Rattle.area_rules.specs.declared.acts.Act.TheVariants as act;
-ghost use Rattle.area_rules.specs.Histories.{Entry, History, does, NoneIs};
-ghost use Rattle.area_rules.specs.Rules.{Legal};
+ghost use Rattle.traffic_rules.specs.declared.acts.Act.{Act};
+ghost use Rattle.traffic_rules.specs.declared.acts.Act.TheVariants as act;
+ghost use Rattle.traffic_rules.specs.Histories.{Entry, History, does, NoneIs};
+ghost use Rattle.traffic_rules.specs.Rules.{Legal};
 ghost use Rattle.traffic_rules.specs.Sendings.{asking, is_alert, sends, times_held, times_sent, times_sent_again};
 ghost use Rattle.ship_station.specs.declared.events.ShipWhat.{ShipWhat};
 ghost use Rattle.ship_station.specs.Attempted.{IsAttempted};

@@ -5,9 +5,9 @@ ghost use Rattle.call_values.specs.Views.{sender_of};
 ghost use Rattle.traffic_rules.specs.Hearing.{heard_refusal, heard_due};
 ghost use Rattle.traffic_rules.specs.After.{after_hearing};
 ghost use Rattle.ship_station.specs.Past.{is_attempt};
-ghost use Rattle.area_rules.specs.declared.acts.Act.TheVariants.{AlertEnded};
-ghost use Rattle.area_rules.specs.Histories.{History};
-ghost use Rattle.area_rules.specs.Rules.{listed, refusal_or, answer_to, continued};
+ghost use Rattle.traffic_rules.specs.declared.acts.Act.TheVariants.{AlertEnded};
+ghost use Rattle.traffic_rules.specs.Histories.{History};
+ghost use Rattle.traffic_rules.specs.Rules.{listed, refusal_or, answer_to, continued};
 ghost use Rattle.traffic_rules.specs.Giving.{answer_with};
 ghost use Rattle.ship_station.specs.declared.events.ShipWhat.{ShipWhat as What};
 ghost use Rattle.ship_station.specs.ShipRules.{Identities, attempt, at_tick, ship_rules};
@@ -17,10 +17,12 @@ ghost use Rattle.ship_station.specs.inside.Handling.{AnswersEvent, GoesOn};
 use crate::alerts::OwnAlert;
 use crate::events::{ShipEvent, ShipWhat};
 use crate::groups::Groups;
-use area_rules::{Act, Acts, HeldCalls, StationRefusal, for_ship, has_passed, time_back};
+use area_rules::for_ship;
 use arrayvec::ArrayVec;
 use call_values::{AlertDelay, Call, Casualty, Comm, HourMinute, Mmsi, Nature, Position};
-use traffic_rules::{answer, give, hear, repeat, send};
+use traffic_rules::{
+    Act, Acts, HeldCalls, StationRefusal, answer, give, has_passed, hear, repeat, send, time_back,
+};
 
 /// How many times in a row a distress alert is sent at an attempt.
 const CALLS_OF_AN_ATTEMPT: u8 = 5;

@@ -1,20 +1,15 @@
 -- The text of lines begins with that of the first of them.
-use Rattle.std.proofs.Common.{◌≡◌, ◌⊎◌, inl, inr, ℕ, Option, Some, None, List, [], ◌∷◌, ◌++◌, refl, sym, ap, subst, ◌∙◌, append_assoc, append-nil}
+use Rattle.std.proofs.Common.{◌≡◌, inl, inr, ℕ, Option, Some, None, List, [], ◌∷◌, ◌++◌, refl, sym, ap, subst, ◌∙◌, append-nil}
 use Rattle.traffic_lines.specs.declared.worlds.WorldLine.{WorldLine}
 use Rattle.traffic_lines.specs.declared.worlds.WorldLine.TheVariants.{Ship, Coast, Base, Entry}
 use Rattle.line_engine.specs.Lines.{Lines}
 use Rattle.line_engine.specs.Determined.{BeginsWith}
+use Rattle.station_lines.proofs.PublicLaws.{no_more, last_of, begins_itself, begins_further}
 use Rattle.exchange.specs.WorldHistories.{ends_of}
 use Rattle.exchange.specs.WorldRules.{answer_behind}
 use Rattle.station_exchange.specs.Events.{event_of}
 use Rattle.station_exchange.specs.Said.{Said, base_of, parties_of, world_of, AreSaid}
 use Rattle.station_exchange.specs.Output.{text_of, entry_lines}
-
-begins_itself : (text : List ℕ) → BeginsWith text text
-begins_itself text = ([], sym (append-nil text))
-
-begins_further : (whole middle text : List ℕ) → BeginsWith whole middle → BeginsWith middle text → BeginsWith whole text
-begins_further whole middle text a b = (b.0 ++ a.0, a.1 ∙ ap (λ (t : List ℕ). t ++ a.0) b.1 ∙ append_assoc text b.0 a.0)
 
 -- one line more
 one_more : (last : Option WorldLine) (said : Said) → BeginsWith (text_of (world_of (last ∷ said))) (text_of (world_of said))
@@ -31,27 +26,6 @@ pub record IsFront (first : Lines) (whole : List ℕ) : Type 0 where
   pub said : Said
   pub are_said : AreSaid said first
   pub begins : BeginsWith whole (text_of (world_of said))
-
--- the last line is the first lines' own, or one of the later ones
-no_more : (first later : Lines) → [] ≡ first ++ later → first ≡ []
-no_more [] later e = refl
-no_more (l ∷ first) later e = absurd (cc)
-
-tails : {x y : List ℕ} {xs ys : Lines} → x ∷ xs ≡ y ∷ ys → (x ≡ y) × (xs ≡ ys)
-tails e = (cc, cc)
-
-none_later : (first later : Lines) → first ++ later ≡ [] → later ≡ []
-none_later [] later e = e
-none_later (l ∷ first) later e = absurd (cc)
-
-last_of : (first later before : Lines) (text : List ℕ) → first ++ later ≡ before ++ text ∷ [] → (later ≡ []) ⊎ ((rest : Lines) × (before ≡ first ++ rest))
-last_of [] later before text e = inr (before, refl)
-last_of (l ∷ first) later [] text e = inl (none_later first later (tails e).1)
-last_of (l ∷ first) later (b ∷ before) text e =
-    elim (last_of first later before text (tails e).1) [
-      | inl none ↦ inl none
-      | inr rest ↦ inr (rest.0, ap (λ (h : List ℕ). h ∷ before) (sym (tails e).0) ∙ ap (λ (t : Lines). l ∷ t) rest.1)
-    ]
 
 further : (first : Lines) (whole middle : List ℕ) → BeginsWith whole middle → IsFront first middle → IsFront first whole
 further first whole middle begins f =

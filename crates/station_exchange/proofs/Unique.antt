@@ -1,5 +1,6 @@
 -- Lines say one thing.
 use Rattle.std.proofs.Common.{◌≡◌, ℕ, Option, List, [], ◌∷◌, ◌++◌, refl, sym, ap, subst, ◌∙◌}
+use Rattle.std.proofs.lemmas.List.{same_from_push}
 use Rattle.line_grammar.specs.Columns.{IsColumn}
 use Rattle.line_engine.specs.Lines.{Lines}
 use Rattle.line_engine.specs.declared.command.Refusal.TheVariants.{Column, TooManyGroups, Memory}
@@ -8,6 +9,7 @@ use Rattle.line_engine.specs.Commands.{IsTakenBehind, IsRefusedBehind}
 use Rattle.traffic_lines.specs.declared.worlds.ExchangePoint.{ExchangePoint}
 use Rattle.traffic_lines.specs.declared.worlds.WorldLine.{WorldLine}
 use Rattle.dsc_files.specs.WorldLine.{IsWorldFileLine}
+use Rattle.station_lines.proofs.PublicLaws.{not_empty}
 use Rattle.station_exchange.specs.Said.{Said, point_of, AreSaid}
 use Rattle.station_exchange.specs.Meaning.{exchange_meaning}
 use Rattle.station_exchange.specs.inside.Progress.{Refuses}
@@ -16,28 +18,12 @@ use Rattle.station_exchange.specs.inside.Progress.{Refuses}
 abbrev pub OneWorldLine : Type 0
 OneWorldLine = (at : ExchangePoint) (a b : Option WorldLine) (text : List ℕ) → IsWorldFileLine at a text → IsWorldFileLine at b text → a ≡ b
 
-not_empty : (p : Lines) (s : List ℕ) → [] ≡ p ++ s ∷ [] → ⊥
-not_empty [] s h = cc
-not_empty (x ∷ p) s h = cc
-
-parts : {x y : List ℕ} {xs ys : Lines} → x ∷ xs ≡ y ∷ ys → (x ≡ y) × (xs ≡ ys)
-parts h = (cc, cc)
-
-last_parts : (p q : Lines) (s t : List ℕ) → p ++ s ∷ [] ≡ q ++ t ∷ [] → (p ≡ q) × (s ≡ t)
-last_parts [] [] s t h = (refl, cc)
-last_parts [] (y ∷ q) s t h = absurd (not_empty q t (parts h).1)
-last_parts (x ∷ p) [] s t h = absurd (not_empty p s (parts (sym h)).1)
-last_parts (x ∷ p) (y ∷ q) s t h =
-    let both = parts h in
-    let rest = last_parts p q s t both.1 in
-    (ap (λ (l : List ℕ). l ∷ p) both.0 ∙ ap (λ (l : Lines). y ∷ l) rest.0, rest.1)
-
 pub same_said : OneWorldLine → (a b : Said) (lines : Lines) → AreSaid a lines → AreSaid b lines → a ≡ b
 same_said one [] [] lines x y = refl
 same_said one [] (w ∷ b) lines x y = absurd (not_empty y.0 y.1 (sym x ∙ y.2))
 same_said one (v ∷ a) [] lines x y = absurd (not_empty x.0 x.1 (sym y ∙ x.2))
 same_said one (v ∷ a) (w ∷ b) lines x y =
-    let both = last_parts x.0 y.0 x.1 y.1 (sym x.2 ∙ y.2) in
+    let both = same_from_push x.0 y.0 x.1 y.1 (sym x.2 ∙ y.2) in
     let rest : a ≡ b = same_said one a b x.0 x.4 (subst (AreSaid b) (sym both.0) y.4) in
     let there : IsWorldFileLine (point_of a) w x.1 =
     subst (λ (s : Said). IsWorldFileLine (point_of s) w x.1) (sym rest) (subst (λ (t : List ℕ). IsWorldFileLine (point_of b) w t) (sym both.1) y.3) in

@@ -1,7 +1,7 @@
 -- What an exchange writes of its events: this project's profile.
 use Rattle.std.specs.Prelude.{ℕ, Bool, true, ◌&&◌, List, [], ◌∷◌, ◌++◌, codes, decimal}
 use Rattle.std.specs.List.{flat_map}
-use Rattle.area_rules.specs.declared.acts.Act.{Act}
+use Rattle.traffic_rules.specs.declared.acts.Act.{Act}
 use Rattle.act_texts.specs.Moments.{at_moment}
 use Rattle.station_lines.specs.Answers.{act_line, refusal_line}
 use Rattle.exchange.specs.declared.events.WorldEvent.{WorldEvent}

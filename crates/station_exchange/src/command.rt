@@ -8,11 +8,11 @@ ghost use Rattle.station_exchange.specs.declared.stages.Stage.TheVariants as sta
 ghost use Rattle.station_exchange.specs.inside.Gives.{gives_text};
 
 use crate::stages::{Stage, behind_base, behind_coast, behind_ship};
-use area_rules::Acts;
 use call_values::{Band, Mmsi};
 use dsc_files::{Status, exchange_columns, one_exchange_line, says_nothing};
 use line_engine::{Command, Refusal};
 use std::alloc::{AllocError, Global};
+use traffic_rules::Acts;
 
 /// The command that plays a ship and a coast station against each other: each event of the lines is told as soon as it happens.
 #[derive(Drop)]

@@ -7,13 +7,13 @@ ghost use Rattle.station_exchange.specs.inside.Progress.{IsOwnLine, IsRefusedAt,
 ghost use Rattle.station_exchange.specs.inside.Progress as progress;
 
 use crate::steps::happen;
-use area_rules::Acts;
 use call_values::bounds::LAST_BASE;
 use call_values::{Band, Mmsi};
 use exchange::World;
 use line_engine::Refusal;
 use std::alloc::Global;
 use traffic_lines::{read_entry, read_exchange_base, read_exchange_coast, read_exchange_ship};
+use traffic_rules::Acts;
 
 /// An exchange whose ends and base are named, at its events.
 #[derive(Drop)]

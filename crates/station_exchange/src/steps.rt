@@ -9,12 +9,12 @@ ghost use Rattle.station_exchange.specs.inside.Happens.{Happens};
 
 use crate::events::event_of;
 use crate::telling::append_nothing;
-use area_rules::Acts;
 use call_values::bounds::LAST_BASE;
 use exchange::{Outcome, World, WorldEvent};
 use station_lines::{append_acts, append_refusal};
 use std::alloc::AllocError;
 use traffic_lines::Entry;
+use traffic_rules::Acts;
 
 /// Does what is due at an event, appends the lines of what it gives, each behind what names its end, and tells whether it was accepted.
 /// One list of acts serves all events. After want of memory what was appended has no meaning.

@@ -5,8 +5,8 @@ ghost use Rattle.traffic_rules.specs.Giving.{answer_with};
 ghost use Rattle.station_lines.specs.Answers.{act_line, refusal_line, answer_lines};
 
 use act_texts::{put_act, put_refused};
-use area_rules::{Act, StationRefusal};
 use std::alloc::AllocError;
+use traffic_rules::{Act, StationRefusal};
 
 /// Appends the line of an act.
 #[tactic(auto, unfolding(crate::specs::Answers::act_line))]

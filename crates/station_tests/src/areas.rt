@@ -2,6 +2,7 @@ use crate::worked::{individual, mmsi, service, unplaced};
 use area_rules::*;
 use call_values::{Area, Call, End, Fix, HourMinute, Kind, Position, To};
 use std::test::Fail;
+use traffic_rules::*;
 
 #[test]
 fn waits(rt: HostRuntime) {

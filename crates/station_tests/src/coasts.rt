@@ -1,10 +1,8 @@
-use crate::worked::{casualty, mmsi, nothing, sent, unplaced};
-use area_rules::{Act, Acts, StationRefusal, put, single};
-use arrayvec::ArrayVec;
-use call_values::{Call, Casualty, Category, CoastDelay, Kind, To};
+use crate::worked::{Station, and, casualty, follow, mmsi, nothing, sent, service, unplaced};
+use call_values::{Call, Casualty, CoastDelay, Kind, To};
 use coast_station::*;
-use std::process::Abort;
 use std::test::Fail;
+use traffic_rules::{Act, Acts, StationRefusal, single};
 
 const COAST: u32 = 2_241_022;
 
@@ -14,17 +12,17 @@ const SHIP: u32 = 338_040_079;
 
 const OTHER_SHIP: u32 = 338_158_137;
 
-/// An event at a moment, and what the station does at it.
-type Row = (u64, CoastWhat, Result<Acts, StationRefusal>);
+impl Station for Coast {
+    type What = CoastWhat;
 
-/// A station in this band goes through events in order, and does at each what its row says.
-fn follow(rt: &impl Abort, band: Band, rows: &[Row]) -> Result<(), Fail> {
-    let mut coast = Coast::new(mmsi(COAST)?, band);
-    for row in rows {
-        let (at, what) = (row.0, row.1);
-        assert_eq!(rt; coast.step(&CoastEvent { at, what }), row.2, "at {at}");
+    fn go(&mut self, at: u64, what: CoastWhat, acts: &mut Acts) -> Result<(), StationRefusal> {
+        self.step_into(&CoastEvent { at, what }, acts)
     }
-    Ok(())
+}
+
+/// A new station in this band.
+fn coast(band: Band) -> Result<Coast, Fail> {
+    Ok(Coast::new(mmsi(COAST)?, band))
 }
 
 fn accept(number: u32, milliseconds: u32) -> Result<CoastWhat, Fail> {
@@ -35,13 +33,6 @@ fn heard(casualty: Casualty) -> CoastWhat {
     CoastWhat::Heard(Call::Alert(casualty))
 }
 
-fn sent_and_held(call: Call, number: u8) -> Acts {
-    let mut acts = ArrayVec::new();
-    put(&mut acts, Act::Send { call, times: 1 });
-    put(&mut acts, Act::Held(number));
-    acts
-}
-
 fn acknowledged(casualty: Casualty) -> Result<Acts, Fail> {
     let from = mmsi(COAST)?;
     Ok(sent(Call::Ack { from, casualty }))
@@ -49,29 +40,6 @@ fn acknowledged(casualty: Casualty) -> Result<Acts, Fail> {
 
 fn distress(casualty: Casualty) -> Acts {
     single(Act::Distress(casualty))
-}
-
-#[test]
-fn one_list_takes_the_acts_of_every_event(rt: HostRuntime) -> Result<(), Fail> {
-    let ship = unplaced(SHIP)?;
-    let mut coast = Coast::new(mmsi(COAST)?, Band::Vhf);
-    let mut acts = ArrayVec::new();
-    let unknown = Err(StationRefusal::NoCasualty(mmsi(OTHER_SHIP)?));
-    let rows = [
-        (0, heard(ship), Ok(()), single(Act::Distress(ship))),
-        (1, accept(OTHER_SHIP, 60_000)?, unknown, nothing()),
-        (2, accept(SHIP, 60_000)?, Ok(()), acknowledged(ship)?),
-        (3, CoastWhat::Tick, Ok(()), nothing()),
-    ];
-    for (at, what, want, given) in rows {
-        assert_eq!(rt;
-            coast.step_into(&CoastEvent { at, what }, &mut acts),
-            want,
-            "at {at}"
-        );
-        assert_eq!(rt; acts, given, "at {at}");
-    }
-    Ok(())
 }
 
 #[test]
@@ -101,12 +69,14 @@ fn on_mf_an_alert_waits_for_its_acknowledgement(rt: HostRuntime) -> Result<(), F
         (70_000, heard(third), Ok(distress(third))),
         (130_000, accept(SHIP, 60_000)?, Ok(acknowledged(third)?)),
     ];
-    follow(&rt, Band::Mf, &rows)
+    follow(&rt, &mut coast(Band::Mf)?, &rows)
 }
 
 #[test]
 fn on_vhf_an_alert_is_acknowledged_at_once(rt: HostRuntime) -> Result<(), Fail> {
     let alert = casualty(SHIP, 20, 19)?;
+    let other = unplaced(OTHER_SHIP)?;
+    let unknown = StationRefusal::NoCasualty(other.mmsi);
     let rows = [
         (0, heard(alert), Ok(distress(alert))),
         (
@@ -114,10 +84,13 @@ fn on_vhf_an_alert_is_acknowledged_at_once(rt: HostRuntime) -> Result<(), Fail> 
             CoastWhat::Accept(alert.mmsi, None),
             Ok(acknowledged(alert)?),
         ),
+        (6_000, accept(OTHER_SHIP, 60_000)?, Err(unknown)),
+        (7_000, heard(other), Ok(distress(other))),
+        (8_000, accept(OTHER_SHIP, 60_000)?, Ok(acknowledged(other)?)),
         (59_999, CoastWhat::Tick, Ok(nothing())),
         (60_000, CoastWhat::Tick, Ok(nothing())),
     ];
-    follow(&rt, Band::Vhf, &rows)
+    follow(&rt, &mut coast(Band::Vhf)?, &rows)
 }
 
 #[test]
@@ -161,37 +134,25 @@ fn a_casualty_is_told_on_and_closed(rt: HostRuntime) -> Result<(), Fail> {
             Err(StationRefusal::NoCasualty(alert.mmsi)),
         ),
     ];
-    follow(&rt, Band::Mf, &rows)
+    follow(&rt, &mut coast(Band::Mf)?, &rows)
 }
 
 #[test]
 fn services(rt: HostRuntime) -> Result<(), Fail> {
-    let own = mmsi(COAST)?;
-    let ship = mmsi(SHIP)?;
-    let test = |to, from, reply| Call::Service {
-        to,
-        category: Category::Safety,
-        from,
-        kind: Kind::Test { reply },
-    };
-    let asks = Call::Service {
-        to: own,
-        category: Category::Safety,
-        from: ship,
-        kind: Kind::AskPosition,
-    };
+    let test = Kind::Test { reply: false };
+    let reply = service(SHIP, COAST, Kind::Test { reply: true })?;
     let rows = [
-        (test(own, ship, false), sent(test(ship, own, true))),
-        (asks, single(Act::Shown)),
-        (test(ship, own, false), nothing()),
-        (test(ship, mmsi(OTHER_SHIP)?, false), nothing()),
+        (0, service(COAST, SHIP, test)?, sent(reply)),
+        (
+            1,
+            service(COAST, SHIP, Kind::AskPosition)?,
+            single(Act::Shown),
+        ),
+        (2, service(SHIP, COAST, test)?, nothing()),
+        (3, service(SHIP, OTHER_SHIP, test)?, nothing()),
     ];
-    let mut coast = Coast::new(own, Band::Mf);
-    for (call, want) in rows {
-        let what = CoastWhat::Heard(call);
-        assert_eq!(rt; coast.step(&CoastEvent { at: 0, what }), Ok(want));
-    }
-    Ok(())
+    let rows = rows.map(|(at, call, acts)| (at, CoastWhat::Heard(call), Ok(acts)));
+    follow(&rt, &mut coast(Band::Mf)?, &rows)
 }
 
 #[test]
@@ -224,19 +185,19 @@ fn a_relay_waits_for_its_acknowledgement(rt: HostRuntime) -> Result<(), Fail> {
         (
             2,
             CoastWhat::Relay(alert.mmsi, to, true),
-            Ok(sent_and_held(relay, 1)),
+            Ok(and(sent(relay), Act::Held(1))),
         ),
         (300_001, CoastWhat::Tick, Ok(nothing())),
         (300_002, CoastWhat::Tick, Ok(sent(relay))),
         (600_002, CoastWhat::Tick, Ok(single(Act::GaveUp(1)))),
         (4, CoastWhat::Tick, Err(back)),
     ];
-    follow(&rt, Band::Hf, &rows)
+    follow(&rt, &mut coast(Band::Hf)?, &rows)
 }
 
 #[test]
 fn sixteen_casualties(rt: HostRuntime) -> Result<(), Fail> {
-    let mut coast = Coast::new(mmsi(COAST)?, Band::Mf);
+    let mut coast = coast(Band::Mf)?;
     for number in 1..=16u8 {
         let alert = casualty(u32::from(number), 20, 19)?;
         let event = CoastEvent {
@@ -249,12 +210,9 @@ fn sixteen_casualties(rt: HostRuntime) -> Result<(), Fail> {
     let again = casualty(3, 20, 20)?;
     let own = heard(casualty(COAST, 20, 20)?);
     let rows = [
-        (seventeenth, Err(StationRefusal::Full)),
-        (heard(again), Ok(distress(again))),
-        (own, Ok(nothing())),
+        (0, seventeenth, Err(StationRefusal::Full)),
+        (0, heard(again), Ok(distress(again))),
+        (0, own, Ok(nothing())),
     ];
-    for (what, want) in rows {
-        assert_eq!(rt; coast.step(&CoastEvent { at: 0, what }), want);
-    }
-    Ok(())
+    follow(&rt, &mut coast, &rows)
 }

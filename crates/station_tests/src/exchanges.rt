@@ -4,13 +4,13 @@ ghost use Rattle.std.specs.Prelude.{IsTrue};
 ghost use Rattle.exchange.specs.WorldRules.{IsOwnOfShip, IsOwnOfCoast, IsFromOutside};
 
 use crate::worked::{individual, mmsi, nothing, sent, service, unplaced};
-use area_rules::{Act, StationRefusal, single};
 use call_values::{AlertDelay, Band, Call, CoastDelay, Comm, End, Kind, Nature, To};
 use coast_station::{Coast, CoastEvent, CoastWhat};
 use exchange::{Told, World, WorldEvent};
 use ship_station::{Ship, ShipEvent, ShipWhat};
 use std::alloc::Global;
 use std::test::Fail;
+use traffic_rules::{Act, StationRefusal, single};
 
 const SHIP: u32 = 338_040_079;
 
@@ -142,11 +142,20 @@ fn nothing_comes_where_nothing_was_sent(rt: HostRuntime) -> Result<(), Fail> {
     Ok(())
 }
 
-/// The accepted events of both ends, each with its moment.
+/// An event at an end, which may be a heard call.
+#[derive(Clone, Copy)]
+enum AtEnd {
+    Ship(ShipEvent),
+    Coast(CoastEvent),
+}
+
+/// Both ends, and the calls that each sent.
 #[derive(Drop)]
-struct Plain {
-    ship: Vec<(u64, ShipWhat)>,
-    coast: Vec<(u64, CoastWhat)>,
+struct Ends {
+    ship: Ship,
+    coast: Coast,
+    from_ship: Vec<Call>,
+    from_coast: Vec<Call>,
 }
 
 /// The calls that these acts send are put last, each once.
@@ -159,88 +168,73 @@ fn add_sent(sent: &mut Vec<Call>, acts: &[Act]) -> Result<(), Fail> {
     Ok(())
 }
 
-impl Plain {
-    fn new(alloc: Global) -> Plain {
-        Plain {
-            ship: Vec::new(alloc),
-            coast: Vec::new(alloc),
+impl Ends {
+    /// Both ends after these events.
+    fn after(alloc: Global, events: &[AtEnd]) -> Result<Ends, Fail> {
+        let mut ends = Ends {
+            ship: Ship::new(mmsi(SHIP)?, &[]),
+            coast: Coast::new(mmsi(COAST)?, Band::Mf),
+            from_ship: Vec::new(alloc),
+            from_coast: Vec::new(alloc),
+        };
+        for event in events {
+            ends.step(event)?;
         }
+        Ok(ends)
     }
 
-    /// The ship after its events, with the calls that it sent.
-    fn ship_now(&self, alloc: Global) -> Result<(Ship, Vec<Call>), Fail> {
-        let mut ship = Ship::new(mmsi(SHIP)?, &[]);
-        let mut sent = Vec::new(alloc);
-        for accepted in self.ship.iter() {
-            let (at, what) = *accepted;
-            if let Ok(acts) = ship.step(&ShipEvent { at, what }) {
-                add_sent(&mut sent, &acts)?;
-            }
-        }
-        Ok((ship, sent))
-    }
-
-    /// The coast station after its events, with the calls that it sent.
-    fn coast_now(&self, alloc: Global) -> Result<(Coast, Vec<Call>), Fail> {
-        let mut coast = Coast::new(mmsi(COAST)?, Band::Mf);
-        let mut sent = Vec::new(alloc);
-        for accepted in self.coast.iter() {
-            let (at, what) = *accepted;
-            if let Ok(acts) = coast.step(&CoastEvent { at, what }) {
-                add_sent(&mut sent, &acts)?;
-            }
-        }
-        Ok((coast, sent))
-    }
-
-    fn happens_at_ship(&mut self, alloc: Global, at: u64, what: ShipWhat) -> Result<Told, Fail> {
-        let (mut ship, _sent) = self.ship_now(alloc)?;
+    fn step(&mut self, event: &AtEnd) -> Result<Told, Fail> {
         let mut acts = nothing();
-        let event = ShipEvent { at, what };
-        if let Err(refusal) = ship.step_into(&event, &mut acts) {
+        let done = match event {
+            AtEnd::Ship(event) => self.ship.step_into(event, &mut acts),
+            AtEnd::Coast(event) => self.coast.step_into(event, &mut acts),
+        };
+        if let Err(refusal) = done {
             return Ok(Told::Refused(refusal));
         }
-        self.ship.push((event.at, event.what))?;
+        match event {
+            AtEnd::Ship(_) => add_sent(&mut self.from_ship, &acts)?,
+            AtEnd::Coast(_) => add_sent(&mut self.from_coast, &acts)?,
+        }
         Ok(Told::Acts(acts))
     }
 
-    fn happens_at_coast(&mut self, alloc: Global, at: u64, what: CoastWhat) -> Result<Told, Fail> {
-        let (mut coast, _sent) = self.coast_now(alloc)?;
-        let mut acts = nothing();
-        let event = CoastEvent { at, what };
-        if let Err(refusal) = coast.step_into(&event, &mut acts) {
-            return Ok(Told::Refused(refusal));
-        }
-        self.coast.push((event.at, event.what))?;
-        Ok(Told::Acts(acts))
-    }
-
-    fn step(&mut self, alloc: Global, event: &WorldEvent) -> Result<Told, Fail> {
+    /// What an event of an exchange is at its end; or what is told of a number that no sent call has.
+    fn event(&self, event: &WorldEvent) -> Result<AtEnd, Told> {
         match *event {
-            WorldEvent::Ship(event) => self.happens_at_ship(alloc, event.at, event.what),
-            WorldEvent::Coast(event) => self.happens_at_coast(alloc, event.at, event.what),
+            WorldEvent::Ship(event) => Ok(AtEnd::Ship(event)),
+            WorldEvent::Coast(event) => Ok(AtEnd::Coast(event)),
             WorldEvent::ShipGets { at, number } => {
-                let (_coast, sent) = self.coast_now(alloc)?;
-                match sent.get(number as usize) {
-                    None => Ok(Told::Nothing(number)),
-                    Some(call) => {
-                        let what = ShipWhat::Heard(*call);
-                        self.happens_at_ship(alloc, at, what)
-                    }
-                }
+                let what = ShipWhat::Heard(call_of(&self.from_coast, number)?);
+                Ok(AtEnd::Ship(ShipEvent { at, what }))
             }
             WorldEvent::CoastGets { at, number } => {
-                let (_ship, sent) = self.ship_now(alloc)?;
-                match sent.get(number as usize) {
-                    None => Ok(Told::Nothing(number)),
-                    Some(call) => {
-                        let what = CoastWhat::Heard(*call);
-                        self.happens_at_coast(alloc, at, what)
-                    }
-                }
+                let what = CoastWhat::Heard(call_of(&self.from_ship, number)?);
+                Ok(AtEnd::Coast(CoastEvent { at, what }))
             }
         }
     }
+}
+
+fn call_of(sent: &[Call], number: u32) -> Result<Call, Told> {
+    match sent.get(number as usize) {
+        Some(call) => Ok(*call),
+        None => Err(Told::Nothing(number)),
+    }
+}
+
+/// What the event gives behind those that were accepted; it joins them where it is accepted.
+fn plain_step(alloc: Global, accepted: &mut Vec<AtEnd>, event: &WorldEvent) -> Result<Told, Fail> {
+    let mut ends = Ends::after(alloc, accepted)?;
+    let event = match ends.event(event) {
+        Ok(event) => event,
+        Err(told) => return Ok(told),
+    };
+    let told = ends.step(&event)?;
+    if matches!(told, Told::Acts(_)) {
+        accepted.push(event)?;
+    }
+    Ok(told)
 }
 
 /// What happens at the ship, by a random number.
@@ -278,7 +272,7 @@ fn random_exchanges_agree_with_a_plain_program(rt: HostRuntime) -> Result<(), Fa
     let mut seed = 1u32;
     for _ in 0..100 {
         let mut world = world(rt.alloc())?;
-        let mut plain = Plain::new(rt.alloc());
+        let mut accepted = Vec::new(rt.alloc());
         let mut at = 0u64;
         for _ in 0..40 {
             seed = next(seed);
@@ -286,18 +280,12 @@ fn random_exchanges_agree_with_a_plain_program(rt: HostRuntime) -> Result<(), Fa
             seed = next(seed);
             let (kind, rest) = (seed / 256 % 6, seed / 1536);
             let event = match kind {
-                0 | 1 => {
-                    let what = ship_what(rest)?;
-                    WorldEvent::Ship(ShipEvent { at, what })
-                }
-                2 | 3 => {
-                    let what = coast_what(rest)?;
-                    WorldEvent::Coast(CoastEvent { at, what })
-                }
+                0 | 1 => at_ship(at, ship_what(rest)?),
+                2 | 3 => at_coast(at, coast_what(rest)?),
                 4 => ship_gets(at, rest % 5),
                 _ => coast_gets(at, rest % 5),
             };
-            let want = plain.step(rt.alloc(), &event)?;
+            let want = plain_step(rt.alloc(), &mut accepted, &event)?;
             assert_eq!(rt; step(&mut world, &event)?, want, "at {event:?}");
         }
     }

@@ -1,12 +1,10 @@
-use crate::worked::{and, casualty, nothing, sent, unplaced};
-use area_rules::{Act, Acts, StationRefusal, single};
+use crate::worked::{Station, and, casualty, follow, mmsi, nothing, proposal, sent, service};
 use call_values::{
-    AlertDelay, Area, Call, Casualty, Category, End, Field, First, HourMinute, Kind, Message, Mmsi,
-    Position, Second, To,
+    AlertDelay, Area, Call, Casualty, Category, End, HourMinute, Kind, Position, To,
 };
 use ship_station::*;
-use std::process::Abort;
 use std::test::Fail;
+use traffic_rules::{Act, Acts, StationRefusal, single};
 
 const OWN: u32 = 338_040_079;
 
@@ -14,20 +12,16 @@ const OTHER: u32 = 338_158_137;
 
 const COAST: u32 = 2_241_022;
 
-fn ship(mmsi: u32) -> Result<Ship, Fail> {
-    Ok(Ship::new(Mmsi::new(mmsi).ok_or("identity")?, &[]))
+fn ship(number: u32) -> Result<Ship, Fail> {
+    Ok(Ship::new(mmsi(number)?, &[]))
 }
 
-/// An event at a moment, and what the ship does at it.
-type Row = (u64, ShipWhat, Result<Acts, StationRefusal>);
+impl Station for Ship {
+    type What = ShipWhat;
 
-/// The ship goes through events in order, and does at each what its row says.
-fn follow(rt: &impl Abort, mut ship: Ship, rows: &[Row]) -> Result<(), Fail> {
-    for row in rows {
-        let (at, what) = (row.0, row.1);
-        assert_eq!(rt; ship.step(&ShipEvent { at, what }), row.2, "at {at}");
+    fn go(&mut self, at: u64, what: ShipWhat, acts: &mut Acts) -> Result<(), StationRefusal> {
+        self.step_into(&ShipEvent { at, what }, acts)
     }
-    Ok(())
 }
 
 fn delay(milliseconds: u32) -> Result<ShipWhat, Fail> {
@@ -35,7 +29,7 @@ fn delay(milliseconds: u32) -> Result<ShipWhat, Fail> {
 }
 
 fn acknowledged(casualty: Casualty) -> Result<ShipWhat, Fail> {
-    let from = Mmsi::new(COAST).ok_or("identity")?;
+    let from = mmsi(COAST)?;
     Ok(ShipWhat::Heard(Call::Ack { from, casualty }))
 }
 
@@ -44,30 +38,6 @@ fn attempt(casualty: Casualty) -> Acts {
         call: Call::Alert(casualty),
         times: 5,
     })
-}
-
-#[test]
-fn one_list_takes_the_acts_of_every_event(rt: HostRuntime) -> Result<(), Fail> {
-    let own = unplaced(OWN)?;
-    let alert = ShipWhat::Alert(own.nature, own.comm);
-    let mut ship = ship(OWN)?;
-    let mut acts = Acts::new();
-    let rows = [
-        (0, delay(210_000)?, Ok(()), nothing()),
-        (0, alert, Ok(()), attempt(own)),
-        (1, alert, Err(StationRefusal::AlertActive), nothing()),
-        (2, ShipWhat::Cancel, Ok(()), single(Act::AlertEnded)),
-        (3, ShipWhat::Tick, Ok(()), nothing()),
-    ];
-    for (at, what, want, given) in rows {
-        assert_eq!(rt;
-            ship.step_into(&ShipEvent { at, what }, &mut acts),
-            want,
-            "at {at}"
-        );
-        assert_eq!(rt; acts, given, "at {at}");
-    }
-    Ok(())
 }
 
 #[test]
@@ -88,7 +58,7 @@ fn an_alert_until_its_acknowledgement(rt: HostRuntime) -> Result<(), Fail> {
         (222_000, acknowledged(own)?, Ok(nothing())),
         (430_000, ShipWhat::Tick, Ok(nothing())),
     ];
-    follow(&rt, ship(OWN)?, &rows)
+    follow(&rt, &mut ship(OWN)?, &rows)
 }
 
 #[test]
@@ -118,7 +88,7 @@ fn refusals_leave_the_ship(rt: HostRuntime) -> Result<(), Fail> {
         (210_006, ShipWhat::Tick, Ok(nothing())),
         (210_006, ShipWhat::Cancel, Err(StationRefusal::NoAlert)),
     ];
-    follow(&rt, ship(OWN)?, &rows)
+    follow(&rt, &mut ship(OWN)?, &rows)
 }
 
 #[test]
@@ -138,50 +108,31 @@ fn sixteen_delays(rt: HostRuntime) -> Result<(), Fail> {
 #[test]
 fn heard_calls(rt: HostRuntime) -> Result<(), Fail> {
     let other = casualty(OWN, 20, 19)?;
-    let test = Call::Service {
-        to: Mmsi::new(OTHER).ok_or("identity")?,
-        category: Category::Safety,
-        from: other.mmsi,
-        kind: Kind::Test { reply: false },
-    };
-    let reply = Call::Service {
-        to: other.mmsi,
-        category: Category::Safety,
-        from: Mmsi::new(OTHER).ok_or("identity")?,
-        kind: Kind::Test { reply: true },
-    };
+    let test = service(OTHER, OWN, Kind::Test { reply: false })?;
+    let reply = service(OWN, OTHER, Kind::Test { reply: true })?;
     let rows = [
-        (7, Call::Alert(other), single(Act::Distress(other))),
-        (8, Call::Alert(casualty(OTHER, 20, 19)?), nothing()),
-        (8, test, sent(reply)),
+        (
+            7,
+            ShipWhat::Heard(Call::Alert(other)),
+            Ok(single(Act::Distress(other))),
+        ),
+        (
+            8,
+            ShipWhat::Heard(Call::Alert(casualty(OTHER, 20, 19)?)),
+            Ok(nothing()),
+        ),
+        (8, ShipWhat::Heard(test), Ok(sent(reply))),
     ];
-    let groups = [other.mmsi; 16];
-    let mut ship = Ship::new(Mmsi::new(OTHER).ok_or("identity")?, &groups);
-    for (at, call, want) in rows {
-        let what = ShipWhat::Heard(call);
-        assert_eq!(rt; ship.step(&ShipEvent { at, what }), Ok(want), "at {at}");
-    }
-    Ok(())
+    let mut ship = Ship::new(mmsi(OTHER)?, &[other.mmsi; 16]);
+    follow(&rt, &mut ship, &rows)
 }
 
 fn to_one(to: u32, from: u32, kind: Kind) -> Result<Call, Fail> {
     Ok(Call::Service {
-        to: Mmsi::new(to).ok_or("identity")?,
+        to: mmsi(to)?,
         category: Category::Routine,
-        from: Mmsi::new(from).ok_or("identity")?,
+        from: mmsi(from)?,
         kind,
-    })
-}
-
-fn proposal(to: u32, from: u32, first: u8, second: u8, end: End) -> Result<Call, Fail> {
-    Ok(Call::Individual {
-        to: Mmsi::new(to).ok_or("identity")?,
-        category: Category::Routine,
-        from: Mmsi::new(from).ok_or("identity")?,
-        first: First::new(first).ok_or("telecommand")?,
-        second: Second::new(second).ok_or("telecommand")?,
-        message: Message::Fields(Field::absent(), Field::absent()),
-        end,
     })
 }
 
@@ -212,7 +163,7 @@ fn calls_for_the_ship_are_answered(rt: HostRuntime) -> Result<(), Fail> {
             Err(StationRefusal::NoSuchCall(1)),
         ),
     ];
-    follow(&rt, ship(OTHER)?, &rows)
+    follow(&rt, &mut ship(OTHER)?, &rows)
 }
 
 #[test]
@@ -246,7 +197,7 @@ fn sent_calls_are_repeated_once(rt: HostRuntime) -> Result<(), Fail> {
         ),
         (900_003, ShipWhat::Tick, Ok(nothing())),
     ];
-    follow(&rt, ship(OWN)?, &rows)
+    follow(&rt, &mut ship(OWN)?, &rows)
 }
 
 #[test]
@@ -255,7 +206,7 @@ fn a_full_ship_refuses_a_relay_in_whole(rt: HostRuntime) -> Result<(), Fail> {
     let relay = |to, ask| -> Result<ShipWhat, Fail> {
         Ok(ShipWhat::Heard(Call::Relay {
             to,
-            from: Mmsi::new(COAST).ok_or("identity")?,
+            from: mmsi(COAST)?,
             casualty: casualty(OTHER, 20, 19)?,
             ask,
         }))
@@ -286,5 +237,5 @@ fn a_full_ship_refuses_a_relay_in_whole(rt: HostRuntime) -> Result<(), Fail> {
         ),
         (6, relay(To::Area(south), false)?, Ok(nothing())),
     ];
-    follow(&rt, ship, &rows)
+    follow(&rt, &mut ship, &rows)
 }

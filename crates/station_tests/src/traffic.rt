@@ -1,5 +1,4 @@
-use crate::worked::{and, individual, mmsi, sent, service, unplaced};
-use area_rules::{Act, Acts, HeldCalls, StationRefusal, single};
+use crate::worked::{Station, and, follow, individual, mmsi, nothing, sent, service, unplaced};
 use call_values::{Call, End, HourMinute, Kind, Mmsi, Position, To};
 use std::test::Fail;
 use traffic_rules::*;
@@ -17,41 +16,51 @@ fn relay(ask: bool) -> Result<Call, Fail> {
     })
 }
 
-/// What is answered as an operator sends a call, with the acts.
-fn send_call(
-    held: &mut HeldCalls,
-    own: Mmsi,
-    call: &Call,
-    at: u64,
-) -> Result<Acts, StationRefusal> {
-    let mut acts = Acts::new();
-    send(held, own, call, at, &mut acts)?;
-    Ok(acts)
+/// What happens at a station.
+#[derive(Clone, Copy)]
+enum Happening {
+    Sends(Call),
+    Answers(u8, bool),
+    Hears(Call),
+    Tick,
 }
 
-/// What is answered as an operator accepts or declines a call, with the acts.
-fn answer_call(
-    held: &mut HeldCalls,
-    own: Mmsi,
-    number: u8,
-    accepts: bool,
-) -> Result<Acts, StationRefusal> {
-    let mut acts = Acts::new();
-    answer(held, own, number, accepts, &mut acts)?;
-    Ok(acts)
-}
-
-/// What is answered at a heard call, with the acts.
-fn hear_call(
-    held: &mut HeldCalls,
+/// The rules of a station at a place with the calls that it holds.
+#[derive(Drop)]
+struct Rules {
     own: Mmsi,
     place: Option<(Position, HourMinute)>,
-    call: &Call,
-    at: u64,
-) -> Result<Acts, StationRefusal> {
-    let mut acts = Acts::new();
-    hear(held, own, place, call, at, &mut acts)?;
-    Ok(acts)
+    held: HeldCalls,
+}
+
+impl Station for Rules {
+    type What = Happening;
+
+    fn go(&mut self, at: u64, what: Happening, acts: &mut Acts) -> Result<(), StationRefusal> {
+        acts.clear();
+        let (held, own) = (&mut self.held, self.own);
+        match what {
+            Happening::Sends(call) => send(held, own, &call, at, acts),
+            Happening::Answers(number, accepts) => answer(held, own, number, accepts, acts),
+            Happening::Hears(call) => hear(held, own, self.place, &call, at, acts),
+            Happening::Tick => {
+                repeat(held, at, acts);
+                Ok(())
+            }
+        }
+    }
+}
+
+impl Rules {
+    /// Those of a station that holds no call.
+    fn at(place: Option<(Position, HourMinute)>) -> Result<Rules, Fail> {
+        let held = HeldCalls::empty();
+        Ok(Rules {
+            own: mmsi(OWN)?,
+            place,
+            held,
+        })
+    }
 }
 
 #[test]
@@ -72,131 +81,88 @@ fn equal_calls(rt: HostRuntime) -> Result<(), Fail> {
 
 #[test]
 fn questions_are_held_once(rt: HostRuntime) -> Result<(), Fail> {
-    let own = mmsi(OWN)?;
-    let mut held = HeldCalls::empty();
     let call = individual(OWN, SHIP, 126, End::Ask)?;
     let other = individual(OWN, SHIP, 110, End::Ask)?;
-    let nothing = Acts::new();
-    assert_eq!(rt;
-        hear_call(&mut held, own, None, &call, 5),
-        Ok(single(Act::Held(1)))
-    );
-    assert_eq!(rt; hear_call(&mut held, own, None, &call, 6), Ok(nothing));
-    assert_eq!(rt;
-        hear_call(&mut held, own, None, &other, 6),
-        Ok(single(Act::Held(2)))
-    );
     let reply = individual(SHIP, OWN, 126, End::Reply)?;
-    assert_eq!(rt; answer_call(&mut held, own, 1, true), Ok(sent(reply)));
-    assert_eq!(rt;
-        answer_call(&mut held, own, 1, true),
-        Err(StationRefusal::NoSuchCall(1))
-    );
-    assert_eq!(rt;
-        hear_call(&mut held, own, None, &call, 7),
-        Ok(single(Act::Held(1)))
-    );
-    Ok(())
+    let unknown = StationRefusal::NoSuchCall(1);
+    let rows = [
+        (5, Happening::Hears(call), Ok(single(Act::Held(1)))),
+        (6, Happening::Hears(call), Ok(nothing())),
+        (6, Happening::Hears(other), Ok(single(Act::Held(2)))),
+        (6, Happening::Answers(1, true), Ok(sent(reply))),
+        (6, Happening::Answers(1, true), Err(unknown)),
+        (7, Happening::Hears(call), Ok(single(Act::Held(1)))),
+    ];
+    follow(&rt, &mut Rules::at(None)?, &rows)
 }
 
 #[test]
 fn relays_are_told_and_held(rt: HostRuntime) -> Result<(), Fail> {
-    let own = mmsi(OWN)?;
-    let call = relay(true)?;
-    let casualty = unplaced(338_040_079)?;
-    let distress = single(Act::Distress(casualty));
-    let mut held = HeldCalls::empty();
-    assert_eq!(rt;
-        hear_call(&mut held, own, None, &relay(false)?, 1),
-        Ok(single(Act::Distress(casualty)))
-    );
-    assert_eq!(rt;
-        hear_call(&mut held, own, None, &call, 2),
-        Ok(and(distress, Act::Held(1)))
-    );
-    assert_eq!(rt;
-        hear_call(&mut held, own, None, &call, 3),
-        Ok(single(Act::Distress(casualty)))
-    );
-    assert_eq!(rt; answer_call(&mut held, own, 1, false), Ok(Acts::new()));
+    let (tells, asks) = (relay(false)?, relay(true)?);
     let test = service(SHIP, OWN, Kind::Test { reply: false })?;
+    let distress = Act::Distress(unplaced(338_040_079)?);
+    let mut rules = Rules::at(None)?;
+    let rows = [
+        (1, Happening::Hears(tells), Ok(single(distress))),
+        (
+            2,
+            Happening::Hears(asks),
+            Ok(and(single(distress), Act::Held(1))),
+        ),
+        (3, Happening::Hears(asks), Ok(single(distress))),
+        (3, Happening::Answers(1, false), Ok(nothing())),
+    ];
+    follow(&rt, &mut rules, &rows)?;
     for number in 1..=16 {
-        assert_eq!(rt;
-            send_call(&mut held, own, &test, 4),
-            Ok(and(sent(test), Act::Held(number)))
-        );
+        let held = and(sent(test), Act::Held(number));
+        follow(&rt, &mut rules, &[(4, Happening::Sends(test), Ok(held))])?;
     }
-    assert_eq!(rt;
-        hear_call(&mut held, own, None, &call, 5),
-        Err(StationRefusal::Full)
-    );
-    Ok(())
+    let full = Err(StationRefusal::Full);
+    follow(&rt, &mut rules, &[(5, Happening::Hears(asks), full)])
 }
 
 #[test]
 fn sent_calls_wait_twice(rt: HostRuntime) -> Result<(), Fail> {
-    let own = mmsi(OWN)?;
-    let mut held = HeldCalls::empty();
     let ask = service(SHIP, OWN, Kind::AskPosition)?;
     let test = service(SHIP, OWN, Kind::Test { reply: false })?;
-    assert_eq!(rt;
-        send_call(&mut held, own, &ask, 0),
-        Ok(and(sent(ask), Act::Held(1)))
-    );
-    assert_eq!(rt;
-        send_call(&mut held, own, &test, 10),
-        Ok(and(sent(test), Act::Held(2)))
-    );
     let answered = service(OWN, SHIP, Kind::Test { reply: true })?;
-    let position = service(
-        OWN,
-        SHIP,
-        Kind::Position(Position::unknown(), HourMinute::unknown()),
-    )?;
+    let unknown = Kind::Position(Position::unknown(), HourMinute::unknown());
+    let position = service(OWN, SHIP, unknown)?;
     let rows = [
-        (299_999, Acts::new()),
-        (300_005, sent(ask)),
-        (300_010, sent(test)),
-        (600_004, Acts::new()),
-        (600_005, single(Act::GaveUp(1))),
+        (0, Happening::Sends(ask), Ok(and(sent(ask), Act::Held(1)))),
+        (
+            10,
+            Happening::Sends(test),
+            Ok(and(sent(test), Act::Held(2))),
+        ),
+        (299_999, Happening::Tick, Ok(nothing())),
+        (300_005, Happening::Tick, Ok(sent(ask))),
+        (300_010, Happening::Tick, Ok(sent(test))),
+        (600_004, Happening::Tick, Ok(nothing())),
+        (600_005, Happening::Tick, Ok(single(Act::GaveUp(1)))),
+        (600_006, Happening::Hears(position), Ok(single(Act::Shown))),
+        (
+            600_006,
+            Happening::Hears(answered),
+            Ok(single(Act::Answered(2))),
+        ),
+        (600_007, Happening::Hears(answered), Ok(single(Act::Shown))),
     ];
-    for (at, want) in rows {
-        let mut acts = Acts::new();
-        repeat(&mut held, at, &mut acts);
-        assert_eq!(rt; acts, want, "at {at}");
-    }
-    assert_eq!(rt;
-        hear_call(&mut held, own, None, &position, 600_006),
-        Ok(single(Act::Shown))
-    );
-    assert_eq!(rt;
-        hear_call(&mut held, own, None, &answered, 600_006),
-        Ok(single(Act::Answered(2)))
-    );
-    assert_eq!(rt;
-        hear_call(&mut held, own, None, &answered, 600_007),
-        Ok(single(Act::Shown))
-    );
-    Ok(())
+    follow(&rt, &mut Rules::at(None)?, &rows)
 }
 
 #[test]
 fn answers_at_once(rt: HostRuntime) -> Result<(), Fail> {
-    let own = mmsi(OWN)?;
-    let mut held = HeldCalls::empty();
     let ask = service(OWN, SHIP, Kind::AskPosition)?;
-    let place = (Position::unknown(), HourMinute::unknown());
-    let answer = service(SHIP, OWN, Kind::Position(place.0, place.1))?;
-    assert_eq!(rt;
-        hear_call(&mut held, own, None, &ask, 1),
-        Ok(single(Act::Shown))
-    );
-    assert_eq!(rt;
-        hear_call(&mut held, own, Some(place), &ask, 1),
-        Ok(sent(answer))
-    );
     let test = service(OWN, SHIP, Kind::Test { reply: false })?;
     let reply = service(SHIP, OWN, Kind::Test { reply: true })?;
-    assert_eq!(rt; hear_call(&mut held, own, None, &test, 1), Ok(sent(reply)));
-    Ok(())
+    let place = (Position::unknown(), HourMinute::unknown());
+    let answer = service(SHIP, OWN, Kind::Position(place.0, place.1))?;
+    let unplaced = [
+        (1, Happening::Hears(ask), Ok(single(Act::Shown))),
+        (1, Happening::Hears(test), Ok(sent(reply))),
+    ];
+    follow(&rt, &mut Rules::at(None)?, &unplaced)?;
+    let placed = [(1, Happening::Hears(ask), Ok(sent(answer)))];
+    follow(&rt, &mut Rules::at(Some(place))?, &placed)
 }

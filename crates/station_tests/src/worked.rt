@@ -1,12 +1,44 @@
 //! Calls and acts of the stations' tests.
-use area_rules::{Act, Acts, put, single};
 use arrayvec::ArrayVec;
 use call_values::worked::FIX;
 use call_values::{
     Call, Casualty, Category, Comm, End, Field, First, HourMinute, Kind, Message, Mmsi, Nature,
     Position, Second,
 };
+use std::process::Abort;
 use std::test::Fail;
+use traffic_rules::{Act, Acts, StationRefusal, put, single};
+
+/// An event at a moment, and what is done at it.
+pub(crate) type Row<What> = (u64, What, Result<Acts, StationRefusal>);
+
+/// What goes through events.
+pub(crate) trait Station {
+    type What: Copy;
+
+    /// The acts of an event replace those in the list.
+    fn go(&mut self, at: u64, what: Self::What, acts: &mut Acts) -> Result<(), StationRefusal>;
+}
+
+/// A station goes through events in order, and does at each what its row says. One list takes the acts of all, and is empty
+/// behind a refused one.
+pub(crate) fn follow<S: Station>(
+    rt: &impl Abort,
+    station: &mut S,
+    rows: &[Row<S::What>],
+) -> Result<(), Fail> {
+    let mut acts = nothing();
+    for row in rows {
+        let at = row.0;
+        let (answer, given): (_, &[Act]) = match &row.2 {
+            Ok(acts) => (Ok(()), acts),
+            Err(refusal) => (Err(*refusal), &[]),
+        };
+        assert_eq!(rt; station.go(at, row.1, &mut acts), answer, "at {at}");
+        assert_eq!(rt; acts.as_slice(), given, "at {at}");
+    }
+    Ok(())
+}
 
 pub(crate) fn mmsi(number: u32) -> Result<Mmsi, Fail> {
     Ok(Mmsi::new(number).ok_or("identity")?)
@@ -44,17 +76,22 @@ pub(crate) fn service(to: u32, from: u32, kind: Kind) -> Result<Call, Fail> {
     })
 }
 
-/// A routine call with this second telecommand.
-pub(crate) fn individual(to: u32, from: u32, second: u8, end: End) -> Result<Call, Fail> {
+/// A routine call with these telecommands.
+pub(crate) fn proposal(to: u32, from: u32, first: u8, second: u8, end: End) -> Result<Call, Fail> {
     Ok(Call::Individual {
         to: mmsi(to)?,
         category: Category::Routine,
         from: mmsi(from)?,
-        first: First::new(109).ok_or("first telecommand")?,
+        first: First::new(first).ok_or("first telecommand")?,
         second: Second::new(second).ok_or("second telecommand")?,
         message: Message::Fields(Field::absent(), Field::absent()),
         end,
     })
+}
+
+/// A routine call on J3E telephony with this second telecommand.
+pub(crate) fn individual(to: u32, from: u32, second: u8, end: End) -> Result<Call, Fail> {
+    proposal(to, from, 109, second, end)
 }
 
 /// A call is sent once.

@@ -1,9 +1,9 @@
 use act_texts::*;
-use area_rules::{Act, StationRefusal};
 use call_values::worked::FIX;
 use call_values::{Call, Casualty, Comm, HourMinute, Mmsi, Nature, Position};
 use dsc_texts::read_bare_call;
 use std::test::Fail;
+use traffic_rules::{Act, StationRefusal};
 
 const ACK: &str =
     "ack from=002241022 casualty=338040079 nature=106 pos=1423108312 time=2019 then=100";

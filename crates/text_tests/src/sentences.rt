@@ -5,6 +5,7 @@ use call_values::{
 };
 use dsc_sentences::*;
 use expansion::{Expansion, Part};
+use std::process::Abort;
 use std::test::Fail;
 
 /// The sentences of `distress_calls`, without CR and LF.
@@ -177,21 +178,18 @@ fn is_sentence_of(call: &Call, line: &[u8]) -> bool {
     bytes.as_slice().strip_suffix(b"\r\n") == Some(line) && read(bytes.as_slice()) == Ok(record)
 }
 
-#[test]
-fn sentences_of_distress_calls(rt: HostRuntime) -> Result<(), Fail> {
-    let calls = distress_calls().ok_or("no calls")?;
-    for (call, line) in calls.iter().zip(&DISTRESS) {
-        assert!(rt; is_sentence_of(call, line));
+/// That these are the sentences of the calls, in order.
+fn are_sentences_of(rt: &impl Abort, calls: &[Call], lines: &[&[u8]]) {
+    assert_eq!(rt; calls.len(), lines.len());
+    for (call, line) in calls.iter().zip(lines) {
+        assert!(rt; is_sentence_of(call, line), "{call:?}");
     }
-    Ok(())
 }
 
 #[test]
-fn sentences_of_other_calls(rt: HostRuntime) -> Result<(), Fail> {
-    let calls = traffic_calls().ok_or("no calls")?;
-    for (call, line) in calls.iter().zip(&TRAFFIC) {
-        assert!(rt; is_sentence_of(call, line));
-    }
+fn sentences_of_calls(rt: HostRuntime) -> Result<(), Fail> {
+    are_sentences_of(&rt, &distress_calls().ok_or("no calls")?, &DISTRESS);
+    are_sentences_of(&rt, &traffic_calls().ok_or("no calls")?, &TRAFFIC);
     Ok(())
 }
 
@@ -273,121 +271,55 @@ fn fields_of_an_acknowledgement(rt: HostRuntime) -> Result<(), Fail> {
 }
 
 /// Lines and what they are told, worked by hand.
-const VERDICTS: [(&[u8], &[u8]); 40] = [
-    (b"$CDDSE,1,1,A,3380400790,00,45894494*1B", b"accepted"),
-    (
-        b"$CDDSC,12,3380400790,12,06,00,1423108312,2019,,,S,*2F\r",
-        b"accepted",
-    ),
-    (
-        b"$CDDSC,12,3380400790,12,06,00,1423108312,2019,,,S,*2F\r\r",
-        b"refused end",
-    ),
-    (
-        b"$CDDSC,12,3380400790,12,06,00,1423108312,2019,,,S,*2E",
-        b"refused checksum 2F 2E",
-    ),
-    (
-        b"$CDDSC,12,3380400790,12,06,00,1423108312,2019,,,S,*2f",
-        b"refused end",
-    ),
-    (
-        b"$CDDSC,12,3380400790,12,06,00,1423108312,2019,,*,S,*2F",
-        b"refused end",
-    ),
-    (
-        b"$CDDSC,12,3380400790,12,06,00,1423108312,2019,,$,S,*2F",
-        b"refused end",
-    ),
-    (
-        b"$CDDSC,12,3380400790,12,06,00,1423108312,2019,,\x7f,S,*2F",
-        b"refused end",
-    ),
-    (b"$", b"refused start"),
-    (b"", b"refused start"),
-    (b"$CDDSE", b"refused start"),
-    (b"$CDDSC,*7E", b"refused checksum 7F 7E"),
-    (b"$CDDSC,", b"refused end"),
-    (b"$CDDSC,*7F", b"refused fields 1"),
-    (
-        b"$CDDSC,12,3380400790,12,06,00,1423108312,2019,,,S,,*03",
-        b"refused fields 12",
-    ),
-    (
-        b"$CDDSC,99,3380400790,12,06,00,1423108312,2019,,,S,*2C",
-        b"refused field 1",
-    ),
-    (
-        b"$CDDSC,12,338040079,12,06,00,1423108312,2019,,,S,*1F",
-        b"refused field 2",
-    ),
-    (
-        b"$CDDSC,12,3380400790,09,06,00,1423108312,2019,,,S,*25",
-        b"refused field 3",
-    ),
-    (b"$CDDSC,12,3380400790,,,,,,,,S,*2D", b"accepted"),
-    (
-        b"$CDDSC,12,3380400790,12,6,00,1423108312,2019,,,S,*1F",
-        b"refused field 4",
-    ),
-    (
-        b"$CDDSC,12,3380400790,12,06,0x,1423108312,2019,,,S,*67",
-        b"refused field 5",
-    ),
-    (
-        b"$CDDSC,12,3380400790,12,06,00,12345678901234567,2019,,,S,*13",
-        b"refused field 6",
-    ),
-    (
-        b"$CDDSC,12,3380400790,12,06,00,1423108312,201,,,S,*16",
-        b"refused field 7",
-    ),
-    (
-        b"$CDDSC,12,3380400790,12,06,00,1423108312,2019,338040079,,S,*1D",
-        b"refused field 8",
-    ),
-    (
-        b"$CDDSC,12,3380400790,12,06,00,1423108312,2019,,100,S,*1E",
-        b"refused field 9",
-    ),
-    (
-        b"$CDDSC,12,3380400790,12,06,00,1423108312,2019,,,T,*28",
-        b"refused field 10",
-    ),
-    (
-        b"$CDDSC,12,3380400790,12,06,00,1423108312,2019,,,S,e*4A",
-        b"refused field 11",
-    ),
-    (b"$CDDSE,1,1,Q,3380400790,00,*06", b"accepted"),
-    (b"$CDDSE,2,1,A,3380400790,00,*15", b"refused field 1"),
-    (b"$CDDSE,1,1,A,338040079,00,*26", b"refused field 4"),
-    (b"$CDDSE,1,1,A,3380400790,01,*17", b"refused field 5"),
-    (b"$CDDSE,1,1,A,3380400790,00,4589449*2F", b"refused field 6"),
-    (b"$CDDSE,1,1,A,3380400790,03,3600*10", b"refused field 6"),
-    (b"$CDDSE,1,1,A,3380400790,02,,02,*16", b"refused field 7"),
-    (b"$CDDSE,1,1,A,3380400790,03,,02,*17", b"refused field 7"),
-    (
-        b"$CDDSE,1,1,A,3380400790,00,,02,,03,,*3B",
-        b"refused fields 11",
-    ),
-    (b"$CDDSE,1,1,A,3380400790,00*3A", b"refused fields 5"),
-    (
-        b"$CDDSC,,,,,,,,,,,,,,,,,,,,,,,,,,,,,,,,,,,,,,,,,,,,,,,,,,,,,,,,,,,,,,,,,,,,,,,,,,,,,,,,,",
-        b"refused too long 89",
-    ),
-    (
-        b"$CDDSC,,,,,,,,,,,,,,,,,,,,,,,,,,,,,,,,,,,,,,,,,,,,,,,,,,,,,,,,,,,,,,,,,,,,,,,,,,,",
-        b"refused too long 83",
-    ),
-    (
-        b"$CDDSC,,,,,,,,,,,,,,,,,,,,,,,,,,,,,,,,,,,,,,,,,,,,,,,,,,,,,,,,,,,,,,,,,,,,,,,,,,",
-        b"refused end",
-    ),
+const VERDICTS: [&str; 40] = [
+    "$CDDSE,1,1,A,3380400790,00,45894494*1B : accepted",
+    "$CDDSC,12,3380400790,12,06,00,1423108312,2019,,,S,*2F\r : accepted",
+    "$CDDSC,12,3380400790,12,06,00,1423108312,2019,,,S,*2F\r\r : refused end",
+    "$CDDSC,12,3380400790,12,06,00,1423108312,2019,,,S,*2E : refused checksum 2F 2E",
+    "$CDDSC,12,3380400790,12,06,00,1423108312,2019,,,S,*2f : refused end",
+    "$CDDSC,12,3380400790,12,06,00,1423108312,2019,,*,S,*2F : refused end",
+    "$CDDSC,12,3380400790,12,06,00,1423108312,2019,,$,S,*2F : refused end",
+    "$CDDSC,12,3380400790,12,06,00,1423108312,2019,,\x7f,S,*2F : refused end",
+    "$ : refused start",
+    " : refused start",
+    "$CDDSE : refused start",
+    "$CDDSC,*7E : refused checksum 7F 7E",
+    "$CDDSC, : refused end",
+    "$CDDSC,*7F : refused fields 1",
+    "$CDDSC,12,3380400790,12,06,00,1423108312,2019,,,S,,*03 : refused fields 12",
+    "$CDDSC,99,3380400790,12,06,00,1423108312,2019,,,S,*2C : refused field 1",
+    "$CDDSC,12,338040079,12,06,00,1423108312,2019,,,S,*1F : refused field 2",
+    "$CDDSC,12,3380400790,09,06,00,1423108312,2019,,,S,*25 : refused field 3",
+    "$CDDSC,12,3380400790,,,,,,,,S,*2D : accepted",
+    "$CDDSC,12,3380400790,12,6,00,1423108312,2019,,,S,*1F : refused field 4",
+    "$CDDSC,12,3380400790,12,06,0x,1423108312,2019,,,S,*67 : refused field 5",
+    "$CDDSC,12,3380400790,12,06,00,12345678901234567,2019,,,S,*13 : refused field 6",
+    "$CDDSC,12,3380400790,12,06,00,1423108312,201,,,S,*16 : refused field 7",
+    "$CDDSC,12,3380400790,12,06,00,1423108312,2019,338040079,,S,*1D : refused field 8",
+    "$CDDSC,12,3380400790,12,06,00,1423108312,2019,,100,S,*1E : refused field 9",
+    "$CDDSC,12,3380400790,12,06,00,1423108312,2019,,,T,*28 : refused field 10",
+    "$CDDSC,12,3380400790,12,06,00,1423108312,2019,,,S,e*4A : refused field 11",
+    "$CDDSE,1,1,Q,3380400790,00,*06 : accepted",
+    "$CDDSE,2,1,A,3380400790,00,*15 : refused field 1",
+    "$CDDSE,1,1,A,338040079,00,*26 : refused field 4",
+    "$CDDSE,1,1,A,3380400790,01,*17 : refused field 5",
+    "$CDDSE,1,1,A,3380400790,00,4589449*2F : refused field 6",
+    "$CDDSE,1,1,A,3380400790,03,3600*10 : refused field 6",
+    "$CDDSE,1,1,A,3380400790,02,,02,*16 : refused field 7",
+    "$CDDSE,1,1,A,3380400790,03,,02,*17 : refused field 7",
+    "$CDDSE,1,1,A,3380400790,00,,02,,03,,*3B : refused fields 11",
+    "$CDDSE,1,1,A,3380400790,00*3A : refused fields 5",
+    "$CDDSC,,,,,,,,,,,,,,,,,,,,,,,,,,,,,,,,,,,,,,,,,,,,,,,,,,,,,,,,,,,,,,,,,,,,,,,,,,,,,,,,, : refused too long 89",
+    "$CDDSC,,,,,,,,,,,,,,,,,,,,,,,,,,,,,,,,,,,,,,,,,,,,,,,,,,,,,,,,,,,,,,,,,,,,,,,,,,, : refused too long 83",
+    "$CDDSC,,,,,,,,,,,,,,,,,,,,,,,,,,,,,,,,,,,,,,,,,,,,,,,,,,,,,,,,,,,,,,,,,,,,,,,,,, : refused end",
 ];
 
 #[test]
-fn verdicts(rt: HostRuntime) {
-    for (line, text) in VERDICTS {
-        assert_eq!(rt; put_verdict(&verdict_on(line)).as_slice(), text);
+fn verdicts(rt: HostRuntime) -> Result<(), Fail> {
+    for row in VERDICTS {
+        let (line, told) = row.split_once(" : ").ok_or("no verdict")?;
+        let verdict = put_verdict(&verdict_on(line.as_bytes()));
+        assert_eq!(rt; verdict.as_slice(), told.as_bytes(), "{row}");
     }
+    Ok(())
 }

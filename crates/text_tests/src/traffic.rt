@@ -5,55 +5,73 @@ use call_values::{
 use std::test::Fail;
 use traffic_lines::{EventLine, Point, TrafficLine, read_traffic};
 
-// Points, lines that aren't of these points, and the column at which each is ill-formed.
-const COLUMNS: [(Point, &str, usize); 47] = [
-    (Point::Station, "", 1),
-    (Point::Station, "base 0", 1),
-    (Point::Station, "0 tick", 1),
-    (Point::Station, "station", 8),
-    (Point::Station, "station x", 9),
-    (Point::Station, "station ship  ", 14),
-    (Point::Station, "station ship 33815813", 22),
-    (Point::Station, "station ship 3381581370", 23),
-    (Point::Station, "station ship 338158137 ", 23),
-    (Point::Station, "station c", 10),
-    (Point::Station, "station cost 002241022 mf", 11),
-    (Point::Station, "station coast 02241022 mf", 23),
-    (Point::Station, "station coast 002241022", 24),
-    (Point::Station, "station coast 002241022 ", 25),
-    (Point::Station, "station coast 002241022 uhf", 25),
-    (Point::Station, "station coast 002241022 m", 26),
-    (Point::Station, "station coast 002241022 vf", 26),
-    (Point::Station, "station coast 002241022 mff", 27),
-    (Point::Station, "station coast 002241022 mf ", 27),
-    (Point::Base, "station ship 338158137", 1),
-    (Point::Base, "0 tick", 1),
-    (Point::Base, "base", 5),
-    (Point::Base, "base ", 6),
-    (Point::Base, "base -1", 6),
-    (Point::Base, "base 00", 7),
-    (Point::Base, "base 5 ", 7),
-    (Point::Base, "base 10000000000", 16),
-    (Point::Groups { held: 0 }, "base 0", 1),
-    (Point::Groups { held: 0 }, "x", 1),
-    (Point::Groups { held: 0 }, "groups", 6),
-    (Point::Groups { held: 0 }, "0 ticks", 7),
-    (Point::Groups { held: 15 }, "group 33815813", 15),
-    (Point::Groups { held: 15 }, "group 338158137 ", 16),
-    (Point::Groups { held: 16 }, "group 338158137", 1),
-    (Point::Groups { held: 255 }, "group 338158137", 1),
-    (Point::Ship, "group 338158137", 1),
-    (Point::Ship, "", 1),
-    (Point::Ship, " 0 tick", 1),
-    (Point::Ship, "5", 2),
-    (Point::Ship, "5 ", 3),
-    (Point::Ship, "5  tick", 3),
-    (Point::Ship, "00 tick", 2),
-    (Point::Ship, "4294967296 tick", 10),
-    (Point::Ship, "42949672950 tick", 11),
-    (Point::Coast, "", 1),
-    (Point::Coast, "base 0", 1),
-    (Point::Coast, "group 338158137", 1),
+// Points, and lines that aren't of these points, with the column at which each is ill-formed.
+const COLUMNS: [(Point, &[(&str, usize)]); 8] = [
+    (
+        Point::Station,
+        &[
+            ("", 1),
+            ("base 0", 1),
+            ("0 tick", 1),
+            ("station", 8),
+            ("station x", 9),
+            ("station ship  ", 14),
+            ("station ship 33815813", 22),
+            ("station ship 3381581370", 23),
+            ("station ship 338158137 ", 23),
+            ("station c", 10),
+            ("station cost 002241022 mf", 11),
+            ("station coast 02241022 mf", 23),
+            ("station coast 002241022", 24),
+            ("station coast 002241022 ", 25),
+            ("station coast 002241022 uhf", 25),
+            ("station coast 002241022 m", 26),
+            ("station coast 002241022 vf", 26),
+            ("station coast 002241022 mff", 27),
+            ("station coast 002241022 mf ", 27),
+        ],
+    ),
+    (
+        Point::Base,
+        &[
+            ("station ship 338158137", 1),
+            ("0 tick", 1),
+            ("base", 5),
+            ("base ", 6),
+            ("base -1", 6),
+            ("base 00", 7),
+            ("base 5 ", 7),
+            ("base 10000000000", 16),
+        ],
+    ),
+    (
+        Point::Groups { held: 0 },
+        &[("base 0", 1), ("x", 1), ("groups", 6), ("0 ticks", 7)],
+    ),
+    (
+        Point::Groups { held: 15 },
+        &[("group 33815813", 15), ("group 338158137 ", 16)],
+    ),
+    (Point::Groups { held: 16 }, &[("group 338158137", 1)]),
+    (Point::Groups { held: 255 }, &[("group 338158137", 1)]),
+    (
+        Point::Ship,
+        &[
+            ("group 338158137", 1),
+            ("", 1),
+            (" 0 tick", 1),
+            ("5", 2),
+            ("5 ", 3),
+            ("5  tick", 3),
+            ("00 tick", 2),
+            ("4294967296 tick", 10),
+            ("42949672950 tick", 11),
+        ],
+    ),
+    (
+        Point::Coast,
+        &[("", 1), ("base 0", 1), ("group 338158137", 1)],
+    ),
 ];
 
 // What isn't an event of a ship behind the moment 5, and the column of the line.
@@ -219,8 +237,14 @@ const LINES: [(Point, &str); 19] = [
 
 #[test]
 fn ill_formed_lines_have_columns(rt: HostRuntime) {
-    for (point, text, column) in COLUMNS {
-        assert_eq!(rt; read_traffic(point, text.as_bytes()), Err(column), "{text}");
+    for (point, lines) in COLUMNS {
+        for (text, column) in lines {
+            assert_eq!(rt;
+                read_traffic(point, text.as_bytes()),
+                Err(*column),
+                "{text}"
+            );
+        }
     }
 }
 
@@ -252,37 +276,41 @@ fn lines_of_stations_are_well_formed(rt: HostRuntime) {
 }
 
 #[test]
-fn openings_are_read(rt: HostRuntime) {
-    let mmsi = Mmsi::new(7).expect(&rt, "an identity");
-    let most = 9_999_999_999;
-    assert_eq!(rt;
-        read_traffic(Point::Station, b"station ship 000000007"),
-        Ok(TrafficLine::Ship(mmsi))
-    );
-    assert_eq!(rt;
-        read_traffic(Point::Station, b"station coast 000000007 mf"),
-        Ok(TrafficLine::Coast(mmsi, Band::Mf))
-    );
-    assert_eq!(rt;
-        read_traffic(Point::Station, b"station coast 000000007 hf"),
-        Ok(TrafficLine::Coast(mmsi, Band::Hf))
-    );
-    assert_eq!(rt;
-        read_traffic(Point::Station, b"station coast 000000007 vhf"),
-        Ok(TrafficLine::Coast(mmsi, Band::Vhf))
-    );
-    assert_eq!(rt;
-        read_traffic(Point::Base, b"base 0"),
-        Ok(TrafficLine::Base(0))
-    );
-    assert_eq!(rt;
-        read_traffic(Point::Base, b"base 9999999999"),
-        Ok(TrafficLine::Base(most))
-    );
-    assert_eq!(rt;
-        read_traffic(Point::Groups { held: 15 }, b"group 000000007"),
-        Ok(TrafficLine::Group(mmsi))
-    );
+fn openings_are_read(rt: HostRuntime) -> Result<(), Fail> {
+    let mmsi = Mmsi::new(7).ok_or("an identity")?;
+    let groups = Point::Groups { held: 15 };
+    for (point, text, line) in [
+        (
+            Point::Station,
+            "station ship 000000007",
+            TrafficLine::Ship(mmsi),
+        ),
+        (
+            Point::Station,
+            "station coast 000000007 mf",
+            TrafficLine::Coast(mmsi, Band::Mf),
+        ),
+        (
+            Point::Station,
+            "station coast 000000007 hf",
+            TrafficLine::Coast(mmsi, Band::Hf),
+        ),
+        (
+            Point::Station,
+            "station coast 000000007 vhf",
+            TrafficLine::Coast(mmsi, Band::Vhf),
+        ),
+        (Point::Base, "base 0", TrafficLine::Base(0)),
+        (
+            Point::Base,
+            "base 9999999999",
+            TrafficLine::Base(9_999_999_999),
+        ),
+        (groups, "group 000000007", TrafficLine::Group(mmsi)),
+    ] {
+        assert_eq!(rt; read_traffic(point, text.as_bytes()), Ok(line), "{text}");
+    }
+    Ok(())
 }
 
 /// Whether this event of a ship is read of its line, wherever events of ships stand.
@@ -324,19 +352,24 @@ fn positions_are_read(rt: HostRuntime) {
     assert!(rt; is_read(b"0 position 1423108312", 0, &known));
 }
 
+fn service(to: u32, category: Category, from: u32, kind: Kind) -> Result<Call, Fail> {
+    Ok(Call::Service {
+        to: Mmsi::new(to).ok_or("an identity")?,
+        category,
+        from: Mmsi::new(from).ok_or("an identity")?,
+        kind,
+    })
+}
+
 #[test]
-fn an_expansion_behind_a_call_says_nothing(rt: HostRuntime) {
-    let call = Call::Service {
-        to: Mmsi::new(2_241_022).expect(&rt, "an identity"),
-        category: Category::Routine,
-        from: Mmsi::new(338_158_137).expect(&rt, "an identity"),
-        kind: Kind::AskPosition,
-    };
+fn an_expansion_behind_a_call_says_nothing(rt: HostRuntime) -> Result<(), Fail> {
+    let call = service(2_241_022, Category::Routine, 338_158_137, Kind::AskPosition)?;
     let heard = EventLine::Hear(call);
     let alone = b"3 hear askpos to=002241022 cat=100 from=338158137";
     let longer = b"3 hear askpos to=002241022 cat=100 from=338158137 exp speed=0125";
     assert!(rt; is_read(alone, 3, &heard));
     assert!(rt; is_read(longer, 3, &heard));
+    Ok(())
 }
 
 #[test]
@@ -354,17 +387,14 @@ fn held_calls_are_answered_and_declined(rt: HostRuntime) {
 }
 
 #[test]
-fn calls_are_sent(rt: HostRuntime) {
-    let call = Call::Service {
-        to: Mmsi::new(338_040_079).expect(&rt, "an identity"),
-        category: Category::Safety,
-        from: Mmsi::new(2_241_022).expect(&rt, "an identity"),
-        kind: Kind::Test { reply: false },
-    };
+fn calls_are_sent(rt: HostRuntime) -> Result<(), Fail> {
+    let test = Kind::Test { reply: false };
+    let call = service(338_040_079, Category::Safety, 2_241_022, test)?;
     let sent = EventLine::Send(call);
     let text = b"3 send test to=338040079 cat=108 from=002241022 end=117";
     assert!(rt; is_read(text, 3, &sent));
     assert!(rt; is_read_ashore(text, 3, &sent));
+    Ok(())
 }
 
 #[test]

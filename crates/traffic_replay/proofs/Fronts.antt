@@ -1,9 +1,10 @@
 -- what the first lines of a traffic file said, and their text
-use Rattle.std.proofs.Common.{◌≡◌, ℕ, Bool, true, List, [], ◌∷◌, ◌++◌, refl, sym, ◌∙◌, ap, subst, append_assoc, append-nil, ◌⊎◌, inl, inr}
+use Rattle.std.proofs.Common.{◌≡◌, ℕ, Bool, true, List, [], ◌∷◌, ◌++◌, refl, sym, ◌∙◌, ap, subst, append-nil, inl, inr}
 use Rattle.call_values.specs.declared.choices.Band.{Band}
-use Rattle.area_rules.specs.Rules.{Rules}
+use Rattle.traffic_rules.specs.Rules.{Rules}
 use Rattle.line_engine.specs.Lines.{Lines}
 use Rattle.line_engine.specs.Determined.{BeginsWith}
+use Rattle.station_lines.proofs.PublicLaws.{no_more, last_of, begins_itself, begins_further}
 use Rattle.ship_station.specs.ShipRules.{ship_rules}
 use Rattle.coast_station.specs.CoastRules.{coast_rules}
 use Rattle.traffic_lines.specs.declared.lines.EventLine.{EventLine}
@@ -80,7 +81,7 @@ behind_none : (kind : Kind) (said : Said) (lines : Lines) (whole : List ℕ) →
 behind_none kind said lines whole are early = record { text = []; is_well = true; tells = tells_none kind said lines are early; begins = (whole, refl) }
 
 behind_same : (kind : Kind) (said : Said) (whole : List ℕ) (is_well : Bool) → StationTells kind said whole is_well → IsBehind kind said whole
-behind_same kind said whole is_well tells = record { text = whole; is_well = is_well; tells = tells; begins = ([], sym (append-nil whole)) }
+behind_same kind said whole is_well tells = record { text = whole; is_well = is_well; tells = tells; begins = begins_itself whole }
 
 -- a line of receivers, or one that says nothing, gives no text
 without_joined : (kind : Kind) (l : JoinLine) (said : Said) (whole : List ℕ) (is_well : Bool) → StationTells kind (joined l ∷ said) whole is_well → StationTells kind said whole is_well
@@ -130,30 +131,6 @@ pub record IsFront (first : Lines) (whole : List ℕ) : Type 0 where
   pub said : Said
   pub are_said : AreSaid said first
   pub behind : IsBehind (kind_of said) said whole
-
--- the last line is the first lines' own, or one of the later ones
-no_more : (first later : Lines) → [] ≡ first ++ later → first ≡ []
-no_more [] later e = refl
-no_more (l ∷ first) later e = absurd (cc)
-
-tails : {x y : List ℕ} {xs ys : Lines} → x ∷ xs ≡ y ∷ ys → (x ≡ y) × (xs ≡ ys)
-tails e = (cc, cc)
-
-none_later : (first later : Lines) → first ++ later ≡ [] → later ≡ []
-none_later [] later e = e
-none_later (l ∷ first) later e = absurd (cc)
-
-last_of : (first later before : Lines) (text : List ℕ) → first ++ later ≡ before ++ text ∷ [] → (later ≡ []) ⊎ ((rest : Lines) × (before ≡ first ++ rest))
-last_of [] later before text e = inr (before, refl)
-last_of (l ∷ first) later [] text e = inl (none_later first later (tails e).1)
-last_of (l ∷ first) later (b ∷ before) text e =
-    elim (last_of first later before text (tails e).1) [
-      | inl none ↦ inl none
-      | inr rest ↦ inr (rest.0, ap (λ (h : List ℕ). h ∷ before) (sym (tails e).0) ∙ ap (λ (t : Lines). l ∷ t) rest.1)
-    ]
-
-begins_further : (whole middle text : List ℕ) → BeginsWith whole middle → BeginsWith middle text → BeginsWith whole text
-begins_further whole middle text a b = (b.0 ++ a.0, a.1 ∙ ap (λ (t : List ℕ). t ++ a.0) b.1 ∙ append_assoc text b.0 a.0)
 
 further : (first : Lines) (whole middle : List ℕ) → BeginsWith whole middle → IsFront first middle → IsFront first whole
 further first whole middle begins f = record {

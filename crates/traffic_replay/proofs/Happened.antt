@@ -4,8 +4,8 @@ use Rattle.call_values.specs.declared.calls.Call.{Call}
 use Rattle.slot_join.specs.declared.joined.Joined.{Joined}
 use Rattle.slot_join.specs.declared.joined.Joined.TheVariants.{Reported, Missing, Differ, Outside, Check}
 use Rattle.slot_join.specs.Answer.{IsAnswer}
-use Rattle.area_rules.specs.Histories.{History}
-use Rattle.area_rules.specs.Rules.{Rules, answer_to, continued}
+use Rattle.traffic_rules.specs.Histories.{History}
+use Rattle.traffic_rules.specs.Rules.{Rules, answer_to, continued}
 use Rattle.traffic_lines.specs.declared.lines.EventLine.{EventLine}
 use Rattle.traffic_lines.specs.declared.lines.EventLine.TheVariants as line
 use Rattle.traffic_lines.specs.declared.lines.TrafficLine.TheVariants.{Event}

@@ -1,8 +1,8 @@
 -- what was told so far, line by line
 use Rattle.std.proofs.Common.{◌≡◌, ℕ, ◌<◌, Bool, true, ◌&&◌, List, [], ◌∷◌, ◌++◌, length, refl, sym, ◌∙◌, ap, subst, append_assoc}
 use Rattle.call_values.specs.declared.choices.Band.{Band}
-use Rattle.area_rules.specs.Histories.{History}
-use Rattle.area_rules.specs.Rules.{Rules}
+use Rattle.traffic_rules.specs.Histories.{History}
+use Rattle.traffic_rules.specs.Rules.{Rules}
 use Rattle.ship_station.specs.declared.events.ShipWhat.{ShipWhat}
 use Rattle.ship_station.specs.declared.ships.Ship.{Ship}
 use Rattle.ship_station.specs.ShipRules.{Identities, ship_rules}

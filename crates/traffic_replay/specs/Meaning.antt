@@ -3,7 +3,7 @@ use Rattle.std.specs.Prelude.{◌≡◌, ℕ, Bool, List, if◌then◌else◌}
 use Rattle.line_grammar.specs.Columns.{IsColumn}
 use Rattle.line_engine.specs.Lines.{Lines}
 use Rattle.line_engine.specs.Meaning.{Meaning}
-use Rattle.area_rules.specs.Rules.{Rules}
+use Rattle.traffic_rules.specs.Rules.{Rules}
 use Rattle.ship_station.specs.ShipRules.{ship_rules}
 use Rattle.coast_station.specs.CoastRules.{coast_rules}
 use Rattle.dsc_files.specs.PointLine.{IsPointLine}

@@ -1,7 +1,7 @@
 -- What a replay writes, over the rules of a station: this project's profile.
 use Rattle.std.specs.Prelude.{ℕ, Bool, true, false, ◌&&◌, is_ok, Result, Ok, Err, List, [], ◌∷◌, ◌++◌}
-use Rattle.area_rules.specs.Histories.{History}
-use Rattle.area_rules.specs.Rules.{Rules, answer_to, continued}
+use Rattle.traffic_rules.specs.Histories.{History}
+use Rattle.traffic_rules.specs.Rules.{Rules, answer_to, continued}
 use Rattle.act_texts.specs.Moments.{at_moment}
 use Rattle.station_lines.specs.Answers.{answer_lines}
 use Rattle.dsc_texts.specs.Texts.{answer_text}

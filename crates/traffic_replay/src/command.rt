@@ -1,6 +1,6 @@
-ghost use Rattle.std.specs.Prelude.{◌≡◌, ◌⊎◌, ◌∷◌, ◌++◌, ◌≤◌, ◌<◌, ℕ, List, [], length, OnOk, IfErr};
+ghost use Rattle.std.specs.Prelude.{◌≡◌, ◌⊎◌, ◌∷◌, ◌≤◌, ◌<◌, ℕ, List, [], length, OnOk, IfErr};
 ghost use Rattle.line_engine.specs.Commands.{KeepsText};
-ghost use Rattle.dsc_files.specs.PointLine.{joined, traffic, IsBody};
+ghost use Rattle.dsc_files.specs.PointLine.{joined, IsBody};
 ghost use Rattle.dsc_files.specs.JoinLine.{JoinLine as ReceiverLine};
 ghost use Rattle.dsc_files.specs.Lines.{Says};
 ghost use Rattle.traffic_lines.specs.declared.lines.Point.TheVariants as At;
@@ -13,12 +13,11 @@ ghost use Rattle.join_groups.specs.Meanings.{BringsTooMany};
 ghost use Rattle.traffic_replay.specs.Said.{Said};
 ghost use Rattle.traffic_replay.specs.HeardGroups.{of_receivers};
 ghost use Rattle.traffic_replay.specs.Meaning.{replay_meaning};
-ghost use Rattle.traffic_replay.specs.inside.Progress.{Keeps, StandsFor, IsAmongGroups, IsOwnLine, IsReady, IsShort, IsShown, Refuses, Takes};
+ghost use Rattle.traffic_replay.specs.inside.Progress.{Keeps, KeepsWith, StandsFor, IsAmongGroups, IsOwnLine, IsReady, IsShort, IsShown, Refuses, RefusesGroup, RefusesLine, Takes, TakesLine};
 ghost use Rattle.traffic_replay.specs.inside.Gives.{gives_text};
 
 use crate::stations::{Station, groups_at};
 use crate::steps::{happen_at_coast, happen_at_ship};
-use area_rules::Acts;
 use arrayvec::ArrayVec;
 use call_values::bounds::LAST_BASE;
 use call_values::{Band, Mmsi};
@@ -34,6 +33,7 @@ use std::alloc::{AllocError, Global};
 use traffic_lines::{
     ShipBodyLine, StationLine, read_base, read_coast_line, read_ship_line, read_station,
 };
+use traffic_rules::Acts;
 
 /// What a replay of a traffic file has come to: the station that its lines name went through the events that they gave it, and wrote
 /// what it did at each.
@@ -84,8 +84,8 @@ impl Replay {
         requires short { length line.now ≤ LONGEST_LINE }
         requires ready { IsReady self.old }
         requires joins { W.can_join workers.now }
-        ensures ok { OnOk result ((said : Said) (text : List ℕ) → Keeps self.old said (text ++ out.old.items) → Takes self.new said line.now (text ++ out.new.items)) }
-        ensures err { IfErr result (λ refusal. (said : Said) (text : List ℕ) → Keeps self.old said (text ++ out.old.items) → Refuses said line.now refusal) }
+        ensures ok { OnOk result (TakesLine self.old self.new line.now out.old.items out.new.items) }
+        ensures err { IfErr result (RefusesLine self.old line.now out.old.items) }
         ensures unsaid { IfErr result (λ refusal. KeepsText refusal out.old.items out.new.items) }
     {
         let joined = match joined_line(self.alloc, self.point, line) {
@@ -126,8 +126,8 @@ impl Replay {
         requires ready { IsReady self.old }
         requires joins { W.can_join workers.now }
         requires own { IsOwnLine self.old.point line.now }
-        ensures ok { OnOk result ((said : Said) (text : List ℕ) → Keeps self.old said (text ++ out.old.items) → Takes self.new said line.now (text ++ out.new.items)) }
-        ensures err { IfErr result (λ refusal. (said : Said) (text : List ℕ) → Keeps self.old said (text ++ out.old.items) → Refuses said line.now refusal) }
+        ensures ok { OnOk result (TakesLine self.old self.new line.now out.old.items out.new.items) }
+        ensures err { IfErr result (RefusesLine self.old line.now out.old.items) }
         ensures unsaid { IfErr result (λ refusal. KeepsText refusal out.old.items out.new.items) }
     {
         match self.point {
@@ -183,8 +183,8 @@ impl Replay {
         requires joins { W.can_join workers.now }
         requires body { IsBody self.old.point }
         requires own { IsOwnLine self.old.point line.now }
-        ensures ok { OnOk result ((said : Said) (text : List ℕ) → Keeps self.old said (text ++ out.old.items) → Takes self.new said line.now (text ++ out.new.items)) }
-        ensures err { IfErr result (λ refusal. (said : Said) (text : List ℕ) → Keeps self.old said (text ++ out.old.items) → Refuses said line.now refusal) }
+        ensures ok { OnOk result (TakesLine self.old self.new line.now out.old.items out.new.items) }
+        ensures err { IfErr result (RefusesLine self.old line.now out.old.items) }
         ensures unsaid { IfErr result (λ refusal. KeepsText refusal out.old.items out.new.items) }
     {
         let groups = groups_at(self.point);
@@ -231,7 +231,7 @@ impl Replay {
     fn name_station(&mut self, says: StationLine)
         requires first { self.old.point ≡ At.Station }
         requires most { length self.old.groups.items ≤ 16 }
-        ensures { (said : Said) (text : List ℕ) → Keeps self.old said text → Keeps self.new (traffic (line_of_station says) ∷ said) text }
+        ensures { KeepsWith self.old self.new (line_of_station says) }
     {
         match says {
             StationLine::Ship(mmsi) => self.name_ship(mmsi),
@@ -243,7 +243,7 @@ impl Replay {
     fn name_ship(&mut self, mmsi: Mmsi)
         requires first { self.old.point ≡ At.Station }
         requires most { length self.old.groups.items ≤ 16 }
-        ensures { (said : Said) (text : List ℕ) → Keeps self.old said text → Keeps self.new (traffic (station.Ship mmsi) ∷ said) text }
+        ensures { KeepsWith self.old self.new (station.Ship mmsi) }
     {
         self.own = mmsi;
         self.station = Station::Ship(Ship::new(mmsi, &self.groups));
@@ -253,7 +253,7 @@ impl Replay {
     /// The station is this coast station.
     fn name_coast(&mut self, mmsi: Mmsi, band: Band)
         requires { self.old.point ≡ At.Station }
-        ensures { (said : Said) (text : List ℕ) → Keeps self.old said text → Keeps self.new (traffic (station.Coast mmsi band) ∷ said) text }
+        ensures { KeepsWith self.old self.new (station.Coast mmsi band) }
     {
         self.own = mmsi;
         self.station = Station::Coast(Coast::new(mmsi, band));
@@ -264,7 +264,7 @@ impl Replay {
     fn name_base(&mut self, second: u64)
         requires next { self.old.point ≡ At.Base }
         requires within { second ≤ LAST_BASE }
-        ensures { (said : Said) (text : List ℕ) → Keeps self.old said text → Keeps self.new (traffic (station.Base second) ∷ said) text }
+        ensures { KeepsWith self.old self.new (station.Base second) }
     {
         self.base = second;
         self.point = self.station.behind_base();
@@ -274,7 +274,7 @@ impl Replay {
     fn name_group(&mut self, mmsi: Mmsi) -> Result<(), Refusal>
         requires among { IsAmongGroups self.old.point }
         requires few { length self.old.groups.items < 16 }
-        ensures ok { OnOk result ((said : Said) (text : List ℕ) → Keeps self.old said text → Keeps self.new (traffic (station.Group mmsi) ∷ said) text) }
+        ensures ok { OnOk result (KeepsWith self.old self.new (station.Group mmsi)) }
         ensures err { IfErr result (λ refusal. refusal ≡ Refusal.Memory) }
     {
         self.groups.push(mmsi)?;
@@ -290,8 +290,7 @@ impl Replay {
         requires { HoldsSome self.old.heard }
         ensures ok { OnOk result ((said : Said) (line : ReceiverLine) (G : Facts) (text : List ℕ) → Keeps self.old said text → IsShown line group G → IsEnds G shown.now
             → (BringsTooMany (of_receivers said) line → ⊥) × Keeps self.new (joined line ∷ said) text) }
-        ensures err { IfErr result (λ refusal. (refusal ≡ Refusal.Memory) ⊎ ((said : Said) (line : ReceiverLine) (G : Facts) (text : List ℕ) → Keeps self.old said text
-            → IsShown line group G → (refusal ≡ Refusal.TooManyGroups) × BringsTooMany (of_receivers said) line)) }
+        ensures err { IfErr result (RefusesGroup self.old group) }
     {
         match self.heard.meet(group, shown) {
             Ok(()) => {
@@ -309,8 +308,7 @@ impl Replay {
         requires joins { W.can_join workers.now }
         ensures ok { OnOk result ((said : Said) (line : ReceiverLine) (text : List ℕ) → Keeps self.old said text → IsShown line group (facts_of heard)
             → (BringsTooMany (of_receivers said) line → ⊥) × Keeps self.new (joined line ∷ said) text) }
-        ensures err { IfErr result (λ refusal. (refusal ≡ Refusal.Memory) ⊎ ((said : Said) (line : ReceiverLine) (G : Facts) (text : List ℕ) → Keeps self.old said text
-            → IsShown line group G → (refusal ≡ Refusal.TooManyGroups) × BringsTooMany (of_receivers said) line)) }
+        ensures err { IfErr result (RefusesGroup self.old group) }
     {
         match self.heard.hear(workers, group, heard) {
             Ok(()) => {

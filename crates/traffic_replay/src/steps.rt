@@ -1,6 +1,6 @@
 ghost use Rattle.std.specs.Prelude.{◌≡◌, ◌<◌, ◌≤◌, ◌∷◌, ◌++◌, ℕ, false, is_ok, length, OnOk, IfOk};
-ghost use Rattle.area_rules.specs.Histories.{History};
-ghost use Rattle.area_rules.specs.Rules.{answer_to, continued};
+ghost use Rattle.traffic_rules.specs.Histories.{History};
+ghost use Rattle.traffic_rules.specs.Rules.{answer_to, continued};
 ghost use Rattle.ship_station.specs.declared.events.ShipWhat.{ShipWhat as AtShip};
 ghost use Rattle.ship_station.specs.ShipRules.{Identities, ship_rules};
 ghost use Rattle.ship_station.specs.Stands.{Stands as ShipStands};
@@ -20,7 +20,6 @@ ghost use Rattle.traffic_replay.specs.inside.Kept.{KeepsGroups};
 
 use crate::heard::hear;
 use crate::outcomes::{Unreported, heard_call};
-use area_rules::Acts;
 use call_values::bounds::LAST_BASE;
 use coast_station::{Coast, CoastEvent, CoastWhat};
 use dsc_texts::put_answer_line;
@@ -31,6 +30,7 @@ use ship_station::{Ship, ShipEvent, ShipWhat};
 use station_lines::{append_answer, coast_event, ship_event};
 use std::alloc::AllocError;
 use traffic_lines::{CoastLine, ShipLine};
+use traffic_rules::Acts;
 
 /// Appends the line of a heard group that isn't reported, and tells that no event was accepted.
 #[tactic(auto, unfolding(crate::specs::Output::unreported_line))]

@@ -5,11 +5,11 @@ use Rattle.std.proofs.lemmas.Bool.{eqb-true, or_parts}
 use Rattle.std.specs.Prelude.{map}
 use Rattle.std.specs.List.{list_any}
 use Rattle.call_values.specs.declared.calls.Call.{Call}
-use Rattle.area_rules.specs.declared.acts.Act.{Act}
-use Rattle.area_rules.specs.declared.acts.Act.TheVariants.{Send, GaveUp}
-use Rattle.area_rules.specs.declared.held.Holding.{Holding}
-use Rattle.area_rules.specs.Holding.{Places, with_place, sent_at}
-use Rattle.area_rules.specs.Moments.{has_passed}
+use Rattle.traffic_rules.specs.declared.acts.Act.{Act}
+use Rattle.traffic_rules.specs.declared.acts.Act.TheVariants.{Send, GaveUp}
+use Rattle.traffic_rules.specs.declared.held.Holding.{Holding}
+use Rattle.traffic_rules.specs.Holding.{Places, with_place, sent_at}
+use Rattle.traffic_rules.specs.Moments.{has_passed}
 use Rattle.traffic_rules.specs.HeldTold.{answer_wait, is_sent}
 use Rattle.traffic_rules.specs.Repeating.{repeated, ticked, repeats}
 use Rattle.traffic_rules.specs.Sendings.{sends, times_by, times_in}

@@ -9,16 +9,16 @@ use Rattle.call_values.specs.declared.calls.Call.{Call}
 use Rattle.call_values.specs.declared.calls.Call.TheVariants.{Alert, Ack, Relay, Individual, Service}
 use Rattle.call_values.specs.declared.choices.Category.{Category}
 use Rattle.call_values.specs.declared.parts.Kind.TheVariants.{Test, AskPosition}
-use Rattle.area_rules.specs.declared.acts.Act.{Act}
-use Rattle.area_rules.specs.declared.acts.Act.TheVariants.{Send, GaveUp}
-use Rattle.area_rules.specs.declared.held.TheConstants.{MOST_HELD}
-use Rattle.area_rules.specs.declared.held.Holding.{Holding}
-use Rattle.area_rules.specs.declared.held.Side.TheVariants.{Sent, Got}
-use Rattle.area_rules.specs.declared.refusals.StationRefusal.{StationRefusal}
-use Rattle.area_rules.specs.declared.refusals.StationRefusal.TheVariants.{NotSendable, Full}
-use Rattle.area_rules.specs.Histories.{Entry, History}
-use Rattle.area_rules.specs.Holding.{Places, place_of, first_free, newly_held}
-use Rattle.area_rules.specs.Rules.{Rules, Follows, Legal}
+use Rattle.traffic_rules.specs.declared.acts.Act.{Act}
+use Rattle.traffic_rules.specs.declared.acts.Act.TheVariants.{Send, GaveUp}
+use Rattle.traffic_rules.specs.declared.held.TheConstants.{MOST_HELD}
+use Rattle.traffic_rules.specs.declared.held.Holding.{Holding}
+use Rattle.traffic_rules.specs.declared.held.Side.TheVariants.{Sent, Got}
+use Rattle.traffic_rules.specs.declared.refusals.StationRefusal.{StationRefusal}
+use Rattle.traffic_rules.specs.declared.refusals.StationRefusal.TheVariants.{NotSendable, Full}
+use Rattle.traffic_rules.specs.Histories.{Entry, History}
+use Rattle.traffic_rules.specs.Holding.{Places, place_of, first_free, newly_held}
+use Rattle.traffic_rules.specs.Rules.{Rules, Follows, Legal}
 use Rattle.traffic_rules.specs.Occurrences.{Occurrence, is_tick}
 use Rattle.traffic_rules.specs.HeldTold.{all_held}
 use Rattle.traffic_rules.specs.Sending.{asks, acknowledges, is_sendable, held_under_least, send_refusal, send_due}

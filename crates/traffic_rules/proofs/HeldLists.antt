@@ -3,9 +3,9 @@ use native.Mathlib.Omega.{arith}
 use Rattle.std.proofs.Common.{◌≡◌, ℕ, ◌≤◌, ◌==◌, true, false, Some, None, ◌∷◌, refl, sym, ◌∙◌}
 use Rattle.std.specs.Prelude.{[], map, replicate}
 use Rattle.std.proofs.lemmas.Bool.{eq-eqb, ne_eqb}
-use Rattle.area_rules.specs.declared.held.Holding.{Holding}
-use Rattle.area_rules.specs.Histories.{Entry, History}
-use Rattle.area_rules.specs.Holding.{with_place}
+use Rattle.traffic_rules.specs.declared.held.Holding.{Holding}
+use Rattle.traffic_rules.specs.Histories.{Entry, History}
+use Rattle.traffic_rules.specs.Holding.{with_place}
 use Rattle.traffic_rules.specs.Occurrences.{Occurrence, is_tick}
 use Rattle.traffic_rules.specs.HeldTold.{begun_by, begins, ends, held_told, all_held}
 use Rattle.traffic_rules.specs.Repeating.{ticked}

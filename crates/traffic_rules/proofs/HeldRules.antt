@@ -8,15 +8,15 @@ use Rattle.std.proofs.lemmas.List.Folds.{list_any-append}
 use Rattle.call_values.specs.declared.calls.Call.{Call}
 use Rattle.call_values.specs.declared.calls.Call.TheVariants.{Alert, Ack, Relay, RelayAck, AllShips, AreaCall, GroupCall, Individual, Service}
 use Rattle.call_values.specs.declared.parts.Kind.TheVariants.{Test, AskPosition, Position}
-use Rattle.area_rules.specs.declared.acts.Act.{Act}
-use Rattle.area_rules.specs.declared.acts.Act.TheVariants.{Send, Held, GaveUp}
-use Rattle.area_rules.specs.declared.held.Holding.{Holding}
-use Rattle.area_rules.specs.declared.refusals.StationRefusal.{StationRefusal}
-use Rattle.area_rules.specs.declared.refusals.StationRefusal.TheVariants.{NotSendable, Full, NoSuchCall}
-use Rattle.area_rules.specs.Histories.{Entry, History}
-use Rattle.area_rules.specs.declared.held.Side.TheVariants.{Sent, Got}
+use Rattle.traffic_rules.specs.declared.acts.Act.{Act}
+use Rattle.traffic_rules.specs.declared.acts.Act.TheVariants.{Send, Held, GaveUp}
+use Rattle.traffic_rules.specs.declared.held.Holding.{Holding}
+use Rattle.traffic_rules.specs.declared.refusals.StationRefusal.{StationRefusal}
+use Rattle.traffic_rules.specs.declared.refusals.StationRefusal.TheVariants.{NotSendable, Full, NoSuchCall}
+use Rattle.traffic_rules.specs.Histories.{Entry, History}
+use Rattle.traffic_rules.specs.declared.held.Side.TheVariants.{Sent, Got}
 use Rattle.call_values.specs.declared.choices.Category.{Category}
-use Rattle.area_rules.specs.Holding.{Places, place_of, first_free, newly_held}
+use Rattle.traffic_rules.specs.Holding.{Places, place_of, first_free, newly_held}
 use Rattle.traffic_rules.specs.Occurrences.{Occurrence, ticks, answers, hears, other, is_tick, is_answer}
 use Rattle.traffic_rules.specs.HeldTold.{holds, frees, begun_by, begins, ends, held_told, all_held}
 use Rattle.traffic_rules.specs.Sending.{asks, acknowledges, is_sendable, refused_full, held_under_least, send_refusal, send_due}

@@ -1,10 +1,12 @@
 pub mod PublicLaws
+mod Steps
+mod Frame
 mod Lists
 mod Places
 mod HeldAfter
 mod HeldLists
 mod HeldRules
-mod Acts
+mod Unmet
 mod Counts
 mod Handled
 mod Plain

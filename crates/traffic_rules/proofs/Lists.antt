@@ -4,9 +4,9 @@ use native.Mathlib.Omega.{arith}
 use Rattle.std.proofs.Common.{◌≡◌, ℕ, zero, suc, ◌+◌, ◌<◌, nat_eq, Bool, true, false, ◌&&◌, Option, None, List, [], ◌∷◌, ◌++◌, length, take, drop, slice_index_or, slice_set, refl, sym, ◌∙◌, ap}
 use Rattle.std.proofs.lemmas.Bool.{false≢true, eqb-true, eq-eqb}
 use Rattle.std.specs.Prelude.{map}
-use Rattle.area_rules.specs.declared.acts.Act.{Act}
-use Rattle.area_rules.specs.declared.held.Holding.{Holding}
-use Rattle.area_rules.specs.Holding.{Places, place_of, with_place}
+use Rattle.traffic_rules.specs.declared.acts.Act.{Act}
+use Rattle.traffic_rules.specs.declared.held.Holding.{Holding}
+use Rattle.traffic_rules.specs.Holding.{Places, place_of, with_place}
 use Rattle.traffic_rules.specs.Repeating.{repeated, repeats}
 
 both : (a b : Bool) → (a && b) ≡ true → (a ≡ true) × (b ≡ true)

@@ -5,13 +5,13 @@ use Rattle.call_values.specs.declared.calls.Call.{Call}
 use Rattle.call_values.specs.declared.calls.Call.TheVariants.{Alert, Ack, Relay, Individual, Service}
 use Rattle.call_values.specs.declared.choices.Category.{Category}
 use Rattle.call_values.specs.declared.parts.Kind.TheVariants.{Test, AskPosition}
-use Rattle.area_rules.specs.declared.acts.Act.{Act}
-use Rattle.area_rules.specs.declared.acts.Act.TheVariants.{Send, GaveUp}
-use Rattle.area_rules.specs.declared.held.Holding.{Holding}
-use Rattle.area_rules.specs.declared.refusals.StationRefusal.{StationRefusal}
-use Rattle.area_rules.specs.declared.refusals.StationRefusal.TheVariants.{NotSendable}
-use Rattle.area_rules.specs.Holding.{Places, place_of, first_free}
-use Rattle.area_rules.specs.Moments.{has_passed}
+use Rattle.traffic_rules.specs.declared.acts.Act.{Act}
+use Rattle.traffic_rules.specs.declared.acts.Act.TheVariants.{Send, GaveUp}
+use Rattle.traffic_rules.specs.declared.held.Holding.{Holding}
+use Rattle.traffic_rules.specs.declared.refusals.StationRefusal.{StationRefusal}
+use Rattle.traffic_rules.specs.declared.refusals.StationRefusal.TheVariants.{NotSendable}
+use Rattle.traffic_rules.specs.Holding.{Places, place_of, first_free}
+use Rattle.traffic_rules.specs.Moments.{has_passed}
 use Rattle.traffic_rules.specs.HeldTold.{answer_wait, is_sent}
 use Rattle.traffic_rules.specs.Sending.{asks, acknowledges, is_sendable, held_under_least, send_refusal, send_due}
 use Rattle.traffic_rules.specs.Answering.{reply_to, reply_due_to, answer_due}

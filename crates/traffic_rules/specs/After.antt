@@ -1,9 +1,9 @@
 -- What a station holds after an event that it accepts.
 use Rattle.std.specs.Prelude.{ℕ, Option, Some, None, map, if◌then◌else◌}
 use Rattle.call_values.specs.declared.calls.Call.{Call}
-use Rattle.area_rules.specs.declared.held.Side.{Side}
-use Rattle.area_rules.specs.declared.held.Side.TheVariants.{Sent, Got}
-use Rattle.area_rules.specs.Holding.{Places, first_free, with_place, newly_held}
+use Rattle.traffic_rules.specs.declared.held.Side.{Side}
+use Rattle.traffic_rules.specs.declared.held.Side.TheVariants.{Sent, Got}
+use Rattle.traffic_rules.specs.Holding.{Places, first_free, with_place, newly_held}
 use Rattle.traffic_rules.specs.Sending.{asks, acknowledges}
 use Rattle.traffic_rules.specs.Hearing.{is_question, is_got, answered_number}
 use Rattle.traffic_rules.specs.Repeating.{ticked}

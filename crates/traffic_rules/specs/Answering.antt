@@ -6,12 +6,12 @@ use Rattle.call_values.specs.declared.choices.End.TheVariants.{Reply}
 use Rattle.call_values.specs.declared.parts.To.TheVariants.{One}
 use Rattle.dsc_symbols.specs.declared.notices.TheConstants as notices
 use Rattle.dsc_symbols.specs.declared.telecommands.TheConstants as telecommands
-use Rattle.area_rules.specs.declared.acts.Act.{Act}
-use Rattle.area_rules.specs.declared.acts.Act.TheVariants.{Send}
-use Rattle.area_rules.specs.declared.held.Holding.{Holding}
-use Rattle.area_rules.specs.declared.refusals.StationRefusal.{StationRefusal}
-use Rattle.area_rules.specs.declared.refusals.StationRefusal.TheVariants.{NoSuchCall}
-use Rattle.area_rules.specs.Holding.{Places, place_of}
+use Rattle.traffic_rules.specs.declared.acts.Act.{Act}
+use Rattle.traffic_rules.specs.declared.acts.Act.TheVariants.{Send}
+use Rattle.traffic_rules.specs.declared.held.Holding.{Holding}
+use Rattle.traffic_rules.specs.declared.refusals.StationRefusal.{StationRefusal}
+use Rattle.traffic_rules.specs.declared.refusals.StationRefusal.TheVariants.{NoSuchCall}
+use Rattle.traffic_rules.specs.Holding.{Places, place_of}
 use Rattle.traffic_rules.specs.HeldTold.{is_sent}
 
 -- the answer to a call: to an individual call one back to its sender with the same category and message, with the same telecommands, or

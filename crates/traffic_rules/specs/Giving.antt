@@ -1,7 +1,7 @@
 -- Acts that a station gives into a list of its caller: this project's profile.
 use Rattle.std.specs.Prelude.{Result, Ok, Err, List}
-use Rattle.area_rules.specs.declared.acts.Act.{Act}
-use Rattle.area_rules.specs.declared.refusals.StationRefusal.{StationRefusal}
+use Rattle.traffic_rules.specs.declared.acts.Act.{Act}
+use Rattle.traffic_rules.specs.declared.refusals.StationRefusal.{StationRefusal}
 
 -- an answer, with the acts that were given into a list
 abbrev pub answer_with : Result (Unit {0}) StationRefusal → List Act → Result (List Act) StationRefusal

@@ -10,12 +10,12 @@ use Rattle.call_values.specs.declared.choices.Category.{Category}
 use Rattle.call_values.specs.declared.choices.End.TheVariants.{Ask}
 use Rattle.call_values.specs.declared.parts.Kind.TheVariants.{Test, AskPosition, Position}
 use Rattle.call_grammar.specs.Spelling.{spell}
-use Rattle.area_rules.specs.declared.acts.Act.{Act}
-use Rattle.area_rules.specs.declared.acts.Act.TheVariants.{Send, Shown, Answered, Distress}
-use Rattle.area_rules.specs.declared.held.Holding.{Holding}
-use Rattle.area_rules.specs.declared.refusals.StationRefusal.{StationRefusal}
-use Rattle.area_rules.specs.Answering.{answers}
-use Rattle.area_rules.specs.Holding.{Places, first_free}
+use Rattle.traffic_rules.specs.declared.acts.Act.{Act}
+use Rattle.traffic_rules.specs.declared.acts.Act.TheVariants.{Send, Shown, Answered, Distress}
+use Rattle.traffic_rules.specs.declared.held.Holding.{Holding}
+use Rattle.traffic_rules.specs.declared.refusals.StationRefusal.{StationRefusal}
+use Rattle.traffic_rules.specs.Replies.{answers}
+use Rattle.traffic_rules.specs.Holding.{Places, first_free}
 use Rattle.traffic_rules.specs.HeldTold.{is_sent}
 use Rattle.traffic_rules.specs.Sending.{acknowledges, refused_full, held_under_least}
 

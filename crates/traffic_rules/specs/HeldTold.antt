@@ -3,15 +3,15 @@ use Rattle.std.specs.Prelude.{ℕ, zero, suc, ◌==◌, ◌&&◌, ◌||◌, Bool
 use Rattle.std.specs.Option.{option_map}
 use Rattle.std.specs.List.{list_any}
 use Rattle.call_values.specs.declared.calls.Call.{Call}
-use Rattle.area_rules.specs.declared.acts.Act.{Act}
-use Rattle.area_rules.specs.declared.acts.Act.TheVariants.{Send, Held, Answered, GaveUp}
-use Rattle.area_rules.specs.declared.held.TheConstants.{MOST_HELD}
-use Rattle.area_rules.specs.declared.held.Holding.{Holding}
-use Rattle.area_rules.specs.declared.held.Side.{Side}
-use Rattle.area_rules.specs.declared.held.Side.TheVariants.{Sent, Got}
-use Rattle.area_rules.specs.Histories.{Entry, History, since}
-use Rattle.area_rules.specs.Holding.{Places, newly_held, sent_at}
-use Rattle.area_rules.specs.Moments.{has_passed}
+use Rattle.traffic_rules.specs.declared.acts.Act.{Act}
+use Rattle.traffic_rules.specs.declared.acts.Act.TheVariants.{Send, Held, Answered, GaveUp}
+use Rattle.traffic_rules.specs.declared.held.TheConstants.{MOST_HELD}
+use Rattle.traffic_rules.specs.declared.held.Holding.{Holding}
+use Rattle.traffic_rules.specs.declared.held.Side.{Side}
+use Rattle.traffic_rules.specs.declared.held.Side.TheVariants.{Sent, Got}
+use Rattle.traffic_rules.specs.Histories.{Entry, History, since}
+use Rattle.traffic_rules.specs.Holding.{Places, newly_held, sent_at}
+use Rattle.traffic_rules.specs.Moments.{has_passed}
 use Rattle.traffic_rules.specs.declared.waits.TheConstants.{ANSWER_WAIT}
 use Rattle.traffic_rules.specs.Occurrences.{Occurrence, hears, is_tick, is_answer}
 

@@ -1,3 +1,8 @@
+pub mod Moments
+pub mod Replies
+pub mod Holding
+pub mod Histories
+pub mod Rules
 pub mod Giving
 pub mod Occurrences
 pub mod HeldTold

@@ -1,11 +1,11 @@
 -- Sent calls that wait for their answers, 5 minutes before they are sent again and 5 before they are given up: this project's profile.
 use Rattle.std.specs.Prelude.{ℕ, suc, ◌==◌, ◌&&◌, Bool, Option, Some, None, List, [], ◌∷◌, ◌++◌, if◌then◌else◌}
-use Rattle.area_rules.specs.declared.acts.Act.{Act}
-use Rattle.area_rules.specs.declared.acts.Act.TheVariants.{Send, GaveUp}
-use Rattle.area_rules.specs.declared.held.Holding.{Holding}
-use Rattle.area_rules.specs.declared.held.Side.{Side}
-use Rattle.area_rules.specs.Holding.{Places, sent_at}
-use Rattle.area_rules.specs.Moments.{has_passed}
+use Rattle.traffic_rules.specs.declared.acts.Act.{Act}
+use Rattle.traffic_rules.specs.declared.acts.Act.TheVariants.{Send, GaveUp}
+use Rattle.traffic_rules.specs.declared.held.Holding.{Holding}
+use Rattle.traffic_rules.specs.declared.held.Side.{Side}
+use Rattle.traffic_rules.specs.Holding.{Places, sent_at}
+use Rattle.traffic_rules.specs.Moments.{has_passed}
 use Rattle.traffic_rules.specs.HeldTold.{answer_wait, is_sent}
 
 -- a sent call has waited for its answer to the end

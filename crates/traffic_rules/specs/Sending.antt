@@ -5,11 +5,11 @@ use Rattle.call_values.specs.declared.calls.Call.TheVariants.{Alert, Ack, RelayA
 use Rattle.call_values.specs.declared.parts.Kind.TheVariants.{Position}
 use Rattle.call_grammar.specs.Spelling.{end_of}
 use Rattle.dsc_symbols.specs.declared.ends.TheConstants as ends
-use Rattle.area_rules.specs.declared.acts.Act.{Act}
-use Rattle.area_rules.specs.declared.acts.Act.TheVariants.{Send, Held}
-use Rattle.area_rules.specs.declared.refusals.StationRefusal.{StationRefusal}
-use Rattle.area_rules.specs.declared.refusals.StationRefusal.TheVariants.{NotSendable, Full}
-use Rattle.area_rules.specs.Holding.{Places, first_free}
+use Rattle.traffic_rules.specs.declared.acts.Act.{Act}
+use Rattle.traffic_rules.specs.declared.acts.Act.TheVariants.{Send, Held}
+use Rattle.traffic_rules.specs.declared.refusals.StationRefusal.{StationRefusal}
+use Rattle.traffic_rules.specs.declared.refusals.StationRefusal.TheVariants.{NotSendable, Full}
+use Rattle.traffic_rules.specs.Holding.{Places, first_free}
 use Rattle.call_values.specs.Views.{sender_of}
 
 -- a call asks for an acknowledgement

@@ -5,10 +5,10 @@ use Rattle.call_values.specs.declared.calls.Call.{Call}
 use Rattle.call_values.specs.declared.calls.Call.TheVariants.{RelayAck, Individual, Service}
 use Rattle.call_values.specs.declared.choices.End.TheVariants.{Reply}
 use Rattle.call_values.specs.declared.parts.Kind.TheVariants.{Test, Position}
-use Rattle.area_rules.specs.declared.acts.Act.{Act}
-use Rattle.area_rules.specs.declared.acts.Act.TheVariants.{Send, AlertEnded, CasualtyClosed}
-use Rattle.area_rules.specs.declared.held.Holding.{Holding}
-use Rattle.area_rules.specs.Holding.{Places}
+use Rattle.traffic_rules.specs.declared.acts.Act.{Act}
+use Rattle.traffic_rules.specs.declared.acts.Act.TheVariants.{Send, AlertEnded, CasualtyClosed}
+use Rattle.traffic_rules.specs.declared.held.Holding.{Holding}
+use Rattle.traffic_rules.specs.Holding.{Places}
 use Rattle.traffic_rules.specs.HeldTold.{is_sent}
 use Rattle.traffic_rules.specs.Sending.{is_sendable}
 

@@ -1,13 +1,15 @@
 ghost use Rattle.std.specs.Prelude.{◌≡◌, [], OnOk, OnErr};
 ghost use Rattle.dsc_symbols.specs.declared.notices.TheConstants as TheNotices;
 ghost use Rattle.dsc_symbols.specs.declared.telecommands.TheConstants as TheTelecommands;
-ghost use Rattle.area_rules.specs.Rules.{refusal_or};
+ghost use Rattle.traffic_rules.specs.Rules.{refusal_or};
 ghost use Rattle.traffic_rules.specs.Answering as answering;
 ghost use Rattle.traffic_rules.specs.After.{after_answering};
 ghost use Rattle.traffic_rules.specs.Giving.{answer_with};
 
+use crate::acts::{Act, Acts};
 use crate::giving::give;
-use area_rules::{Act, Acts, HeldCalls, Side, StationRefusal};
+use crate::held::{HeldCalls, Side};
+use crate::refusals::StationRefusal;
 use call_values::{Call, End, First, Mmsi, Second, To};
 use dsc_symbols::{notices, telecommands};
 

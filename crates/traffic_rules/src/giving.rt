@@ -1,6 +1,6 @@
 ghost use Rattle.std.specs.Prelude.{◌≡◌, [], ◌∷◌};
 
-use area_rules::{Act, Acts, put};
+use crate::acts::{Act, Acts, put};
 
 /// Gives one act alone, into a list that is empty.
 pub fn give(acts: &mut Acts, act: Act)

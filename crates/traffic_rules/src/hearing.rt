@@ -1,15 +1,18 @@
 ghost use Rattle.std.specs.Prelude.{◌≡◌, ◌<◌, ◌≤◌, ◌∷◌, [], Some, IfSome, IsTrue, OnOk, OnErr, length, position};
-ghost use Rattle.area_rules.specs.declared.acts.Act.TheVariants as act;
+ghost use Rattle.traffic_rules.specs.declared.acts.Act.TheVariants as act;
 ghost use Rattle.call_values.specs.declared.calls.Call.TheVariants as form;
-ghost use Rattle.area_rules.specs.Rules.{refusal_or};
+ghost use Rattle.traffic_rules.specs.Rules.{refusal_or};
 ghost use Rattle.traffic_rules.specs.Hearing as hearing;
 ghost use Rattle.traffic_rules.specs.After.{after_question, freed_at, after_hearing};
 ghost use Rattle.traffic_rules.specs.Giving.{answer_with};
 
+use crate::acts::{Act, Acts, put};
 use crate::equality::are_equal;
 use crate::giving::give;
+use crate::held::{HeldCalls, Holding, Side};
+use crate::refusals::StationRefusal;
+use crate::replies::answers;
 use crate::sending::acknowledges;
-use area_rules::{Act, Acts, HeldCalls, Holding, Side, StationRefusal, answers, put};
 use call_values::{Call, Category, End, HourMinute, Kind, Mmsi, Position};
 
 /// Does what is due at a heard call that is for the station and is neither a distress alert nor its acknowledgement

@@ -1,14 +1,21 @@
 ghost use Rattle.std.specs.Prelude.{◌≡◌, ℕ, false, Bool, Option, None, List, IsTrue};
 ghost use Rattle.std.specs.List.{list_any};
 ghost use Rattle.call_values.specs.declared.calls.Call.{Call};
-ghost use Rattle.area_rules.specs.declared.acts.Act.{Act};
-ghost use Rattle.area_rules.specs.Holding.{Places};
+ghost use Rattle.traffic_rules.specs.declared.acts.Act.{Act};
+ghost use Rattle.traffic_rules.specs.Holding.{Places};
 ghost use Rattle.traffic_rules.specs.Answering.{answer_due};
 ghost use Rattle.traffic_rules.specs.Hearing.{Whereabouts, heard_due};
 ghost use Rattle.traffic_rules.specs.Repeating.{repeats};
 ghost use Rattle.traffic_rules.specs.Sending.{is_sendable, send_refusal, send_due};
 ghost use Rattle.traffic_rules.specs.Sendings.{sends};
 ghost use Rattle.traffic_rules.specs.TrafficActs.{is_of_traffic, AreTrafficActs, AreSentSuch};
+
+use crate::held::MOST_HELD;
+
+/// The law that a station holds sixteen calls at most. It does nothing.
+pub fn sixteen_held_calls()
+    ensures { MOST_HELD ≡ 16 }
+{}
 
 /// The law that the rules of traffic send no call but one that an operator of the station may send, or a reply, and each
 /// once: where an operator's call isn't refused, where a call is answered or heard, and where held calls are repeated, if

@@ -1,10 +1,12 @@
 ghost use Rattle.std.specs.Prelude.{◌≡◌, ◌<◌, ◌≤◌, ◌++◌, ◌+◌, length};
-ghost use Rattle.area_rules.specs.Holding.{place_of, with_place};
+ghost use Rattle.traffic_rules.specs.Holding.{place_of, with_place};
 ghost use Rattle.traffic_rules.specs.Repeating as repeating;
 ghost use Rattle.traffic_rules.specs.After.{after_tick};
 
+use crate::acts::{Act, Acts, put};
+use crate::held::{Held, HeldCalls, Side};
+use crate::moments::has_passed;
 use crate::waits::ANSWER_WAIT;
-use area_rules::{Act, Acts, Held, HeldCalls, Side, has_passed, put};
 
 /// At a tick: sends each sent call again that has waited for its answer and was sent once, gives up each that was sent
 /// again, by rising number, and puts the acts last (this project's profile).

@@ -1,12 +1,14 @@
 ghost use Rattle.std.specs.Prelude.{◌≡◌, [], ◌∷◌, OnOk, OnErr};
-ghost use Rattle.area_rules.specs.declared.acts.Act.TheVariants as act;
-ghost use Rattle.area_rules.specs.Rules.{refusal_or};
+ghost use Rattle.traffic_rules.specs.declared.acts.Act.TheVariants as act;
+ghost use Rattle.traffic_rules.specs.Rules.{refusal_or};
 ghost use Rattle.traffic_rules.specs.Giving.{answer_with};
 ghost use Rattle.traffic_rules.specs.Sending as sending;
 ghost use Rattle.traffic_rules.specs.After.{after_sending};
 
+use crate::acts::{Act, Acts, put};
 use crate::giving::give;
-use area_rules::{Act, Acts, HeldCalls, Side, StationRefusal, put};
+use crate::held::{HeldCalls, Side};
+use crate::refusals::StationRefusal;
 use call_grammar::end_of;
 use call_values::{Call, Kind, Mmsi};
 use dsc_symbols::ends;

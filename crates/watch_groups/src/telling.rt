@@ -69,13 +69,13 @@ pub(crate) fn watcher_of(
     named: &[u32],
     told: &[Told],
 ) -> Result<BatchWatcher, AllocError> {
-    let mut untold = Vec::new(alloc);
+    let mut watcher = BatchWatcher::new(alloc);
     for group in named {
         if let Some(number) = untold_number(groups, told, *group) {
-            untold.push(number)?;
+            watcher.add(number)?;
         }
     }
-    Ok(BatchWatcher::new(alloc, untold))
+    Ok(watcher)
 }
 
 /// The call of a group that a watcher saw, if any.

@@ -4,10 +4,10 @@ use Rattle.call_values.specs.declared.calls.Call.{Call}
 use Rattle.call_values.specs.declared.calls.Call.TheVariants as call
 use Rattle.call_values.specs.declared.choices.Band.{Band}
 use Rattle.call_values.specs.declared.parts.To.{To}
-use Rattle.area_rules.specs.declared.acts.Act.{Act}
-use Rattle.area_rules.specs.declared.refusals.StationRefusal.{StationRefusal}
-use Rattle.area_rules.specs.Holding.{Places}
-use Rattle.area_rules.specs.Rules.{refusal_or}
+use Rattle.traffic_rules.specs.declared.acts.Act.{Act}
+use Rattle.traffic_rules.specs.declared.refusals.StationRefusal.{StationRefusal}
+use Rattle.traffic_rules.specs.Holding.{Places}
+use Rattle.traffic_rules.specs.Rules.{refusal_or}
 use Rattle.traffic_rules.specs.After.{after_sending, after_answering, after_tick, after_hearing}
 use Rattle.coast_station.specs.declared.events.CoastWhat.{CoastWhat}
 use Rattle.coast_station.specs.declared.events.CoastWhat.TheVariants.{Accept, Tick, Relay, Send, Answer, Heard}
@@ -67,10 +67,9 @@ abbrev pub answer_by : Coast → (at : ℕ) → CoastWhat → Result (List Act) 
 answer_by coast at what =
     refusal_or (refusal_by (station_of coast) coast.casualties coast.held what) (due_by (station_of coast) coast.casualties coast.held at what)
 
--- what it keeps after an event that it accepts
+-- what it keeps after an event that it accepts, but for the moment
 abbrev pub afterwards : Coast → (at : ℕ) → CoastWhat → Coast
 afterwards coast at what = record coast {
-  last = at;
   casualties = open_after (station_of coast) at what coast.casualties;
   held = held_after (station_of coast) at what coast.casualties coast.held;
 }

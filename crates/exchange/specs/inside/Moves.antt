@@ -2,7 +2,7 @@
 use Rattle.std.specs.Prelude.{◌≡◌, ℕ, Option, List, [], slice_get}
 use Rattle.std.specs.Option.{option_map}
 use Rattle.call_values.specs.declared.calls.Call.{Call}
-use Rattle.area_rules.specs.Histories.{History}
+use Rattle.traffic_rules.specs.Histories.{History}
 use Rattle.exchange.specs.Sent.{calls_of}
 use Rattle.exchange.specs.WorldHistories.{Given, did, refuses, nothing, entry_of, with_entry}
 use Rattle.exchange.specs.StandsFor.{IsStill}

@@ -5,7 +5,7 @@ use Rattle.slot_evidence.specs.declared.places.Seen.{Seen}
 use Rattle.slot_evidence.specs.Facts.{Facts, facts_of_all, union}
 use Rattle.slot_evidence.specs.Sheet.{facts_in}
 use Rattle.slot_evidence.specs.Allowed.{IsAllowed}
-use Rattle.receiver_pool.specs.Facts.{all_facts}
+use Rattle.evidence_board.specs.Facts.{all_facts}
 
 -- those of a sheet and of receptions
 abbrev pub known_facts : List Seen → List (List Element) → Facts

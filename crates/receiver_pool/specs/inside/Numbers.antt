@@ -1,9 +1,13 @@
 -- The numbers that groups have within a batch. This project's own form.
 use Rattle.std.specs.Prelude.{◌≡◌, ℕ, ◌<◌, ◌≤◌, Bool, false, ◌&&◌, ◌||◌, ◌==◌, zero, suc, List, All, length, slice_index, slice_index_or}
-use Rattle.slot_evidence.specs.Facts.{Facts, facts_of}
+use Rattle.atomic_table.specs.Seated.{TableId}
+use Rattle.slot_evidence.specs.Facts.{Facts, facts_of, union}
+use Rattle.evidence_board.specs.Seats.{Held}
+use Rattle.receiver_pool.specs.declared.batch_groups.Turns.{Turns}
 use Rattle.receiver_pool.specs.declared.heard.Heard.{Heard}
-use Rattle.receiver_pool.specs.Groups.{Belongs}
-use Rattle.receiver_pool.specs.inside.Turns.{taken, nobody}
+use Rattle.receiver_pool.specs.Groups.{Belongs, IsShort}
+use Rattle.receiver_pool.specs.Rows.{AreSeats}
+use Rattle.receiver_pool.specs.inside.Turns.{is_turn, taken, nobody}
 
 -- a group's number is below n
 abbrev pub IsBelow : ℕ → ℕ → Type 0
@@ -41,3 +45,15 @@ place_part takes batch places n k = taken takes (nth_at batch places k) n
 abbrev pub gathered : List ℕ → (ℕ → Facts) → ℕ → ℕ → Facts
 gathered groups F zero k p v = false
 gathered groups F (suc m) k p v = gathered groups F m k p v || (slice_index groups m == k && F m p v)
+
+-- no reception of a batch is too long, and each has a place below count
+abbrev pub AreTurns : ℕ → List Heard → Turns → Type 0
+AreTurns count batch turns = All IsShort batch × ArePlaces (length batch) count turns.places.items
+
+-- what the workers from low on and below high read of the group at each place
+abbrev pub read_by : List Heard → Turns → ℕ → ℕ → ℕ → Facts
+read_by batch turns low high = place_part (is_turn turns.workers low high) batch turns.places.items (length batch)
+
+-- through a seat of each board the facts of its group were posted besides
+abbrev pub HavePosted : (ℕ → Facts) → List TableId → List Held → List Held → Type 0
+HavePosted G boards before after = (share : ℕ) (F : ℕ → Facts) → AreSeats share F boards before → AreSeats share (λ k. union (F k) (G k)) boards after

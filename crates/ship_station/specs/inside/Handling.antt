@@ -1,9 +1,9 @@
 -- What the handling of one event owes, where its moment isn't before the last one.
 use Rattle.std.specs.Prelude.{◌≡◌, ℕ, ◌≤◌, Result, List}
-use Rattle.area_rules.specs.declared.acts.Act.{Act}
-use Rattle.area_rules.specs.declared.refusals.StationRefusal.{StationRefusal}
-use Rattle.area_rules.specs.Histories.{History, last_moment}
-use Rattle.area_rules.specs.Rules.{answer_to, continued}
+use Rattle.traffic_rules.specs.declared.acts.Act.{Act}
+use Rattle.traffic_rules.specs.declared.refusals.StationRefusal.{StationRefusal}
+use Rattle.traffic_rules.specs.Histories.{History, last_moment}
+use Rattle.traffic_rules.specs.Rules.{answer_to, continued}
 use Rattle.ship_station.specs.declared.events.ShipWhat.{ShipWhat}
 use Rattle.ship_station.specs.declared.ships.Ship.{Ship}
 use Rattle.ship_station.specs.Events.{IsShipWhat}

@@ -1,7 +1,7 @@
 -- What happens at an event line, by the rules of a station.
 use Rattle.std.specs.Prelude.{◌≡◌, ℕ, Bool, Result, List, ◌++◌}
-use Rattle.area_rules.specs.Histories.{History}
-use Rattle.area_rules.specs.Rules.{Rules}
+use Rattle.traffic_rules.specs.Histories.{History}
+use Rattle.traffic_rules.specs.Rules.{Rules}
 use Rattle.traffic_lines.specs.declared.lines.EventLine.{EventLine}
 use Rattle.traffic_replay.specs.declared.outcomes.Unreported.{Unreported}
 use Rattle.traffic_replay.specs.Said.{Said}

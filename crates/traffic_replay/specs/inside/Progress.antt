@@ -1,20 +1,21 @@
 -- What a replay has come to.
-use Rattle.std.specs.Prelude.{◌≡◌, ℕ, ◌≤◌, ◌<◌, ◌==◌, Bool, Option, Some, None, List, [], ◌∷◌, length}
+use Rattle.std.specs.Prelude.{◌≡◌, ℕ, ◌≤◌, ◌<◌, ◌==◌, Bool, Option, Some, None, List, [], ◌∷◌, ◌++◌, ◌⊎◌, length}
 use Rattle.ten_unit.specs.declared.character.Element.{Element}
 use Rattle.slot_evidence.specs.Facts.{Facts}
 use Rattle.phasing.specs.declared.reception.TheConstants.{LONGEST}
 use Rattle.line_engine.specs.Lines.{Lines}
 use Rattle.traffic_lines.specs.declared.lines.Point.{Point}
 use Rattle.traffic_lines.specs.declared.lines.Point.TheVariants as point
-use Rattle.area_rules.specs.Histories.{History}
-use Rattle.area_rules.specs.Rules.{Rules}
+use Rattle.traffic_rules.specs.Histories.{History}
+use Rattle.traffic_rules.specs.Rules.{Rules}
 use Rattle.ship_station.specs.ShipRules.{ship_rules}
 use Rattle.ship_station.specs.Stands.{Stands as ShipStands}
 use Rattle.coast_station.specs.CoastRules.{coast_rules}
 use Rattle.coast_station.specs.Stands.{Stands as CoastStands}
 use Rattle.call_values.specs.declared.bounds.TheConstants.{LAST_BASE}
 use Rattle.dsc_files.specs.JoinLine.{JoinLine}
-use Rattle.dsc_files.specs.PointLine.{PointLine, joined, IsPointLine}
+use Rattle.dsc_files.specs.PointLine.{PointLine, joined, traffic, IsPointLine}
+use Rattle.traffic_lines.specs.declared.lines.TrafficLine.{TrafficLine}
 use Rattle.traffic_lines.specs.Lines.{IsTrafficLine}
 use Rattle.line_grammar.specs.Columns.{IsColumn}
 use Rattle.line_engine.specs.declared.command.Refusal.{Refusal}
@@ -155,3 +156,20 @@ abbrev pub Refuses : Said → (line : List ℕ) → Refusal → Type 0
 Refuses said line (refusal.Column n) = IsColumn (IsPointLine (point_of said)) line n
 Refuses said line refusal.TooManyGroups = (says : PointLine) × (IsPointLine (point_of said) says line × BringsGroup said says)
 Refuses said line refusal.Memory = Unit {0}
+
+-- a line is taken, whatever was said before it and whatever text is in front of what is written
+abbrev pub TakesLine : (old new : Replay) → (line before after : List ℕ) → Type 0
+TakesLine old new line before after = (said : Said) (text : List ℕ) → Keeps old said (text ++ before) → Takes new said line (text ++ after)
+
+-- and it is refused for this reason
+abbrev pub RefusesLine : (old : Replay) → (line before : List ℕ) → Refusal → Type 0
+RefusesLine old line before why = (said : Said) (text : List ℕ) → Keeps old said (text ++ before) → Refuses said line why
+
+-- a replay keeps what was said with this line more, at which nothing is written
+abbrev pub KeepsWith : (old new : Replay) → TrafficLine → Type 0
+KeepsWith old new line = (said : Said) (text : List ℕ) → Keeps old said text → Keeps new (traffic line ∷ said) text
+
+-- what a line showed of a group is refused for want of memory, or since it brings a group too many
+abbrev pub RefusesGroup : (old : Replay) → (group : ℕ) → Refusal → Type 0
+RefusesGroup old group why = (why ≡ refusal.Memory) ⊎ ((said : Said) (line : JoinLine) (G : Facts) (text : List ℕ) → Keeps old said text
+    → IsShown line group G → (why ≡ refusal.TooManyGroups) × BringsTooMany (of_receivers said) line)

@@ -1,5 +1,5 @@
 use Rattle.std.proofs.Common.{sym, ◌∙◌, ap, subst}
-use Rattle.area_rules.specs.Histories.{History}
+use Rattle.traffic_rules.specs.Histories.{History}
 use Rattle.coast_station.specs.declared.events.CoastWhat.{CoastWhat}
 use Rattle.coast_station.specs.CoastRules.{coast_rules}
 use Rattle.coast_station.specs.Stands.{Stands}

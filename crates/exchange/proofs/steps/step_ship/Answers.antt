@@ -1,5 +1,5 @@
 use Rattle.std.proofs.Common.{sym, ◌∙◌, ap, subst}
-use Rattle.area_rules.specs.Histories.{History}
+use Rattle.traffic_rules.specs.Histories.{History}
 use Rattle.ship_station.specs.declared.events.ShipWhat.{ShipWhat}
 use Rattle.ship_station.specs.ShipRules.{ship_rules}
 use Rattle.ship_station.specs.Stands.{Stands}

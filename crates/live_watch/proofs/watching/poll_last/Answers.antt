@@ -1,5 +1,5 @@
 use Rattle.live_watch.proofs.Posting.{last_unreported}
-use Rattle.receiver_pool.specs.Views.{seen_sheet}
+use Rattle.evidence_board.specs.Views.{seen_sheet}
 use Rattle.live_watch.proofs.watching.poll_last.Goals as goal
 
 pub returns-clause-last : goal.returns-clause-last

@@ -1,5 +1,5 @@
 use Rattle.std.proofs.Common.{◌≡◌}
-use Rattle.receiver_pool.specs.Views.{given_sheet}
+use Rattle.evidence_board.specs.Views.{given_sheet}
 use Rattle.live_watch.proofs.watching.poll_meanwhile.Given as goal
 
 abbrev pub invariant-loop : goal.invariant-loop

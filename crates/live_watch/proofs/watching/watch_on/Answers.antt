@@ -3,8 +3,8 @@ use Rattle.call_values.specs.declared.calls.Call.{Call}
 use Rattle.slot_evidence.specs.declared.places.Seen.{Seen}
 use Rattle.slot_evidence.specs.Facts.{no_facts, facts_of_all, union}
 use Rattle.slot_evidence.specs.Sheet.{IsEnds, facts_in}
-use Rattle.receiver_pool.specs.Seats.{Held}
-use Rattle.receiver_pool.specs.Views.{given_sheet}
+use Rattle.evidence_board.specs.Seats.{Held}
+use Rattle.evidence_board.specs.Views.{given_sheet}
 use Rattle.live_watch.specs.inside.Known.{known_facts}
 use Rattle.live_watch.specs.inside.Posted.{IsUnreported}
 use Rattle.live_watch.proofs.Posting.{Alike, Tell, both_posted, watched}

@@ -1,9 +1,8 @@
 use Rattle.std.proofs.Common.{rules, ◌≡◌, ℕ, ◌+◌, ◌-◌, ◌/◌, ◌≤◌, Bool, ◌||◌, List, IfOk, length, arith, ap, sym, ◌∙◌, subst}
 use Rattle.std.proofs.lemmas.Result.{IfOk-at_ok}
 use Rattle.slot_evidence.specs.Facts.{Facts, union}
-use Rattle.receiver_pool.specs.Seats.{Held}
-use Rattle.receiver_pool.specs.inside.Turns.{is_turn}
-use Rattle.receiver_pool.specs.inside.Numbers.{nth_at, place_part}
+use Rattle.evidence_board.specs.Seats.{Held}
+use Rattle.receiver_pool.specs.inside.Numbers.{HavePosted, nth_at, read_by}
 use Rattle.receiver_pool.specs.Rows.{AreSeats}
 use Rattle.receiver_pool.proofs.Parts.{part_halves, fold_twice}
 use Rattle.receiver_pool.proofs.Turning.{lent_whole}
@@ -13,10 +12,7 @@ use Rattle.receiver_pool.proofs.batches.+groups.Goals as goal
 pub returns-then-high-low-eq1 : goal.returns-then-high-low-eq1
 returns-then-high-low-eq1 g t c =
     let next : c.args.low + 1 ≡ c.args.high = omega arith in
-    let batch = c.args.batch.now in
-    subst (λ (h : ℕ). IfOk c.work.result (λ v. (share : ℕ) (F : ℕ → Facts) → AreSeats share F c.args.boards.now c.args.seats.items
-    → AreSeats share (λ k. union (F k) (place_part (is_turn c.args.workers c.args.low h) batch c.args.places.now (length batch) k)) c.args.boards.now v.items))
-    next c.work.ensures
+    subst (λ (h : ℕ). IfOk c.work.result (λ v. HavePosted (read_by c.args.batch.now c.args.turns.now c.args.low h) c.args.boards.now c.args.seats.items v.items)) next c.work.ensures
 
 pub join-first-requires-after_bounds : goal.join-first-requires-after_bounds
 join-first-requires-after_bounds g t c κs lives =
@@ -38,8 +34,7 @@ join-first-requires-after_bounds g t c κs lives =
                 c.requires.sync.1,
                 (omega arith, omega arith),
                 record { share = sit.share - sit.share / 2; enough = low; facts = sit.facts; are_seats = subst (λ (s : List Held). AreSeats (sit.share - sit.share / 2) sit.facts boards s) (sym whole) split.0 },
-                c.requires.short,
-                c.requires.places,
+                c.requires.turns,
               ),
               (c.requires.sync.0, c.requires.sync.1),
             ),
@@ -58,8 +53,7 @@ join-first-requires-after_bounds g t c κs lives =
                 c.requires.sync.1,
                 (omega arith, omega arith),
                 record { share = sit.share / 2; enough = high; facts = sit.facts; are_seats = split.1 },
-                c.requires.short,
-                c.requires.places,
+                c.requires.turns,
               ),
               (c.requires.sync.0, c.requires.sync.1),
             ),
@@ -75,8 +69,7 @@ join_each-requires-clause-seats g t c =
     let split = c.in_ok-others.ensures sit.share sit.facts (subst (λ (s : List Held). AreSeats sit.share sit.facts boards s) (sym c.deref_mut.ensures.value) sit.are_seats) in
     let whole = lent_whole Held c.args.seats.items c.split_each.new.seats c.args.seats.len c.args.seats.ok.0 (split.0.count ∙ sym sit.are_seats.count) in
     let half = sit.share - sit.share / 2 in
-    let batch = c.args.batch.now in
-    let A : ℕ → Facts = λ k. union (sit.facts k) (place_part (is_turn c.args.workers c.args.low (c.args.low + c.div_ceil.result)) batch c.args.places.now (length batch) k) in
+    let A : ℕ → Facts = λ k. union (sit.facts k) (read_by c.args.batch.now c.args.turns.now c.args.low (c.args.low + c.div_ceil.result) k) in
     let first = IfOk-at_ok _ c.in_ok-joined.was c.join-first.ensures.first half sit.facts (subst (λ (s : List Held). AreSeats half sit.facts boards s) (sym whole) split.0) in
     record { share = half; enough = omega (arith, sit.enough); facts = A; are_seats = subst (λ (s : List Held). AreSeats half A boards s) (sym c.deref_mut-2.ensures.value) first }
 
@@ -93,21 +86,19 @@ returns g t c =
     λ share F are.
     let boards = c.args.boards.now in
     let batch = c.args.batch.now in
-    let n = length batch in
-    let places = c.args.places.now in
-    let workers = c.args.workers in
+    let turns = c.args.turns.now in
     let middle = c.args.low + c.div_ceil.result in
     let half = share - share / 2 in
     let split = c.in_ok-others.ensures share F (subst (λ (s : List Held). AreSeats share F boards s) (sym c.deref_mut.ensures.value) are) in
     let whole = lent_whole Held c.args.seats.items c.split_each.new.seats c.args.seats.len c.args.seats.ok.0 (split.0.count ∙ sym are.count) in
-    let A : ℕ → Facts = λ k. union (F k) (place_part (is_turn workers c.args.low middle) batch places n k) in
-    let B : ℕ → Facts = λ k. union (F k) (place_part (is_turn workers middle c.args.high) batch places n k) in
+    let A : ℕ → Facts = λ k. union (F k) (read_by batch turns c.args.low middle k) in
+    let B : ℕ → Facts = λ k. union (F k) (read_by batch turns middle c.args.high k) in
     let first = IfOk-at_ok _ c.in_ok-joined.was c.join-first.ensures.first half F (subst (λ (s : List Held). AreSeats half F boards s) (sym whole) split.0) in
     let second = IfOk-at_ok _ c.in_ok-second.was c.join-first.ensures.second (share / 2) F split.1 in
     let both = c.join_each.ensures half (share / 2) A B (subst (λ (s : List Held). AreSeats half A boards s) (sym c.deref_mut-2.ensures.value) first) second in
-    let all = same_seats (half + share / 2) share (λ k. union (A k) (B k)) (λ k. union (F k) (place_part (is_turn workers c.args.low c.args.high) batch places n k)) boards c.join_each.new.seats (omega arith)
-    (λ k p v. fold_twice (F k p v) _ _ ∙ ap (λ (b : Bool). F k p v || b) (sym (part_halves workers c.args.low middle c.args.high (nth_at batch places k) n p v (omega arith) (omega arith))))
+    let all = same_seats (half + share / 2) share (λ k. union (A k) (B k)) (λ k. union (F k) (read_by batch turns c.args.low c.args.high k)) boards c.join_each.new.seats (omega arith)
+    (λ k p v. fold_twice (F k p v) _ _ ∙ ap (λ (b : Bool). F k p v || b) (sym (part_halves turns.workers c.args.low middle c.args.high (nth_at batch turns.places.items k) (length batch) p v (omega arith) (omega arith))))
     both in
-    subst (λ (s : List Held). AreSeats share (λ k. union (F k) (place_part (is_turn workers c.args.low c.args.high) batch places n k)) boards s)
+    subst (λ (s : List Held). AreSeats share (λ k. union (F k) (read_by batch turns c.args.low c.args.high k)) boards s)
     (sym (lent_whole Held c.in_ok-joined.joined.items c.join_each.new.seats c.in_ok-joined.joined.len c.in_ok-joined.joined.ok.0 (all.count ∙ sym first.count)))
     all

@@ -2,9 +2,8 @@ use Rattle.std.proofs.Common.{◌+◌, List, length, sym, ◌∙◌, subst}
 use Rattle.slot_evidence.specs.declared.places.Seen.{Seen}
 use Rattle.slot_evidence.specs.Facts.{union}
 use Rattle.receiver_pool.specs.Groups.{AreSheets}
-use Rattle.receiver_pool.specs.Seats.{Held}
-use Rattle.receiver_pool.specs.inside.Turns.{is_turn}
-use Rattle.receiver_pool.specs.inside.Numbers.{place_part}
+use Rattle.evidence_board.specs.Seats.{Held}
+use Rattle.receiver_pool.specs.inside.Numbers.{read_by}
 use Rattle.receiver_pool.specs.Rows.{AreSeats}
 use Rattle.receiver_pool.proofs.Turning.{lent_whole}
 use Rattle.receiver_pool.proofs.batches.work.Goals as goal
@@ -13,8 +12,7 @@ pub returns : goal.returns
 returns g c =
     λ share F are.
     let boards = c.args.boards.now in
-    let batch = c.args.batch.now in
-    let part = place_part (is_turn c.args.workers c.args.worker (c.args.worker + 1)) batch c.args.places.now (length batch) in
+    let part = read_by c.args.batch.now c.args.turns.now c.args.worker (c.args.worker + 1) in
     let shown = subst (λ (s : List (List Seen)). AreSheets part s (length boards)) (sym c.deref.ensures.value) c.in_ok-sheets.ensures in
     let posted = c.post_each.ensures share F part (subst (λ (s : List Held). AreSeats share F boards s) (sym c.deref_mut.ensures.value) are) shown in
     subst (λ (s : List Held). AreSeats share (λ k. union (F k) (part k)) boards s)

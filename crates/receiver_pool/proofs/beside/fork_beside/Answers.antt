@@ -1,9 +1,8 @@
-use Rattle.std.proofs.Common.{ℕ, ◌+◌, List, length, arith, sym, ◌∙◌, subst}
+use Rattle.std.proofs.Common.{ℕ, ◌+◌, List, arith, sym, ◌∙◌, subst}
 use Rattle.std.proofs.lemmas.Result.{IfOk-at_ok}
 use Rattle.slot_evidence.specs.Facts.{Facts, union}
-use Rattle.receiver_pool.specs.Seats.{Held}
-use Rattle.receiver_pool.specs.inside.Turns.{is_turn}
-use Rattle.receiver_pool.specs.inside.Numbers.{place_part}
+use Rattle.evidence_board.specs.Seats.{Held}
+use Rattle.receiver_pool.specs.inside.Numbers.{read_by}
 use Rattle.receiver_pool.specs.Rows.{AreSeats}
 use Rattle.receiver_pool.proofs.Turning.{lent_whole}
 use Rattle.receiver_pool.proofs.beside.fork_beside.Goals as goal
@@ -12,8 +11,7 @@ pub join_each-requires-clause-seats : goal.join_each-requires-clause-seats
 join_each-requires-clause-seats g c =
     let sit = c.requires.seats in
     let boards = c.args.boards.now in
-    let batch = c.args.batch.now in
-    let A : ℕ → Facts = λ k. union (sit.facts k) (place_part (is_turn c.args.workers 0 c.args.workers) batch c.args.places.now (length batch) k) in
+    let A : ℕ → Facts = λ k. union (sit.facts k) (read_by c.args.batch.now c.args.turns.now 0 c.args.turns.now.workers k) in
     let first = IfOk-at_ok _ c.in_ok-joined.was c.join-first.ensures.second sit.share sit.facts sit.are_seats in
     record { share = sit.share; enough = omega (arith, sit.enough); facts = A; are_seats = subst (λ (s : List Held). AreSeats sit.share A boards s) (sym c.deref_mut.ensures.value) first }
 
@@ -26,8 +24,7 @@ pub returns : goal.returns
 returns g c =
     λ share other F H are aside.
     let boards = c.args.boards.now in
-    let batch = c.args.batch.now in
-    let A : ℕ → Facts = λ k. union (F k) (place_part (is_turn c.args.workers 0 c.args.workers) batch c.args.places.now (length batch) k) in
+    let A : ℕ → Facts = λ k. union (F k) (read_by c.args.batch.now c.args.turns.now 0 c.args.turns.now.workers k) in
     let first = IfOk-at_ok _ c.in_ok-joined.was c.join-first.ensures.second share F are in
     let both = c.join_each.ensures share other A H (subst (λ (s : List Held). AreSeats share A boards s) (sym c.deref_mut.ensures.value) first) (c.join-first.ensures.first other H aside) in
     subst (λ (s : List Held). AreSeats (share + other) (λ k. union (A k) (H k)) boards s)

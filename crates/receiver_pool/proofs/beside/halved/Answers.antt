@@ -1,7 +1,7 @@
 use Rattle.std.proofs.Common.{◌≡◌, ℕ, ◌-◌, ◌/◌, List, refl, sym, ◌∙◌, subst}
 use Rattle.slot_evidence.specs.Facts.{no_facts}
-use Rattle.receiver_pool.specs.declared.seats.TheConstants.{WHOLE}
-use Rattle.receiver_pool.specs.Seats.{Held}
+use Rattle.evidence_board.specs.declared.seats.TheConstants.{WHOLE}
+use Rattle.evidence_board.specs.Seats.{Held}
 use Rattle.receiver_pool.specs.Rows.{AreSeats}
 use Rattle.receiver_pool.proofs.Turning.{lent_whole}
 use Rattle.receiver_pool.proofs.beside.halved.Goals as goal

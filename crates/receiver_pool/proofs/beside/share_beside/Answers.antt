@@ -1,10 +1,9 @@
-use Rattle.std.proofs.Common.{◌≡◌, ℕ, ◌+◌, ◌/◌, Bool, true, false, ◌||◌, List, length, refl, sym, ◌∙◌, subst}
+use Rattle.std.proofs.Common.{◌≡◌, ℕ, ◌+◌, ◌/◌, Bool, true, false, ◌||◌, List, refl, sym, ◌∙◌, subst}
 use Rattle.atomic_table.specs.Seated.{TableId}
 use Rattle.slot_evidence.specs.Facts.{no_facts}
-use Rattle.receiver_pool.specs.declared.seats.TheConstants.{WHOLE}
+use Rattle.evidence_board.specs.declared.seats.TheConstants.{WHOLE}
 use Rattle.receiver_pool.specs.Groups.{AreSheets}
-use Rattle.receiver_pool.specs.inside.Turns.{is_turn}
-use Rattle.receiver_pool.specs.inside.Numbers.{place_part}
+use Rattle.receiver_pool.specs.inside.Numbers.{read_by}
 use Rattle.receiver_pool.specs.Rows.{AreSeats}
 use Rattle.receiver_pool.proofs.SeatRows.{same_seats}
 use Rattle.receiver_pool.proofs.beside.share_beside.Goals as goal
@@ -15,7 +14,7 @@ or_false false = refl
 
 pub close_each-requires : goal.close_each-requires
 close_each-requires g c =
-    let part = place_part (is_turn c.args.workers 0 c.args.workers) c.args.batch.now c.args.places.now (length c.args.batch.now) in
+    let part = read_by c.args.batch.now c.args.turns.now 0 c.args.turns.now.workers in
     let two = c.in_ok-seats.ensures in
     let joined = c.in_ok-beside.ensures (WHOLE / 2) (WHOLE / 2) (λ k. no_facts) (λ k. no_facts)
     (subst (λ (bs : List TableId). AreSeats (WHOLE / 2) (λ k. no_facts) bs c.in_ok-seats.seats.items) (c.deref.ensures.value ∙ sym c.deref-2.ensures.value) two.0)
@@ -26,7 +25,7 @@ close_each-requires g c =
 
 pub returns : goal.returns
 returns g c =
-    let part = place_part (is_turn c.args.workers 0 c.args.workers) c.args.batch.now c.args.places.now (length c.args.batch.now) in
+    let part = read_by c.args.batch.now c.args.turns.now 0 c.args.turns.now.workers in
     let two = c.in_ok-seats.ensures in
     let joined = c.in_ok-beside.ensures (WHOLE / 2) (WHOLE / 2) (λ k. no_facts) (λ k. no_facts)
     (subst (λ (bs : List TableId). AreSeats (WHOLE / 2) (λ k. no_facts) bs c.in_ok-seats.seats.items) (c.deref.ensures.value ∙ sym c.deref-2.ensures.value) two.0)

@@ -1,6 +1,6 @@
 use Rattle.std.proofs.Common.{◌≡◌, length}
 use Rattle.slot_evidence.specs.Facts.{no_facts}
-use Rattle.receiver_pool.specs.declared.seats.TheConstants.{WHOLE}
+use Rattle.evidence_board.specs.declared.seats.TheConstants.{WHOLE}
 use Rattle.receiver_pool.specs.Rows.{AreSeats}
 use Rattle.receiver_pool.proofs.boards.boards_for.Given as goal
 

@@ -2,8 +2,8 @@ use Rattle.std.proofs.Common.{◌≡◌, ℕ, [], List, length, arith, ap, sym, 
 use Rattle.std.proofs.lemmas.List.{length-set}
 use Rattle.slot_evidence.specs.declared.places.Seen.{Seen}
 use Rattle.slot_evidence.specs.Sheet.{IsEnds}
-use Rattle.receiver_pool.specs.Views.{given_sheet}
-use Rattle.receiver_pool.specs.declared.seats.TheConstants.{WHOLE}
+use Rattle.evidence_board.specs.Views.{given_sheet}
+use Rattle.evidence_board.specs.declared.seats.TheConstants.{WHOLE}
 use Rattle.receiver_pool.specs.Rows.{no_table, no_seat, table_at}
 use Rattle.receiver_pool.proofs.Turning.{Row, turned_down, all_turned_down, row_length, row_shorter, row_last}
 use Rattle.receiver_pool.proofs.SeatRows.{Seats, row_sheets}

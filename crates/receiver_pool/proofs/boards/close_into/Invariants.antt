@@ -1,6 +1,6 @@
 use Rattle.std.proofs.Common.{◌≡◌, ℕ, ◌≤◌, [], length}
 use Rattle.slot_evidence.specs.Facts.{Facts}
-use Rattle.receiver_pool.specs.declared.seats.TheConstants.{WHOLE}
+use Rattle.evidence_board.specs.declared.seats.TheConstants.{WHOLE}
 use Rattle.receiver_pool.specs.Rows.{AreSeats, no_seat, no_table}
 use Rattle.receiver_pool.proofs.Turning.{Turned, Row}
 use Rattle.receiver_pool.proofs.SeatRows.{Seats, Sheets, Tables, Any}

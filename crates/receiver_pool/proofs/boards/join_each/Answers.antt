@@ -1,6 +1,6 @@
 use Rattle.std.proofs.Common.{◌≡◌, ℕ, ◌+◌, length, arith, ap, sym, ◌∙◌, subst}
 use Rattle.std.proofs.lemmas.List.{length-set, get_or_default, get_or_read}
-use Rattle.receiver_pool.specs.Seats.{Held}
+use Rattle.evidence_board.specs.Seats.{Held}
 use Rattle.receiver_pool.specs.Rows.{IsSeatOf, no_table, no_seat, table_at}
 use Rattle.receiver_pool.proofs.Turning.{turned_down, all_turned_down, row_length, row_shorter, row_last}
 use Rattle.receiver_pool.proofs.SeatRows.{Seats, row_seats, both_seats}

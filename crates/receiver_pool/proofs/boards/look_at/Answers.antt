@@ -1,6 +1,6 @@
 use Rattle.std.proofs.Common.{rules, arith, ap, sym, ◌∙◌, subst}
 use Rattle.std.proofs.lemmas.List.{get_or_default, get_or_read}
-use Rattle.receiver_pool.specs.Seats.{Held}
+use Rattle.evidence_board.specs.Seats.{Held}
 use Rattle.receiver_pool.specs.Rows.{IsSeatOf, no_table, no_seat, table_at}
 use Rattle.receiver_pool.proofs.SeatRows.{looked, seats_set}
 use Rattle.receiver_pool.proofs.boards.look_at.Goals as goal

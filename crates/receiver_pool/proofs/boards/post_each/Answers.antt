@@ -2,7 +2,7 @@ use Rattle.std.proofs.Common.{◌<◌, [], List, length, arith, ap, sym, ◌∙�
 use Rattle.std.proofs.lemmas.List.{length-set, get_or_default, get_or_read}
 use Rattle.slot_evidence.specs.declared.places.Seen.{Seen}
 use Rattle.slot_evidence.specs.Sheet.{IsEnds}
-use Rattle.receiver_pool.specs.Seats.{Held}
+use Rattle.evidence_board.specs.Seats.{Held}
 use Rattle.receiver_pool.specs.Rows.{IsSeatOf, no_table, no_seat, table_at}
 use Rattle.receiver_pool.proofs.Turning.{turned_up, none_turned_up, all_turned_up}
 use Rattle.receiver_pool.proofs.SeatRows.{seats_row, row_seats, posted}

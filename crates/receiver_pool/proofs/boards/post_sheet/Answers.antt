@@ -1,8 +1,8 @@
 use Rattle.std.proofs.Common.{true, refl}
 use Rattle.std.proofs.lemmas.Bool.Decides.{Decides-eqb}
 use Rattle.std.proofs.lemmas.Slice.Eq.{slice_eq-Decides}
-use Rattle.receiver_pool.specs.Views.{given_sheet}
-use Rattle.receiver_pool.proofs.Unions.{left_true, nothing_posted}
+use Rattle.evidence_board.specs.Views.{given_sheet}
+use Rattle.receiver_pool.proofs.Posted.{left_true, nothing_posted}
 use Rattle.receiver_pool.proofs.boards.post_sheet.Goals as goal
 
 pub returns-then-eq-clause-ends : goal.returns-then-eq-clause-ends

@@ -1,6 +1,6 @@
 use Rattle.std.proofs.Common.{◌≡◌, ℕ, ◌+◌, ◌-◌, ◌/◌, List, length, arith, ap, sym, ◌∙◌, subst}
 use Rattle.std.proofs.lemmas.List.{length-set, get_or_default, get_or_read}
-use Rattle.receiver_pool.specs.Seats.{Held}
+use Rattle.evidence_board.specs.Seats.{Held}
 use Rattle.receiver_pool.specs.Rows.{IsSeatOf, no_table, no_seat, table_at}
 use Rattle.receiver_pool.proofs.Turning.{Row, turned_up, all_turned_up, row_longer}
 use Rattle.receiver_pool.proofs.SeatRows.{Seats, row_seats, half_kept, half_given}

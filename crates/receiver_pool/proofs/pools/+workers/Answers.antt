@@ -2,7 +2,7 @@ use Rattle.std.proofs.Common.{ℕ, ◌≡◌, ◌+◌, arith, length, subst, sym
 use Rattle.slot_evidence.specs.declared.places.Seen.{Seen}
 use Rattle.slot_evidence.specs.Facts.{union}
 use Rattle.slot_evidence.specs.Sheet.{IsEnds}
-use Rattle.receiver_pool.specs.Views.{given_sheet}
+use Rattle.evidence_board.specs.Views.{given_sheet}
 use Rattle.receiver_pool.specs.inside.Turns.{is_turn, part}
 use Rattle.receiver_pool.proofs.Parts.{halves_joined}
 use Rattle.receiver_pool.proofs.pools.+workers.Goals as goal

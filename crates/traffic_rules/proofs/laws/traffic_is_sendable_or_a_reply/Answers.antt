@@ -2,7 +2,7 @@ use Rattle.std.proofs.Common.{refl}
 use Rattle.traffic_rules.specs.Sending.{is_sendable}
 use Rattle.traffic_rules.specs.Sendings.{sends}
 use Rattle.traffic_rules.specs.TrafficActs.{is_of_traffic}
-use Rattle.traffic_rules.proofs.Acts.{none_such}
+use Rattle.traffic_rules.proofs.Unmet.{none_such}
 use Rattle.traffic_rules.proofs.Plain.{plain_send, plain_answer, plain_repeats, plain_heard, may_be_sent, sendable_of_traffic, reply_of_traffic, wider_such}
 use Rattle.traffic_rules.proofs.laws.traffic_is_sendable_or_a_reply.Goals as goal
 

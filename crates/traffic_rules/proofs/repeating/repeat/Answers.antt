@@ -1,8 +1,8 @@
 use native.Mathlib.Omega.{arith}
 use Rattle.std.proofs.Common.{◌≡◌, ◌<◌, ◌++◌, ◌+◌, length, take, suc, List, None, Option, slice_index_or, sym, ◌∙◌, ap}
-use Rattle.area_rules.specs.declared.acts.Act.{Act}
-use Rattle.area_rules.specs.declared.held.Holding.{Holding}
-use Rattle.area_rules.specs.Holding.{Places, place_of, with_place}
+use Rattle.traffic_rules.specs.declared.acts.Act.{Act}
+use Rattle.traffic_rules.specs.declared.held.Holding.{Holding}
+use Rattle.traffic_rules.specs.Holding.{Places, place_of, with_place}
 use Rattle.traffic_rules.specs.Repeating.{repeated, repeats, ticked}
 use Rattle.traffic_rules.proofs.Lists.{next_place, next_held, next_acts, place_at, append_again}
 use Rattle.traffic_rules.proofs.repeating.repeat.Goals as goal

@@ -1,6 +1,6 @@
 use Rattle.std.proofs.Common.{sym, ◌∙◌}
 use Rattle.coast_station.specs.CoastRules.{coast_rules}
-use Rattle.coast_station.proofs.Frame.{not_before, answer_on_time}
+use Rattle.traffic_rules.proofs.PublicLaws.{not_before, answer_on_time}
 use Rattle.coast_station.proofs.Keeping.{answer_same, goes}
 use Rattle.coast_station.proofs.coasts.Coast.step_into.Goals as goal
 

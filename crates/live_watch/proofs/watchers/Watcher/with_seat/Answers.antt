@@ -1,6 +1,6 @@
 use Rattle.std.proofs.Common.{subst, sym}
 use Rattle.slot_evidence.specs.Sheet.{IsEnds}
-use Rattle.receiver_pool.specs.Views.{given_sheet}
+use Rattle.evidence_board.specs.Views.{given_sheet}
 use Rattle.live_watch.specs.Watching.{Watched}
 use Rattle.live_watch.proofs.watchers.Watcher.with_seat.Goals as goal
 

@@ -1,7 +1,7 @@
 use Rattle.std.proofs.Common.{◌≡◌, false, None, refl, sym, ◌∙◌, ap}
-use Rattle.area_rules.specs.Histories.{Entry}
-use Rattle.area_rules.specs.Holding.{Places}
-use Rattle.area_rules.proofs.PublicLaws.{acts_of}
+use Rattle.traffic_rules.specs.Histories.{Entry}
+use Rattle.traffic_rules.specs.Holding.{Places}
+use Rattle.traffic_rules.proofs.PublicLaws.{acts_of}
 use Rattle.traffic_rules.specs.Answering.{answer_refusal, answer_due}
 use Rattle.traffic_rules.specs.After.{after_answering}
 use Rattle.traffic_rules.proofs.PublicLaws.{none_replied, after_answer}

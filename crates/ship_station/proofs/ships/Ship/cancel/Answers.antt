@@ -1,7 +1,7 @@
 use Rattle.std.proofs.Common.{◌≡◌, Bool, true, false, not, Option, Some, None, [], ◌∷◌, is_some, is_none, refl, sym, ◌∙◌, ap, subst}
 use Rattle.std.proofs.lemmas.Bool.{false≢true}
-use Rattle.area_rules.specs.declared.acts.Act.TheVariants.{AlertEnded}
-use Rattle.area_rules.specs.declared.refusals.StationRefusal.TheVariants.{NoAlert}
+use Rattle.traffic_rules.specs.declared.acts.Act.TheVariants.{AlertEnded}
+use Rattle.traffic_rules.specs.declared.refusals.StationRefusal.TheVariants.{NoAlert}
 use Rattle.ship_station.specs.declared.events.ShipWhat.TheVariants.{Cancel}
 use Rattle.ship_station.specs.declared.alerts.OwnAlert.{OwnAlert}
 use Rattle.ship_station.specs.Past.{open_alert}

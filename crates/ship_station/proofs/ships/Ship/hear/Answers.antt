@@ -1,28 +1,27 @@
-use Rattle.std.proofs.Common.{◌≡◌, ℕ, ◌==◌, ◌&&◌, Bool, true, false, is_some, Some, None, Option, Result, Ok, Err, List, [], ◌∷◌, if◌then◌else◌, refl, sym, ◌∙◌, ap, subst}
+use Rattle.std.proofs.Common.{◌≡◌, ℕ, ◌==◌, ◌&&◌, Bool, true, false, is_some, Some, None, Option, List, [], ◌∷◌, if◌then◌else◌, refl, sym, ◌∙◌, ap, subst}
 use Rattle.std.specs.List.{list_any}
-use Rattle.std.specs.Prelude.{OnOk}
 use Rattle.call_values.specs.declared.positions.Fix.{Fix}
 use Rattle.call_values.specs.declared.calls.Call.{Call}
 use Rattle.call_values.specs.declared.calls.Call.TheVariants.{Ack}
-use Rattle.area_rules.specs.declared.acts.Act.{Act}
-use Rattle.area_rules.specs.declared.acts.Act.TheVariants.{Distress, AlertEnded}
-use Rattle.area_rules.specs.declared.refusals.StationRefusal.{StationRefusal}
-use Rattle.area_rules.specs.Histories.{Entry, History}
-use Rattle.area_rules.specs.Holding.{Places}
-use Rattle.area_rules.specs.Rules.{refusal_or}
+use Rattle.traffic_rules.specs.declared.acts.Act.{Act}
+use Rattle.traffic_rules.specs.declared.acts.Act.TheVariants.{Distress, AlertEnded}
+use Rattle.traffic_rules.specs.declared.refusals.StationRefusal.{StationRefusal}
+use Rattle.traffic_rules.specs.Histories.{Entry, History}
+use Rattle.traffic_rules.specs.Holding.{Places}
+use Rattle.traffic_rules.specs.Rules.{refusal_or}
 use Rattle.traffic_rules.specs.Giving.{answer_with}
 use Rattle.traffic_rules.specs.Hearing.{heard_refusal, heard_due}
 use Rattle.traffic_rules.specs.After.{after_hearing}
-use Rattle.traffic_rules.proofs.PublicLaws.{none_heard, after_heard, after_hearing_nothing}
+use Rattle.traffic_rules.proofs.PublicLaws.{none_heard, after_heard, after_hearing_nothing, on_ok, answer_on_time}
 use Rattle.ship_station.specs.declared.events.ShipWhat.{ShipWhat}
 use Rattle.ship_station.specs.declared.events.ShipWhat.TheVariants.{Heard}
 use Rattle.ship_station.specs.declared.alerts.OwnAlert.{OwnAlert}
 use Rattle.ship_station.specs.declared.ships.Ship.{Ship}
 use Rattle.ship_station.specs.Events.{ship_occurs}
 use Rattle.ship_station.specs.Past.{is_attempt, is_end, kept, open_alert}
-use Rattle.ship_station.specs.ShipRules.{Identities, held, is_for, at_call, due_at, refusal_at}
+use Rattle.ship_station.specs.ShipRules.{Identities, held, is_for, at_call, due_at, refusal_at, ship_rules}
 use Rattle.ship_station.specs.Stands.{Keeps}
-use Rattle.ship_station.proofs.Steps.{accepted, answer_on_time, goes}
+use Rattle.ship_station.proofs.Steps.{accepted, goes}
 use Rattle.ship_station.proofs.Keeping.{keeps_after}
 use Rattle.ship_station.proofs.Traffic.{attempts_missed, ends_missed, traffic_due}
 use Rattle.ship_station.proofs.Hearing.{is_for_by, due_for, due_for_others, refusal_for, refusal_for_others}
@@ -98,10 +97,6 @@ keeps_heard who h at call old new keeps due none is =
     (record { own = refl; groups = refl; last = refl; position = refl; time = refl; alert = refl; attempted = refl; delays = refl })
     (ap (λ (l : Places). after_hearing l call at) keeps.held ∙ sym (after_heard ship_occurs e h who.own (Some (kept h)) call refl due none)))
 
-on_ok : {A E P Q : Type 0} (r : Result A E) → (P → Q) → OnOk r P → OnOk r Q
-on_ok (Ok x) f h = f h
-on_ok (Err e) f h = h
-
 pub returns-in_default : goal.returns-in_default
 returns-in_default c =
     let ship = c.args.self.now in
@@ -122,7 +117,7 @@ returns-in_default c =
     ∙ ap (λ (r : Option StationRefusal). refusal_or r (heard_due who.own (Some (kept h)) (held h) call)) (sym (refusal_for who h call (for_it who h keeps)))
     ∙ ap (λ (acts : List Act). refusal_or (refusal_at who h (Heard call)) acts) (sym (due who h keeps)) in
     record {
-      answer = λ who h stands late. told who h stands.1 ∙ sym (answer_on_time who h at (Heard call) late);
+      answer = λ who h stands late. told who h stands.1 ∙ sym (answer_on_time (ship_rules who) h at (Heard call) late);
       goes_on = λ who h stands late event.
           goes who h at (Heard call) ship c.hear_traffic.new.self c.hear_traffic.result c.hear_traffic.new.acts.items late event stands (told who h stands.1) c.hear_traffic.ensures.unchanged
           (λ none. on_ok c.hear_traffic.result

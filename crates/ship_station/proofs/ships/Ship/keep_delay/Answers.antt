@@ -1,5 +1,5 @@
 use Rattle.std.proofs.Common.{◌≡◌, ℕ, false, List, [], ◌∷◌, ◌++◌, length, ◌==◌, refl, sym, ◌∙◌, ap, subst}
-use Rattle.area_rules.specs.declared.refusals.StationRefusal.TheVariants.{Full}
+use Rattle.traffic_rules.specs.declared.refusals.StationRefusal.TheVariants.{Full}
 use Rattle.ship_station.specs.declared.events.ShipWhat.TheVariants.{Delay}
 use Rattle.ship_station.proofs.Steps.{accepted, not_refused, holds_on}
 use Rattle.ship_station.proofs.Delays.{delay_put_last}

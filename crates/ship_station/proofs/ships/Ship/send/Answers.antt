@@ -1,7 +1,7 @@
 use Rattle.std.proofs.Common.{◌≡◌, ℕ, false, None, Some, refl, sym, ◌∙◌, ap, subst}
-use Rattle.area_rules.specs.Histories.{Entry, History}
-use Rattle.area_rules.specs.Holding.{Places}
-use Rattle.area_rules.proofs.PublicLaws.{refusal_of, acts_of, refused_on_time, continued_refused}
+use Rattle.traffic_rules.specs.Histories.{Entry, History}
+use Rattle.traffic_rules.specs.Holding.{Places}
+use Rattle.traffic_rules.proofs.PublicLaws.{refusal_of, acts_of, refused_on_time, continued_refused}
 use Rattle.traffic_rules.specs.Sending.{send_refusal, send_due}
 use Rattle.traffic_rules.specs.After.{after_sending}
 use Rattle.traffic_rules.proofs.PublicLaws.{none_sent, after_send}

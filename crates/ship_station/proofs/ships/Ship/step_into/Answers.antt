@@ -1,15 +1,15 @@
 use Rattle.std.proofs.Common.{sym, subst}
-use Rattle.area_rules.specs.Rules.{continued}
+use Rattle.traffic_rules.specs.Rules.{continued}
 use Rattle.ship_station.specs.declared.events.ShipWhat.{ShipWhat}
 use Rattle.ship_station.specs.Events.{IsShipWhat}
 use Rattle.ship_station.specs.ShipRules.{ship_rules}
 use Rattle.ship_station.specs.Stands.{Stands}
-use Rattle.ship_station.proofs.Steps.{not_before}
+use Rattle.traffic_rules.proofs.PublicLaws.{not_before}
 use Rattle.ship_station.proofs.ships.Ship.step_into.Goals as goal
 
 pub returns-in-Alert-clause-stands : goal.returns-in-Alert-clause-stands
 returns-in-Alert-clause-stands c who h stands =
-    let late = not_before c.args.self.now who h c.args.event.now.at stands.1 c.in_default.ensures in
+    let late = not_before c.args.self.now.last h c.args.event.now.at stands.1.last c.in_default.ensures in
     let event = subst IsShipWhat c.in-Alert.is c.lawful.ensures in
     subst (λ (what : ShipWhat). Stands c.alert.new.self who (continued (ship_rules who) h c.args.event.now.at what)) (sym c.in-Alert.is)
     (c.alert.ensures.goes_on who h stands late event)

@@ -1,0 +1,4 @@
+pub mod May
+pub mod Tells
+pub mod Through
+pub mod Worked
