@@ -4,8 +4,8 @@ ghost use Rattle.act_texts.specs.ActTexts.{act_text, told_act};
 
 use crate::moments::{append_labelled, append_moment};
 use arrayvec::ArrayVec;
-use dsc_texts::{append_call, append_digits, append_ship_in_distress};
-use text_pieces::append;
+use dsc_texts::{append_call, append_ship_in_distress};
+use text_pieces::{append, append_digits};
 use traffic_rules::Act;
 
 /// An act's line at a moment in milliseconds, without the line feed (this project's profile): `0 send 5 alert from=..`,

@@ -4,8 +4,7 @@ ghost use Rattle.act_texts.specs.RefusalTexts.{refusal_text, told_refusal};
 
 use crate::moments::{append_labelled, append_moment};
 use arrayvec::ArrayVec;
-use dsc_texts::append_digits;
-use text_pieces::append;
+use text_pieces::{append, append_digits};
 use traffic_rules::StationRefusal;
 
 /// A refusal's line at a moment in milliseconds, without the line feed (this project's profile): `0 refused ` and one of

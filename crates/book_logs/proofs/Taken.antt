@@ -3,7 +3,7 @@ use Rattle.std.proofs.Common.{◌≡◌, ℕ, Bool, true, false, ◌&&◌, ◌||
 use Rattle.std.specs.List.{Contains, list_any}
 use Rattle.std.proofs.lemmas.List.Elements.{Contains-append_left, Contains-push, Contains-push_cases}
 use Rattle.line_engine.specs.Lines.{Lines}
-use Rattle.dsc_files.specs.BookLine.{is_sentence}
+use Rattle.dsc_lines.specs.BookLine.{is_sentence}
 use Rattle.dsc_sentences.specs.Verdicts.{verdict_of}
 use Rattle.casualty_book.specs.declared.rows.BookRow.{BookRow}
 use Rattle.casualty_book.specs.Books.{IsBook}

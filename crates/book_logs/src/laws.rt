@@ -1,3 +1,4 @@
+//! Laws: each function here does nothing, and its contract is a theorem over definitions.
 ghost use Rattle.std.specs.Prelude.{◌≡◌, ℕ, List};
 ghost use Rattle.line_engine.specs.Lines.{Lines};
 ghost use Rattle.line_engine.specs.Determined.{IsDetermined};
@@ -5,17 +6,17 @@ ghost use Rattle.book_logs.specs.Telling.{HaveSameSentences, IsBookText, book_me
 
 use casualty_book::books_with_the_same_rows_are_one_list;
 
-/// The law that lines determine what `book` writes. It does nothing.
+/// The law that lines determine what `book` writes.
 pub fn lines_determine_output()
     ensures { IsDetermined book_meaning }
 {
     books_with_the_same_rows_are_one_list();
 }
 
-/// The law that inputs of which the same lines are accepted as DSC sentences have one text, whatever their order and number. It does
-/// nothing.
+/// The law that inputs of which the same lines are accepted as DSC sentences have one text, whatever their order and number.
 pub fn accepted_sentences_determine_text()
-    ensures { (a b : Lines) → HaveSameSentences a b → (text other : List ℕ) → IsBookText a text → IsBookText b other → text ≡ other }
+    ensures { (a b : Lines) → HaveSameSentences a b → (text other : List ℕ) → IsBookText a text → IsBookText b other
+        → text ≡ other }
 {
     books_with_the_same_rows_are_one_list();
 }

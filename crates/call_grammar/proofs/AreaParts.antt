@@ -1,6 +1,7 @@
 -- Areas by their letters.
 use Rattle.std.proofs.Common.{◌≡◌, ℕ, ◌+◌, ◌*◌, ◌/◌, ◌%◌, ◌≤◌, ◌==◌, if◌then◌else◌, Bool, true, false, List, [], ◌∷◌, refl, sym, ◌∙◌, ap, subst, arith}
 use Rattle.std.proofs.lemmas.Bool.Decides.{nat_tests}
+use Rattle.std.proofs.lemmas.Bool.{eqb-false}
 use Rattle.symbol_reader.specs.declared.letters.Letter.TheVariants.{UpTo, Digits}
 use Rattle.symbol_reader.specs.Letters.{Allows}
 use Rattle.symbol_reader.specs.inside.Languages.{Only, Then}
@@ -10,6 +11,8 @@ use Rattle.call_values.specs.Areas.{Rectangle, IsArea}
 use Rattle.call_grammar.specs.Spelling.{area_digits, area_symbols}
 use Rattle.call_grammar.specs.inside.Grammar.{Symbol, Areas, area_latitude, longitude_ones, area_of}
 use Rattle.symbol_reader.proofs.Digits.{ten_digits-of}
+use Rattle.call_values.proofs.PublicLaws.{same_area}
+use Rattle.call_grammar.proofs.PositionParts.{degrees_at, longitude_most, degrees_allowed}
 
 abbrev pub AreaLast : ℕ → ℕ → ℕ → ℕ → Rectangle → List ℕ → Type 0
 AreaLast a b c d = Then (Symbol (UpTo 99)) (λ e. Only (area_of a b c d e))
@@ -41,29 +44,18 @@ area_second_good a = then_good _ _ (letter_good (area_latitude a)) (λ b _ _. ar
 parts_good : Good AreaParts
 parts_good = then_good _ _ (letter_good (UpTo 39)) (λ a _ _. area_second_good a)
 
-is_not_test : (m n : ℕ) → (m == n) ≡ false → m ≡ n → ⊥
-is_not_test m n e h = grind (arith, nat_tests)
-
 latitude_at : (a b : ℕ) (t : Bool) → (a % 10 == 9) ≡ t → Allows (if t then Digits 0 1 else Digits 9 1) b
     → (b / 10 ≤ 9) × (b % 10 ≤ 1) × (a % 10 ≡ 9 → b / 10 ≤ 0)
 latitude_at a b true e h = (omega (arith, h.0), h.1, λ _. h.0)
-latitude_at a b false e h = (h.0, h.1, λ p. absurd (is_not_test (a % 10) 9 e p))
-
-longitude_at : (b c : ℕ) (t : Bool) → (b % 10 == 1) ≡ t → Allows (if t then UpTo 80 else UpTo 99) c
-    → (c ≤ 99) × (b % 10 ≡ 1 → c ≤ 80)
-longitude_at b c true e h = let k : c ≤ 80 = h in (omega arith, λ _. k)
-longitude_at b c false e h = (h, λ p. absurd (is_not_test (b % 10) 1 e p))
+latitude_at a b false e h = (h.0, h.1, λ p. absurd (eqb-false (a % 10) 9 e p))
 
 latitude_most : (a b : ℕ) → b / 10 ≤ 9 → (a % 10 ≡ 9 → b / 10 ≤ 0) → a % 10 * 10 + b / 10 ≤ 90
 latitude_most a b h k = grind arith
 
-longitude_most : (b c : ℕ) → b % 10 ≤ 1 → c ≤ 99 → (b % 10 ≡ 1 → c ≤ 80) → b % 10 * 100 + c ≤ 180
-longitude_most b c h k l = grind arith
-
 pub area_lawful : (a b c d e : ℕ) → a ≤ 39 → Allows (area_latitude a) b → Allows (longitude_ones b) c → d ≤ 99 → e ≤ 99 → IsArea (area_of a b c d e)
 area_lawful a b c d e ha hb hc hd he =
     let kb = latitude_at a b (a % 10 == 9) refl hb in
-    let kc = longitude_at b c (b % 10 == 1) refl hc in
+    let kc = degrees_at b c (b % 10 == 1) refl hc in
     record {
       quadrant = omega arith;
       latitude = latitude_most a b kb.0 kb.2;
@@ -83,7 +75,7 @@ to_area v word p =
     let list = joined p (joined q (joined r (joined s (joined t t.after.list)))) in
     let value : v ≡ area_of p.chosen q.chosen r.chosen s.chosen t.chosen = t.after.value in
     let kb = latitude_at p.chosen q.chosen (p.chosen % 10 == 9) refl q.before.allowed in
-    let kc = longitude_at q.chosen r.chosen (q.chosen % 10 == 1) refl r.before.allowed in
+    let kc = degrees_at q.chosen r.chosen (q.chosen % 10 == 1) refl r.before.allowed in
     record {
       is_lawful = subst IsArea (sym value)
           (area_lawful p.chosen q.chosen r.chosen s.chosen t.chosen p.before.allowed q.before.allowed r.before.allowed s.before.allowed t.before.allowed);
@@ -95,13 +87,6 @@ latitude_from : (a b : ℕ) (t : Bool) → (a % 10 == 9) ≡ t → b / 10 ≤ 9 
     → Allows (if t then Digits 0 1 else Digits 9 1) b
 latitude_from a b true e h k l = (l (grind (arith, nat_tests)), k)
 latitude_from a b false e h k l = (h, k)
-
-longitude_from : (b c : ℕ) (t : Bool) → (b % 10 == 1) ≡ t → c ≤ 99 → (b % 10 ≡ 1 → c ≤ 80) → Allows (if t then UpTo 80 else UpTo 99) c
-longitude_from b c true e h k = k (grind (arith, nat_tests))
-longitude_from b c false e h k = h
-
-same_area : (f g : Rectangle) → f.quadrant ≡ g.quadrant → f.latitude ≡ g.latitude → f.longitude ≡ g.longitude → f.south ≡ g.south → f.east ≡ g.east → f ≡ g
-same_area f g p q r s t = λ i. record { quadrant = p i; latitude = q i; longitude = r i; south = s i; east = t i }
 
 from_area : (v : Rectangle) (word : List ℕ) → Areas v word → AreaParts v word
 unfolding area_digits
@@ -121,11 +106,12 @@ from_area v word p =
     subst (λ w. AreaParts v w) (sym (p.list ∙ list))
     (one_then a (omega arith)
     (one_then b (latitude_from a b (a % 10 == 9) refl (omega arith) (omega arith) (λ k. omega arith))
-    (one_then c (longitude_from b c (b % 10 == 1) refl (omega arith) (λ k. omega arith))
+    (one_then c (degrees_allowed b c (b % 10 == 1) refl (omega arith) (λ k. omega arith))
     (one_then v.south hs (one_then v.east he (record { value = value; list = refl }))))))
 
 pub area_alike : Alike AreaParts Areas
 area_alike = record { to = to_area; back = from_area }
 
+-- an area reads back, and no two areas' characters begin alike
 pub area_good : Good Areas
 area_good = alike_good _ _ area_alike parts_good

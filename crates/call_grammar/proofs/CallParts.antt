@@ -16,5 +16,6 @@ call_alike = record {
   back = λ c word p. subst (Then Formats AfterFormat c) (sym p.list) (from_covered c p.is_lawful);
 }
 
+-- a call's characters up to its check read back, and none begin another's
 pub checked_characters_good : Good CheckedCharacters
 checked_characters_good = alike_good _ _ call_alike (then_good _ _ formats_good (λ f _ _. after_format_good f))

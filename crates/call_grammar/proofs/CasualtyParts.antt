@@ -94,5 +94,6 @@ from_casualty c word p =
 pub casualty_alike : Alike CasualtyParts Casualties
 casualty_alike = record { to = to_casualty; back = from_casualty }
 
+-- a casualty's characters read back, and none begin another's
 pub casualty_good : Good Casualties
 casualty_good = alike_good _ _ casualty_alike casualty_parts_good

@@ -1,5 +1,5 @@
 -- Every symbol of a call's list is below 128.
-use Rattle.std.proofs.Common.{ℕ, zero, suc, Bool, true, false, cond, ◌+◌, ◌*◌, ◌<◌, List, [], ◌∷◌, ◌++◌, Option, Some, None, arith}
+use Rattle.std.proofs.Common.{ℕ, zero, suc, Bool, true, false, cond, ◌+◌, ◌*◌, ◌<◌, [], ◌∷◌, ◌++◌, Option, Some, None, arith}
 use Rattle.symbol_reader.proofs.Characters.{AreCharacters, both, ten, of_six, of_eight, of_check}
 use Rattle.call_values.specs.declared.positions.Fix.{Fix}
 use Rattle.call_values.specs.declared.calls.Casualty.{Casualty}
@@ -7,8 +7,6 @@ use Rattle.call_values.specs.declared.calls.Call.{Call}
 use Rattle.call_values.specs.declared.calls.Call.TheVariants.{Alert, Ack, Relay, RelayAck, AllShips, AreaCall, GroupCall, Individual, Service}
 use Rattle.call_values.specs.declared.choices.Category.{Category}
 use Rattle.call_values.specs.declared.choices.Category.TheVariants.{Routine, Safety, Urgency}
-use Rattle.call_values.specs.declared.choices.End.{End}
-use Rattle.call_values.specs.declared.choices.End.TheVariants.{Ask, Reply, Plain}
 use Rattle.call_values.specs.declared.fields.FieldKind.{FieldKind}
 use Rattle.call_values.specs.declared.fields.FieldKind.TheVariants.{Absent, Hundreds, Hf, Vhf, Tens}
 use Rattle.call_values.specs.declared.parts.To.{To}
@@ -22,13 +20,12 @@ use Rattle.call_values.specs.Fields.{IsField}
 use Rattle.dsc_symbols.specs.Telecommands.{IsFirst, IsSecond}
 use Rattle.call_values.specs.Parts.{IsTo, IsMessage, IsKind}
 use Rattle.call_values.specs.Identity.{IsMmsi}
-use Rattle.dsc_symbols.specs.Natures.{IsNature}
-use Rattle.dsc_symbols.specs.Telecommands.{IsComm}
 use Rattle.call_values.specs.Positions.{IsPosition}
 use Rattle.call_values.specs.Clock.{IsHourMinute}
 use Rattle.call_values.specs.Calls.{IsCasualty, IsRequest, IsCall}
 use Rattle.call_values.specs.Views.{address_of}
-use Rattle.call_grammar.specs.Spelling.{ten_digits, position_digits, identity_symbols, position_symbols, time_symbols, casualty_symbols, area_digits, area_symbols, six_digits, eight_digits, blanks, field_symbols, message_symbols, category_symbol, end_symbol, format_to, address_symbols, distress_symbols, request_symbols, kind_symbols, kind_end, format_of, end_of, fields_of, covered, check_of, spell}
+use Rattle.call_values.proofs.PublicLaws.{end_small}
+use Rattle.call_grammar.specs.Spelling.{position_digits, identity_symbols, position_symbols, time_symbols, casualty_symbols, area_digits, area_symbols, blanks, field_symbols, message_symbols, category_symbol, format_to, address_symbols, distress_symbols, request_symbols, kind_symbols, kind_end, format_of, end_of, fields_of, covered, check_of, spell}
 
 of_position : (p : Option Fix) → IsPosition p → AreCharacters (position_symbols p)
 unfolding position_digits
@@ -126,11 +123,6 @@ of_format : (c : Call) → format_of c < 128
 of_format (Alert casualty) = omega arith
 of_format c = of_to (address_of c)
 
-of_end_symbol : (e : End) → end_symbol e < 128
-of_end_symbol Ask = omega arith
-of_end_symbol Reply = omega arith
-of_end_symbol Plain = omega arith
-
 of_choice : (b : Bool) (x y : ℕ) → x < 128 → y < 128 → cond b x y < 128
 of_choice true x y a b = a
 of_choice false x y a b = b
@@ -148,7 +140,7 @@ of_end (RelayAck t from k) = omega arith
 of_end (AllShips g from x y f1 f2) = omega arith
 of_end (AreaCall a g from x y f1 f2) = omega arith
 of_end (GroupCall m g from x y f1 f2) = omega arith
-of_end (Individual m g from x y told e) = of_end_symbol e
+of_end (Individual m g from x y told e) = end_small e
 of_end (Service m g from k) = of_kind_end k
 
 pub of_call : (c : Call) → IsCall c → AreCharacters (spell c)

@@ -1,6 +1,6 @@
 -- Values of one symbol each.
 use Rattle.std.proofs.Common.{◌≡◌, ℕ, zero, suc, inl, inr, ◌==◌, if◌then◌else◌, Bool, true, false, List, ◌∷◌, Option, Some, None, refl, sym, subst, ap, ◌∙◌, arith}
-use Rattle.std.proofs.lemmas.Bool.Decides.{nat_tests}
+use Rattle.std.proofs.lemmas.Bool.{ne_eqb, eq-eqb}
 use Rattle.symbol_reader.specs.declared.letters.Letter.TheVariants as letter
 use Rattle.symbol_reader.specs.Letters.{Allows}
 use Rattle.symbol_reader.proofs.Laws.{Good, alike_good, then_good, only_good}
@@ -56,6 +56,7 @@ format_coded = record {
   back = λ v _. format_back v;
 }
 
+-- a format specifier reads back
 pub formats_good : Good Formats
 formats_good = coded_good (letter_good letter.Format) format_coded
 
@@ -89,6 +90,7 @@ category_coded = record {
   back = λ v _. category_back v;
 }
 
+-- a category reads back
 pub categories_good : Good Categories
 categories_good = coded_good (letter_good letter.Category) category_coded
 
@@ -119,25 +121,20 @@ end_coded = record {
   back = λ v _. end_back v;
 }
 
+-- an end of sequence reads back
 pub endings_good : Good Endings
 endings_good = coded_good (letter_good letter.End) end_coded
-
-pub is_same : (x y : ℕ) → x ≡ y → (x == y) ≡ true
-is_same x y h = grind (arith, nat_tests)
-
-pub is_other : (x y : ℕ) → (x ≡ y → ⊥) → (x == y) ≡ false
-is_other x y h = grind (arith, nat_tests)
 
 abbrev pub either_symbol : ℕ → ℕ → Bool → ℕ
 either_symbol one other is_one = if is_one then one else other
 
 pub either_there : (one other x : ℕ) → Allows (letter.Either one other) x → (one ≡ other → ⊥) → either_symbol one other (x == one) ≡ x
-either_there one other x (inl e) differ = rw (is_same x one e) (sym e)
-either_there one other x (inr e) differ = rw (is_other x one (λ k. differ (sym k ∙ e))) (sym e)
+either_there one other x (inl e) differ = rw (eq-eqb x one e) (sym e)
+either_there one other x (inr e) differ = rw (ne_eqb x one (λ k. differ (sym k ∙ e))) (sym e)
 
 either_back : (one other : ℕ) (v : Bool) → (one ≡ other → ⊥) → (either_symbol one other v == one) ≡ v
-either_back one other true differ = is_same one one refl
-either_back one other false differ = is_other other one (λ k. differ (sym k))
+either_back one other true differ = eq-eqb one one refl
+either_back one other false differ = ne_eqb other one (λ k. differ (sym k))
 
 either_allowed : (one other : ℕ) (v : Bool) → Allows (letter.Either one other) (either_symbol one other v)
 either_allowed one other true = inl refl
@@ -152,6 +149,7 @@ either_coded one other differ = record {
   back = λ v _. either_back one other v differ;
 }
 
+-- one of two different symbols reads back
 pub eithers_good : (one other : ℕ) → (one ≡ other → ⊥) → Good (Eithers one other)
 eithers_good one other differ = coded_good (letter_good (letter.Either one other)) (either_coded one other differ)
 
@@ -188,6 +186,7 @@ distress_telecommand_coded t = record {
   back = λ v _. distress_telecommand_back v;
 }
 
+-- the telecommand of a distress call reads back
 pub distress_telecommands_good : (t : To) → Good (DistressTelecommands t)
 distress_telecommands_good t = coded_good (letter_good (distress_telecommand_letter t)) (distress_telecommand_coded t)
 
@@ -205,17 +204,17 @@ telecommand_allowed (telecommand.Request n) h = inr (inr h)
 telecommand_lawful : (x : ℕ) → Allows letter.FirstToOne x → IsTelecommand (telecommand_told x)
 telecommand_lawful x (inl e) = subst (λ y. IsTelecommand (telecommand_told y)) (sym e) tt
 telecommand_lawful x (inr (inl e)) = subst (λ y. IsTelecommand (telecommand_told y)) (sym e) tt
-telecommand_lawful x (inr (inr h)) = rw (is_other x 118 (first_is x h).0, is_other x 121 (first_is x h).1) h
+telecommand_lawful x (inr (inr h)) = rw (ne_eqb x 118 (first_is x h).0, ne_eqb x 121 (first_is x h).1) h
 
 telecommand_there : (x : ℕ) → Allows letter.FirstToOne x → telecommand_symbol (telecommand_told x) ≡ x
 telecommand_there x (inl e) = subst (λ y. telecommand_symbol (telecommand_told y) ≡ y) (sym e) refl
 telecommand_there x (inr (inl e)) = subst (λ y. telecommand_symbol (telecommand_told y) ≡ y) (sym e) refl
-telecommand_there x (inr (inr h)) = rw (is_other x 118 (first_is x h).0, is_other x 121 (first_is x h).1) refl
+telecommand_there x (inr (inr h)) = rw (ne_eqb x 118 (first_is x h).0, ne_eqb x 121 (first_is x h).1) refl
 
 telecommand_back : (v : Telecommand) → IsTelecommand v → telecommand_told (telecommand_symbol v) ≡ v
 telecommand_back telecommand.Test h = refl
 telecommand_back telecommand.Position h = refl
-telecommand_back (telecommand.Request x) h = rw (is_other x 118 (first_is x h).0, is_other x 121 (first_is x h).1) refl
+telecommand_back (telecommand.Request x) h = rw (ne_eqb x 118 (first_is x h).0, ne_eqb x 121 (first_is x h).1) refl
 
 pub telecommand_coded : Coded (Allows letter.FirstToOne) IsTelecommand telecommand_symbol
 telecommand_coded = record {
@@ -226,15 +225,19 @@ telecommand_coded = record {
   back = telecommand_back;
 }
 
+-- a first telecommand of a call to one station reads back
 pub telecommands_good : Good Telecommands
 telecommands_good = coded_good (letter_good letter.FirstToOne) telecommand_coded
 
+-- a first telecommand reads back
 pub first_good : Good Firsts
 first_good = alike_good _ _ (symbol_alike IsFirst) (letter_good letter.First)
 
+-- a second telecommand reads back
 pub second_good : Good Seconds
 second_good = alike_good _ _ (symbol_alike IsSecond) (letter_good letter.Second)
 
+-- so many characters of no information read back
 pub blanks_good : (n : ℕ) → Good (Blanks n)
 blanks_good zero = only_good tt
 blanks_good (suc n) = then_good _ _ (letter_good (letter.Exactly 126)) (λ _ _ _. blanks_good n)

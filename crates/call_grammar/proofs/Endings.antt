@@ -1,6 +1,7 @@
 -- The places after the first end of sequence, as `read` meets them.
 use Rattle.std.proofs.Common.{◌≡◌, ℕ, ◌+◌, ◌-◌, ◌<◌, ◌≤◌, List, [], ◌∷◌, ◌++◌, length, take, drop, get_or, Err, refl, sym, ◌∙◌, ap, subst, append-nil, append_assoc, length-append, arith}
-use Rattle.std.proofs.lemmas.List.{append_cancel_left, take-append-le}
+use Rattle.std.proofs.lemmas.List.{append_cancel_left, take-append-le, nil_from_length}
+use Rattle.std.proofs.Math.Seq.{take-length}
 use Rattle.call_values.specs.declared.calls.Call.{Call}
 use Rattle.call_values.specs.Calls.{IsCall}
 use Rattle.call_grammar.specs.Spelling.{format_of, covered, check_of, end_of, up_to_end, spell}
@@ -32,14 +33,6 @@ goes_on_at l front rest n e p h =
     let place : length front < length (front ++ rest) = omega arith in
     goes_on front rest place ∙ ap (λ a. get_or a (length front) 0 ∷ drop 1 rest) (sym e) ∙ ap (λ a. get_or l a 0 ∷ drop 1 rest) (sym p)
 
-nothing : (l : List ℕ) → length l ≡ 0 → l ≡ []
-nothing [] h = refl
-nothing (x ∷ l) h = absurd (omega arith)
-
-take_whole : (l : List ℕ) → take (length l) l ≡ l
-take_whole [] = refl
-take_whole (x ∷ l) = ap (λ a. x ∷ a) (take_whole l)
-
 is_part : (call : Call) (l : List ℕ) (n y : ℕ) (done pending : List ℕ) → At call l n done (y ∷ pending) → IsPart (up_to_end call ++ done)
 is_part call l n y done pending a = record {
   call = call;
@@ -53,7 +46,7 @@ pub at_short : (call : Call) (l : List ℕ) (n y : ℕ) (done pending : List ℕ
 at_short call l n y done pending a h =
     let lengths : length l ≡ length (up_to_end call ++ done) + length a.rest = ap length a.whole ∙ length-append (up_to_end call ++ done) a.rest in
     let place : n ≡ length (up_to_end call ++ done) = a.place in
-    let none : a.rest ≡ [] = nothing a.rest (omega arith) in
+    let none : a.rest ≡ [] = nil_from_length a.rest (omega arith) in
     let whole : l ≡ up_to_end call ++ done = a.whole ∙ ap (λ m. (up_to_end call ++ done) ++ m) none ∙ append-nil (up_to_end call ++ done) in
     record { part = subst IsPart (sym whole) (is_part call l n y done pending a); place = omega arith }
 
@@ -159,7 +152,7 @@ covered_part call l rest n e p =
     let once : drop 1 l ≡ covered call ++ rest = ap (λ a. drop 1 a) e in
     let count : n - 1 ≡ length (covered call) = omega arith in
     ap (λ a. take (n - 1) a) once ∙ ap (λ k. take k (covered call ++ rest)) count
-    ∙ take-append-le (length (covered call)) (covered call) rest (omega arith) ∙ take_whole (covered call)
+    ∙ take-append-le (length (covered call)) (covered call) rest (omega arith) ∙ take-length (covered call)
 
 -- the place of the last end of sequence but one
 pub after_check : (call : Call) (l rest : List ℕ) (n x : ℕ) → IsCall call → l ≡ up_to_end call ++ rest → n ≡ length (up_to_end call) → n < length l

@@ -1,5 +1,7 @@
 -- Where the first end of sequence is next.
-use Rattle.std.proofs.Common.{◌≡◌, ℕ, ◌≤◌, ◌⊎◌, inl, inr, true, false, List, [], ◌∷◌, ◌++◌, length, drop, Err, refl, sym, ◌∙◌, ap, subst, append-nil, append_assoc, length-append, arith}
+use Rattle.std.proofs.Common.{◌≡◌, ℕ, ◌≤◌, ◌⊎◌, inl, inr, true, false, List, [], ◌∷◌, ◌++◌, length, drop, Err, refl, sym, ◌∙◌, ap, subst, append-nil, append_assoc, arith}
+use mathlib.Core.List.{head-eq_of_cons-eq}
+use Rattle.std.proofs.lemmas.List.{same_from_push}
 use Rattle.symbol_reader.specs.declared.reading.Stop.{Stop}
 use Rattle.symbol_reader.specs.declared.reading.Stop.TheVariants.{Short, Outside}
 use Rattle.symbol_reader.specs.inside.Reading.{Took, Outcome}
@@ -14,7 +16,7 @@ use Rattle.call_grammar.specs.Walk.{IsDone, IsAtEnd}
 use Rattle.call_grammar.specs.inside.Judging.{IsWalking, IsCovered}
 use Rattle.call_grammar.proofs.CallParts.{checked_characters_good}
 use Rattle.call_grammar.proofs.Lengths.{walking_short, length-front}
-use Rattle.call_grammar.proofs.Steps.{heads, spelled, no_cover}
+use Rattle.call_grammar.proofs.Steps.{spelled, no_cover}
 
 -- what a walk has taken is short
 pub taken_short : (l : List ℕ) → (l ≡ []) ⊎ IsWalking l ⊎ IsDone l → length l ≤ 30
@@ -47,15 +49,6 @@ not_refused l new Outside w o =
     let list : covered c ≡ o.front ++ (o.next ∷ o.rest) = sym w.list ∙ o.list in
     o.never (record { value = c; rest = o.rest; word = subst (CheckedCharacters c) (list ∙ sym (append_assoc o.front (o.next ∷ []) o.rest)) (spelled c w.lawful) })
 
--- the last symbols of two lists
-last_same : (a b : List ℕ) (x y : ℕ) → a ++ (x ∷ []) ≡ b ++ (y ∷ []) → x ≡ y
-last_same [] [] x y e = heads _ _ _ _ e
-last_same [] (z ∷ b) x y e =
-    let k : length (x ∷ []) ≡ length (z ∷ (b ++ (y ∷ []))) = ap length e in absurd (omega (arith, length-append b (y ∷ [])))
-last_same (z ∷ a) [] x y e =
-    let k : length (z ∷ (a ++ (x ∷ []))) ≡ length (y ∷ []) = ap length e in absurd (omega (arith, length-append a (x ∷ [])))
-last_same (z ∷ a) (u ∷ b) x y e = let k : a ++ (x ∷ []) ≡ b ++ (y ∷ []) = cc in last_same a b x y k
-
 -- where an end of sequence and then a check would follow what a walk has taken, the first end of sequence is next
 pub end_at : (l : List ℕ) (e : ℕ) → (l ≡ []) ⊎ IsWalking l ⊎ IsDone l → IsCovered (drop 1 (l ++ (e ∷ []))) → IsAtEnd l
 end_at l e (inl k) w =
@@ -64,10 +57,10 @@ end_at l e (inl k) w =
 end_at l e (inr (inl k)) w =
     let c : Call = w.call in
     let list : k.first ∷ (k.rest ++ (e ∷ [])) ≡ covered c = ap (λ a. drop 1 (a ++ (e ∷ []))) (sym k.list) ∙ w.list in
-    let format : k.first ≡ format_of c = heads _ _ _ _ list in
+    let format : k.first ≡ format_of c = head-eq_of_cons-eq list in
     let whole : l ++ (e ∷ []) ≡ format_of c ∷ covered c =
     ap (λ a. a ++ (e ∷ [])) k.list ∙ ap (λ a. k.first ∷ a) list ∙ ap (λ a. a ∷ covered c) format in
-    let same : end_of c ≡ e = last_same (format_of c ∷ format_of c ∷ fields_of c) l (end_of c) e (sym whole) in
+    let same : end_of c ≡ e = (same_from_push (format_of c ∷ format_of c ∷ fields_of c) l (end_of c) e (sym whole)).1 in
     record { call = c; lawful = w.lawful; list = sym whole ∙ ap (λ a. l ++ (a ∷ [])) (sym same) }
 end_at l e (inr (inr d)) w =
     let c : Call = d.call in

@@ -1,6 +1,6 @@
 -- Frequency and channel fields by their letters.
 use Rattle.std.proofs.Common.{◌≡◌, ℕ, ◌+◌, ◌*◌, ◌/◌, ◌%◌, ◌≤◌, inl, inr, ◌==◌, if◌then◌else◌, Bool, true, false, List, [], ◌∷◌, refl, sym, ◌∙◌, ap, subst, arith}
-use Rattle.std.proofs.lemmas.Bool.Decides.{nat_tests}
+use Rattle.std.proofs.lemmas.Bool.{eqb-true, eqb-false, ne_eqb, eq-eqb}
 use Rattle.symbol_reader.specs.declared.letters.Letter.TheVariants.{Exactly, UpTo}
 use Rattle.symbol_reader.specs.declared.letters.Letter.TheVariants as letter
 use Rattle.symbol_reader.specs.Letters.{Allows}
@@ -11,9 +11,8 @@ use Rattle.call_values.specs.declared.fields.FieldKind.{FieldKind}
 use Rattle.call_values.specs.declared.fields.FieldKind.TheVariants.{Absent, Hundreds, Hf, Vhf, Tens}
 use Rattle.call_values.specs.Fields.{IsField}
 use Rattle.call_grammar.specs.Spelling.{field_symbols}
-use Rattle.symbol_reader.proofs.Digits.{six-of, eight-of}
+use Rattle.symbol_reader.proofs.Digits.{six-of, eight-of, three}
 use Rattle.call_grammar.specs.inside.Grammar.{Symbol, FieldWords, FieldRest, field_letter, short_field, long_field}
-use Rattle.call_grammar.proofs.CodedParts.{is_same, is_other}
 
 abbrev pub FieldEnd : ℕ → ℕ → ℕ → FieldKind → List ℕ → Type 0
 FieldEnd initial b c = Choice (initial / 10 == 4) (Then (Symbol (UpTo 99)) (λ d. Only (long_field initial b c d))) (Only (short_field initial b c))
@@ -33,20 +32,12 @@ field_end_good initial b c = choice_good (initial / 10 == 4) _ _ (λ _. long_end
 pub field_third_good : (initial b : ℕ) → Good (FieldThird initial b)
 field_third_good initial b = then_good _ _ (letter_good (field_letter initial)) (λ c _ _. field_end_good initial b c)
 
+-- what follows a field's first character reads back
 pub field_rest_good : (initial : ℕ) → Good (FieldRest initial)
 field_rest_good initial = then_good _ _ (letter_good (field_letter initial)) (λ b _ _. field_third_good initial b)
 
 parts_good : Good FieldParts
 parts_good = then_good _ _ (letter_good letter.Field) (λ initial _ _. field_rest_good initial)
-
-three : {a b c a' b' c' : ℕ} → a ≡ a' → b ≡ b' → c ≡ c' → a ∷ b ∷ c ∷ [] ≡ a' ∷ b' ∷ c' ∷ []
-three p q r = cc
-
-test_is : (m n : ℕ) → (m == n) ≡ true → m ≡ n
-test_is m n e = grind (arith, nat_tests)
-
-test_not : (m n : ℕ) → (m == n) ≡ false → m ≡ n → ⊥
-test_not m n e h = grind (arith, nat_tests)
 
 letter_at : (x : ℕ) (t : Bool) → Allows (if t then Exactly 126 else UpTo 99) x → t ≡ false → x ≤ 99
 letter_at x true h e = absurd (cc)
@@ -54,7 +45,7 @@ letter_at x false h e = h
 
 -- the letter of a field that is not absent
 pub letter_up : (initial x : ℕ) → (initial ≡ 126 → ⊥) → Allows (field_letter initial) x → x ≤ 99
-letter_up initial x n h = letter_at x (initial == 126) h (is_other initial 126 n)
+letter_up initial x n h = letter_at x (initial == 126) h (ne_eqb initial 126 n)
 
 letter_same : (x : ℕ) (t : Bool) → t ≡ true → Allows (if t then Exactly 126 else UpTo 99) x → x ≡ 126
 letter_same x true e h = h
@@ -67,17 +58,17 @@ short_at : (initial b c : ℕ) (absent vhf hf : Bool) → Allows letter.Field in
     → Spelled IsField field_symbols (if absent then Absent else (if vhf then Vhf (b * 100 + c) else
     (if hf then Hf (initial % 10 * 10000 + (b * 100 + c)) else Hundreds (initial * 10000 + (b * 100 + c))))) (initial ∷ b ∷ c ∷ [])
 short_at initial b c true vhf hf h n ea ev eh hb hc =
-    let k : initial ≡ 126 = test_is initial 126 ea in
+    let k : initial ≡ 126 = eqb-true initial 126 ea in
     let kb : b ≡ 126 = hb in
     let kc : c ≡ 126 = hc in
     record { is_lawful = tt; list = three k kb kc }
 short_at initial b c false true hf h n ea ev eh hb hc =
-    let k : initial ≡ 90 = test_is initial 90 ev in
+    let k : initial ≡ 90 = eqb-true initial 90 ev in
     let kb : b ≤ 99 = hb in
     let kc : c ≤ 99 = hc in
     record { is_lawful = omega arith; list = sym (six-of (900000 + (b * 100 + c)) initial b c kb kc (omega arith)) }
 short_at initial b c false false true h n ea ev eh hb hc =
-    let k : initial / 10 ≡ 3 = test_is (initial / 10) 3 eh in
+    let k : initial / 10 ≡ 3 = eqb-true (initial / 10) 3 eh in
     let kb : b ≤ 99 = hb in
     let kc : c ≤ 99 = hc in
     record {
@@ -85,9 +76,9 @@ short_at initial b c false false true h n ea ev eh hb hc =
       list = sym (six-of (300000 + (initial % 10 * 10000 + (b * 100 + c))) initial b c kb kc (omega arith));
     }
 short_at initial b c false false false h n ea ev eh hb hc =
-    let ka : initial ≡ 126 → ⊥ = test_not initial 126 ea in
-    let kv : initial ≡ 90 → ⊥ = test_not initial 90 ev in
-    let kh : initial / 10 ≡ 3 → ⊥ = test_not (initial / 10) 3 eh in
+    let ka : initial ≡ 126 → ⊥ = eqb-false initial 126 ea in
+    let kv : initial ≡ 90 → ⊥ = eqb-false initial 90 ev in
+    let kh : initial / 10 ≡ 3 → ⊥ = eqb-false (initial / 10) 3 eh in
     let low : initial ≤ 49 = elim h [ inl l ↦ l | inr r ↦ elim r [ inl e ↦ absurd (kv e) | inr e ↦ absurd (ka e) ] ] in
     let few : initial ≤ 29 = grind arith in
     let kb : b ≤ 99 = hb in
@@ -108,7 +99,7 @@ long_words initial b c d h hb hc hd = record {
 to_end : (initial b c : ℕ) (t : Bool) (v : FieldKind) (l : List ℕ) → (initial / 10 == 4) ≡ t → Allows letter.Field initial
     → Allows (field_letter initial) b → Allows (field_letter initial) c → FieldEnd initial b c v l → FieldWords v (initial ∷ b ∷ c ∷ l)
 to_end initial b c true v l e h hb hc p =
-    let k : initial / 10 ≡ 4 = test_is (initial / 10) 4 e in
+    let k : initial / 10 ≡ 4 = eqb-true (initial / 10) 4 e in
     let n : initial ≡ 126 → ⊥ = λ m. omega arith in
     let q = p.yes e in
     let value : v ≡ long_field initial b c q.chosen = q.after.value in
@@ -119,7 +110,7 @@ to_end initial b c false v l e h hb hc p =
     let q = p.no e in
     let value : v ≡ short_field initial b c = q.value in
     let tail : l ≡ [] = q.list in
-    let word = short_words initial b c h (test_not (initial / 10) 4 e) hb hc in
+    let word = short_words initial b c h (eqb-false (initial / 10) 4 e) hb hc in
     subst (λ x. FieldWords x (initial ∷ b ∷ c ∷ l)) (sym value) (subst (λ x. FieldWords (short_field initial b c) (initial ∷ b ∷ c ∷ x)) (sym tail) word)
 
 -- a field that begins so, and its rest
@@ -138,13 +129,13 @@ letter_from x true e h = absurd (cc)
 letter_from x false e h = h
 
 letter_ok : (initial x : ℕ) → (initial ≡ 126 → ⊥) → x ≤ 99 → Allows (field_letter initial) x
-letter_ok initial x n h = letter_from x (initial == 126) (is_other initial 126 n) h
+letter_ok initial x n h = letter_from x (initial == 126) (ne_eqb initial 126 n) h
 
 -- a field of three characters, and its first
 short_rest : (v : FieldKind) (initial b c : ℕ) → (initial / 10 ≡ 4 → ⊥) → Allows (field_letter initial) b → Allows (field_letter initial) c → v ≡ short_field initial b c
     → FieldRest initial v (b ∷ c ∷ [])
 short_rest v initial b c n hb hc value = one_then b hb (one_then c hc (record {
-  yes = λ e. absurd (n (test_is (initial / 10) 4 e));
+  yes = λ e. absurd (n (eqb-true (initial / 10) 4 e));
   no = λ _. record { value = value; list = refl };
 }))
 
@@ -177,7 +168,7 @@ split_field (Hundreds n) h =
       allowed = inl (omega arith);
       list = six-of n a b c (omega arith) (omega arith) (omega arith);
       word = short_rest (Hundreds n) a b c (λ e. omega arith) (letter_ok a b not_absent (omega arith)) (letter_ok a c not_absent (omega arith))
-          (rw (is_other a 126 not_absent, is_other a 90 not_vhf, is_other (a / 10) 3 not_hf) (ap (λ x. Hundreds x) value));
+          (rw (ne_eqb a 126 not_absent, ne_eqb a 90 not_vhf, ne_eqb (a / 10) 3 not_hf) (ap (λ x. Hundreds x) value));
     }
 split_field (Hf n) h =
     let k : n ≤ 99999 = h in
@@ -192,7 +183,7 @@ split_field (Hf n) h =
       allowed = inl (omega arith);
       list = six-of (300000 + n) a b c (omega arith) (omega arith) (omega arith);
       word = short_rest (Hf n) a b c (λ e. omega arith) (letter_ok a b not_absent (omega arith)) (letter_ok a c not_absent (omega arith))
-          (rw (is_other a 126 not_absent, is_other a 90 not_vhf, is_same (a / 10) 3 is_hf) (ap (λ x. Hf x) value));
+          (rw (ne_eqb a 126 not_absent, ne_eqb a 90 not_vhf, eq-eqb (a / 10) 3 is_hf) (ap (λ x. Hf x) value));
     }
 split_field (Vhf n) h =
     let k : n ≤ 9999 = h in
@@ -219,7 +210,7 @@ split_field (Tens n) h =
       list = eight-of (40000000 + n) a b c d (omega arith) (omega arith) (omega arith) (omega arith);
       word = one_then b (letter_ok a b not_absent (omega arith)) (one_then c (letter_ok a c not_absent (omega arith)) (record {
         yes = λ _. one_then d (omega arith) (record { value = ap (λ x. Tens x) value; list = refl });
-        no = λ e. absurd (test_not (a / 10) 4 e is_long);
+        no = λ e. absurd (eqb-false (a / 10) 4 e is_long);
       }));
     }
 
@@ -231,5 +222,6 @@ from_field v word p =
 pub field_alike : Alike FieldParts FieldWords
 field_alike = record { to = to_field; back = from_field }
 
+-- a frequency or channel reads back, and none begins another
 pub field_good : Good FieldWords
 field_good = alike_good _ _ field_alike parts_good

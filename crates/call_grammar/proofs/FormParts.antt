@@ -96,6 +96,7 @@ addressed_one_good m = then_good _ _ categories_good (λ category _ _. after_cat
 pub alerts_good : Good Alerts
 alerts_good = then_good _ _ casualty_good (λ _ _ _. then_good _ _ (letter_good (Exactly 127)) (λ _ _ _. only_good _))
 
+-- what follows a format specifier reads back
 pub after_format_good : (f : Specifier) → Good (AfterFormat f)
 after_format_good format.Alert = alerts_good
 after_format_good format.All = addressed_good to.All

@@ -6,6 +6,7 @@ use Rattle.call_grammar.specs.Spelling.{format_of, end_of, covered, check_of, up
 use Rattle.call_grammar.specs.Walk.{IsOpen, IsDone}
 use Rattle.call_grammar.proofs.CallParts.{checked_characters_good}
 
+-- what the check covers of a call begins that of no other call
 pub same_covered : (c d : Call) (r s : List ℕ) → IsCall c → IsCall d → covered d ++ r ≡ covered c ++ s → (c ≡ d) × (r ≡ s)
 same_covered c d r s h k e =
     let one = checked_characters_good.one d c (covered d) (covered c) r s (record { is_lawful = k; list = refl }) (record { is_lawful = h; list = refl }) e in

@@ -77,5 +77,6 @@ from_identity v word p =
 pub identity_alike : Alike First Identities
 identity_alike = record { to = to_identity; back = from_identity }
 
+-- an identity reads back
 pub identity_good : Good Identities
 identity_good = alike_good _ _ identity_alike first_good

@@ -1,11 +1,13 @@
 -- What lacks the last symbol of a word lacks one symbol of every word that it begins: languages, along the forms of calls.
 use Rattle.std.proofs.Common.{◌≡◌, ℕ, inl, inr, Bool, true, false, Option, Some, None, List, [], ◌∷◌, ◌++◌, length, refl, sym, ◌∙◌, ap, subst, append_assoc, length-append, arith}
+use Rattle.std.proofs.lemmas.List.{nil_from_length}
+use mathlib.Core.List.{head-eq_of_cons-eq}
 use Rattle.symbol_reader.specs.declared.letters.Letter.{Letter}
 use Rattle.symbol_reader.specs.declared.letters.Letter.TheVariants.{Exactly}
 use Rattle.symbol_reader.specs.Letters.{Allows}
 use Rattle.symbol_reader.specs.inside.Languages.{One, Only, Then, Spelled}
 use Rattle.symbol_reader.proofs.Laws.{Good, Alike, no_word_goes_on}
-use Rattle.symbol_reader.proofs.Steps.{letter_good, split}
+use Rattle.symbol_reader.proofs.Steps.{letter_good}
 use Rattle.call_values.specs.declared.choices.Category.{Category}
 use Rattle.call_values.specs.declared.parts.To.{To}
 use Rattle.call_values.specs.declared.parts.To.TheVariants as to
@@ -27,16 +29,13 @@ use Rattle.call_grammar.proofs.FieldParts.{field_good}
 use Rattle.call_grammar.proofs.MessageParts.{message_good}
 use Rattle.call_grammar.proofs.CodedParts.{formats_good, categories_good, eithers_good, distress_telecommands_good, telecommands_good, first_good, second_good, blanks_good}
 use Rattle.call_grammar.proofs.CallParts.{call_alike, checked_characters_good}
-use Rattle.call_grammar.proofs.Steps.{heads, spelled, no_cover}
+use Rattle.call_grammar.proofs.Steps.{spelled, no_cover}
+use Rattle.plain_laws.proofs.Lists.{split}
 
 -- each word has a symbol, and what lacks the last symbol of a word lacks one symbol of every word that it begins
 pub record LacksOne {V : Type 0} (language : V → List ℕ → Type 0) : Type 0 where
   pub some : (v : V) → language v [] → ⊥
   pub one : (v u : V) (front : List ℕ) (last : ℕ) (rest : List ℕ) → language v (front ++ (last ∷ [])) → language u (front ++ rest) → length rest ≡ 1
-
-empty : (l : List ℕ) → length l ≡ 0 → l ≡ []
-empty [] h = refl
-empty (x ∷ l) h = absurd (omega arith)
 
 one_symbol : (l : List ℕ) → length l ≡ 1 → (x : ℕ) × (l ≡ x ∷ [])
 one_symbol [] h = absurd (omega arith)
@@ -79,7 +78,7 @@ then_last : {U V : Type 0} (first : U → List ℕ → Type 0) (second : U → V
 then_last first second g h = record {
   some = λ v p.
       let list : [] ≡ p.front ++ p.back = p.list in
-      let none : p.back ≡ [] = empty p.back (omega (arith, ap length list, length-append p.front p.back)) in
+      let none : p.back ≡ [] = nil_from_length p.back (omega (arith, ap length list, length-append p.front p.back)) in
       (h p.chosen p.front p.before).some v (subst (second p.chosen v) none p.after);
   one = λ v u front last rest p q.
       let some : p.back ≡ [] → ⊥ = λ none. (h p.chosen p.front p.before).some v (subst (second p.chosen v) none p.after) in
@@ -200,7 +199,7 @@ one_more l x c d rest tail p q e = elim (split (covered d) tail l (x ∷ rest) e
   | inl h ↦ (
       let one = one_symbol h.0 (checked_last.one c d l (end_of c) h.0 p (subst (CheckedCharacters d) h.1 q)) in
       let starts : x ∷ rest ≡ one.0 ∷ tail = h.2 ∙ ap (λ t. t ++ tail) one.1 in
-      let same : x ≡ one.0 = heads _ _ _ _ starts in
+      let same : x ≡ one.0 = head-eq_of_cons-eq starts in
       h.1 ∙ ap (λ t. l ++ t) one.1 ∙ ap (λ y. l ++ (y ∷ [])) (sym same))
   | inr h ↦ (
       let longer : l ++ (end_of c ∷ []) ≡ covered d ++ (h.0 ∷ (h.1 ++ (end_of c ∷ []))) =
@@ -222,7 +221,7 @@ end_then_check (f ∷ l) x a v =
     let fields : covered c ≡ l ++ (end_of c ∷ []) = cc in
     let whole : format_of d ∷ ((covered d ++ (k ∷ [])) ++ tail) ≡ f ∷ ((l ++ (x ∷ [])) ++ v.rest) = v.list in
     let rest : (covered d ++ (k ∷ [])) ++ tail ≡ (l ++ (x ∷ [])) ++ v.rest = cc in
-    let format : format_of d ≡ f = heads _ _ _ _ whole in
+    let format : format_of d ≡ f = head-eq_of_cons-eq whole in
     let split_at : covered d ++ (k ∷ tail) ≡ l ++ (x ∷ v.rest) = sym (append_assoc (covered d) (k ∷ []) tail) ∙ rest ∙ append_assoc l (x ∷ []) v.rest in
     let same : covered d ≡ l ++ (x ∷ []) = one_more l x c d v.rest (k ∷ tail) (subst (CheckedCharacters c) fields (spelled c a.lawful)) (spelled d v.lawful) split_at in
     record { call = d; lawful = v.lawful; list = ap (λ y. y ∷ (l ++ (x ∷ []))) (sym format) ∙ ap (λ t. format_of d ∷ t) (sym same) }

@@ -1,5 +1,6 @@
 -- How long the lists of calls are.
 use Rattle.std.proofs.Common.{◌≡◌, ℕ, ◌+◌, ◌*◌, ◌≤◌, ◌⊎◌, inl, inr, List, [], ◌∷◌, ◌++◌, length, Option, Some, None, refl, ap, length-append, arith}
+use Rattle.symbol_reader.proofs.Digits.{length-eight}
 use Rattle.call_values.specs.declared.positions.Fix.{Fix}
 use Rattle.call_values.specs.declared.calls.Casualty.{Casualty}
 use Rattle.call_values.specs.declared.calls.Call.{Call}
@@ -15,7 +16,7 @@ use Rattle.call_values.specs.declared.parts.Message.TheVariants.{Fields, At}
 use Rattle.call_values.specs.declared.parts.Kind.{Kind}
 use Rattle.call_values.specs.declared.parts.Kind.TheVariants.{Test, AskPosition, Position}
 use Rattle.call_values.specs.Views.{address_of, body_of}
-use Rattle.call_grammar.specs.Spelling.{ten_digits, position_digits, position_symbols, time_symbols, identity_symbols, casualty_symbols, six_digits, eight_digits, area_digits, field_symbols, message_symbols, address_symbols, distress_symbols, request_symbols, distress_telecommand, kind_symbols, body_symbols, fields_of, end_of, covered, check_of, through_check, spell}
+use Rattle.call_grammar.specs.Spelling.{ten_digits, position_digits, position_symbols, time_symbols, identity_symbols, casualty_symbols, six_digits, area_digits, field_symbols, message_symbols, address_symbols, distress_symbols, request_symbols, distress_telecommand, kind_symbols, body_symbols, fields_of, end_of, covered, check_of, through_check, spell}
 use Rattle.call_grammar.specs.inside.Judging.{IsWalking}
 
 length-ten_digits : (n : ℕ) → length (ten_digits n) ≡ 5
@@ -45,10 +46,6 @@ length-casualty c =
 length-six : (n : ℕ) → length (six_digits n) ≡ 3
 unfolding six_digits
 length-six n = refl
-
-length-eight : (n : ℕ) → length (eight_digits n) ≡ 4
-unfolding eight_digits
-length-eight n = refl
 
 length-field : (f : FieldKind) → length (field_symbols f) ≤ 4
 length-field Absent = omega arith
@@ -103,6 +100,7 @@ length-covered c = omega (arith, length-fields c, length-append (fields_of c) (e
 pub length-front : (c : Call) → length (through_check c) ≤ 30
 length-front c = omega (arith, length-covered c, length-append (covered c) (check_of (covered c) ∷ []))
 
+-- a call's list has at most 32 symbols
 pub length-spell : (c : Call) → length (spell c) ≤ 32
 length-spell c = omega (arith, length-front c, length-append (through_check c) (end_of c ∷ end_of c ∷ []))
 

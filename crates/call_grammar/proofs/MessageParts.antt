@@ -1,6 +1,6 @@
 -- Messages by their letters.
 use Rattle.std.proofs.Common.{◌≡◌, ℕ, inl, inr, ◌==◌, Bool, true, false, List, [], ◌∷◌, ◌++◌, Option, refl, sym, ◌∙◌, ap, subst, arith, append-nil}
-use Rattle.std.proofs.lemmas.Bool.Decides.{nat_tests}
+use Rattle.std.proofs.lemmas.Bool.{eqb-true, eqb-false}
 use Rattle.symbol_reader.specs.declared.letters.Letter.TheVariants as letter
 use Rattle.symbol_reader.specs.Letters.{Allows}
 use Rattle.symbol_reader.specs.inside.Languages.{Only, Then, Choice}
@@ -45,12 +45,6 @@ message_rest_good initial = choice_good (initial == 55) _ _ (λ _. at_rest_good)
 parts_good : Good MessageParts
 parts_good = then_good _ _ (letter_good letter.Message) (λ initial _ _. message_rest_good initial)
 
-test_is : (m n : ℕ) → (m == n) ≡ true → m ≡ n
-test_is m n e = grind (arith, nat_tests)
-
-test_not : (m n : ℕ) → (m == n) ≡ false → m ≡ n → ⊥
-test_not m n e h = grind (arith, nat_tests)
-
 -- what begins a message and is not 55 begins a field
 pub field_initial : (initial : ℕ) → Allows letter.Message initial → (initial ≡ 55 → ⊥) → Allows letter.Field initial
 field_initial initial (inl e) n = absurd (n e)
@@ -76,8 +70,8 @@ to_message_fields initial v l h p =
     subst (λ x. Messages x (initial ∷ l)) (sym value) (record { is_lawful = (first.is_lawful, q.before.is_lawful); list = whole })
 
 to_message_rest : (initial : ℕ) (t : Bool) (v : Message) (l : List ℕ) → (initial == 55) ≡ t → Allows letter.Message initial → MessageRest initial v l → Messages v (initial ∷ l)
-to_message_rest initial true v l e h p = to_message_at initial v l (test_is initial 55 e) (p.yes e)
-to_message_rest initial false v l e h p = to_message_fields initial v l (field_initial initial h (test_not initial 55 e)) (p.no e)
+to_message_rest initial true v l e h p = to_message_at initial v l (eqb-true initial 55 e) (p.yes e)
+to_message_rest initial false v l e h p = to_message_fields initial v l (field_initial initial h (eqb-false initial 55 e)) (p.no e)
 
 to_message : (v : Message) (word : List ℕ) → MessageParts v word → Messages v word
 to_message v word p =
@@ -99,12 +93,13 @@ from_message (Fields f g) word m =
     (spelled_then g [] m.is_lawful.1 (record { value = refl; list = refl })) in
     subst (MessageParts (Fields f g)) (sym (m.list ∙ ap (λ a. a ++ field_symbols g) s.list))
     (one_then s.initial (inr s.allowed) (record {
-      yes = λ e. absurd (not_55 s.initial s.allowed (test_is s.initial 55 e));
+      yes = λ e. absurd (not_55 s.initial s.allowed (eqb-true s.initial 55 e));
       no = λ _. record { chosen = f; front = s.rest; back = field_symbols g; before = s.word; after = second; list = refl };
     }))
 
 pub message_alike : Alike MessageParts Messages
 message_alike = record { to = to_message; back = from_message }
 
+-- a message reads back, and none begins another
 pub message_good : Good Messages
 message_good = alike_good _ _ message_alike parts_good

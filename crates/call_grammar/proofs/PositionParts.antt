@@ -1,6 +1,7 @@
 -- Positions by their letters.
 use Rattle.std.proofs.Common.{◌≡◌, ℕ, zero, suc, ◌+◌, ◌*◌, ◌/◌, ◌%◌, ◌≤◌, ◌<◌, ◌⊎◌, inl, inr, ◌==◌, ◌&&◌, if◌then◌else◌, Bool, true, false, List, [], ◌∷◌, Option, Some, None, refl, sym, ◌∙◌, ap, subst, arith}
 use Rattle.std.proofs.lemmas.Bool.Decides.{nat_tests}
+use Rattle.std.proofs.lemmas.Bool.{eqb-true, eqb-false}
 use Rattle.symbol_reader.specs.declared.letters.Letter.TheVariants.{Exactly, UpTo, UpToOr, Digits}
 use Rattle.symbol_reader.specs.Letters.{Allows}
 use Rattle.symbol_reader.specs.inside.Languages.{Only, Then, Choice}
@@ -11,6 +12,7 @@ use Rattle.call_values.specs.Positions.{IsArc, IsFix}
 use Rattle.call_grammar.specs.Spelling.{ten_digits, position_digits}
 use Rattle.call_grammar.specs.inside.Grammar.{Symbol, Positions, KnownRest, UnknownRest, fix_of, latitude_ones, minutes_and_hundreds, longitude_ones, longitude_minutes}
 use Rattle.symbol_reader.proofs.Digits.{ten_digits-of}
+use Rattle.call_values.proofs.PublicLaws.{same_fix}
 
 abbrev pub Minutes : ℕ → ℕ → ℕ → ℕ → Option Fix → List ℕ → Type 0
 Minutes a b c d = Then (Symbol (longitude_minutes c d)) (λ e. Only (Some (fix_of a b c d e)))
@@ -65,26 +67,20 @@ record Lawful (a b c d e : ℕ) : Type 0 where
   last : e ≤ 59
   half_last : c % 10 ≡ 1 → d ≡ 80 → e ≡ 0
 
-is_test : (m n : ℕ) → (m == n) ≡ true → m ≡ n
-is_test m n e = grind (arith, nat_tests)
-
-is_not_test : (m n : ℕ) → (m == n) ≡ false → m ≡ n → ⊥
-is_not_test m n e h = grind (arith, nat_tests)
-
 ones_at : (a b : ℕ) (t : Bool) → (a % 10 == 9) ≡ t → Allows (if t then Exactly 0 else Digits 9 5) b
     → (b / 10 ≤ 9) × (b % 10 ≤ 5) × (a % 10 ≡ 9 → b ≡ 0)
 ones_at a b true e h = let k : b ≡ 0 = h in (omega arith, omega arith, λ _. k)
-ones_at a b false e h = (h.0, h.1, λ p. absurd (is_not_test (a % 10) 9 e p))
+ones_at a b false e h = (h.0, h.1, λ p. absurd (eqb-false (a % 10) 9 e p))
 
 hundreds_at : (a c : ℕ) (t : Bool) → (a % 10 == 9) ≡ t → Allows (if t then UpTo 1 else Digits 9 1) c
     → (c / 10 ≤ 9) × (c % 10 ≤ 1) × (a % 10 ≡ 9 → c ≤ 1)
 hundreds_at a c true e h = let k : c ≤ 1 = h in (omega arith, omega arith, λ _. k)
-hundreds_at a c false e h = (h.0, h.1, λ p. absurd (is_not_test (a % 10) 9 e p))
+hundreds_at a c false e h = (h.0, h.1, λ p. absurd (eqb-false (a % 10) 9 e p))
 
-degrees_at : (c d : ℕ) (t : Bool) → (c % 10 == 1) ≡ t → Allows (if t then UpTo 80 else UpTo 99) d
+pub degrees_at : (c d : ℕ) (t : Bool) → (c % 10 == 1) ≡ t → Allows (if t then UpTo 80 else UpTo 99) d
     → (d ≤ 99) × (c % 10 ≡ 1 → d ≤ 80)
 degrees_at c d true e h = let k : d ≤ 80 = h in (omega arith, λ _. k)
-degrees_at c d false e h = (h, λ p. absurd (is_not_test (c % 10) 1 e p))
+degrees_at c d false e h = (h, λ p. absurd (eqb-false (c % 10) 1 e p))
 
 both_test : (m n k l : ℕ) → ((m == n) && (k == l)) ≡ false → m ≡ n → k ≡ l → ⊥
 both_test m n k l e p q = grind (arith, nat_tests)
@@ -121,7 +117,7 @@ arc degrees minutes most h k m = grind arith
 latitude_most : (a b : ℕ) → b / 10 ≤ 9 → (a % 10 ≡ 9 → b ≡ 0) → a % 10 * 10 + b / 10 ≤ 90
 latitude_most a b h k = grind arith
 
-longitude_most : (c d : ℕ) → c % 10 ≤ 1 → d ≤ 99 → (c % 10 ≡ 1 → d ≤ 80) → c % 10 * 100 + d ≤ 180
+pub longitude_most : (c d : ℕ) → c % 10 ≤ 1 → d ≤ 99 → (c % 10 ≡ 1 → d ≤ 80) → c % 10 * 100 + d ≤ 180
 longitude_most c d h k l = grind arith
 
 latitude_pole : (a b c : ℕ) → b / 10 ≤ 9 → (a % 10 ≡ 9 → b ≡ 0) → (a % 10 ≡ 9 → c ≤ 1)
@@ -179,7 +175,7 @@ below_initial initial h e = grind (arith, nat_tests)
 
 to_rest : (initial : ℕ) (test : Bool) (v : Option Fix) (back word : List ℕ) → (initial ≤ 39) ⊎ (initial ≡ 99) → (initial == 99) ≡ test
     → Choice (initial == 99) UnknownRest (KnownRest initial) v back → word ≡ initial ∷ back → Positions v word
-to_rest initial true v back word h test p e = to_unknown v back word (p.yes test) (e ∙ ap (λ x. x ∷ back) (is_test initial 99 test))
+to_rest initial true v back word h test p e = to_unknown v back word (p.yes test) (e ∙ ap (λ x. x ∷ back) (eqb-true initial 99 test))
 to_rest initial false v back word h test p e = to_known initial v back word (below_initial initial h test) (p.no test) e
 
 to_position : (v : Option Fix) (word : List ℕ) → PositionParts v word → Positions v word
@@ -204,9 +200,6 @@ arc_most degrees minutes most h = grind arith
 arc_end : (degrees minutes most : ℕ) → IsArc degrees minutes most → degrees ≡ most → minutes ≡ 0
 arc_end degrees minutes most h e = grind arith
 
-same_fix : (f g : Fix) → f.quadrant ≡ g.quadrant → f.lat_deg ≡ g.lat_deg → f.lat_min ≡ g.lat_min → f.lon_deg ≡ g.lon_deg → f.lon_min ≡ g.lon_min → f ≡ g
-same_fix f g p q r s t = λ i. record { quadrant = p i; lat_deg = q i; lat_min = r i; lon_deg = s i; lon_min = t i }
-
 fix_back : (f : Fix) → IsFix f → fix_of (first_of_fix f) (second_of f) (third_of f) (f.lon_deg % 100) f.lon_min ≡ f
 fix_back f h =
     let k1 : f.lat_deg ≤ 90 = arc_most _ _ _ h.latitude in
@@ -227,16 +220,16 @@ fix_digits f h =
 
 ones_allowed : (a b : ℕ) (t : Bool) → (a % 10 == 9) ≡ t → b / 10 ≤ 9 → b % 10 ≤ 5 → (a % 10 ≡ 9 → b ≡ 0)
     → Allows (if t then Exactly 0 else Digits 9 5) b
-ones_allowed a b true e h k l = l (is_test (a % 10) 9 e)
+ones_allowed a b true e h k l = l (eqb-true (a % 10) 9 e)
 ones_allowed a b false e h k l = (h, k)
 
 hundreds_allowed : (a c : ℕ) (t : Bool) → (a % 10 == 9) ≡ t → c / 10 ≤ 9 → c % 10 ≤ 1 → (a % 10 ≡ 9 → c ≤ 1)
     → Allows (if t then UpTo 1 else Digits 9 1) c
-hundreds_allowed a c true e h k l = l (is_test (a % 10) 9 e)
+hundreds_allowed a c true e h k l = l (eqb-true (a % 10) 9 e)
 hundreds_allowed a c false e h k l = (h, k)
 
-degrees_allowed : (c d : ℕ) (t : Bool) → (c % 10 == 1) ≡ t → d ≤ 99 → (c % 10 ≡ 1 → d ≤ 80) → Allows (if t then UpTo 80 else UpTo 99) d
-degrees_allowed c d true e h k = k (is_test (c % 10) 1 e)
+pub degrees_allowed : (c d : ℕ) (t : Bool) → (c % 10 == 1) ≡ t → d ≤ 99 → (c % 10 ≡ 1 → d ≤ 80) → Allows (if t then UpTo 80 else UpTo 99) d
+degrees_allowed c d true e h k = k (eqb-true (c % 10) 1 e)
 degrees_allowed c d false e h k = h
 
 both_tests : (m n k l : ℕ) → ((m == n) && (k == l)) ≡ true → (m ≡ n) × (k ≡ l)
@@ -290,6 +283,7 @@ from_position (Some f) word p =
 pub position_alike : Alike PositionParts Positions
 position_alike = record { to = to_position; back = from_position }
 
+-- a position reads back
 pub position_good : Good Positions
 position_good = alike_good _ _ position_alike parts_good
 

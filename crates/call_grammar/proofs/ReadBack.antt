@@ -1,6 +1,5 @@
 -- What is read of a list that begins with a call's list.
 use Rattle.std.proofs.Common.{◌≡◌, ℕ, inl, inr, List, [], ◌∷◌, ◌++◌, length, Result, Ok, Err, sym, ◌∙◌, ap, append-nil, append_assoc, length-append, arith}
-use Rattle.symbol_reader.proofs.Steps.{split}
 use Rattle.call_values.specs.declared.calls.Call.{Call}
 use Rattle.call_values.specs.Calls.{IsCall}
 use Rattle.call_grammar.specs.Spelling.{format_of, covered, up_to_end, spell}
@@ -10,6 +9,7 @@ use Rattle.symbol_reader.specs.declared.refusals.ReadRefusal.{ReadRefusal}
 use Rattle.symbol_reader.specs.declared.refusals.ReadRefusal.TheVariants.{Short, Outside, Check}
 use Rattle.call_grammar.proofs.Fronts.{same_covered}
 use Rattle.call_grammar.proofs.Readings.{tail_of, spell-tail}
+use Rattle.plain_laws.proofs.Lists.{split}
 
 -- two calls' lists that begin one list are one, and so is what follows
 same_lists : (c d : Call) (r s : List ℕ) → IsCall c → IsCall d → spell d ++ r ≡ spell c ++ s → (c ≡ d) × (tail_of d ++ r ≡ tail_of c ++ s)

@@ -1,5 +1,7 @@
 -- From what is read of a list to the answers of `read`.
 use Rattle.std.proofs.Common.{◌≡◌, ℕ, ◌-◌, ◌<◌, ◌≤◌, inl, inr, List, [], ◌∷◌, ◌++◌, length, drop, get_or, refl, sym, ◌∙◌, ap, subst, append_assoc, length-append, arith}
+use mathlib.Core.List.{head-eq_of_cons-eq}
+use Rattle.std.proofs.Math.Seq.{get_or-append_seam}
 use Rattle.symbol_reader.specs.inside.Reading.{Begins, Wants, Leaves}
 use Rattle.symbol_reader.proofs.Laws.{no_word_goes_on}
 use Rattle.call_values.specs.declared.calls.Call.{Call}
@@ -11,6 +13,7 @@ use Rattle.call_values.specs.Views.{address_of}
 use Rattle.call_grammar.specs.Spelling.{format_to, format_of, fields_of, end_of, covered, check_of, up_to_end, spell}
 use Rattle.call_grammar.specs.inside.Grammar.{CheckedCharacters}
 use Rattle.dsc_symbols.specs.Formats.{IsFormat}
+use Rattle.symbol_reader.proofs.Steps.{length_left}
 use Rattle.call_grammar.specs.Walk.{IsViable, IsOpen}
 use Rattle.call_grammar.specs.Reading.{IsPart, EndsShort, EndsOutside, IsTwice}
 use Rattle.call_grammar.specs.inside.Forms.{format_symbol}
@@ -19,12 +22,13 @@ use Rattle.call_grammar.proofs.FormParts.{after_format_good}
 use Rattle.call_grammar.proofs.ToForms.{to_format}
 use Rattle.call_grammar.proofs.CallParts.{checked_characters_good}
 use Rattle.call_grammar.proofs.Lengths.{length-spell}
-use Rattle.call_grammar.proofs.Steps.{heads, spelled, open_of, not_viable, no_cover, no_check_first}
+use Rattle.call_grammar.proofs.Steps.{spelled, open_of, not_viable, no_cover, no_check_first}
 
 -- what stands in a call's list after the first end of sequence
 abbrev pub tail_of : Call → List ℕ
 tail_of c = check_of (covered c) ∷ end_of c ∷ end_of c ∷ []
 
+-- a call's list is what stands up to its end of sequence, and its last symbols
 pub spell-tail : (c : Call) → spell c ≡ up_to_end c ++ tail_of c
 spell-tail c = append_assoc (up_to_end c) (check_of (covered c) ∷ []) (end_of c ∷ end_of c ∷ [])
 
@@ -45,7 +49,7 @@ format_call f h =
     let g = after_format_good (format_told f) in
     let o = to_format (format_told f) g.value g.text g.word in
     let list : format_symbol (format_told f) ∷ g.text ≡ covered g.value = o.list in
-    (g.value, o.is_lawful, sym (heads _ _ _ _ list) ∙ format_there f h)
+    (g.value, o.is_lawful, sym (head-eq_of_cons-eq list) ∙ format_there f h)
 
 pub empty_short : (l : List ℕ) → length l < 1 → EndsShort l 0
 empty_short [] h =
@@ -74,7 +78,7 @@ first_outside (x ∷ l) h n = record {
   never = λ (v : IsViable (x ∷ [])).
       (let c = v.call in
       let e : format_of c ∷ ((covered c ++ (check_of (covered c) ∷ [])) ++ (end_of c ∷ end_of c ∷ [])) ≡ x ∷ v.rest = v.list in
-      n (subst IsFormat (heads _ _ _ _ e) (format_lawful c)));
+      n (subst IsFormat (head-eq_of_cons-eq e) (format_lawful c)));
   elsewhere = no_check_first;
 }
 
@@ -110,9 +114,9 @@ second_outside (x ∷ y ∷ l) h f n = record {
       (let c = v.call in
       let rest : List ℕ = ((fields_of c ++ (end_of c ∷ [])) ++ (check_of (covered c) ∷ [])) ++ (end_of c ∷ end_of c ∷ []) in
       let e : format_of c ∷ format_of c ∷ rest ≡ x ∷ y ∷ v.rest = v.list in
-      let p : format_of c ≡ x = heads _ _ _ _ e in
+      let p : format_of c ≡ x = head-eq_of_cons-eq e in
       let q : format_of c ∷ rest ≡ y ∷ v.rest = cc in
-      n (sym p ∙ heads _ _ _ _ q));
+      n (sym p ∙ head-eq_of_cons-eq q));
   elsewhere = λ a. (let e : x ∷ [] ≡ format_of a.call ∷ covered a.call = a.list in let q : [] ≡ covered a.call = cc in no_cover a.call q);
 }
 
@@ -146,14 +150,14 @@ format_begins f h =
 left_outside : (f n : ℕ) (m rest tail : List ℕ) → IsFormat f → f ∷ tail ≡ m ++ (n ∷ rest) → Wants CheckedCharacters m → (Begins CheckedCharacters (m ++ (n ∷ [])) → ⊥)
     → EndsOutside (f ∷ f ∷ tail) (length (f ∷ m)) n
 left_outside f n [] rest tail h e w never =
-    let same : f ≡ n = heads _ _ _ _ e in
+    let same : f ≡ n = head-eq_of_cons-eq e in
     absurd (never (subst (λ a. Begins CheckedCharacters (a ∷ [])) same (format_begins f h)))
 left_outside f n (g ∷ m) rest tail h e w never = record {
   front = f ∷ g ∷ m;
   rest = rest;
   list = ap (λ a. f ∷ a) e;
   place = refl;
-  part = open_part _ (open_of f (g ∷ m) m (ap (λ a. a ∷ m) (sym (heads _ _ _ _ e))) (inl w));
+  part = open_part _ (open_of f (g ∷ m) m (ap (λ a. a ∷ m) (sym (head-eq_of_cons-eq e))) (inl w));
   never = not_viable f (g ∷ m) (g ∷ m) n n w refl never;
   elsewhere = λ a.
       (let c = a.call in
@@ -162,14 +166,6 @@ left_outside f n (g ∷ m) rest tail h e w never = record {
       no_word_goes_on CheckedCharacters checked_characters_good c w.value (covered c) w.next w.rest (spelled c a.lawful)
       (subst (λ b. CheckedCharacters w.value (b ++ (w.next ∷ w.rest))) q w.word));
 }
-
--- the symbol at the end of a front
-at_front : (m rest : List ℕ) (n : ℕ) → get_or (m ++ (n ∷ rest)) (length m) 0 ≡ n
-at_front [] rest n = refl
-at_front (x ∷ m) rest n = at_front m rest n
-
-length_left : (m rest : List ℕ) (n : ℕ) → length (m ++ (n ∷ rest)) - length (n ∷ rest) ≡ length m
-length_left m rest n = omega (arith, length-append m (n ∷ rest))
 
 pub checked_outside : (l new : List ℕ) → IsTwice l → Leaves CheckedCharacters (drop 1 l) new
     → EndsOutside l (length l - length new) (get_or l (length l - length new) 0)
@@ -181,7 +177,7 @@ checked_outside l new t v =
     ap (λ a. length a - length new) whole ∙ ap (λ a. length ((t.format ∷ v.front) ++ (v.next ∷ v.rest)) - length a) v.left
     ∙ length_left (t.format ∷ v.front) v.rest v.next in
     let symbol : get_or l (length l - length new) 0 ≡ v.next =
-    ap (λ a. get_or l a 0) place ∙ ap (λ a. get_or a (length (t.format ∷ v.front)) 0) whole ∙ at_front (t.format ∷ v.front) v.rest v.next in
+    ap (λ a. get_or l a 0) place ∙ ap (λ a. get_or a (length (t.format ∷ v.front)) 0) whole ∙ get_or-append_seam (t.format ∷ v.front) v.next v.rest 0 in
     let ends = left_outside t.format v.next v.front v.rest t.rest t.lawful parts v.wants v.never in
     subst (λ a. EndsOutside a (length l - length new) (get_or l (length l - length new) 0)) (sym t.list)
     (subst (λ a. EndsOutside (t.format ∷ t.format ∷ t.rest) a (get_or l (length l - length new) 0)) (sym place)

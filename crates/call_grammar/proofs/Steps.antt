@@ -1,9 +1,11 @@
 -- From what is read of a list to the steps of a walk.
 use Rattle.std.proofs.Common.{◌≡◌, ℕ, ◌<◌, ◌≢◌, ◌⊎◌, inl, inr, true, false, List, [], ◌∷◌, ◌++◌, length, take, drop, get_or, refl, sym, ◌∙◌, ap, subst, append-nil, append_assoc, length-append, arith}
 use Rattle.std.proofs.lemmas.List.{take-append-le}
+use Rattle.std.proofs.Math.Seq.{take-length}
+use mathlib.Core.List.{head-eq_of_cons-eq}
 use Rattle.symbol_reader.specs.inside.Reading.{Begins, Wants, Took}
 use Rattle.symbol_reader.proofs.Laws.{no_word_goes_on}
-use Rattle.symbol_reader.proofs.Steps.{split, shorter}
+use Rattle.symbol_reader.proofs.Steps.{shorter}
 use Rattle.call_values.specs.declared.calls.Call.{Call}
 use Rattle.call_values.specs.Calls.{IsCall}
 use Rattle.call_grammar.specs.Spelling.{format_of, fields_of, end_of, covered, check_of, through_check}
@@ -13,7 +15,9 @@ use Rattle.call_grammar.specs.inside.Judging.{IsCovered, IsRight, Judges, IsWalk
 use Rattle.call_grammar.specs.declared.walking.Step.{Step}
 use Rattle.call_grammar.specs.declared.walking.Step.TheVariants.{More, Done, Outside, Check}
 use Rattle.call_grammar.proofs.CallParts.{checked_characters_good}
+use Rattle.plain_laws.proofs.Lists.{split}
 
+-- a call's characters up to its check are in the grammar
 pub spelled : (c : Call) → IsCall c → CheckedCharacters c (covered c)
 spelled c h = record { is_lawful = h; list = refl }
 
@@ -46,17 +50,13 @@ at_place c l rest x k h b e = elim (split l (x ∷ []) (covered c) (k ∷ rest) 
       absurd (omega (arith, length-append s.1 (k ∷ rest))))
 ]
 
--- the first symbols of two lists
-pub heads : (x y : ℕ) (l m : List ℕ) → x ∷ l ≡ y ∷ m → x ≡ y
-heads x y l m e = cc
-
 -- a list that begins what a check covers, and has the format specifier once more in front, is open
 pub open_of : (f : ℕ) (m tail : List ℕ) → m ≡ f ∷ tail → Wants CheckedCharacters m ⊎ IsCovered m → IsOpen (f ∷ m)
 open_of f m tail twice (inl w) =
     let c = w.value in
     let list : m ++ (w.next ∷ w.rest) ≡ covered c = w.word.list in
     let k : ℕ = check_of (covered c) in
-    let format : f ≡ format_of c = heads _ _ _ _ (ap (λ a. a ++ (w.next ∷ w.rest)) (sym twice) ∙ list) in
+    let format : f ≡ format_of c = head-eq_of_cons-eq (ap (λ a. a ++ (w.next ∷ w.rest)) (sym twice) ∙ list) in
     record {
       call = c;
       next = w.next;
@@ -70,7 +70,7 @@ open_of f m tail twice (inr w) =
     let c = w.call in
     let list : m ≡ covered c = w.list in
     let k : ℕ = check_of (covered c) in
-    let format : f ≡ format_of c = heads _ _ _ _ (sym twice ∙ list) in
+    let format : f ≡ format_of c = head-eq_of_cons-eq (sym twice ∙ list) in
     record {
       call = c;
       next = k;
@@ -84,7 +84,7 @@ completes : (f x : ℕ) (l tail : List ℕ) (c : Call) → l ++ (x ∷ []) ≡ f
     → f ∷ (l ++ (x ∷ [])) ≡ through_check c
 completes f x l tail c twice b right =
     let place = at_place c l right.rest x (check_of (covered c)) right.lawful b right.list in
-    let format : f ≡ format_of c = heads _ _ _ _ (sym twice ∙ right.list) in
+    let format : f ≡ format_of c = head-eq_of_cons-eq (sym twice ∙ right.list) in
     let e1 : l ≡ covered c = place.0 in
     let e2 : x ≡ check_of (covered c) = place.1 in
     ap (λ a. a ∷ (l ++ (x ∷ []))) format ∙ ap (λ a. format_of c ∷ (a ++ (x ∷ []))) e1 ∙ ap (λ a. format_of c ∷ (covered c ++ (a ∷ []))) e2
@@ -215,10 +215,11 @@ wrong_not_viable f x l c h e differ v =
     let parts : covered d ++ (k ∷ ends) ≡ covered c ++ (x ∷ v.rest) =
     sym (append_assoc (covered d) (k ∷ []) ends) ∙ tails ∙ append_assoc l (x ∷ []) v.rest ∙ ap (λ a. a ++ (x ∷ v.rest)) e in
     let same = checked_characters_good.one d c (covered d) (covered c) (k ∷ ends) (x ∷ v.rest) (spelled d v.lawful) (spelled c h) parts in
-    let check : k ≡ x = heads _ _ _ _ same.2 in
+    let check : k ≡ x = head-eq_of_cons-eq same.2 in
     let call : covered d ≡ covered c = same.1 in
     differ (ap check_of (sym call) ∙ check)
 
+-- the check covers something of each call
 pub no_cover : (c : Call) → [] ≡ covered c → ⊥
 no_cover c e = let k : [] ≡ format_of c ∷ (fields_of c ++ (end_of c ∷ [])) = e in cc
 
@@ -229,7 +230,7 @@ wrong_after old x want got s j =
     let c = w.call in
     let place = at_place c s.l w.rest x got w.lawful s.begins w.list in
     let e : s.l ≡ covered c = place.0 in
-    let format : s.f ≡ format_of c = heads _ _ _ _ (sym s.twice ∙ w.list) in
+    let format : s.f ≡ format_of c = head-eq_of_cons-eq (sym s.twice ∙ w.list) in
     let old_is : old ≡ s.f ∷ s.l = elim s.before [ inl b ↦ absurd (no_cover c (sym b.1 ∙ e)) | inr b ↦ b ] in
     record {
       same = refl;
@@ -287,11 +288,7 @@ pushed [] mid new x (inr h) e = absurd (omega arith)
 pushed (f ∷ old) mid new x (inl h) e = absurd (omega arith)
 pushed (f ∷ old) mid new x (inr h) e = e ∙ ap (λ a. a ++ (x ∷ [])) h.1
 
-take_length : (l : List ℕ) → take (length l) l ≡ l
-take_length [] = refl
-take_length (x ∷ l) = ap (λ a. x ∷ a) (take_length l)
-
 -- what was pushed is taken back
 pub taken_back : (old : List ℕ) (x : ℕ) → take (length old) (after old x) ≡ old
 taken_back [] x = refl
-taken_back (f ∷ old) x = ap (λ a. f ∷ a) (take-append-le (length old) old (x ∷ []) (omega arith) ∙ take_length old)
+taken_back (f ∷ old) x = ap (λ a. f ∷ a) (take-append-le (length old) old (x ∷ []) (omega arith) ∙ take-length old)

@@ -14,8 +14,10 @@ symbol_alike allows = record {
   back = λ v word p. record { allowed = p.is_lawful; list = p.list };
 }
 
+-- a nature of distress reads back
 pub nature_good : Good (Spelled IsNature (λ n. n ∷ []))
 nature_good = alike_good _ _ (symbol_alike IsNature) (letter_good Nature)
 
+-- subsequent communications read back
 pub comm_good : Good (Spelled IsComm (λ n. n ∷ []))
 comm_good = alike_good _ _ (symbol_alike IsComm) (letter_good Comm)

@@ -80,6 +80,7 @@ from_time (Some t) word p =
 pub time_alike : Alike TimeParts Times
 time_alike = record { to = to_time; back = from_time }
 
+-- a time reads back
 pub time_good : Good Times
 time_good = alike_good _ _ time_alike parts_good
 

@@ -8,7 +8,7 @@ use crate::forms::checked_characters;
 use crate::spelling::end_of;
 use call_values::Call;
 use cursor::Cursor;
-use dsc_symbols::formats::is_format;
+use dsc_symbols::sets::is_format;
 use symbol_reader::{ReadRefusal, Stop, check};
 
 /// Reads the call whose list is a prefix of the given one, and answers it with that list's length.

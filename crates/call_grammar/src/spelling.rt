@@ -150,7 +150,9 @@ fn distress_telecommand(acknowledges: bool) -> u8
 
 fn append_service(list: &mut ArrayVec<u8, 64>, category: &Category, from: &Mmsi, kind: &Kind)
     requires { length list.old.items ≤ 7 }
-    ensures { list.new.items ≡ list.old.items ++ (sequence.category_symbol category.now ∷ (sequence.identity_symbols from.now ++ sequence.kind_symbols kind.now)) }
+    ensures { list.new.items ≡ list.old.items
+        ++ (sequence.category_symbol category.now
+        ∷ (sequence.identity_symbols from.now ++ sequence.kind_symbols kind.now)) }
 {
     append(list, &[category_symbol(category)]);
     append(list, &identity_symbols(from));
@@ -216,7 +218,8 @@ fn append_request(
     message: &Message,
 )
     requires { length list.old.items ≤ 7 }
-    ensures { list.new.items ≡ list.old.items ++ sequence.request_symbols category.now from.now first.now second.now message.now }
+    ensures { list.new.items ≡ list.old.items
+        ++ sequence.request_symbols category.now from.now first.now second.now message.now }
 {
     append(list, &[category_symbol(category)]);
     append(list, &identity_symbols(from));

@@ -1,5 +1,5 @@
 ghost use Rattle.std.specs.Prelude.{◌≡◌, ◌≤◌, ◌↔◌, IfSome, IsSome};
-ghost use Rattle.call_values.specs.Areas.{IsArea};
+ghost use Rattle.call_values.specs.Areas.{Rectangle, IsArea};
 
 use std::marker::Model;
 
@@ -15,8 +15,6 @@ pub struct Area {
 }
 
 impl Model for Area {
-    ghost use Rattle.call_values.specs.Areas.{Rectangle, IsArea};
-
     ghost Value = { Rectangle };
 
     ghost view = { λ a. record { quadrant = a.quadrant; latitude = a.latitude; longitude = a.longitude; south = a.south; east = a.east } };
@@ -30,8 +28,10 @@ impl Area {
     /// The area with this corner and these sides, and `None` exactly where the quadrant passes 3, the latitude 90, the
     /// longitude 180 or a side 99. Quadrant 0 is north-east, 1 north-west, 2 south-east and 3 south-west.
     pub fn new(quadrant: u8, latitude: u8, longitude: u8, south: u8, east: u8) -> Option<Area>
-        ensures value { IfSome result (λ a. a ≡ record { quadrant = quadrant; latitude = latitude; longitude = longitude; south = south; east = east }) }
-        ensures some { IsSome result ↔ IsArea (record { quadrant = quadrant; latitude = latitude; longitude = longitude; south = south; east = east }) }
+        ensures value { IfSome result (λ a. a
+            ≡ record { quadrant = quadrant; latitude = latitude; longitude = longitude; south = south; east = east }) }
+        ensures some { IsSome result
+            ↔ IsArea (record { quadrant = quadrant; latitude = latitude; longitude = longitude; south = south; east = east }) }
     {
         if quadrant <= 3 && latitude <= 90 && longitude <= 180 && south <= 99 && east <= 99 {
             Some(Area {

@@ -68,7 +68,8 @@ pub fn bounds_of_values()
     ensures vhf_channels { VHF_CHANNELS ≡ 900000 }
     ensures tens { TENS ≡ 40000000 }
     ensures six_digits { SIX_DIGITS
-        ≡ (0, LAST_HUNDREDS) ∷ (HF_CHANNELS, HF_CHANNELS + LAST_HF_CHANNEL) ∷ (VHF_CHANNELS, VHF_CHANNELS + LAST_VHF_CHANNEL) ∷ [] }
+        ≡ (0, LAST_HUNDREDS) ∷ (HF_CHANNELS, HF_CHANNELS + LAST_HF_CHANNEL)
+        ∷ (VHF_CHANNELS, VHF_CHANNELS + LAST_VHF_CHANNEL) ∷ [] }
     ensures eight_digits { EIGHT_DIGITS ≡ (TENS, TENS + LAST_TENS) ∷ [] }
     ensures last_base { LAST_BASE ≡ 9999999999 }
 {}

@@ -201,7 +201,7 @@ impl Call {
         self.body().sender()
     }
 
-    /// The law that every call's parts are in their ranges. It does nothing.
+    /// The law that every call's parts are in their ranges.
     pub fn lawful(&self)
         ensures { IsCall self.now }
     {

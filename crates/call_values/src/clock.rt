@@ -1,4 +1,4 @@
-ghost use Rattle.std.specs.Prelude.{◌≡◌, ◌↔◌, IfSome, IsSome};
+ghost use Rattle.std.specs.Prelude.{◌≡◌, ◌↔◌, ℕ, Option, IfSome, IsSome};
 ghost use Rattle.call_values.specs.Clock.{IsTimeOfDay, IsHourMinute};
 
 use std::marker::Model;
@@ -11,9 +11,6 @@ pub struct HourMinute {
 }
 
 impl Model for HourMinute {
-    ghost use Rattle.std.specs.Prelude.{Option, ℕ};
-    ghost use Rattle.call_values.specs.Clock.{IsHourMinute};
-
     ghost Value = { Option (ℕ × ℕ) };
 
     ghost view = { λ a. a.time };

@@ -1,4 +1,5 @@
 ghost use Rattle.std.specs.Prelude.{◌≡◌, ◌↔◌, IfSome, IsSome};
+ghost use Rattle.call_values.specs.declared.fields.FieldKind.{FieldKind};
 ghost use Rattle.call_values.specs.Fields.{IsHundreds, IsHfChannel, IsVhfChannel, IsTens, IsField};
 
 use crate::bounds::{LAST_HF_CHANNEL, LAST_HUNDREDS, LAST_TENS, LAST_VHF_CHANNEL};
@@ -26,9 +27,6 @@ pub struct Field {
 }
 
 impl Model for Field {
-    ghost use Rattle.call_values.specs.declared.fields.FieldKind.{FieldKind};
-    ghost use Rattle.call_values.specs.Fields.{IsField};
-
     ghost Value = { FieldKind };
 
     ghost view = { λ a. a.kind };

@@ -40,17 +40,17 @@ pub enum Message {
 }
 
 impl Message {
-    /// The law that every message's parts are in their ranges. It does nothing.
+    /// The law that every message's parts are in their ranges.
     pub fn lawful(&self)
         ensures { IsMessage self.now }
     {
         match self {
+            Message::At(position) => {
+                let _ = position.known();
+            }
             Message::Fields(first, second) => {
                 let _ = first.kind();
                 let _ = second.kind();
-            }
-            Message::At(position) => {
-                let _ = position.known();
             }
         }
     }
@@ -68,7 +68,7 @@ pub enum Kind {
 }
 
 impl Kind {
-    /// The law that every kind's parts are in their ranges. It does nothing.
+    /// The law that every kind's parts are in their ranges.
     pub fn lawful(&self)
         ensures { IsKind self.now }
     {

@@ -1,4 +1,5 @@
-ghost use Rattle.std.specs.Prelude.{◌≡◌, ◌↔◌, IfSome, IsSome, IsTrue};
+ghost use Rattle.std.specs.Prelude.{◌≡◌, ◌↔◌, Option, IfSome, IsSome, IsTrue};
+ghost use Rattle.call_values.specs.declared.positions.Fix.{Fix};
 ghost use Rattle.call_values.specs.Positions.{IsArc, IsFix, IsPosition};
 
 use std::marker::Model;
@@ -26,10 +27,6 @@ pub struct Position {
 }
 
 impl Model for Position {
-    ghost use Rattle.std.specs.Prelude.{Option};
-    ghost use Rattle.call_values.specs.declared.positions.Fix.{Fix};
-    ghost use Rattle.call_values.specs.Positions.{IsPosition};
-
     ghost Value = { Option Fix };
 
     ghost view = { λ a. a.fix };

@@ -27,9 +27,11 @@ isnt false h e = absurd (false≢true e)
 pub nothing : {K : Type 0} (k : K) → Contains [] k → ⊥
 nothing k h = absurd (let small = h.1 in omega (arith, small))
 
+-- a list contains its first value
 pub first : {K : Type 0} (x : K) (xs : List K) → Contains (x ∷ xs) x
 first x xs = Contains-append_left (x ∷ []) xs x (Contains-push [] x)
 
+-- a list contains what its rest contains
 pub later : {K : Type 0} (x : K) (xs : List K) (k : K) → Contains xs k → Contains (x ∷ xs) k
 later x xs k h = Contains-append_right (x ∷ []) xs k h
 

@@ -50,7 +50,8 @@ impl Book {
     /// Puts a sentence's row into the book. True where it has one and it was not in the book. After false and after want of memory the
     /// book is unchanged.
     pub fn note(&mut self, s: &DscSentence) -> Result<bool, AllocError>
-        ensures added { IfOk result (λ added. IsTrue added ↔ ((row : Row) × (rows.row_of s.now ≡ Some row) × (Contains self.old row → ⊥))) }
+        ensures added { IfOk result (λ added. IsTrue added
+            ↔ ((row : Row) × (rows.row_of s.now ≡ Some row) × (Contains self.old row → ⊥))) }
         ensures rows { OnOk result (HasAlsoOf self.old (rows.row_of s.now) self.new) }
         ensures kept { IfOk result (λ added. added ≡ false → self.new ≡ self.old) }
         ensures memory { OnErr result (self.new ≡ self.old) }

@@ -156,6 +156,7 @@ added own mmsi e h =
     ∙ ap (λ (g : History CoastWhat). after (alert_at own mmsi e) (delay_at mmsi e) (open_in own mmsi g)) (sym (from_none is h none)))
     refl
 
+-- what ends no casualty leaves it open, changed by its own alert and delay alone
 pub goes_on : (own mmsi : ℕ) (e : Entry CoastWhat) (h : History CoastWhat) → does (ends mmsi) e ≡ false
     → open_casualty own mmsi (e ∷ h) ≡ after (alert_at own mmsi e) (delay_at mmsi e) (open_casualty own mmsi h)
 goes_on own mmsi e h lasts =

@@ -48,6 +48,7 @@ named_told : (own mmsi : ℕ) (h : History CoastWhat) (l : HeardAlert) → last_
 named_told own mmsi [] l is = absurd (none_is_some is)
 named_told own mmsi (e ∷ h) l is = named_by own mmsi e (alert_at own mmsi e) (last_told (alert_at own mmsi) h) l refl (named_told own mmsi h l) is
 
+-- an identity's open casualty has this identity
 pub named : (own : ℕ) (h : History CoastWhat) → AreNamed (λ m. open_casualty own m h)
 named own h m x is =
     let told = mapped_some _ (last_told (alert_at own m) (before_first (delay_at m) (since_birth own m h))) x is in

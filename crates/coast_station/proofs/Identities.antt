@@ -116,6 +116,7 @@ apart_with_alert (Some casualty) ms apart =
     by_test (is_among casualty.mmsi ms) (λ b. is_among casualty.mmsi ms ≡ b → AreApart (if b then ms else ms ++ casualty.mmsi ∷ []))
     (λ _ _. apart) (λ _ new. apart_append casualty.mmsi ms new apart) refl
 
+-- no two open casualties have one identity
 pub born_apart : (own : ℕ) (h : History CoastWhat) → AreApart (born own h)
 born_apart own [] = tt
 born_apart own (e ∷ h) =

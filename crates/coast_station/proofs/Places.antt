@@ -34,6 +34,7 @@ at_first m (x ∷ xs) (suc i) d y within here before =
       put = ap (λ g. x ∷ g) rest.put ∙ sym (cond-false (is_of m x) (y ∷ xs) (x ∷ replaced m y xs) other);
     }
 
+-- what the search for an identity finds stands at that index, and is the first one
 pub at_place : (m : ℕ) (xs : List OpenCasualty) (i : ℕ) (d y : OpenCasualty) → position (is_of m) xs ≡ Some i → AtPlace m xs i d y
 at_place m xs i d y is = let first = position-Some (is_of m) xs i d is in at_first m xs i d y first.0 first.1 first.2
 
@@ -58,6 +59,7 @@ nowhere_by m (x ∷ xs) long =
     })
     refl long
 
+-- where the search finds none, none has this identity
 pub nowhere : (m : ℕ) (xs : List OpenCasualty) → position (is_of m) xs ≡ None → Nowhere m xs
 nowhere m xs is =
     by_test (nat_lt (position_or_len (is_of m) xs) (length xs))

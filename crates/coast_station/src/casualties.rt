@@ -7,7 +7,7 @@ use arrayvec::ArrayVec;
 use call_values::{Call, Casualty, CoastDelay, Comm, HourMinute, Mmsi, Nature, Position};
 use dsc_symbols::{natures, telecommands};
 use std::marker::Model;
-use traffic_rules::{Act, Acts, StationRefusal, has_passed, put};
+use traffic_rules::{Act, Acts, StationRefusal, add_act, has_passed};
 
 /// The most casualties that a station keeps open at once (this project's profile).
 pub const MOST_CASUALTIES: usize = 16;
@@ -107,7 +107,7 @@ impl Casualties {
         ensures { result ≡ accepting.find_casualty mmsi self.now }
     {
         match self.place_of(mmsi) {
-            Some(place) => Some(self.entries[place]),
+            Some(index) => Some(self.entries[index]),
             None => None,
         }
     }
@@ -117,8 +117,8 @@ impl Casualties {
         ensures { self.new ≡ left.without mmsi self.old }
     {
         match self.place_of(mmsi) {
-            Some(place) => {
-                self.entries.remove(place);
+            Some(index) => {
+                self.entries.remove(index);
             }
             None => {}
         }
@@ -129,7 +129,7 @@ impl Casualties {
         ensures { self.new ≡ left.replaced casualty.now.alert.mmsi casualty.now self.old }
     {
         match self.place_of(casualty.alert.mmsi) {
-            Some(place) => put_at(&mut self.entries, place, casualty),
+            Some(index) => replace_at(&mut self.entries, index, casualty),
             None => {}
         }
     }
@@ -137,7 +137,8 @@ impl Casualties {
     /// Notes an alert: it begins a casualty, or takes the place of the alert of one that isn't accepted. `Full` exactly where it
     /// begins one and 16 are open.
     pub(crate) fn note(&mut self, alert: &Casualty, at: u64) -> Result<(), StationRefusal>
-        ensures full { IsErr result ↔ IsTrue (is_none (accepting.find_casualty alert.now.mmsi self.old) && (length self.old == 16)) }
+        ensures full { IsErr result ↔ IsTrue (is_none (accepting.find_casualty alert.now.mmsi self.old)
+            && (length self.old == 16)) }
         ensures noted { OnOk result (self.new ≡ left.noted alert.now at self.old) }
         ensures refused { OnErr result (result ≡ Err refusal.Full) }
         ensures unchanged { OnErr result (self.new ≡ self.old) }
@@ -172,7 +173,7 @@ impl Casualties {
     /// Where the casualty of this identity stands.
     fn place_of(&self, mmsi: Mmsi) -> Option<usize>
         ensures value { result ≡ position (accepting.is_of mmsi) self.now }
-        ensures range { IfSome result (λ place. place < length self.now) }
+        ensures range { IfSome result (λ index. index < length self.now) }
     {
         place_of(&self.entries, mmsi)
     }
@@ -180,22 +181,22 @@ impl Casualties {
 
 fn place_of(entries: &[OpenCasualty], mmsi: Mmsi) -> Option<usize>
     ensures value { result ≡ position (accepting.is_of mmsi) entries.now }
-    ensures range { IfSome result (λ place. place < length entries.now) }
+    ensures range { IfSome result (λ index. index < length entries.now) }
 {
     entries
         .iter()
         .position(|casualty| casualty.alert.mmsi.number() == mmsi.number())
 }
 
-fn put_at(
+fn replace_at(
     entries: &mut ArrayVec<OpenCasualty, MOST_CASUALTIES>,
-    place: usize,
+    index: usize,
     casualty: &OpenCasualty,
 )
-    requires { place < length entries.old.items }
-    ensures { entries.new.items ≡ slice_set entries.old.items place casualty.now }
+    requires { index < length entries.old.items }
+    ensures { entries.new.items ≡ slice_set entries.old.items index casualty.now }
 {
-    entries[place] = *casualty;
+    entries[index] = *casualty;
 }
 
 /// Gives the acknowledgements that are due.
@@ -207,7 +208,7 @@ fn acknowledge(entries: &[OpenCasualty], own: Mmsi, at: u64, acts: &mut Acts)
 {
     for casualty in entries {
         if casualty.is_due(at) {
-            put(acts, acknowledgement(own, &casualty.alert));
+            add_act(acts, acknowledgement(own, &casualty.alert));
         }
     }
 }

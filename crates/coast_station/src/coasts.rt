@@ -51,8 +51,10 @@ impl Coast {
     /// send (`NotSendable`); an answer to a number under which no call that was got is held (`NoSuchCall`); what would begin a
     /// seventeenth casualty or held call (`Full`).
     pub fn step(&mut self, event: &CoastEvent) -> Result<Acts, StationRefusal>
-        ensures answer { (who : Station) (h : History What) → Stands self.old who h → listed result ≡ answer_to (coast_rules who) h event.now.at event.now.what }
-        ensures stands { (who : Station) (h : History What) → Stands self.old who h → Stands self.new who (continued (coast_rules who) h event.now.at event.now.what) }
+        ensures answer { (who : Station) (h : History What) → Stands self.old who h
+            → listed result ≡ answer_to (coast_rules who) h event.now.at event.now.what }
+        ensures stands { (who : Station) (h : History What) → Stands self.old who h
+            → Stands self.new who (continued (coast_rules who) h event.now.at event.now.what) }
         ensures unchanged { OnErr result (self.new ≡ self.old) }
     {
         let mut acts = ArrayVec::new();
@@ -65,7 +67,8 @@ impl Coast {
     pub fn step_into(&mut self, event: &CoastEvent, acts: &mut Acts) -> Result<(), StationRefusal>
         ensures answer { (who : Station) (h : History What) → Stands self.old who h
             → answer_with result acts.new.items ≡ answer_to (coast_rules who) h event.now.at event.now.what }
-        ensures stands { (who : Station) (h : History What) → Stands self.old who h → Stands self.new who (continued (coast_rules who) h event.now.at event.now.what) }
+        ensures stands { (who : Station) (h : History What) → Stands self.old who h
+            → Stands self.new who (continued (coast_rules who) h event.now.at event.now.what) }
         ensures none { OnErr result (acts.new.items ≡ []) }
         ensures unchanged { OnErr result (self.new ≡ self.old) }
     {

@@ -1,3 +1,4 @@
+//! Laws: each function here does nothing, and its contract is a theorem over definitions.
 ghost use Rattle.std.specs.Prelude.{◌≡◌, ◌==◌, ◌+◌, ◌≤◌, ◌∷◌, ◌++◌, ℕ, Bool, List, false, IsTrue};
 ghost use Rattle.std.specs.List.{list_any};
 ghost use Rattle.traffic_rules.specs.declared.acts.Act.{Act};
@@ -17,27 +18,30 @@ ghost use Rattle.traffic_rules.specs.Sendings.{asking, times_held, times_sent, t
 use crate::casualties::MOST_CASUALTIES;
 
 /// The law that the identities of the open casualties are those of which an alert was heard since they were last ended, behind
-/// every history. It does nothing.
+/// every history.
 pub fn casualties_are_born()
-    ensures { (own mmsi : ℕ) (h : History CoastWhat) → list_any (λ (identity : ℕ). identity == mmsi) (born own h) ≡ is_born own mmsi h }
+    ensures { (own mmsi : ℕ) (h : History CoastWhat)
+        → list_any (λ (identity : ℕ). identity == mmsi) (born own h) ≡ is_born own mmsi h }
 {}
 
 /// The law that a sent distress acknowledgement carries an alert that was heard before and whose identity was accepted after
-/// that, and that on MF and HF at least 60,000 ms have passed since this alert, in every legal history. It does nothing.
+/// that, and that on MF and HF at least 60,000 ms have passed since this alert, in every legal history.
 pub fn acknowledgements_go_back_to_accepted_alerts()
     ensures { (who : Station) (later earlier : History CoastWhat) (sent : Entry CoastWhat) (from times : ℕ) (casualty : Casualty) (first last : List Act)
-        → Legal (coast_rules who) (later ++ sent ∷ earlier) → sent.acts ≡ first ++ act.Send (call.Ack from casualty) times ∷ last
+        → Legal (coast_rules who) (later ++ sent ∷ earlier)
+        → sent.acts ≡ first ++ act.Send (call.Ack from casualty) times ∷ last
         → GoesBackToAlert who.band casualty sent earlier }
 {}
 
-/// The law that between two acknowledgements of one identity an alert of it was heard, in every legal history. It does nothing.
+/// The law that between two acknowledgements of one identity an alert of it was heard, in every legal history.
 pub fn an_alert_is_heard_between_acknowledgements()
     ensures { (who : Station) (later between earlier : History CoastWhat) (first second : Entry CoastWhat) (mmsi : ℕ)
         → Legal (coast_rules who) (later ++ second ∷ (between ++ first ∷ earlier))
-        → IsTrue (does (acknowledges mmsi) first) → IsTrue (does (acknowledges mmsi) second) → IsTrue (list_any (is_alert who.own mmsi) between) }
+        → IsTrue (does (acknowledges mmsi) first) → IsTrue (does (acknowledges mmsi) second)
+        → IsTrue (list_any (is_alert who.own mmsi) between) }
 {}
 
-/// The law that at one event an identity is acknowledged once at most, in every legal history. It does nothing.
+/// The law that at one event an identity is acknowledged once at most, in every legal history.
 pub fn an_identity_is_acknowledged_once()
     ensures { (who : Station) (later earlier : History CoastWhat) (sent : Entry CoastWhat) (mmsi : ℕ) (first last : List Act) (acknowledgement : Act)
         → Legal (coast_rules who) (later ++ sent ∷ earlier) → sent.acts ≡ first ++ acknowledgement ∷ last
@@ -46,15 +50,16 @@ pub fn an_identity_is_acknowledged_once()
 
 /// The law that a call that asks for an acknowledgement is sent at most twice for each time that it is held: once as it begins to be
 /// held, and at ticks not more often than that, in every legal history. Of such calls any may be counted: one call alone, those to
-/// one station, or all of them. It does nothing.
+/// one station, or all of them.
 pub fn held_calls_are_sent_at_most_twice()
     ensures first { (who : Station) (h : History CoastWhat) (is_such : Call → Bool) → Legal (coast_rules who) h
-        → times_sent (asking is_such) h ≡ times_held (asking is_such) h + times_sent_again coast_occurs (asking is_such) h }
+        → times_sent (asking is_such) h
+        ≡ times_held (asking is_such) h + times_sent_again coast_occurs (asking is_such) h }
     ensures again { (who : Station) (h : History CoastWhat) (is_such : Call → Bool) → Legal (coast_rules who) h
         → times_sent_again coast_occurs (asking is_such) h ≤ times_held (asking is_such) h }
 {}
 
-/// The law that sixteen casualties are open at most. It does nothing.
+/// The law that sixteen casualties are open at most.
 pub fn sixteen_casualties()
     ensures { MOST_CASUALTIES ≡ 16 }
 {}

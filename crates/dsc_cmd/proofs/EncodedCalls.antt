@@ -21,9 +21,9 @@ use Rattle.slot_join.specs.Answer.{IsAnswer}
 use Rattle.slot_join.specs.Intact.{IsExpandedBy}
 use Rattle.expansion.specs.declared.values.Sets.{Sets}
 use Rattle.expansion.specs.Expansions.{IsExpansion}
-use Rattle.dsc_files.specs.CallLine.{extra_of}
-use Rattle.dsc_files.specs.JoinLine.{JoinLine, nothing, reception, evidence, body_text}
-use Rattle.dsc_files.specs.Lines.{facts_of_pairs}
+use Rattle.dsc_lines.specs.CallLine.{extra_of}
+use Rattle.dsc_lines.specs.JoinLine.{JoinLine, nothing, reception, evidence, body_text}
+use Rattle.dsc_lines.specs.Lines.{facts_of_pairs}
 use Rattle.join_groups.specs.Groups.{names, is_named, facts_of_line, group_facts}
 use Rattle.join_groups.specs.Output.{TellsAnswer, answer_line, is_reported, IsJoinText}
 use Rattle.encode_calls.specs.Transmissions.{tail_of, transmitted}

@@ -14,7 +14,7 @@ use Rattle.slot_join.specs.Answer.{IsAnswer}
 use Rattle.slot_join.specs.Heard.{IsHeard}
 use Rattle.slot_join.specs.Intact.{IsSent, IsSentOrLostPlace, ArrivesInParts}
 use Rattle.line_engine.specs.Endings.{TellsWhole}
-use Rattle.dsc_files.specs.JoinLine.{JoinLine}
+use Rattle.dsc_lines.specs.JoinLine.{JoinLine}
 use Rattle.join_groups.specs.Groups.{is_among, group_facts}
 use Rattle.join_groups.specs.Output.{Told, TellsAnswer, answer_line, IsJoinText}
 use Rattle.join_groups.specs.Meanings.{groups_meaning}

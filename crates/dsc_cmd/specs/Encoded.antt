@@ -4,8 +4,8 @@ use Rattle.std.specs.List.{AllByRecursion}
 use Rattle.call_values.specs.declared.calls.Call.{Call}
 use Rattle.expansion.specs.declared.values.Sets.{Sets}
 use Rattle.slot_join.specs.declared.joined.Joined.TheVariants.{Reported}
-use Rattle.dsc_files.specs.CallLine.{extra_of}
-use Rattle.dsc_files.specs.JoinLine.{JoinLine, reception, IsLine}
+use Rattle.dsc_lines.specs.CallLine.{extra_of}
+use Rattle.dsc_lines.specs.JoinLine.{JoinLine, reception, IsLine}
 use Rattle.join_groups.specs.Groups.{names, is_named}
 use Rattle.join_groups.specs.Output.{Told}
 use Rattle.encode_calls.specs.Transmissions.{transmitted}

@@ -7,7 +7,7 @@ use Rattle.slot_join.specs.Intact.{IsSent, IsSentOrLostPlace, ArrivesInParts}
 use Rattle.dsc_streams.specs.Streams.{Loses, IsEnded}
 use Rattle.line_engine.specs.Lines.{lines_of}
 use Rattle.line_engine.specs.Endings.{Writes}
-use Rattle.dsc_files.specs.JoinLine.{JoinLine}
+use Rattle.dsc_lines.specs.JoinLine.{JoinLine}
 use Rattle.join_groups.specs.Groups.{AreLines}
 use Rattle.join_groups.specs.Output.{Told, answer_line, is_reported, IsJoinText}
 use Rattle.dsc_cmd.specs.Heard.{IsOfCall}

@@ -1,28 +1,30 @@
+//! Laws: each function here does nothing, and its contract is a theorem over definitions.
 ghost use Rattle.std.specs.Prelude.{◌≡◌, ℕ, ◌<◌, ◌^◌, Bool, Option, IfSome, List};
-ghost use Rattle.call_values.specs.declared.calls.Call.{Call};
 ghost use Rattle.call_values.specs.Calls.{IsCall};
-ghost use Rattle.expansion.specs.declared.values.Sets.{Sets};
-ghost use Rattle.expansion.specs.Expansions.{IsExpansion};
-ghost use Rattle.dsc_files.specs.JoinLine.{JoinLine};
-ghost use Rattle.join_groups.specs.Output.{IsJoinText};
-ghost use Rattle.line_engine.specs.declared.faults.Fault.{Fault};
-ghost use Rattle.line_engine.specs.Lines.{Lines};
-ghost use Rattle.line_engine.specs.Faults.{IsFirstFault};
-ghost use Rattle.line_engine.specs.Output.{IsOutput};
-ghost use Rattle.line_engine.specs.Determined.{IsDetermined};
-ghost use Rattle.dsc_words.specs.declared.plans.Plan.{Plan};
-ghost use Rattle.dsc_cmd.specs.Plans.{meaning_of, HasOneOutput};
+ghost use Rattle.call_values.specs.declared.calls.Call.{Call};
 ghost use Rattle.dsc_cmd.specs.Encoded.{IsHeardWhole, IsOfEncoded, TellsCall};
+ghost use Rattle.dsc_cmd.specs.Plans.{meaning_of, HasOneOutput};
+ghost use Rattle.dsc_lines.specs.JoinLine.{JoinLine};
+ghost use Rattle.dsc_words.specs.declared.plans.Plan.{Plan};
+ghost use Rattle.expansion.specs.Expansions.{IsExpansion};
+ghost use Rattle.expansion.specs.declared.values.Sets.{Sets};
+ghost use Rattle.join_groups.specs.Output.{IsJoinText};
+ghost use Rattle.line_engine.specs.Determined.{IsDetermined};
+ghost use Rattle.line_engine.specs.Faults.{IsFirstFault};
+ghost use Rattle.line_engine.specs.Lines.{Lines};
+ghost use Rattle.line_engine.specs.Output.{IsOutput};
+ghost use Rattle.line_engine.specs.declared.faults.Fault.{Fault};
 
 use generated_join::made_text_is_one;
 use slot_join::{alike_facts_have_one_answer, transmissions_are_answered};
 
 /// The law that `join` gives back what `encode` wrote: the line that `encode` writes of a call is a line of join's input, and of a group
-/// whose lines are all this line join's text reports exactly this call and this expansion, whatever other groups there are. It
-/// does nothing.
+/// whose lines are all this line join's text reports exactly this call and this expansion, whatever other groups there are.
 pub fn encoded_calls_are_reported()
-    ensures line { (long : Bool) (k : ℕ) (call : Call) (expansion : Option Sets) → k < 2 ^ 32 → IsHeardWhole long k call expansion }
-    ensures reported { (said : List JoinLine) (k : ℕ) (long : Bool) (call : Call) (expansion : Option Sets) → IsCall call → IfSome expansion IsExpansion → IsOfEncoded said k long call expansion
+    ensures line { (long : Bool) (k : ℕ) (call : Call) (expansion : Option Sets) → k < 2 ^ 32
+        → IsHeardWhole long k call expansion }
+    ensures reported { (said : List JoinLine) (k : ℕ) (long : Bool) (call : Call) (expansion : Option Sets)
+        → IsCall call → IfSome expansion IsExpansion → IsOfEncoded said k long call expansion
         → (text : List ℕ) (status : ℕ) (joined : IsJoinText said text status) → TellsCall joined.all k call expansion }
 {
     alike_facts_have_one_answer();
@@ -30,11 +32,13 @@ pub fn encoded_calls_are_reported()
 }
 
 /// The law that each command's input has one first fault, and that of each but `watch` it has one output: its lines ask for one text
-/// and status. It does nothing.
+/// and status.
 pub fn inputs_have_one_output()
     ensures determined { (plan : Plan) → HasOneOutput plan → IsDetermined (meaning_of plan) }
-    ensures output { (plan : Plan) → HasOneOutput plan → (lines : Lines) (a b : List ℕ) (s t : ℕ) → IsOutput (meaning_of plan) lines a s → IsOutput (meaning_of plan) lines b t → (a ≡ b) × (s ≡ t) }
-    ensures fault { (plan : Plan) (lines : Lines) (m n : ℕ) (a b : Fault) → IsFirstFault (meaning_of plan) lines m a → IsFirstFault (meaning_of plan) lines n b → (m ≡ n) × (a ≡ b) }
+    ensures output { (plan : Plan) → HasOneOutput plan → (lines : Lines) (a b : List ℕ) (s t : ℕ)
+        → IsOutput (meaning_of plan) lines a s → IsOutput (meaning_of plan) lines b t → (a ≡ b) × (s ≡ t) }
+    ensures fault { (plan : Plan) (lines : Lines) (m n : ℕ) (a b : Fault) → IsFirstFault (meaning_of plan) lines m a
+        → IsFirstFault (meaning_of plan) lines n b → (m ≡ n) × (a ≡ b) }
 {
     join_groups::lines_determine_output();
     encode_calls::lines_determine_output();

@@ -1,12 +1,12 @@
-ghost use Rattle.std.specs.Prelude.{◌≡◌, ◌≢◌, ◌⊎◌, ◌≤◌, List, if◌then◌else◌};
 ghost use Rattle.std.specs.List.{list_all};
+ghost use Rattle.std.specs.Prelude.{◌≡◌, ◌≢◌, ◌⊎◌, ◌≤◌, List, if◌then◌else◌};
+ghost use Rattle.dsc_cmd.specs.Plans.{WritesSummary, CutsOffSummary};
+ghost use Rattle.dsc_lines.specs.JoinLine.{JoinLine};
 ghost use Rattle.dsc_streams.specs.Streams.{Rises, Told};
-ghost use Rattle.line_engine.specs.Endings.{IsFinished};
-ghost use Rattle.dsc_files.specs.JoinLine.{JoinLine};
-ghost use Rattle.join_groups.specs.Output.{is_reported};
 ghost use Rattle.generated_join.specs.Generator.{generated};
 ghost use Rattle.generated_join.specs.Summary.{IsSummary};
-ghost use Rattle.dsc_cmd.specs.Plans.{WritesSummary, CutsOffSummary};
+ghost use Rattle.join_groups.specs.Output.{is_reported};
+ghost use Rattle.line_engine.specs.Endings.{IsFinished};
 
 use crate::running::write_flushed;
 use dsc_streams::{Failed, Sink, Status};
@@ -17,7 +17,8 @@ use std::alloc::{AllocError, Global};
 /// The status of a join with this summary: 0 where a call was reported of every group, and else 1.
 fn status_of(summary: &Summary) -> Status
     ensures which { IsFinished result }
-    ensures whole { (said : List JoinLine) (is : IsSummary said summary.now) → result ≡ (if list_all (λ one. is_reported one.answer) is.all then 0 else 1) }
+    ensures whole { (said : List JoinLine) (is : IsSummary said summary.now)
+        → result ≡ (if list_all (λ one. is_reported one.answer) is.all then 0 else 1) }
 {
     if summary.is_whole() {
         Status::new(0)
@@ -31,7 +32,8 @@ fn status_of(summary: &Summary) -> Status
 fn tell_summary<K: Sink>(groups: u16, summary: &Summary, sink: &mut K) -> Status
     requires { IsSummary (generated groups) summary.now }
     ensures which { IsFinished result ⊎ (result ≡ 5) }
-    ensures done { IsFinished result → WritesSummary groups (K.written sink.old) (K.written sink.new) (K.flushed sink.new) result }
+    ensures done { IsFinished result
+        → WritesSummary groups (K.written sink.old) (K.written sink.new) (K.flushed sink.new) result }
     ensures sound { IsFinished result → K.faults sink.new ≡ K.faults sink.old }
     ensures cut { result ≡ 5 → CutsOffSummary groups (K.written sink.old) (K.written sink.new) }
     ensures cause { result ≡ 5 → Rises (K.faults sink.old) (K.faults sink.new) }
@@ -50,7 +52,8 @@ fn tell_summary<K: Sink>(groups: u16, summary: &Summary, sink: &mut K) -> Status
 pub(crate) fn make<K: Sink, G: Gate>(alloc: Global, groups: u16, sink: &mut K, gate: &G) -> Status
     requires { groups ≤ 1000 }
     ensures which { IsFinished result ⊎ (result ≡ 5) ⊎ (result ≡ 6) }
-    ensures done { IsFinished result → WritesSummary groups (K.written sink.old) (K.written sink.new) (K.flushed sink.new) result }
+    ensures done { IsFinished result
+        → WritesSummary groups (K.written sink.old) (K.written sink.new) (K.flushed sink.new) result }
     ensures sound { result ≢ 5 → K.faults sink.new ≡ K.faults sink.old }
     ensures cut { result ≡ 5 → CutsOffSummary groups (K.written sink.old) (K.written sink.new) }
     ensures cause { result ≡ 5 → Rises (K.faults sink.old) (K.faults sink.new) }

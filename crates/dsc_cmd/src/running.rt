@@ -101,7 +101,8 @@ fn execute<R: Threads + Sync, S: Source, K: Sink, G: Gate>(
     ensures run { IsRun (meaning_of plan) (source_of plan S.Source) K.Sink source.old source.new sink.old sink.new result }
     ensures bounded { TakesAtMost (S.left source.old) (S.left source.new) MOST_TAKEN }
     ensures told { Told (S.left source.old) (S.left source.new) }
-    ensures unread { (n : ℕ) → plan ≡ makes n → (source.new ≡ source.old) × (IsFinished result ⊎ (result ≡ 5) ⊎ (result ≡ 6)) }
+    ensures unread { (n : ℕ) → plan ≡ makes n
+        → (source.new ≡ source.old) × (IsFinished result ⊎ (result ≡ 5) ⊎ (result ≡ 6)) }
 {
     match plan {
         Plan::Join { workers } => tell_groups(
@@ -184,7 +185,8 @@ pub fn run<R: Threads + Sync, S: Source, K: Sink, G: Gate>(
     // Of `watch`, however it ends: of such a group no other call than this one is told, and behind the told calls stands what join tells of it. Only
     // where there was no memory for the words was nothing begun.
     ensures told_sent { (n : ℕ) → IsPlan (map string_bytes words.now) (watches n)
-        → IsRun sent_meaning S.Source K.Sink source.old source.new sink.old sink.new result ⊎ ((result ≡ 6) × (source.new ≡ source.old) × (sink.new ≡ sink.old)) }
+        → IsRun sent_meaning S.Source K.Sink source.old source.new sink.old sink.new result
+        ⊎ ((result ≡ 6) × (source.new ≡ source.old) × (sink.new ≡ sink.old)) }
 
     // Exactly the summary of the answers that the generated groups determine; of the source nothing is read.
     ensures made { (n : ℕ) → IsPlan (map string_bytes words.now) (makes n) → IsFinished result
@@ -193,7 +195,8 @@ pub fn run<R: Threads + Sync, S: Source, K: Sink, G: Gate>(
         → (source.new ≡ source.old) × (IsFinished result ⊎ (result ≡ 5) ⊎ (result ≡ 6)) }
 
     // The cause of each status, and what it leaves.
-    ensures planned { IsFinished result ⊎ IsOfFault result ⊎ (result ≡ 4) → (plan : Planned) × IsPlan (map string_bytes words.now) plan }
+    ensures planned { IsFinished result ⊎ IsOfFault result ⊎ (result ≡ 4)
+        → (plan : Planned) × IsPlan (map string_bytes words.now) plan }
     ensures unplanned { result ≡ 2 → IsUnplanned (map string_bytes words.now) }
     ensures words { result ≡ 2 → Writes (K.written sink.old) (K.written sink.new) (K.flushed sink.new) words_refused }
     ensures unread { result ≡ 2 → source.new ≡ source.old }
@@ -207,8 +210,10 @@ pub fn run<R: Threads + Sync, S: Source, K: Sink, G: Gate>(
     ensures write_fault { result ≡ 5 → Rises (K.faults sink.old) (K.faults sink.new) }
     ensures cut { result ≡ 5 → CutsOffWords (map string_bytes words.now) (K.written sink.old) (K.written sink.new)
         ⊎ CutsOffPlan (map string_bytes words.now) (S.left source.old) (S.left source.new) (K.written sink.old) (K.written sink.new) }
-    ensures memory { result ≡ 6 → (sink.new ≡ sink.old) ⊎ TellsPlanFront (map string_bytes words.now) (S.left source.old) (S.left source.new) (K.written sink.old) (K.written sink.new) }
-    ensures unwritten { (plan : Planned) → IsPlan (map string_bytes words.now) plan → IsQuietPlan plan → (result ≡ 4) ⊎ (result ≡ 6) → sink.new ≡ sink.old }
+    ensures memory { result ≡ 6 → (sink.new ≡ sink.old)
+        ⊎ TellsPlanFront (map string_bytes words.now) (S.left source.old) (S.left source.new) (K.written sink.old) (K.written sink.new) }
+    ensures unwritten { (plan : Planned) → IsPlan (map string_bytes words.now) plan → IsQuietPlan plan
+        → (result ≡ 4) ⊎ (result ≡ 6) → sink.new ≡ sink.old }
     ensures unflushed { IsBrokenOff result → K.flushed sink.new ≡ K.flushed sink.old }
     ensures bounded { TakesAtMost (S.left source.old) (S.left source.new) MOST_TAKEN }
     ensures read_sound { result ≢ 4 → S.faults source.new ≡ S.faults source.old }
@@ -217,8 +222,10 @@ pub fn run<R: Threads + Sync, S: Source, K: Sink, G: Gate>(
 
     // Without a fault of the streams there is no other ending than these.
     ensures range { result ≤ 7 }
-    ensures refuses_words { IsUnplanned (map string_bytes words.now) → (Rises (K.faults sink.old) (K.faults sink.new) → ⊥) → (result ≡ 2) ⊎ (result ≡ 6) }
-    ensures completes { (plan : Planned) → IsPlan (map string_bytes words.now) plan → (Rises (S.faults source.old) (S.faults source.new) → ⊥)
+    ensures refuses_words { IsUnplanned (map string_bytes words.now)
+        → (Rises (K.faults sink.old) (K.faults sink.new) → ⊥) → (result ≡ 2) ⊎ (result ≡ 6) }
+    ensures completes { (plan : Planned) → IsPlan (map string_bytes words.now) plan
+        → (Rises (S.faults source.old) (S.faults source.new) → ⊥)
         → (Rises (K.faults sink.old) (K.faults sink.new) → ⊥) → IsFinished result ⊎ IsOfFault result ⊎ (result ≡ 6) }
 {
     match plan_of(alloc, words) {

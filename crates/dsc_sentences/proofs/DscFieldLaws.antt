@@ -64,10 +64,12 @@ fields_accepted s h =
     let e11 = mark_kind.shown s.expanded tt in
     rw (e1, e2, e3, e4, e5, e6, e7, e8, e9, e10, e11) refl
 
+-- the head of a DSC sentence is one
 pub head_is : is_head (codes "$CDDSC") ≡ true
 unfolding is_head
 head_is = refl
 
+-- the texts of a DSC sentence's fields are those of its form
 pub dsc_texts : (s : DscFields) → IsDsc s → AreTexts dsc (texts s)
 unfolding texts shapes
 dsc_texts s h = are_texts dsc (texts s) head_is (λ e. cc) refl refl refl (omega arith) (fields_accepted s h)

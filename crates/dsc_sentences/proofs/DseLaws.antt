@@ -44,6 +44,7 @@ flag_letter b h =
           ]
     ]
 
+-- the flag is a letter, written and read back
 pub flag_kind : IsKind (shape.letter (codes "AQR")) flag_text flag_in (λ f. Unit {0})
 flag_kind = record {
   shown = λ f h. flag_shown f;

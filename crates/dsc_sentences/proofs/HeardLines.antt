@@ -8,7 +8,7 @@ use Rattle.dsc_sentences.specs.declared.dsc.DscFields.{DscFields}
 use Rattle.dsc_sentences.specs.Dsc.{dsc, texts, IsDsc, SentenceText}
 use Rattle.dsc_sentences.specs.Dse.{dse}
 use Rattle.dsc_sentences.specs.Heard.{is_dse, IsAccepted, IsHeard, verdict_in}
-use Rattle.dsc_sentences.specs.Verdicts.{told, ended, without_return, verdict_of}
+use Rattle.dsc_sentences.specs.Verdicts.{told, with_line_end, without_return, verdict_of}
 use Rattle.dsc_sentences.specs.inside.DscReading.{FieldsAnswer}
 use Rattle.dsc_sentences.specs.inside.Hearing.{IsHeardAsDsc, IsHeardAsDse}
 use Rattle.dsc_sentences.proofs.DscAnswers.{answers_found, answers_only, answers_read}
@@ -33,11 +33,11 @@ heard_read bytes (Err e) h = record {
 }
 
 -- a line is told by its form
-verdict_dse : (line : List ℕ) → is_dse line ≡ true → verdict_of line ≡ told (texts_of dse (ended line))
+verdict_dse : (line : List ℕ) → is_dse line ≡ true → verdict_of line ≡ told (texts_of dse (with_line_end line))
 unfolding verdict_of
 verdict_dse line form = rw form refl
 
-verdict_dsc : (line : List ℕ) → is_dse line ≡ false → verdict_of line ≡ told (texts_of dsc (ended line))
+verdict_dsc : (line : List ℕ) → is_dse line ≡ false → verdict_of line ≡ told (texts_of dsc (with_line_end line))
 unfolding verdict_of
 verdict_dsc line form = rw form refl
 
@@ -48,20 +48,20 @@ found_dse line (Ok (Some s)) form h = absurd (cc)
 found_dse line (Err e) form h = tt
 
 found_dsc : (line : List ℕ) (r : Result (Option DscFields) SentenceRefusal) → is_dse line ≡ false
-    → IfOk r (λ found. MatchOption found ⊥ (λ s. IsDsc s × SentenceText s (ended line)))
+    → IfOk r (λ found. MatchOption found ⊥ (λ s. IsDsc s × SentenceText s (with_line_end line)))
     → IfOk r (λ found. MatchOption found (is_dse line ≡ true) (IsAccepted line))
 found_dsc line (Ok None) form h = absurd h
 found_dsc line (Ok (Some s)) form h = record { form = form; lawful = h.0; text = h.1 }
 found_dsc line (Err e) form h = tt
 
-pub heard_dse : (line : List ℕ) (r : Result (Option DscFields) SentenceRefusal) → is_dse line ≡ true → IsHeardAsDse (ended line) r → IsHeard line r
+pub heard_dse : (line : List ℕ) (r : Result (Option DscFields) SentenceRefusal) → is_dse line ≡ true → IsHeardAsDse (with_line_end line) r → IsHeard line r
 heard_dse line r form h = record {
   verdict = h.verdict ∙ sym (verdict_dse line form);
   found = found_dse line r form h.found;
   only = λ s accepted. absurd (false≢true (sym accepted.form ∙ form));
 }
 
-pub heard_dsc : (line : List ℕ) (r : Result (Option DscFields) SentenceRefusal) → is_dse line ≡ false → IsHeardAsDsc (ended line) r → IsHeard line r
+pub heard_dsc : (line : List ℕ) (r : Result (Option DscFields) SentenceRefusal) → is_dse line ≡ false → IsHeardAsDsc (with_line_end line) r → IsHeard line r
 heard_dsc line r form h = record {
   verdict = h.verdict ∙ sym (verdict_dsc line form);
   found = found_dsc line r form h.found;
@@ -69,11 +69,11 @@ heard_dsc line r form h = record {
 }
 
 -- no sentence is too long
-short_enough : (line text : List ℕ) (s : DscFields) → text ≡ without_return line → 80 < length text → IsDsc s → SentenceText s (ended line) → ⊥
+short_enough : (line text : List ℕ) (s : DscFields) → text ≡ without_return line → 80 < length text → IsDsc s → SentenceText s (with_line_end line) → ⊥
 short_enough line text s e h lawful same =
-    let size : length (ended line) ≡ length text + 2 = omega (arith, length-append (without_return line) (13 ∷ 10 ∷ []), ap length e) in
-    let long = texts_too_long dsc (ended line) (omega (arith, size, h)) in
-    let read : texts_of dsc (ended line) ≡ Ok (texts s) = ap (λ (l : List ℕ). texts_of dsc l) same ∙ texts_back dsc (texts s) (dsc_texts s lawful) in
+    let size : length (with_line_end line) ≡ length text + 2 = omega (arith, length-append (without_return line) (13 ∷ 10 ∷ []), ap length e) in
+    let long = texts_too_long dsc (with_line_end line) (omega (arith, size, h)) in
+    let read : texts_of dsc (with_line_end line) ≡ Ok (texts s) = ap (λ (l : List ℕ). texts_of dsc l) same ∙ texts_back dsc (texts s) (dsc_texts s lawful) in
     absurd (cc)
 
 pub heard_too_long : (line text : List ℕ) (refusal : SentenceRefusal) → text ≡ without_return line → 80 < length text → verdict_in (Err refusal) ≡ verdict_of line → IsHeard line (Err refusal)

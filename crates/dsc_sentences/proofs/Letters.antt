@@ -34,6 +34,7 @@ end_letter b h =
           ]
     ]
 
+-- the end of sequence is a letter, written and read back
 pub end_kind : IsKind (letter (codes "RBS")) end_text end_in (λ e. Unit {0})
 end_kind = record {
   shown = λ e h. end_shown e;
@@ -67,6 +68,7 @@ mark_again (b ∷ t) h =
       | inr none ↦ absurd (false≢true none)
     ]
 
+-- the mark of an expansion is a letter or nothing, written and read back
 pub mark_kind : IsKind (maybe (letter (codes "E"))) expanded_text is_there (λ b. Unit {0})
 mark_kind = record {
   shown = λ b h. mark_shown b;

@@ -6,7 +6,7 @@ use Rattle.dsc_sentences.specs.declared.dsc.DscFields.{DscFields}
 use Rattle.dsc_sentences.specs.declared.verdicts.Verdict.{Verdict}
 use Rattle.dsc_sentences.specs.declared.verdicts.Verdict.TheVariants.{Accepted, Refused}
 use Rattle.dsc_sentences.specs.Dsc.{IsDsc, SentenceText}
-use Rattle.dsc_sentences.specs.Verdicts.{ended, verdict_of}
+use Rattle.dsc_sentences.specs.Verdicts.{with_line_end, verdict_of}
 
 -- the line is read as a DSE sentence
 abbrev pub is_dse : List ℕ → Bool
@@ -16,7 +16,7 @@ is_dse line = starts_with nat_eq line (codes "$CDDSE")
 pub record IsAccepted (line : List ℕ) (s : DscFields) : Type 0 where
   pub form : is_dse line ≡ false
   pub lawful : IsDsc s
-  pub text : SentenceText s (ended line)
+  pub text : SentenceText s (with_line_end line)
 
 -- what a line is told whose answer this is
 abbrev pub verdict_in : Result (Option DscFields) SentenceRefusal → Verdict

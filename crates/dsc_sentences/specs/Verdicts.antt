@@ -15,8 +15,8 @@ abbrev pub without_return : List ℕ → List ℕ
 without_return line = if slice_index line (length line - 1) == 13 then take (length line - 1) line else line
 
 -- the line as a sentence, with CR and LF
-abbrev pub ended : List ℕ → List ℕ
-ended line = without_return line ++ 13 ∷ 10 ∷ []
+abbrev pub with_line_end : List ℕ → List ℕ
+with_line_end line = without_return line ++ 13 ∷ 10 ∷ []
 
 -- a line that begins with `$CDDSE` is read as DSE, every other one as DSC
 abbrev pub form_of : List ℕ → Form
@@ -29,7 +29,7 @@ told (Err refusal) = Refused refusal
 
 -- what a line is told
 unfoldable pub verdict_of : List ℕ → Verdict
-verdict_of line = told (texts_of (form_of line) (ended line))
+verdict_of line = told (texts_of (form_of line) (with_line_end line))
 
 -- two capital hexadecimal digits
 abbrev pub two_hexadecimal : ℕ → List ℕ

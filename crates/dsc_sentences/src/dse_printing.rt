@@ -6,7 +6,9 @@ ghost use Rattle.dsc_sentences.specs.Dse.{SentenceText, flag_text, set_texts};
 use crate::dse::{DseSentence, Flag};
 use arrayvec::ArrayVec;
 use expansion::{Part, PartKind};
-use sentence_frame::{begun, close, put, put_digits, put_number};
+use sentence_frame::{
+    append_digits_field, append_field, append_number_field, begin_sentence, close,
+};
 
 /// The bytes of a DSE sentence, CR and LF included.
 #[tactic(auto, unfolding(crate::specs::Dse::texts, sentence_frame::specs::Frames::sentence))]
@@ -14,14 +16,14 @@ pub fn print_dse(s: &DseSentence) -> ArrayVec<u8, 82>
     ensures { SentenceText s.now result.items }
 {
     let fields = &s.fields;
-    let mut out = begun(b"$CDDSE");
-    put(&mut out, b"1");
-    put(&mut out, b"1");
-    put(&mut out, flag_letter(fields.flag));
-    put_digits(&mut out, &fields.address);
-    put_set(&mut out, 0, 8, &fields.expansion.enhanced());
-    put_set(&mut out, 2, 4, &fields.expansion.speed());
-    put_set(&mut out, 3, 4, &fields.expansion.course());
+    let mut out = begin_sentence(b"$CDDSE");
+    append_field(&mut out, b"1");
+    append_field(&mut out, b"1");
+    append_field(&mut out, flag_letter(fields.flag));
+    append_digits_field(&mut out, &fields.address);
+    append_set_field(&mut out, 0, 8, &fields.expansion.enhanced());
+    append_set_field(&mut out, 2, 4, &fields.expansion.speed());
+    append_set_field(&mut out, 3, 4, &fields.expansion.course());
     close(&mut out);
     out
 }
@@ -38,7 +40,7 @@ fn flag_letter(flag: Flag) -> &'static [u8]
 }
 
 /// Appends the code and the data of a set, each behind a comma, where it is there.
-fn put_set(out: &mut ArrayVec<u8, 82>, set: u8, width: usize, part: &Part)
+fn append_set_field(out: &mut ArrayVec<u8, 82>, set: u8, width: usize, part: &Part)
     requires room { array_vec_len out.old + width + 4 < 82 }
     ensures items { out.new.items ≡ out.old.items ++ behind_commas (set_texts set width part.now) }
     ensures len { array_vec_len out.new ≤ array_vec_len out.old + width + 4 }
@@ -46,12 +48,12 @@ fn put_set(out: &mut ArrayVec<u8, 82>, set: u8, width: usize, part: &Part)
     match part.kind() {
         PartKind::LeftOut => {}
         PartKind::NoInformation => {
-            put_number(out, 2, u32::from(set));
-            put(out, b"");
+            append_number_field(out, 2, u32::from(set));
+            append_field(out, b"");
         }
         PartKind::Digits(number) => {
-            put_number(out, 2, u32::from(set));
-            put_number(out, width, number);
+            append_number_field(out, 2, u32::from(set));
+            append_number_field(out, width, number);
         }
     }
 }

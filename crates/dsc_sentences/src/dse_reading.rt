@@ -43,7 +43,8 @@ fn read_set(
 ) -> Result<(Part, usize), SentenceRefusal>
     requires width { width ≤ 8 }
     requires k { k < 100 }
-    ensures ok { IfOk result (λ p. inside.read_set k set width most fields.old ≡ Ok (record { part = p.0; next = p.1; rest = fields.new })) }
+    ensures ok { IfOk result (λ p. inside.read_set k set width most fields.old
+        ≡ Ok (record { part = p.0; next = p.1; rest = fields.new })) }
     ensures next { IfOk result (λ p. p.1 ≤ k + 2) }
     ensures err { IfErr result (λ e. inside.read_set k set width most fields.old ≡ Err e) }
 {

@@ -19,7 +19,7 @@ pub fn sentence_on(line: &[u8]) -> Result<Option<DscSentence>, SentenceRefusal>
     if text.len() > LONGEST_SENTENCE - 2 {
         return Err(SentenceRefusal::TooLong(text.len() + 2));
     }
-    let bytes = ended(text);
+    let bytes = with_line_end(text);
     if line.starts_with(b"$CDDSE") {
         heard_as_dse(bytes.as_slice())
     } else {
@@ -38,7 +38,7 @@ fn without_return(line: &[u8]) -> &[u8]
 }
 
 /// A text with CR and LF.
-fn ended(text: &[u8]) -> ArrayVec<u8, LONGEST_SENTENCE>
+fn with_line_end(text: &[u8]) -> ArrayVec<u8, LONGEST_SENTENCE>
     requires { length text.now ≤ 80 }
     ensures { result.items ≡ text.now ++ 13 ∷ 10 ∷ [] }
 {

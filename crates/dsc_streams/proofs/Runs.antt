@@ -1,6 +1,6 @@
 use Rattle.std.proofs.Common.{◌≡◌, ℕ, ◌+◌, ◌-◌, ◌≤◌, min, Bool, true, false, ◌&&◌, nat_eq, nat_le, List, [], ◌++◌, length, take, drop, Option, Some, None, Result, Ok, Err, OnErr, IsOk, is_ok, if◌then◌else◌, refl, sym, ◌∙◌, ap, arith, length-drop, append_assoc, append-nil}
-use Rattle.std.proofs.lemmas.List.{take-append-drop, length-take, length-take-le, take_min, drop-drop}
-use Rattle.std.proofs.Math.Seq.{take-length, take-append_seam, take-append-add}
+use Rattle.std.proofs.lemmas.List.{take-append-drop, length-take, length-take-le, take_min, drop-drop, take_at}
+use Rattle.std.proofs.Math.Seq.{take-length, take-append-add}
 use Rattle.std.proofs.lemmas.Bool.Decides.{nat_tests}
 use Rattle.dsc_streams.specs.Streams.{Loses, Gains, Told}
 use Rattle.dsc_streams.specs.Sure.{Store, stored}
@@ -47,14 +47,11 @@ pub front_more : (a b c : Option (List ℕ)) (text front rest after : List ℕ) 
 front_more a b c text front rest after n e d g h =
     (front ++ take n rest, e ∙ ap (λ (r : List ℕ). front ++ r) (sym (take-append-drop n rest)) ∙ sym (append_assoc front (take n rest) (drop n rest)) ∙ ap (λ (r : List ℕ). (front ++ take n rest) ++ r) (sym d), Gains-more a b c front (take n rest) g h)
 
-front_of : (xs ys : List ℕ) (n : ℕ) → length xs ≡ n → take n (xs ++ ys) ≡ xs
-front_of xs ys n e = ap (λ (k : ℕ). take k (xs ++ ys)) (sym e) ∙ take-append_seam xs ys
-
 -- what a read gives, and what is then left
 pub read_parts : (bytes given into : List ℕ) (at n : ℕ) → given ≡ take n (drop at bytes) → n ≤ length (drop at bytes) → drop at bytes ≡ take n (given ++ drop n into) ++ drop (at + n) bytes
 read_parts bytes given into at n e le =
     let len : length given ≡ n = ap length e ∙ length-take-le n (drop at bytes) le in
-    let front : take n (given ++ drop n into) ≡ take n (drop at bytes) = front_of given (drop n into) n len ∙ e in
+    let front : take n (given ++ drop n into) ≡ take n (drop at bytes) = take_at given (drop n into) n len ∙ e in
     sym (take-append-drop n (drop at bytes)) ∙ ap (λ (l : List ℕ). l ++ drop n (drop at bytes)) (sym front) ∙ ap (λ (l : List ℕ). take n (given ++ drop n into) ++ l) (drop-drop n at bytes)
 
 slice_end : (l bytes : List ℕ) (at : ℕ) → l ≡ bytes → take (length l - at) (drop at l) ≡ drop at bytes

@@ -1,4 +1,4 @@
-ghost use Rattle.std.specs.Prelude.{◌≡◌, ◌≤◌};
+ghost use Rattle.std.specs.Prelude.{◌≡◌, ℕ, ◌≤◌};
 
 use std::marker::Model;
 
@@ -9,8 +9,6 @@ pub struct Status {
 }
 
 impl Model for Status {
-    ghost use Rattle.std.specs.Prelude.{ℕ, ◌≤◌};
-
     ghost Value = { ℕ };
 
     ghost view = { λ a. a.number };

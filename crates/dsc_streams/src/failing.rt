@@ -1,6 +1,6 @@
-ghost use Rattle.std.specs.Prelude.{◌≡◌, ◌+◌, ◌-◌, ◌<◌, ◌≤◌, ◌⊎◌, ◌↔◌, Some, [], length, take, IfOk, IsErr, OnOk, OnErr, MatchResult};
+ghost use Rattle.std.specs.Prelude.{◌≡◌, ◌+◌, ◌-◌, ◌<◌, ◌≤◌, ◌⊎◌, ◌↔◌, Some, [], length, IfOk, IsErr, OnOk, OnErr};
 ghost use Rattle.std.specs.List.{Contains};
-ghost use Rattle.dsc_streams.specs.Streams.{Loses, Gains, Rises, IsEnded, IsFlushed, next};
+ghost use Rattle.dsc_streams.specs.Streams.{ReadLoses, Gains, WriteGains, Rises, RisesOnErr, IsEnded, IsFlushed, next};
 
 use crate::streams::after;
 use crate::{Failed, NoMemory, Sink, Source, SureSink, SureSource};
@@ -31,9 +31,7 @@ impl Calls {
     fn begin(&mut self) -> Result<(), Failed>
         ensures fails { IsErr result ↔ Contains self.old.fail.items (next self.old.count) }
         ensures count { self.new.count ≡ next self.old.count }
-        ensures cause { MatchResult result
-            (λ _. self.new.faults ≡ self.old.faults)
-            (λ _. Rises self.old.faults self.new.faults) }
+        ensures cause { RisesOnErr self.old.faults self.new.faults result }
         ensures once { OnErr result (self.new.faults ≡ next self.old.faults) }
         ensures fail { self.new.fail ≡ self.old.fail }
     {
@@ -93,13 +91,9 @@ impl Source for ByteSource {
     fn read(&mut self, into: &mut [u8]) -> Result<usize, Failed>
         requires { 0 < length into.old }
         ensures count { IfOk result (λ n. n ≤ length into.new) }
-        ensures bytes { MatchResult result
-            (λ n. Loses (Some self.old.left) (Some self.new.left) (take n into.new))
-            (λ _. Loses (Some self.old.left) (Some self.new.left) []) }
+        ensures bytes { ReadLoses (Some self.old.left) (Some self.new.left) result into.new }
         ensures end { IfOk result (λ n. n ≡ 0 → IsEnded (Some self.new.left)) }
-        ensures cause { MatchResult result
-            (λ _. self.new.faults ≡ self.old.faults)
-            (λ _. Rises self.old.faults self.new.faults) }
+        ensures cause { RisesOnErr self.old.faults self.new.faults result }
         ensures once { OnErr result (self.new.faults ≡ next self.old.faults) }
         ensures fails { IsErr result ↔ Contains self.old.fail (next self.old.calls) }
         ensures calls { self.new.calls ≡ next self.old.calls }
@@ -137,7 +131,8 @@ impl ByteSink {
         fail: Vec<u64>,
     ) -> Result<ByteSink, NoMemory>
         requires { 1 ≤ piece }
-        ensures { IfOk result (λ s. s ≡ record { kept = []; room = room; piece = piece; flushed = 0; fail = fail.items; calls = 0; faults = 0 }) }
+        ensures { IfOk result (λ s. s
+            ≡ record { kept = []; room = room; piece = piece; flushed = 0; fail = fail.items; calls = 0; faults = 0 }) }
     {
         Ok(ByteSink {
             sink: SureSink::new(alloc, room, piece)?,
@@ -164,15 +159,12 @@ impl Sink for ByteSink {
         requires { 0 < length piece.now }
         ensures some { IfOk result (λ n. 0 < n) }
         ensures count { IfOk result (λ n. n ≤ length piece.now) }
-        ensures bytes { MatchResult result
-            (λ n. Gains (Some self.old.kept) (Some self.new.kept) (take n piece.now))
-            (λ _. Gains (Some self.old.kept) (Some self.new.kept) []) }
+        ensures bytes { WriteGains (Some self.old.kept) (Some self.new.kept) result piece.now }
         ensures not_flushed { self.new.flushed ≡ self.old.flushed }
-        ensures cause { MatchResult result
-            (λ _. self.new.faults ≡ self.old.faults)
-            (λ _. Rises self.old.faults self.new.faults) }
+        ensures cause { RisesOnErr self.old.faults self.new.faults result }
         ensures once { OnErr result (self.new.faults ≡ next self.old.faults) }
-        ensures fails { IsErr result ↔ (Contains self.old.fail (next self.old.calls) ⊎ (self.old.room ≤ length self.old.kept)) }
+        ensures fails { IsErr result ↔ (Contains self.old.fail (next self.old.calls)
+            ⊎ (self.old.room ≤ length self.old.kept)) }
         ensures calls { self.new.calls ≡ next self.old.calls }
         ensures most { IfOk result (λ n. n ≤ self.old.piece) }
         ensures fits { IfOk result (λ _. length self.new.kept ≤ self.new.room) }
@@ -192,9 +184,7 @@ impl Sink for ByteSink {
         ensures bytes { Gains (Some self.old.kept) (Some self.new.kept) [] }
         ensures all { OnOk result (IsFlushed (Some self.new.kept) self.new.flushed) }
         ensures none { OnErr result (self.new.flushed ≡ self.old.flushed) }
-        ensures cause { MatchResult result
-            (λ _. self.new.faults ≡ self.old.faults)
-            (λ _. Rises self.old.faults self.new.faults) }
+        ensures cause { RisesOnErr self.old.faults self.new.faults result }
         ensures once { OnErr result (self.new.faults ≡ next self.old.faults) }
         ensures fails { IsErr result ↔ Contains self.old.fail (next self.old.calls) }
         ensures calls { self.new.calls ≡ next self.old.calls }

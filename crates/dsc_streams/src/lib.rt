@@ -11,7 +11,7 @@ mod whole;
 
 pub use exits::Status;
 pub use failing::{ByteSink, ByteSource};
-pub use standard::{StdSink, StdSource};
+pub use standard::{StdSink, StdSource, StdStream};
 pub use std::alloc::AllocError as NoMemory;
 pub use streams::{Failed, Sink, Source};
 pub use sure::{SureSink, SureSource};

@@ -1,7 +1,7 @@
-ghost use Rattle.std.specs.Prelude.{◌≡◌, None, ◌<◌, ◌≤◌, [], length, take, IfOk, OnOk, OnErr, MatchResult};
+ghost use Rattle.std.specs.Prelude.{◌≡◌, None, ◌<◌, ◌≤◌, [], length, IfOk, OnOk, OnErr};
 ghost use Rattle.std.specs.Io.KnownBytes.{Keeps, ReadConsumes, WriteAppends};
-ghost use Rattle.dsc_streams.specs.Streams.{Loses, Gains, Rises, IsEnded, IsFlushed, next};
-ghost use Rattle.dsc_streams.specs.Standard.{untold};
+ghost use Rattle.dsc_streams.specs.Streams.{ReadLoses, Gains, WriteGains, Rises, RisesOnErr, IsEnded, IsFlushed, next};
+ghost use Rattle.dsc_streams.specs.Standard.{Port, untold};
 
 use crate::streams::after;
 use crate::{Failed, Sink, Source};
@@ -11,8 +11,8 @@ use std::marker::Model;
 /// Reads, and reads again where a signal interrupted the call.
 fn read_uninterrupted<R: Read>(reader: &mut R, into: &mut [u8]) -> io::Result<usize>
     ensures count { IfOk result (λ n. n ≤ length into.new) }
-    ensures len { length into.new ≡ length into.old }
     ensures consumes { ReadConsumes (R.remaining reader.old) (R.remaining reader.new) result into.new }
+    ensures len { length into.new ≡ length into.old }
 {
     for _ in 0..u64::MAX {
         match reader.read(into) {
@@ -50,82 +50,32 @@ fn flush_uninterrupted<W: Write>(writer: &mut W) -> io::Result<()>
     Err(io::Error::from(ErrorKind::Interrupted))
 }
 
-/// A reader of the system as a source. It tells no bytes, and counts its failures. What a read took from the
-/// reader, where the reader tells it, is said by `consumes`.
+/// A stream of the system. It tells no bytes, and counts its failures.
 #[derive(Drop)]
-pub struct StdSource<R> {
-    reader: R,
+pub struct StdStream<S> {
+    stream: S,
     faults: u64,
 }
 
-impl<R> Model for StdSource<R> {
-    ghost use Rattle.dsc_streams.specs.Standard.{Port};
+/// A reader of the system as a source. What a read took from the reader, where the reader tells it, is said by `consumes`.
+pub type StdSource<R> = StdStream<R>;
 
-    ghost Value = { Port R };
+/// A writer of the system as a sink. What a write appended to the writer, where the writer tells it, is said by `appends`;
+/// that a flush reaches the system no clause can say.
+pub type StdSink<W> = StdStream<W>;
 
-    ghost view = { λ a. record { stream = a.reader; faults = a.faults } };
+impl<S> Model for StdStream<S> {
+    ghost Value = { Port S };
+
+    ghost view = { λ a. record { stream = a.stream; faults = a.faults } };
 }
 
-impl<R: Read> StdSource<R> {
-    /// The reader as a source that has not failed yet.
-    pub fn new(reader: R) -> StdSource<R>
-        ensures { result ≡ record { stream = reader; faults = 0 } }
+impl<S> StdStream<S> {
+    /// A stream that has not failed yet.
+    pub fn new(stream: S) -> StdStream<S>
+        ensures { result ≡ record { stream = stream; faults = 0 } }
     {
-        StdSource { reader, faults: 0 }
-    }
-}
-
-impl<R: Read> Source for StdSource<R> {
-    ghost left = { λ _. untold };
-
-    ghost faults = { λ s. s.faults };
-
-    fn read(&mut self, into: &mut [u8]) -> Result<usize, Failed>
-        requires { 0 < length into.old }
-        ensures count { IfOk result (λ n. n ≤ length into.new) }
-        ensures bytes { MatchResult result (λ n. Loses untold untold (take n into.new)) (λ _. Loses untold untold []) }
-        ensures end { IfOk result (λ n. n ≡ 0 → IsEnded untold) }
-        ensures cause { MatchResult result
-            (λ _. self.new.faults ≡ self.old.faults)
-            (λ _. Rises self.old.faults self.new.faults) }
-
-        ensures once { OnErr result (self.new.faults ≡ next self.old.faults) }
-
-        // Of what the reader tells: exactly these bytes were taken from it, and none only at its end.
-        ensures consumes { ReadConsumes (R.remaining self.old.stream) (R.remaining self.new.stream) result into.new }
-    {
-        match read_uninterrupted(&mut self.reader, into) {
-            Ok(n) => Ok(n),
-            Err(_) => {
-                self.faults = after(self.faults);
-                Err(Failed)
-            }
-        }
-    }
-}
-
-/// A writer of the system as a sink. It tells no bytes, and counts its failures. What a write appended to the
-/// writer, where the writer tells it, is said by `appends`; that a flush reaches the system no clause can say.
-#[derive(Drop)]
-pub struct StdSink<W> {
-    writer: W,
-    faults: u64,
-}
-
-impl<W> Model for StdSink<W> {
-    ghost use Rattle.dsc_streams.specs.Standard.{Port};
-
-    ghost Value = { Port W };
-
-    ghost view = { λ a. record { stream = a.writer; faults = a.faults } };
-}
-
-impl<W: Write> StdSink<W> {
-    /// The writer as a sink that has not failed yet.
-    pub fn new(writer: W) -> StdSink<W>
-        ensures { result ≡ record { stream = writer; faults = 0 } }
-    {
-        StdSink { writer, faults: 0 }
+        StdStream { stream, faults: 0 }
     }
 
     /// Counts a failure.
@@ -139,7 +89,31 @@ impl<W: Write> StdSink<W> {
     }
 }
 
-impl<W: Write> Sink for StdSink<W> {
+impl<R: Read> Source for StdStream<R> {
+    ghost left = { λ _. untold };
+
+    ghost faults = { λ s. s.faults };
+
+    fn read(&mut self, into: &mut [u8]) -> Result<usize, Failed>
+        requires { 0 < length into.old }
+        ensures count { IfOk result (λ n. n ≤ length into.new) }
+        ensures bytes { ReadLoses untold untold result into.new }
+        ensures end { IfOk result (λ n. n ≡ 0 → IsEnded untold) }
+        ensures cause { RisesOnErr self.old.faults self.new.faults result }
+
+        ensures once { OnErr result (self.new.faults ≡ next self.old.faults) }
+
+        // Of what the reader tells: exactly these bytes were taken from it, and none only at its end.
+        ensures consumes { ReadConsumes (R.remaining self.old.stream) (R.remaining self.new.stream) result into.new }
+    {
+        match read_uninterrupted(&mut self.stream, into) {
+            Ok(n) => Ok(n),
+            Err(_) => Err(self.fail()),
+        }
+    }
+}
+
+impl<W: Write> Sink for StdStream<W> {
     ghost written = { λ _. untold };
 
     ghost flushed = { λ _. 0 };
@@ -150,17 +124,15 @@ impl<W: Write> Sink for StdSink<W> {
         requires { 0 < length piece.now }
         ensures some { IfOk result (λ n. 0 < n) }
         ensures count { IfOk result (λ n. n ≤ length piece.now) }
-        ensures bytes { MatchResult result (λ n. Gains untold untold (take n piece.now)) (λ _. Gains untold untold []) }
-        ensures cause { MatchResult result
-            (λ _. self.new.faults ≡ self.old.faults)
-            (λ _. Rises self.old.faults self.new.faults) }
+        ensures bytes { WriteGains untold untold result piece.now }
+        ensures cause { RisesOnErr self.old.faults self.new.faults result }
 
         ensures once { OnErr result (self.new.faults ≡ next self.old.faults) }
 
         // Of what the writer tells: exactly these bytes were appended to it.
         ensures appends { WriteAppends (W.contents self.old.stream) (W.contents self.new.stream) result piece.now }
     {
-        match write_uninterrupted(&mut self.writer, piece) {
+        match write_uninterrupted(&mut self.stream, piece) {
             // A writer that takes nothing would be asked forever.
             Ok(0) | Err(_) => Err(self.fail()),
             Ok(taken) => Ok(taken),
@@ -170,13 +142,11 @@ impl<W: Write> Sink for StdSink<W> {
     fn flush(&mut self) -> Result<(), Failed>
         ensures bytes { Gains untold untold [] }
         ensures all { OnOk result (IsFlushed untold 0) }
-        ensures cause { MatchResult result
-            (λ _. self.new.faults ≡ self.old.faults)
-            (λ _. Rises self.old.faults self.new.faults) }
+        ensures cause { RisesOnErr self.old.faults self.new.faults result }
         ensures once { OnErr result (self.new.faults ≡ next self.old.faults) }
         ensures keeps { Keeps (W.contents self.old.stream) (W.contents self.new.stream) }
     {
-        match flush_uninterrupted(&mut self.writer) {
+        match flush_uninterrupted(&mut self.stream) {
             Ok(()) => Ok(()),
             Err(_) => Err(self.fail()),
         }

@@ -1,5 +1,5 @@
-ghost use Rattle.std.specs.Prelude.{◌≡◌, ℕ, ◌<◌, ◌≤◌, Option, List, [], length, take, IfOk, OnOk, OnErr, MatchResult};
-ghost use Rattle.dsc_streams.specs.Streams.{Loses, Gains, Rises, IsEnded, IsFlushed, next};
+ghost use Rattle.std.specs.Prelude.{◌≡◌, ℕ, ◌<◌, ◌≤◌, Option, List, [], length, IfOk, OnOk, OnErr};
+ghost use Rattle.dsc_streams.specs.Streams.{ReadLoses, Gains, WriteGains, Rises, RisesOnErr, IsEnded, IsFlushed, next};
 
 /// A read, a write or a flush that did not come about.
 #[derive(Clone, Copy, Debug, PartialEq, Eq)]
@@ -26,13 +26,9 @@ pub trait Source {
     fn read(&mut self, into: &mut [u8]) -> Result<usize, Failed>
         requires { 0 < length into.old }
         ensures count { IfOk result (λ n. n ≤ length into.new) }
-        ensures bytes { MatchResult result
-            (λ n. Loses (left self.old) (left self.new) (take n into.new))
-            (λ _. Loses (left self.old) (left self.new) []) }
+        ensures bytes { ReadLoses (left self.old) (left self.new) result into.new }
         ensures end { IfOk result (λ n. n ≡ 0 → IsEnded (left self.new)) }
-        ensures cause { MatchResult result
-            (λ _. faults self.new ≡ faults self.old)
-            (λ _. Rises (faults self.old) (faults self.new)) };
+        ensures cause { RisesOnErr (faults self.old) (faults self.new) result };
 }
 
 /// Where bytes go to.
@@ -51,20 +47,14 @@ pub trait Sink {
         requires { 0 < length piece.now }
         ensures some { IfOk result (λ n. 0 < n) }
         ensures count { IfOk result (λ n. n ≤ length piece.now) }
-        ensures bytes { MatchResult result
-            (λ n. Gains (written self.old) (written self.new) (take n piece.now))
-            (λ _. Gains (written self.old) (written self.new) []) }
+        ensures bytes { WriteGains (written self.old) (written self.new) result piece.now }
         ensures not_flushed { flushed self.new ≡ flushed self.old }
-        ensures cause { MatchResult result
-            (λ _. faults self.new ≡ faults self.old)
-            (λ _. Rises (faults self.old) (faults self.new)) };
+        ensures cause { RisesOnErr (faults self.old) (faults self.new) result };
 
     /// Sends on what was written. After a failure no more is flushed than before.
     fn flush(&mut self) -> Result<(), Failed>
         ensures bytes { Gains (written self.old) (written self.new) [] }
         ensures all { OnOk result (IsFlushed (written self.new) (flushed self.new)) }
         ensures none { OnErr result (flushed self.new ≡ flushed self.old) }
-        ensures cause { MatchResult result
-            (λ _. faults self.new ≡ faults self.old)
-            (λ _. Rises (faults self.old) (faults self.new)) };
+        ensures cause { RisesOnErr (faults self.old) (faults self.new) result };
 }

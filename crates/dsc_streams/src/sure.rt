@@ -1,6 +1,6 @@
-ghost use Rattle.std.specs.Prelude.{◌≡◌, ◌+◌, ◌-◌, ◌<◌, ◌≤◌, Some, [], true, length, take, IfOk, IsOk, OnOk, OnErr, MatchResult};
-ghost use Rattle.dsc_streams.specs.Streams.{Loses, Gains, Rises, IsEnded, IsFlushed};
-ghost use Rattle.dsc_streams.specs.Sure.{no_faults, told, stored};
+ghost use Rattle.std.specs.Prelude.{◌≡◌, ◌+◌, ◌-◌, ◌<◌, ◌≤◌, Some, [], true, drop, length, take, vec_len, vec_capacity, IfOk, IsOk, OnOk, OnErr};
+ghost use Rattle.dsc_streams.specs.Streams.{ReadLoses, Gains, WriteGains, RisesOnErr, IsEnded, IsFlushed};
+ghost use Rattle.dsc_streams.specs.Sure.{Supply, Store, no_faults, told, stored};
 
 use crate::{Failed, NoMemory, Sink, Source};
 use std::alloc::Global;
@@ -15,9 +15,6 @@ pub struct SureSource {
 }
 
 impl Model for SureSource {
-    ghost use Rattle.std.specs.Prelude.{◌≤◌, drop, length};
-    ghost use Rattle.dsc_streams.specs.Sure.{Supply};
-
     ghost Value = { Supply };
 
     ghost view = { λ a. record { left = drop a.at a.bytes.items; piece = a.piece } };
@@ -48,11 +45,9 @@ impl Source for SureSource {
     fn read(&mut self, into: &mut [u8]) -> Result<usize, Failed>
         requires { 0 < length into.old }
         ensures count { IfOk result (λ n. n ≤ length into.new) }
-        ensures bytes { MatchResult result
-            (λ n. Loses (Some self.old.left) (Some self.new.left) (take n into.new))
-            (λ _. Loses (Some self.old.left) (Some self.new.left) []) }
+        ensures bytes { ReadLoses (Some self.old.left) (Some self.new.left) result into.new }
         ensures end { IfOk result (λ n. n ≡ 0 → IsEnded (Some self.new.left)) }
-        ensures cause { MatchResult result (λ _. no_faults ≡ no_faults) (λ _. Rises no_faults no_faults) }
+        ensures cause { RisesOnErr no_faults no_faults result }
         ensures sure { IsOk result }
         ensures most { IfOk result (λ n. n ≤ self.old.piece) }
         ensures piece { self.new.piece ≡ self.old.piece }
@@ -77,9 +72,6 @@ pub struct SureSink {
 }
 
 impl Model for SureSink {
-    ghost use Rattle.std.specs.Prelude.{◌≤◌, vec_len, vec_capacity};
-    ghost use Rattle.dsc_streams.specs.Sure.{Store};
-
     ghost Value = { Store };
 
     ghost view = { λ a. record { kept = a.kept.items; room = a.room; whole = a.whole; piece = a.piece; flushed = a.flushed } };
@@ -138,11 +130,9 @@ impl Sink for SureSink {
         requires { 0 < length piece.now }
         ensures some { IfOk result (λ n. 0 < n) }
         ensures count { IfOk result (λ n. n ≤ length piece.now) }
-        ensures bytes { MatchResult result
-            (λ n. Gains (told self.old) (told self.new) (take n piece.now))
-            (λ _. Gains (told self.old) (told self.new) []) }
+        ensures bytes { WriteGains (told self.old) (told self.new) result piece.now }
         ensures not_flushed { self.new.flushed ≡ self.old.flushed }
-        ensures cause { MatchResult result (λ _. no_faults ≡ no_faults) (λ _. Rises no_faults no_faults) }
+        ensures cause { RisesOnErr no_faults no_faults result }
         ensures sure { IsOk result }
         ensures most { IfOk result (λ n. n ≤ self.old.piece) }
         ensures kept { IfOk result (λ n. self.new ≡ stored self.old (take n piece.now)) }
@@ -157,7 +147,7 @@ impl Sink for SureSink {
         ensures bytes { Gains (told self.old) (told self.new) [] }
         ensures all { OnOk result (IsFlushed (told self.new) self.new.flushed) }
         ensures none { OnErr result (self.new.flushed ≡ self.old.flushed) }
-        ensures cause { MatchResult result (λ _. no_faults ≡ no_faults) (λ _. Rises no_faults no_faults) }
+        ensures cause { RisesOnErr no_faults no_faults result }
         ensures sure { IsOk result }
         ensures kept { self.new ≡ record self.old { flushed = length self.old.kept } }
     {

@@ -4,9 +4,11 @@
 pub mod categories;
 pub mod ends;
 pub mod formats;
+pub mod laws;
 pub mod messages;
 pub mod natures;
 pub mod notices;
 pub mod phasing;
+pub mod sets;
 pub mod telecommands;
 pub mod worked;

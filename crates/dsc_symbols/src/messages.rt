@@ -1,5 +1,3 @@
-ghost use Rattle.std.specs.Prelude.{◌≡◌};
-
 /// No information, in place of a telecommand or of a character of a message.
 pub const NO_INFORMATION: u8 = 126;
 
@@ -14,12 +12,3 @@ pub const UNKNOWN_TIME: u8 = 88;
 
 /// A VHF channel follows, in a frequency or channel field.
 pub const VHF_CHANNEL: u8 = 90;
-
-/// The law that the characters that mark messages have these numbers (ITU-R M.493, messages). It does nothing.
-pub fn message_numbers()
-    ensures no_information { NO_INFORMATION ≡ 126 }
-    ensures position_follows { POSITION_FOLLOWS ≡ 55 }
-    ensures unknown_position { UNKNOWN_POSITION ≡ 99 }
-    ensures unknown_time { UNKNOWN_TIME ≡ 88 }
-    ensures vhf_channel { VHF_CHANNEL ≡ 90 }
-{}

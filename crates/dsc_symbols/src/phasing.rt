@@ -1,5 +1,3 @@
-ghost use Rattle.std.specs.Prelude.{◌≡◌};
-
 /// The phasing symbol of each DX slot.
 pub const DX: u8 = 125;
 
@@ -26,16 +24,3 @@ pub const RX_1: u8 = 105;
 
 /// The phasing symbol of an RX slot, RX 0.
 pub const RX_0: u8 = 104;
-
-/// The law that the phasing symbols have these numbers (ITU-R M.493, phasing sequence). It does nothing.
-pub fn phasing_numbers()
-    ensures dx { DX ≡ 125 }
-    ensures rx_7 { RX_7 ≡ 111 }
-    ensures rx_6 { RX_6 ≡ 110 }
-    ensures rx_5 { RX_5 ≡ 109 }
-    ensures rx_4 { RX_4 ≡ 108 }
-    ensures rx_3 { RX_3 ≡ 107 }
-    ensures rx_2 { RX_2 ≡ 106 }
-    ensures rx_1 { RX_1 ≡ 105 }
-    ensures rx_0 { RX_0 ≡ 104 }
-{}

@@ -1,8 +1,3 @@
-ghost use Rattle.std.specs.Prelude.{◌≡◌, ◌↔◌, ◌∷◌, [], IsTrue};
-ghost use Rattle.dsc_symbols.specs.Telecommands.{IsFirst, IsSecond, IsComm};
-
-use crate::messages::NO_INFORMATION;
-
 /// F3E or G3E telephony, all modes.
 pub const ALL_MODES: u8 = 100;
 
@@ -59,49 +54,3 @@ pub const COMMS: [(u64, u64); 6] = [
     (115, 115),
     (126, 126),
 ];
-
-/// Whether this is a first telecommand of a call that has no form of its own (ITU-R M.493, telecommands).
-pub fn is_first(symbol: u8) -> bool
-    ensures { IsTrue result ↔ IsFirst symbol }
-{
-    matches!(
-        symbol,
-        ALL_MODES
-            | DUPLEX
-            | POLLING
-            | UNABLE_TO_COMPLY
-            | DATA
-            | J3E
-            | TTY_FEC
-            | TTY_ARQ
-            | NO_INFORMATION
-    )
-}
-
-/// Whether this is the symbol of subsequent communications (ITU-R M.493, telecommands).
-pub fn is_comm(symbol: u8) -> bool
-    ensures { IsTrue result ↔ IsComm symbol }
-{
-    matches!(
-        symbol,
-        ALL_MODES | DUPLEX | DATA | J3E | TTY_FEC | TTY_ARQ | NO_INFORMATION
-    )
-}
-
-/// The law that the first telecommands have these numbers (ITU-R M.493, telecommands). It does nothing.
-pub fn telecommand_numbers()
-    ensures all_modes { ALL_MODES ≡ 100 }
-    ensures duplex { DUPLEX ≡ 101 }
-    ensures polling { POLLING ≡ 103 }
-    ensures unable_to_comply { UNABLE_TO_COMPLY ≡ 104 }
-    ensures data { DATA ≡ 106 }
-    ensures j3e { J3E ≡ 109 }
-    ensures distress_acknowledgement { DISTRESS_ACKNOWLEDGEMENT ≡ 110 }
-    ensures distress_relay { DISTRESS_RELAY ≡ 112 }
-    ensures tty_fec { TTY_FEC ≡ 113 }
-    ensures tty_arq { TTY_ARQ ≡ 115 }
-    ensures test { TEST ≡ 118 }
-    ensures ship_position { SHIP_POSITION ≡ 121 }
-    ensures firsts { FIRSTS ≡ (100, 101) ∷ (103, 104) ∷ (106, 106) ∷ (109, 109) ∷ (113, 113) ∷ (115, 115) ∷ (126, 126) ∷ [] }
-    ensures comms { COMMS ≡ (100, 101) ∷ (106, 106) ∷ (109, 109) ∷ (113, 113) ∷ (115, 115) ∷ (126, 126) ∷ [] }
-{}

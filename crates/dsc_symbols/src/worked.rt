@@ -13,3 +13,14 @@ pub const ALERT_SLOTS: [u8; 52] = [
     112, 40, 33, 7, 80, 90, 40, 106, 7, 14, 90, 23, 106, 10, 14, 83, 23, 12, 10, 20, 83, 19, 12,
     100, 20, 127, 19, 78, 100, 127, 127, 127, 78,
 ];
+
+/// The slots that are lost of it where the RX copies alone are left, but for that of place 7.
+pub const LOST_DX_AND_PLACE_7: [usize; 21] = [
+    12, 14, 16, 18, 20, 22, 24, 26, 28, 30, 31, 32, 34, 36, 38, 40, 42, 44, 46, 48, 50,
+];
+
+/// The slots that are lost of it where place 7 alone is left behind slot 15.
+pub const LOST_BUT_PLACE_7: [usize; 35] = [
+    16, 17, 18, 19, 20, 21, 22, 23, 24, 25, 27, 28, 29, 30, 31, 32, 33, 34, 35, 36, 37, 38, 39, 40,
+    41, 42, 43, 44, 45, 46, 47, 48, 49, 50, 51,
+];

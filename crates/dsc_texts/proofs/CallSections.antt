@@ -105,6 +105,7 @@ abbrev pub LawfulSide : {U V : Type 0} → (U → Type 0) → (V → Type 0) →
 LawfulSide P Q (inl u) = P u
 LawfulSide P Q (inr v) = Q v
 
+-- the parts of one of two forms
 abbrev pub side_parts : {U V : Type 0} → (U → Parts → Parts) → (V → Parts → Parts) → U ⊎ V → Parts → Parts
 side_parts f g (inl u) q = first (f u q)
 side_parts f g (inr v) q = second (g v q)
@@ -142,6 +143,7 @@ side_front : {U V : Type 0} {G H : Grammar → Grammar} {P : U → Type 0} {Q : 
 side_front s t (inl u) h rest q back k = s.front u h rest q back k
 side_front s t (inr v) h rest q back k = t.front v h rest q back k
 
+-- a section of one of two forms
 pub sided : {U V : Type 0} {G H : Grammar → Grammar} {P : U → Type 0} {Q : V → Type 0} {f : U → Parts → Parts} {g : V → Parts → Parts} → Section G P f → Section H Q g
     → Section (λ rest. either (G rest) (H rest)) (LawfulSide P Q) (side_parts f g)
 sided {G = G} {H = H} s t = record {

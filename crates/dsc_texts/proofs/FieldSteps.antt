@@ -13,6 +13,7 @@ pub letters_missed : (text bytes : List ℕ) (left : ℕ) → after text bytes �
 unfolding read_shape
 letters_missed text bytes left e = ap (and_letters text) e
 
+-- letters that stand in front are read
 pub letters_read : (text bytes back : List ℕ) → after text bytes ≡ Ok back → read_shape (letters text) bytes ≡ Ok (text, back)
 unfolding read_shape
 letters_read text bytes back e = ap (and_letters text) e
@@ -22,10 +23,12 @@ pub first_missed : (one two : Shape) (bytes : List ℕ) (left : ℕ) → read_sh
 unfolding read_shape
 first_missed one two bytes left e = ap (λ (a : Result (List ℕ × List ℕ) ℕ). and_shape a (read_shape two)) e
 
+-- a pair stops where its second shape does
 pub second_missed : (one two : Shape) (bytes front back : List ℕ) (left : ℕ) → read_shape one bytes ≡ Ok (front, back) → read_shape two back ≡ Err left → read_shape (pair one two) bytes ≡ Err left
 unfolding read_shape
 second_missed one two bytes front back left d e = ap (λ (a : Result (List ℕ × List ℕ) ℕ). and_shape a (read_shape two)) d ∙ ap (behind front) e
 
+-- a pair is read where both of its shapes are
 pub pair_read : (one two : Shape) (bytes front back text rest : List ℕ) → read_shape one bytes ≡ Ok (front, back) → read_shape two back ≡ Ok (text, rest) → read_shape (pair one two) bytes ≡ Ok (front ++ text, rest)
 unfolding read_shape
 pair_read one two bytes front back text rest d e = ap (λ (a : Result (List ℕ × List ℕ) ℕ). and_shape a (read_shape two)) d ∙ ap (behind front) e

@@ -1,5 +1,5 @@
 -- texts that are written of the parts of a section and are read by its grammar
-use Rattle.std.proofs.Common.{◌≡◌, ℕ, ◌+◌, ◌≤◌, true, List, length, Result, Ok, Err, refl, sym, ◌∙◌, ap, subst}
+use Rattle.std.proofs.Common.{◌≡◌, ℕ, ◌+◌, ◌-◌, ◌≤◌, true, List, length, Result, Ok, Err, refl, sym, ◌∙◌, ap, subst, arith}
 use Rattle.line_grammar.specs.Columns.{ReadsAs, IsColumn}
 use Rattle.line_grammar.specs.Grammar.{Grammar, Parts, Spells, written}
 use Rattle.line_grammar.specs.inside.Reading.{read}
@@ -59,13 +59,20 @@ text_stops : {V : Type 0} {G : Grammar} {Lawful : V → Type 0} {parts : V → P
 text_stops {G = G} {Lawful = Lawful} {text = text} t bytes left e =
     Stops-alike (Spells G) (IsText Lawful text) bytes left (texts_alike t) (subst (λ (r : Result Parts ℕ). Reads (Spells G) bytes r) e (reads G bytes t.sound))
 
+-- no more bytes are left than the text has
 pub text_left : {V : Type 0} {G : Grammar} {Lawful : V → Type 0} {parts : V → Parts} {text : V → List ℕ} → Texts G Lawful parts text
     → (bytes : List ℕ) (left : ℕ) → read G bytes ≡ Err left → left ≤ length bytes
 text_left {Lawful = Lawful} {text = text} t bytes left e = left_le (IsText Lawful text) bytes left (text_stops t bytes left e)
 
+-- where the reading stops is the column of the fault
 pub text_column : {V : Type 0} {G : Grammar} {Lawful : V → Type 0} {parts : V → Parts} {text : V → List ℕ} → Texts G Lawful parts text
-    → (bytes : List ℕ) (left n : ℕ) → read G bytes ≡ Err left → n + left ≡ length bytes + 1 → IsColumn (IsText Lawful text) bytes n
-text_column {Lawful = Lawful} {text = text} t bytes left n e k = IsColumn-stops (IsText Lawful text) bytes left n (text_stops t bytes left e) k
+    → (bytes : List ℕ) (left : ℕ) → read G bytes ≡ Err left → IsColumn (IsText Lawful text) bytes (length bytes + 1 - left)
+text_column {Lawful = Lawful} {text = text} t bytes left e =
+    IsColumn-stops (IsText Lawful text) bytes left (length bytes + 1 - left) (text_stops t bytes left e) (omega (arith, text_left t bytes left e))
+
+-- a column is the number that its place is counted to
+pub column_is : {W : Type 0} (L : W → List ℕ → Type 0) (bytes : List ℕ) (left n : ℕ) → n + left ≡ length bytes + 1 → IsColumn L bytes (length bytes + 1 - left) → IsColumn L bytes n
+column_is L bytes left n e h = subst (IsColumn L bytes) (omega (arith, e)) h
 
 -- of a text, reading answers nothing but its value
 pub answered : {V : Type 0} (Lawful : V → Type 0) (text : V → List ℕ) (v : V) (answer : Result V ℕ) → Lawful v → ReadsAs (IsText Lawful text) (text v) answer → answer ≡ Ok v

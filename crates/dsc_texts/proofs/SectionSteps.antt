@@ -13,6 +13,7 @@ unfolding read
 no_label label token parts old new (Ok v) left h e = absurd h
 no_label label token parts old new (Err n) left h e = λ rest. ap (λ (r : Result (List ℕ) ℕ). and_then r (read (field token rest))) e ∙ ap (λ (m : ℕ). Err m) (sym h)
 
+-- a field reads as its token does behind its label
 pub field_answer : {V R : Type 0} (now : R → List ℕ) (label : List ℕ) (token : Token) (text : V → List ℕ) (old mid at new : List ℕ) (fields : Result (V × R) ℕ) (r : Result V ℕ)
     → after label old ≡ Ok mid → at ≡ mid → IfOk fields (λ p. read_token token at ≡ Ok (text p.0, now p.1)) → IfErr fields (λ left. read_token token at ≡ Err left)
     → IfOk r (λ v. IsOkAnd fields (λ p. (p.0 ≡ v) × (now p.1 ≡ new))) → IfErr r (λ left. fields ≡ Err left) → ReadsSection (labelled label token) (λ v. part (text v)) old r new
@@ -40,9 +41,11 @@ IsRead G f old new = (rest : Grammar) → read (G rest) old ≡ named f (read re
 abbrev pub IsLeft : (G : Grammar → Grammar) (old : List ℕ) (left : ℕ) → Type 0
 IsLeft G old left = (rest : Grammar) → read (G rest) old ≡ Err left
 
+-- two sections are read one behind the other
 pub both : (G H : Grammar → Grammar) (f g : Parts → Parts) (old mid new : List ℕ) → IsRead G f old mid → IsRead H g mid new → IsRead (λ rest. G (H rest)) (λ p. f (g p)) old new
 both G H f g old mid new h k rest = h (H rest) ∙ ap (named f) (k rest) ∙ named_twice f g (read rest new)
 
+-- two sections stop where the second one does
 pub behind : (G H : Grammar → Grammar) (f : Parts → Parts) (old mid : List ℕ) (left : ℕ) → IsRead G f old mid → IsLeft H mid left → IsLeft (λ rest. G (H rest)) old left
 behind G H f old mid left h k rest = h (H rest) ∙ ap (named f) (k rest)
 
@@ -56,10 +59,12 @@ named_same : (r : Result Parts ℕ) → r ≡ named (λ p. p) r
 named_same (Ok p) = refl
 named_same (Err left) = refl
 
+-- a word that stands in front is read
 pub word_read : (text old mid : List ℕ) → after text old ≡ Ok mid → IsRead (word text) (λ p. p) old mid
 unfolding read
 word_read text old mid h rest = ap (λ (r : Result (List ℕ) ℕ). and_then r (read rest)) h ∙ named_same (read rest mid)
 
+-- a word stops where its bytes do
 pub word_left : (text old : List ℕ) (left : ℕ) → after text old ≡ Err left → IsLeft (word text) old left
 unfolding read
 word_left text old left h rest = ap (λ (r : Result (List ℕ) ℕ). and_then r (read rest)) h
@@ -68,6 +73,7 @@ word_left text old left h rest = ap (λ (r : Result (List ℕ) ℕ). and_then r 
 pub whole : (G : Grammar → Grammar) (K : Grammar) (f : Parts → Parts) (old mid at : List ℕ) (own : Parts) → IsRead G f old mid → at ≡ mid → read K at ≡ Ok own → read (G K) old ≡ Ok (f own)
 whole G K f old mid at own h s k = h K ∙ ap (λ (l : List ℕ). named f (read K l)) (sym s) ∙ ap (named f) k
 
+-- a form stops where its tail does
 pub no_tail : (G : Grammar → Grammar) (K : Grammar) (f : Parts → Parts) (old mid at : List ℕ) (left : ℕ) → IsRead G f old mid → at ≡ mid → read K at ≡ Err left → read (G K) old ≡ Err left
 no_tail G K f old mid at left h s k = h K ∙ ap (λ (l : List ℕ). named f (read K l)) (sym s) ∙ ap (named f) k
 
@@ -99,6 +105,7 @@ unfolding read
 first_form G H place parts bytes (Ok v) ok h = (first h.0, ap (λ (x : Result Parts ℕ). further (named first x) (named second (read H bytes))) h.1, h.2)
 first_form G H place parts bytes (Err m) ok h = absurd (cc)
 
+-- the second form is read where the first isn't
 pub second_form : {V : Type 0} (G H : Grammar) (place : Parts → Parts) (parts : V → Parts) (bytes : List ℕ) (r s : Result V ℕ) → is_ok r ≡ false → is_ok s ≡ true
     → ReadsForm G (λ p. place (first p)) parts bytes r → ReadsForm H (λ p. place (second p)) parts bytes s → ReadsForm (either G H) place parts bytes s
 second_form G H place parts bytes (Ok v) s fails ok h k = absurd (cc)

@@ -31,6 +31,7 @@ numbers width ranges Lawful inside lawful below = record {
   one = λ m n h k e. one_number width m n (below m h) (below n k) e;
 }
 
+-- an identity is told by its nine digits
 pub identity_told : Told identity IsMmsi (digits 9)
 identity_told = numbers 9 _ IsMmsi (λ n h. grind (arith, nat_tests)) (λ n h. grind (arith, nat_tests)) (λ n h. omega (arith, h))
 

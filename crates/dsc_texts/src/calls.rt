@@ -6,7 +6,6 @@ ghost use Rattle.call_values.specs.declared.calls.Call.TheVariants.{Alert, Servi
 ghost use Rattle.dsc_texts.specs.Texts.{reported_text};
 
 use crate::extras::append_extra;
-use crate::pieces::append_digits;
 use crate::values::{
     append_address, append_area, append_casualty, append_distress, append_end, append_frequencies,
     append_from, append_message, append_position, append_request, append_sender, append_time,
@@ -16,7 +15,7 @@ use call_grammar::end_of;
 use call_values::{Call, Casualty, Category, Kind, Mmsi};
 use dsc_symbols::ends::{ACKNOWLEDGE_BQ, ACKNOWLEDGE_RQ};
 use slot_join::Extra;
-use text_pieces::append;
+use text_pieces::{append, append_digits};
 
 /// The text of a call and of what follows it on air.
 pub fn put_call(call: &Call, extra: &Extra) -> ArrayVec<u8, 256>

@@ -10,32 +10,33 @@ ghost use Rattle.dsc_texts.specs.inside.Expansions as inside;
 ghost use Rattle.dsc_texts.specs.inside.Expansions.{IsSet};
 ghost use Rattle.dsc_texts.specs.inside.Reading.{ReadsSection, ReadsForm, ReadsTail};
 
-use crate::fields::{further, spelled};
+use crate::fields::spelled;
 use crate::line::{end, take, word};
 use cursor::Cursor;
 use expansion::bounds::{LAST_COURSE, LAST_ENHANCEMENT, LAST_SPEED};
 use expansion::{Expansion, Part};
-use line_grammar::fixed_number;
+use line_grammar::{Left, fixed_number, further};
 
-/// A set's number of at most so much in so many digits at the front of these bytes, and what follows it. An error is
-/// how many bytes are left at the fault.
-fn set_digits(width: usize, most: u32, bytes: &[u8]) -> Result<(Part, &[u8]), usize>
+/// A set's number of at most so much in so many digits at the front of these bytes, and what follows it.
+fn set_digits(width: usize, most: u32, bytes: &[u8]) -> Result<(Part, &[u8]), Left>
     requires width { width ≤ 8 }
     requires most { most < 10 ^ width }
     ensures lawful { IfOk result (λ parts. IsSet most parts.0) }
-    ensures value { IfOk result (λ parts. read_shape (shape.fixed_number width ((0, most) ∷ [])) bytes.now ≡ Ok (set_text width parts.0, parts.1.now)) }
+    ensures value { IfOk result (λ parts. read_shape (shape.fixed_number width ((0, most) ∷ [])) bytes.now
+        ≡ Ok (set_text width parts.0, parts.1.now)) }
     ensures left { IfErr result (λ left. read_shape (shape.fixed_number width ((0, most) ∷ [])) bytes.now ≡ Err left) }
 {
     let (number, rest) = fixed_number(width, &[(0, u64::from(most))], bytes)?;
     Ok((Part::digits(number as u32), rest))
 }
 
-/// A set's value at the front of these bytes, and what follows it. An error is how many bytes are left at the fault.
-fn set_value(width: usize, most: u32, bytes: &[u8]) -> Result<(Part, &[u8]), usize>
+/// A set's value at the front of these bytes, and what follows it.
+fn set_value(width: usize, most: u32, bytes: &[u8]) -> Result<(Part, &[u8]), Left>
     requires width { width ≤ 8 }
     requires most { most < 10 ^ width }
     ensures lawful { IfOk result (λ parts. IsSet most parts.0) }
-    ensures value { IfOk result (λ parts. read_shape (grammar.set_shape width most) bytes.now ≡ Ok (set_text width parts.0, parts.1.now)) }
+    ensures value { IfOk result (λ parts. read_shape (grammar.set_shape width most) bytes.now
+        ≡ Ok (set_text width parts.0, parts.1.now)) }
     ensures left { IfErr result (λ left. read_shape (grammar.set_shape width most) bytes.now ≡ Err left) }
 {
     let none = spelled(b"none", Part::none(), bytes);
@@ -43,8 +44,8 @@ fn set_value(width: usize, most: u32, bytes: &[u8]) -> Result<(Part, &[u8]), usi
     further(&none, &told)
 }
 
-/// Reads a set behind its label. An error is how many bytes are left at the fault.
-fn set(line: &mut Cursor, label: &[u8], width: usize, most: u32) -> Result<Part, usize>
+/// Reads a set behind its label.
+fn set(line: &mut Cursor, label: &[u8], width: usize, most: u32) -> Result<Part, Left>
     requires width { width ≤ 8 }
     requires most { most < 10 ^ width }
     ensures lawful { IfOk result (λ set. IsSet most set) }
@@ -54,8 +55,8 @@ fn set(line: &mut Cursor, label: &[u8], width: usize, most: u32) -> Result<Part,
     take(line, &set_value(width, most, line.rest()))
 }
 
-/// Reads the course and the end. An error is how many bytes are left at the fault.
-fn course(bytes: &[u8]) -> Result<Part, usize>
+/// Reads the course and the end.
+fn course(bytes: &[u8]) -> Result<Part, Left>
     ensures lawful { IfOk result (λ course. IsSet LAST_COURSE course) }
     ensures reads { ReadsForm (grammar.course finish) (λ p. p) inside.course bytes.now result }
 {
@@ -67,7 +68,7 @@ fn course(bytes: &[u8]) -> Result<Part, usize>
 
 /// Reads the end, where no course is told.
 #[tactic(auto, unfolding(line_grammar::specs::inside::Reading::read))]
-fn no_course(bytes: &[u8]) -> Result<Part, usize>
+fn no_course(bytes: &[u8]) -> Result<Part, Left>
     ensures lawful { IfOk result (λ course. IsUpTo LAST_COURSE course) }
     ensures reads { ReadsForm finish first inside.perhaps_course bytes.now result }
 {
@@ -75,16 +76,16 @@ fn no_course(bytes: &[u8]) -> Result<Part, usize>
     Ok(Part::left_out())
 }
 
-/// Reads the course, perhaps, and the end. An error is how many bytes are left at the fault.
-fn perhaps_course(bytes: &[u8]) -> Result<Part, usize>
+/// Reads the course, perhaps, and the end.
+fn perhaps_course(bytes: &[u8]) -> Result<Part, Left>
     ensures lawful { IfOk result (λ course. IsUpTo LAST_COURSE course) }
     ensures reads { ReadsForm (perhaps grammar.course finish) (λ p. p) inside.perhaps_course bytes.now result }
 {
     further(&no_course(bytes), &course(bytes))
 }
 
-/// Reads the speed and what may follow it. An error is how many bytes are left at the fault.
-fn speed(bytes: &[u8]) -> Result<(Part, Part), usize>
+/// Reads the speed and what may follow it.
+fn speed(bytes: &[u8]) -> Result<(Part, Part), Left>
     ensures lawful { IfOk result (λ sets. IsSet LAST_SPEED sets.0 × IsUpTo LAST_COURSE sets.1) }
     ensures reads { ReadsForm (grammar.speed (perhaps grammar.course finish)) (λ p. p) inside.speed bytes.now result }
 {
@@ -94,8 +95,8 @@ fn speed(bytes: &[u8]) -> Result<(Part, Part), usize>
     Ok((speed, course))
 }
 
-/// Reads what may follow the speed, where none is told. An error is how many bytes are left at the fault.
-fn no_speed(bytes: &[u8]) -> Result<(Part, Part), usize>
+/// Reads what may follow the speed, where none is told.
+fn no_speed(bytes: &[u8]) -> Result<(Part, Part), Left>
     ensures lawful { IfOk result (λ sets. IsUpTo LAST_SPEED sets.0 × IsUpTo LAST_COURSE sets.1) }
     ensures reads { ReadsForm (perhaps grammar.course finish) first inside.perhaps_speed bytes.now result }
 {
@@ -103,32 +104,32 @@ fn no_speed(bytes: &[u8]) -> Result<(Part, Part), usize>
     Ok((Part::left_out(), course))
 }
 
-/// Reads the speed, perhaps, and what may follow it. An error is how many bytes are left at the fault.
-fn perhaps_speed(bytes: &[u8]) -> Result<(Part, Part), usize>
+/// Reads the speed, perhaps, and what may follow it.
+fn perhaps_speed(bytes: &[u8]) -> Result<(Part, Part), Left>
     ensures lawful { IfOk result (λ sets. IsUpTo LAST_SPEED sets.0 × IsUpTo LAST_COURSE sets.1) }
     ensures reads { ReadsForm (perhaps grammar.speed (perhaps grammar.course finish)) (λ p. p) inside.perhaps_speed bytes.now result }
 {
     further(&no_speed(bytes), &speed(bytes))
 }
 
-/// Reads an expansion that begins with its course. An error is how many bytes are left at the fault.
-fn from_course(bytes: &[u8]) -> Result<Expansion, usize>
+/// Reads an expansion that begins with its course.
+fn from_course(bytes: &[u8]) -> Result<Expansion, Left>
     ensures { ReadsForm (grammar.course finish) (λ p. second (second p)) inside.sets bytes.now result }
 {
     let course = course(bytes)?;
     Ok(Expansion::new(Part::left_out(), Part::left_out(), course).unwrap())
 }
 
-/// Reads an expansion that begins with its speed. An error is how many bytes are left at the fault.
-fn from_speed(bytes: &[u8]) -> Result<Expansion, usize>
+/// Reads an expansion that begins with its speed.
+fn from_speed(bytes: &[u8]) -> Result<Expansion, Left>
     ensures { ReadsForm (grammar.speed (perhaps grammar.course finish)) (λ p. second (first p)) inside.sets bytes.now result }
 {
     let (speed, course) = speed(bytes)?;
     Ok(Expansion::new(Part::left_out(), speed, course).unwrap())
 }
 
-/// Reads an expansion that begins with its enhanced position. An error is how many bytes are left at the fault.
-fn from_enhanced(bytes: &[u8]) -> Result<Expansion, usize>
+/// Reads an expansion that begins with its enhanced position.
+fn from_enhanced(bytes: &[u8]) -> Result<Expansion, Left>
     ensures { ReadsForm (grammar.enhanced (perhaps grammar.speed (perhaps grammar.course finish))) first inside.sets bytes.now result }
 {
     let mut line = Cursor::new(bytes);
@@ -137,16 +138,16 @@ fn from_enhanced(bytes: &[u8]) -> Result<Expansion, usize>
     Ok(Expansion::new(enhanced, speed, course).unwrap())
 }
 
-/// Reads an expansion from its first set on. An error is how many bytes are left at the fault.
-fn sets(bytes: &[u8]) -> Result<Expansion, usize>
+/// Reads an expansion from its first set on.
+fn sets(bytes: &[u8]) -> Result<Expansion, Left>
     ensures { ReadsForm (grammar.sets finish) (λ p. p) inside.sets bytes.now result }
 {
     let behind_position = further(&from_speed(bytes), &from_course(bytes));
     further(&from_enhanced(bytes), &behind_position)
 }
 
-/// Reads an expansion. An error is how many bytes are left at the fault.
-fn expansion(bytes: &[u8]) -> Result<Option<Expansion>, usize>
+/// Reads an expansion.
+fn expansion(bytes: &[u8]) -> Result<Option<Expansion>, Left>
     ensures { ReadsForm (grammar.expansion finish) second inside.expansion_or_end bytes.now result }
 {
     let mut line = Cursor::new(bytes);
@@ -157,15 +158,15 @@ fn expansion(bytes: &[u8]) -> Result<Option<Expansion>, usize>
 
 /// Reads the end, where no expansion follows.
 #[tactic(auto, unfolding(line_grammar::specs::inside::Reading::read))]
-fn no_expansion(bytes: &[u8]) -> Result<Option<Expansion>, usize>
+fn no_expansion(bytes: &[u8]) -> Result<Option<Expansion>, Left>
     ensures { ReadsForm finish first inside.expansion_or_end bytes.now result }
 {
     end(&Cursor::new(bytes))?;
     Ok(None)
 }
 
-/// Reads an expansion, perhaps, and the end. An error is how many bytes are left at the fault.
-pub fn expansion_or_end(bytes: &[u8]) -> Result<Option<Expansion>, usize>
+/// Reads an expansion, perhaps, and the end.
+pub fn expansion_or_end(bytes: &[u8]) -> Result<Option<Expansion>, Left>
     ensures { ReadsTail (perhaps grammar.expansion finish) inside.expansion_or_end bytes.now result }
 {
     further(&no_expansion(bytes), &expansion(bytes))

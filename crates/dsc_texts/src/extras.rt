@@ -4,11 +4,10 @@ ghost use Rattle.dsc_texts.specs.CallParts.{expansion_text};
 ghost use Rattle.dsc_texts.specs.Texts.{extra_text};
 ghost use Rattle.dsc_texts.specs.inside.Expansions.{label_and_set};
 
-use crate::pieces::append_digits;
 use arrayvec::ArrayVec;
 use expansion::{Expansion, Part, PartKind};
 use slot_join::Extra;
-use text_pieces::{append, append_number};
+use text_pieces::{append, append_digits, append_number};
 
 /// Appends what stands behind a call, which takes at most 40 bytes.
 pub fn append_extra<const N: usize>(out: &mut ArrayVec<u8, N>, extra: &Extra)

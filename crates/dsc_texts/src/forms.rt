@@ -5,15 +5,16 @@ ghost use Rattle.dsc_texts.specs.CallGrammar.{labelled};
 ghost use Rattle.dsc_texts.specs.inside.Places.{nth, last};
 ghost use Rattle.dsc_texts.specs.inside.Reading.{ReadsForm, ending_with, parts_with};
 
-use crate::fields::{RelayEnd, TestEnd, further};
 use crate::line::word;
 use crate::sections::{Distress, Frequencies, Request, Sender, casualty, field};
 use crate::tails::Tail;
+use crate::tokens::{RelayEnd, TestEnd};
 use call_values::{Area, Call, End, HourMinute, Kind, Message, Mmsi, Position, To};
 use cursor::Cursor;
+use line_grammar::{Left, further};
 
-/// Reads a distress alert. An error is how many bytes are left at the fault.
-pub fn alert<T: Tail>(bytes: &[u8]) -> Result<(Call, T), usize>
+/// Reads a distress alert.
+pub fn alert<T: Tail>(bytes: &[u8]) -> Result<(Call, T), Left>
     ensures { ReadsForm (grammar.alert T.grammar) (nth 0) (parts_with T.parts) bytes.now result }
 {
     let mut line = Cursor::new(bytes);
@@ -25,8 +26,8 @@ pub fn alert<T: Tail>(bytes: &[u8]) -> Result<(Call, T), usize>
     Ok((call, tail))
 }
 
-/// Reads a distress acknowledgement. An error is how many bytes are left at the fault.
-pub fn ack<T: Tail>(bytes: &[u8]) -> Result<(Call, T), usize>
+/// Reads a distress acknowledgement.
+pub fn ack<T: Tail>(bytes: &[u8]) -> Result<(Call, T), Left>
     ensures { ReadsForm (grammar.ack T.grammar) (nth 1) (parts_with T.parts) bytes.now result }
 {
     let mut line = Cursor::new(bytes);
@@ -40,8 +41,8 @@ pub fn ack<T: Tail>(bytes: &[u8]) -> Result<(Call, T), usize>
     Ok((call, tail))
 }
 
-/// Reads a distress relay. An error is how many bytes are left at the fault.
-pub fn relay<T: Tail>(bytes: &[u8]) -> Result<(Call, T), usize>
+/// Reads a distress relay.
+pub fn relay<T: Tail>(bytes: &[u8]) -> Result<(Call, T), Left>
     ensures { ReadsForm (grammar.relay T.grammar) (nth 2) (parts_with T.parts) bytes.now result }
 {
     let mut line = Cursor::new(bytes);
@@ -58,8 +59,8 @@ pub fn relay<T: Tail>(bytes: &[u8]) -> Result<(Call, T), usize>
     Ok((call, tail))
 }
 
-/// Reads a relay acknowledgement. An error is how many bytes are left at the fault.
-pub fn relay_ack<T: Tail>(bytes: &[u8]) -> Result<(Call, T), usize>
+/// Reads a relay acknowledgement.
+pub fn relay_ack<T: Tail>(bytes: &[u8]) -> Result<(Call, T), Left>
     ensures { ReadsForm (grammar.relay_ack T.grammar) (nth 3) (parts_with T.parts) bytes.now result }
 {
     let mut line = Cursor::new(bytes);
@@ -74,8 +75,8 @@ pub fn relay_ack<T: Tail>(bytes: &[u8]) -> Result<(Call, T), usize>
     Ok((call, tail))
 }
 
-/// Reads a call to all ships. An error is how many bytes are left at the fault.
-pub fn all_ships<T: Tail>(bytes: &[u8]) -> Result<(Call, T), usize>
+/// Reads a call to all ships.
+pub fn all_ships<T: Tail>(bytes: &[u8]) -> Result<(Call, T), Left>
     ensures { ReadsForm (grammar.all_ships T.grammar) (nth 4) (parts_with T.parts) bytes.now result }
 {
     let mut line = Cursor::new(bytes);
@@ -94,8 +95,8 @@ pub fn all_ships<T: Tail>(bytes: &[u8]) -> Result<(Call, T), usize>
     Ok((call, tail))
 }
 
-/// Reads a call to an area. An error is how many bytes are left at the fault.
-pub fn area_call<T: Tail>(bytes: &[u8]) -> Result<(Call, T), usize>
+/// Reads a call to an area.
+pub fn area_call<T: Tail>(bytes: &[u8]) -> Result<(Call, T), Left>
     ensures { ReadsForm (grammar.area_call T.grammar) (nth 5) (parts_with T.parts) bytes.now result }
 {
     let mut line = Cursor::new(bytes);
@@ -115,8 +116,8 @@ pub fn area_call<T: Tail>(bytes: &[u8]) -> Result<(Call, T), usize>
     Ok((call, tail))
 }
 
-/// Reads a call to a group. An error is how many bytes are left at the fault.
-pub fn group_call<T: Tail>(bytes: &[u8]) -> Result<(Call, T), usize>
+/// Reads a call to a group.
+pub fn group_call<T: Tail>(bytes: &[u8]) -> Result<(Call, T), Left>
     ensures { ReadsForm (grammar.group_call T.grammar) (nth 6) (parts_with T.parts) bytes.now result }
 {
     let mut line = Cursor::new(bytes);
@@ -143,9 +144,8 @@ pub struct Ending {
     end: End,
 }
 
-/// Reads two frequencies or channels and the end of a call to one station. An error is how many bytes are left at
-/// the fault.
-fn frequencies_and_end<T: Tail>(bytes: &[u8]) -> Result<(Ending, T), usize>
+/// Reads two frequencies or channels and the end of a call to one station.
+fn frequencies_and_end<T: Tail>(bytes: &[u8]) -> Result<(Ending, T), Left>
     ensures { ReadsForm (grammar.frequencies (grammar.end grammar.all_ends T.grammar)) first (ending_with T.parts) bytes.now result }
 {
     let mut line = Cursor::new(bytes);
@@ -159,9 +159,8 @@ fn frequencies_and_end<T: Tail>(bytes: &[u8]) -> Result<(Ending, T), usize>
     Ok((ending, tail))
 }
 
-/// Reads a position in the place of frequencies and the end of a call to one station. An error is how many bytes are
-/// left at the fault.
-fn position_and_end<T: Tail>(bytes: &[u8]) -> Result<(Ending, T), usize>
+/// Reads a position in the place of frequencies and the end of a call to one station.
+fn position_and_end<T: Tail>(bytes: &[u8]) -> Result<(Ending, T), Left>
     ensures { ReadsForm (labelled (codes " at=") grammar.position (grammar.end grammar.all_ends T.grammar)) second (ending_with T.parts) bytes.now result }
 {
     let mut line = Cursor::new(bytes);
@@ -175,15 +174,15 @@ fn position_and_end<T: Tail>(bytes: &[u8]) -> Result<(Ending, T), usize>
     Ok((ending, tail))
 }
 
-/// Reads the message and the end of a call to one station. An error is how many bytes are left at the fault.
-fn message_and_end<T: Tail>(bytes: &[u8]) -> Result<(Ending, T), usize>
+/// Reads the message and the end of a call to one station.
+fn message_and_end<T: Tail>(bytes: &[u8]) -> Result<(Ending, T), Left>
     ensures { ReadsForm (grammar.message (grammar.end grammar.all_ends T.grammar)) (λ p. p) (ending_with T.parts) bytes.now result }
 {
     further(&frequencies_and_end(bytes), &position_and_end(bytes))
 }
 
-/// Reads a call to one station. An error is how many bytes are left at the fault.
-pub fn individual<T: Tail>(bytes: &[u8]) -> Result<(Call, T), usize>
+/// Reads a call to one station.
+pub fn individual<T: Tail>(bytes: &[u8]) -> Result<(Call, T), Left>
     ensures { ReadsForm (grammar.individual T.grammar) (nth 7) (parts_with T.parts) bytes.now result }
 {
     let mut line = Cursor::new(bytes);
@@ -202,8 +201,8 @@ pub fn individual<T: Tail>(bytes: &[u8]) -> Result<(Call, T), usize>
     Ok((call, tail))
 }
 
-/// Reads a test or its acknowledgement. An error is how many bytes are left at the fault.
-pub fn test<T: Tail>(bytes: &[u8]) -> Result<(Call, T), usize>
+/// Reads a test or its acknowledgement.
+pub fn test<T: Tail>(bytes: &[u8]) -> Result<(Call, T), Left>
     ensures { ReadsForm (grammar.test T.grammar) (nth 8) (parts_with T.parts) bytes.now result }
 {
     let mut line = Cursor::new(bytes);
@@ -220,8 +219,8 @@ pub fn test<T: Tail>(bytes: &[u8]) -> Result<(Call, T), usize>
     Ok((call, tail))
 }
 
-/// Reads a position that is asked for. An error is how many bytes are left at the fault.
-pub fn position_request<T: Tail>(bytes: &[u8]) -> Result<(Call, T), usize>
+/// Reads a position that is asked for.
+pub fn position_request<T: Tail>(bytes: &[u8]) -> Result<(Call, T), Left>
     ensures { ReadsForm (grammar.position_request T.grammar) (nth 9) (parts_with T.parts) bytes.now result }
 {
     let mut line = Cursor::new(bytes);
@@ -237,8 +236,8 @@ pub fn position_request<T: Tail>(bytes: &[u8]) -> Result<(Call, T), usize>
     Ok((call, tail))
 }
 
-/// Reads a position that is told. An error is how many bytes are left at the fault.
-pub fn position_answer<T: Tail>(bytes: &[u8]) -> Result<(Call, T), usize>
+/// Reads a position that is told.
+pub fn position_answer<T: Tail>(bytes: &[u8]) -> Result<(Call, T), Left>
     ensures { ReadsForm (grammar.position_answer T.grammar) (last 10) (parts_with T.parts) bytes.now result }
 {
     let mut line = Cursor::new(bytes);
@@ -257,7 +256,7 @@ pub fn position_answer<T: Tail>(bytes: &[u8]) -> Result<(Call, T), usize>
 }
 
 /// Reads a test, a position that is asked for, or one that is told.
-fn service<T: Tail>(bytes: &[u8]) -> Result<(Call, T), usize>
+fn service<T: Tail>(bytes: &[u8]) -> Result<(Call, T), Left>
     ensures { ReadsForm (grammar.services T.grammar) (last 8) (parts_with T.parts) bytes.now result }
 {
     let positions = further(&position_request(bytes), &position_answer(bytes));
@@ -265,7 +264,7 @@ fn service<T: Tail>(bytes: &[u8]) -> Result<(Call, T), usize>
 }
 
 /// Reads a call that is no distress call. The form that the bytes are of ends the search.
-fn other_call<T: Tail>(bytes: &[u8]) -> Result<(Call, T), usize>
+fn other_call<T: Tail>(bytes: &[u8]) -> Result<(Call, T), Left>
     ensures { ReadsForm (grammar.other_calls T.grammar) (last 4) (parts_with T.parts) bytes.now result }
 {
     let to_all = all_ships(bytes);
@@ -286,8 +285,8 @@ fn other_call<T: Tail>(bytes: &[u8]) -> Result<(Call, T), usize>
     further(&to_all, &to_others)
 }
 
-/// Reads a call of any form. The form that the bytes are of ends the search. An error is how many bytes are left at the fault.
-pub fn any_call<T: Tail>(bytes: &[u8]) -> Result<(Call, T), usize>
+/// Reads a call of any form. The form that the bytes are of ends the search.
+pub fn any_call<T: Tail>(bytes: &[u8]) -> Result<(Call, T), Left>
     ensures { ReadsForm (grammar.calls T.grammar) (λ p. p) (parts_with T.parts) bytes.now result }
 {
     let told = alert(bytes);

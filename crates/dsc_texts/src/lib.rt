@@ -9,19 +9,18 @@ mod fields;
 mod forms;
 mod laws;
 mod line;
-mod pieces;
 mod reading;
 mod sections;
 mod tails;
+mod tokens;
 mod values;
 
 pub use answers::{put_answer, put_answer_line};
 pub use calls::{append_call, put_call};
-pub use fields::{read_address, read_position};
 pub use laws::{
     bare_call_texts_are_read, call_texts_are_read, expansions_are_refused_at_their_blank,
     texts_tell_calls_apart,
 };
-pub use pieces::append_digits;
-pub use reading::{read_bare_call, read_call};
+pub use reading::{bare_call_of, call_of, read_bare_call, read_call};
+pub use tokens::Token;
 pub use values::append_ship_in_distress;

@@ -3,9 +3,10 @@ ghost use Rattle.line_grammar.specs.Grammar.{none};
 ghost use Rattle.line_grammar.specs.inside.Reading.{after, ended};
 
 use cursor::Cursor;
+use line_grammar::Left;
 
-/// Reads a word. An error is how many bytes are left where the line leaves it.
-pub fn word(line: &mut Cursor, text: &[u8]) -> Result<(), usize>
+/// Reads a word.
+pub fn word(line: &mut Cursor, text: &[u8]) -> Result<(), Left>
     ensures read { OnOk result (after text.now line.old ≡ Ok line.new) }
     ensures left { IfErr result (λ left. after text.now line.old ≡ Err left) }
 {
@@ -16,8 +17,8 @@ pub fn word(line: &mut Cursor, text: &[u8]) -> Result<(), usize>
 /// Goes on behind a value that was read at the front of these bytes.
 pub fn take<'a, T: Copy>(
     line: &mut Cursor<'a>,
-    read: &Result<(T, &'a [u8]), usize>,
-) -> Result<T, usize>
+    read: &Result<(T, &'a [u8]), Left>,
+) -> Result<T, Left>
     ensures value { IfOk result (λ value. IsOkAnd read.now (λ parts. (parts.0 ≡ value) × (parts.1.now ≡ line.new))) }
     ensures left { IfErr result (λ left. read.now ≡ Err left) }
 {
@@ -30,8 +31,8 @@ pub fn take<'a, T: Copy>(
     }
 }
 
-/// Whether nothing is left. An error is how many bytes are left.
-pub fn end(line: &Cursor) -> Result<(), usize>
+/// Whether nothing is left.
+pub fn end(line: &Cursor) -> Result<(), Left>
     ensures end { OnOk result (ended line.now ≡ Ok none) }
     ensures left { IfErr result (λ left. ended line.now ≡ Err left) }
 {

@@ -5,24 +5,24 @@ ghost use Rattle.dsc_texts.specs.CallGrammar.{labelled};
 ghost use Rattle.dsc_texts.specs.CallParts.{casualty_parts, distress_parts, sender_parts, request_parts, frequencies_parts};
 ghost use Rattle.dsc_texts.specs.inside.Reading.{ReadsSection};
 
-use crate::fields::Token;
 use crate::line::{take, word};
+use crate::tokens::Token;
 use call_values::{
     Casualty, Category, Comm, Field, First, HourMinute, Mmsi, Nature, Position, Second,
 };
 use cursor::Cursor;
+use line_grammar::Left;
 
-/// Reads a value behind its label. An error is how many bytes are left at the fault.
-pub fn field<T: Token>(line: &mut Cursor, label: &[u8]) -> Result<T, usize>
+/// Reads a value behind its label.
+pub fn field<T: Token>(line: &mut Cursor, label: &[u8]) -> Result<T, Left>
     ensures { ReadsSection (labelled label.now T.token) (λ v. part (T.text v)) line.old result line.new }
 {
     word(line, label)?;
     take(line, &T::read(line.rest()))
 }
 
-/// Reads nature of distress, position, time and subsequent communications of this ship. An error is how many bytes
-/// are left at the fault.
-pub fn casualty(line: &mut Cursor, mmsi: Mmsi) -> Result<Casualty, usize>
+/// Reads nature of distress, position, time and subsequent communications of this ship.
+pub fn casualty(line: &mut Cursor, mmsi: Mmsi) -> Result<Casualty, Left>
     ensures mmsi { IfOk result (λ casualty. casualty.mmsi ≡ mmsi) }
     ensures reads { ReadsSection grammar.casualty casualty_parts line.old result line.new }
 {
@@ -47,8 +47,8 @@ pub struct Distress {
 }
 
 impl Distress {
-    /// Reads a sender, and a casualty that is another ship. An error is how many bytes are left at the fault.
-    pub fn read(line: &mut Cursor) -> Result<Distress, usize>
+    /// Reads a sender, and a casualty that is another ship.
+    pub fn read(line: &mut Cursor) -> Result<Distress, Left>
         ensures { ReadsSection grammar.distress (λ v. distress_parts v.from v.casualty) line.old result line.new }
     {
         let from: Mmsi = field(line, b" from=")?;
@@ -66,8 +66,8 @@ pub struct Sender {
 }
 
 impl Sender {
-    /// Reads a category and a sender. An error is how many bytes are left at the fault.
-    pub fn read(line: &mut Cursor) -> Result<Sender, usize>
+    /// Reads a category and a sender.
+    pub fn read(line: &mut Cursor) -> Result<Sender, Left>
         ensures { ReadsSection grammar.sender (λ v. sender_parts v.category v.from) line.old result line.new }
     {
         let category: Category = field(line, b" cat=")?;
@@ -86,8 +86,8 @@ pub struct Request {
 }
 
 impl Request {
-    /// Reads a category, a sender and two telecommands. An error is how many bytes are left at the fault.
-    pub fn read(line: &mut Cursor) -> Result<Request, usize>
+    /// Reads a category, a sender and two telecommands.
+    pub fn read(line: &mut Cursor) -> Result<Request, Left>
         ensures { ReadsSection grammar.request (λ v. request_parts v.category v.from v.first v.second) line.old result line.new }
     {
         let sender = Sender::read(line)?;
@@ -110,8 +110,8 @@ pub struct Frequencies {
 }
 
 impl Frequencies {
-    /// Reads two frequencies or channels. An error is how many bytes are left at the fault.
-    pub fn read(line: &mut Cursor) -> Result<Frequencies, usize>
+    /// Reads two frequencies or channels.
+    pub fn read(line: &mut Cursor) -> Result<Frequencies, Left>
         ensures { ReadsSection grammar.frequencies (λ v. frequencies_parts v.f1 v.f2) line.old result line.new }
     {
         let f1: Field = field(line, b" f1=")?;

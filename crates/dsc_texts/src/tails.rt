@@ -6,7 +6,7 @@ ghost use Rattle.dsc_texts.specs.inside.Reading.{ReadsTail};
 
 use crate::expansions::expansion_or_end;
 use expansion::Expansion;
-use line_grammar::end;
+use line_grammar::{Left, end};
 
 /// What may stand behind a call, to the end of its text.
 pub trait Tail: Copy {
@@ -16,8 +16,8 @@ pub trait Tail: Copy {
     /// Its parts.
     ghost parts: { Self → Parts };
 
-    /// Reads these bytes whole. An error is how many bytes are left at the fault.
-    fn read(bytes: &[u8]) -> Result<Self, usize>
+    /// Reads these bytes whole.
+    fn read(bytes: &[u8]) -> Result<Self, Left>
         ensures { ReadsTail grammar parts bytes.now result };
 }
 
@@ -28,7 +28,7 @@ impl Tail for () {
     ghost parts = { λ nothing. line.none };
 
     #[tactic(auto, unfolding(line_grammar::specs::inside::Reading::read))]
-    fn read(bytes: &[u8]) -> Result<(), usize> {
+    fn read(bytes: &[u8]) -> Result<(), Left> {
         end(bytes)
     }
 }
@@ -39,7 +39,7 @@ impl Tail for Option<Expansion> {
 
     ghost parts = { inside.expansion_or_end };
 
-    fn read(bytes: &[u8]) -> Result<Option<Expansion>, usize> {
+    fn read(bytes: &[u8]) -> Result<Option<Expansion>, Left> {
         expansion_or_end(bytes)
     }
 }

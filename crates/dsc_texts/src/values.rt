@@ -5,7 +5,6 @@ ghost use Rattle.line_grammar.specs.Grammar.{finish, none, part, written};
 ghost use Rattle.dsc_texts.specs.CallGrammar as grammar;
 ghost use Rattle.dsc_texts.specs.CallParts.{position_text, time_text, area_text, frequency_text, address_text, casualty_parts, ship_in_distress_parts, distress_parts, sender_parts, frequencies_parts, message_parts, request_parts, end_parts};
 
-use crate::pieces::append_digits;
 use arrayvec::ArrayVec;
 use call_grammar::category_symbol;
 use call_values::bounds::{HF_CHANNELS, TENS, VHF_CHANNELS};
@@ -13,7 +12,7 @@ use call_values::{
     Area, Casualty, Category, Field, FieldKind, First, Fix, HourMinute, Message, Mmsi, Position,
     Second, To,
 };
-use text_pieces::append;
+use text_pieces::{append, append_digits};
 
 /// Appends a position's ten digits, nines where it isn't known.
 pub fn append_position<const N: usize>(out: &mut ArrayVec<u8, N>, position: &Position)
@@ -111,7 +110,8 @@ pub fn append_address<const N: usize>(out: &mut ArrayVec<u8, N>, to: &To)
 /// Appends the fields of a casualty behind its identity: nature of distress, position, time and communication.
 pub fn append_casualty<const N: usize>(out: &mut ArrayVec<u8, N>, casualty: &Casualty)
     requires { array_vec_len out.old + 45 ≤ N }
-    ensures items { out.new.items ≡ out.old.items ++ written (grammar.casualty finish) (casualty_parts casualty.now none) }
+    ensures items { out.new.items ≡ out.old.items
+        ++ written (grammar.casualty finish) (casualty_parts casualty.now none) }
     ensures len { array_vec_len out.new ≡ array_vec_len out.old + 45 }
 {
     append(out, b" nature=");
@@ -137,7 +137,8 @@ pub fn append_from<const N: usize>(out: &mut ArrayVec<u8, N>, from: &Mmsi)
 /// Appends a ship in distress, in 64 bytes: ` casualty=`, its identity, nature of distress, position, time and communication.
 pub fn append_ship_in_distress<const N: usize>(out: &mut ArrayVec<u8, N>, casualty: &Casualty)
     requires { array_vec_len out.old + 64 ≤ N }
-    ensures items { out.new.items ≡ out.old.items ++ written (grammar.ship_in_distress finish) (ship_in_distress_parts casualty.now none) }
+    ensures items { out.new.items ≡ out.old.items
+        ++ written (grammar.ship_in_distress finish) (ship_in_distress_parts casualty.now none) }
     ensures len { array_vec_len out.new ≡ array_vec_len out.old + 64 }
 {
     append(out, b" casualty=");
@@ -148,7 +149,8 @@ pub fn append_ship_in_distress<const N: usize>(out: &mut ArrayVec<u8, N>, casual
 /// Appends a sender and a casualty that is another ship.
 pub fn append_distress<const N: usize>(out: &mut ArrayVec<u8, N>, from: &Mmsi, casualty: &Casualty)
     requires { array_vec_len out.old + 79 ≤ N }
-    ensures items { out.new.items ≡ out.old.items ++ written (grammar.distress finish) (distress_parts from.now casualty.now none) }
+    ensures items { out.new.items ≡ out.old.items
+        ++ written (grammar.distress finish) (distress_parts from.now casualty.now none) }
     ensures len { array_vec_len out.new ≡ array_vec_len out.old + 79 }
 {
     append_from(out, from);
@@ -158,7 +160,8 @@ pub fn append_distress<const N: usize>(out: &mut ArrayVec<u8, N>, from: &Mmsi, c
 /// Appends a category and a sender.
 pub fn append_sender<const N: usize>(out: &mut ArrayVec<u8, N>, category: &Category, from: &Mmsi)
     requires { array_vec_len out.old + 23 ≤ N }
-    ensures items { out.new.items ≡ out.old.items ++ written (grammar.sender finish) (sender_parts category.now from.now none) }
+    ensures items { out.new.items ≡ out.old.items
+        ++ written (grammar.sender finish) (sender_parts category.now from.now none) }
     ensures len { array_vec_len out.new ≡ array_vec_len out.old + 23 }
 {
     append(out, b" cat=");
@@ -169,7 +172,8 @@ pub fn append_sender<const N: usize>(out: &mut ArrayVec<u8, N>, category: &Categ
 /// Appends two frequencies or channels.
 pub fn append_frequencies<const N: usize>(out: &mut ArrayVec<u8, N>, f1: &Field, f2: &Field)
     requires { array_vec_len out.old + 24 ≤ N }
-    ensures items { out.new.items ≡ out.old.items ++ written (grammar.frequencies finish) (frequencies_parts f1.now f2.now none) }
+    ensures items { out.new.items ≡ out.old.items
+        ++ written (grammar.frequencies finish) (frequencies_parts f1.now f2.now none) }
     ensures len { array_vec_len out.new ≤ array_vec_len out.old + 24 }
 {
     append(out, b" f1=");
@@ -202,7 +206,8 @@ pub fn append_request<const N: usize>(
     second: &Second,
 )
     requires { array_vec_len out.old + 44 ≤ N }
-    ensures items { out.new.items ≡ out.old.items ++ written (grammar.request finish) (request_parts category.now from.now first.now second.now none) }
+    ensures items { out.new.items ≡ out.old.items
+        ++ written (grammar.request finish) (request_parts category.now from.now first.now second.now none) }
     ensures len { array_vec_len out.new ≡ array_vec_len out.old + 44 }
 {
     append_sender(out, category, from);

@@ -79,6 +79,7 @@ pub record IsName (long : Text) : Type 0 where
 abbrev pub IsBare : Text → Type 0
 IsBare text = strip_byte 45 text ≡ None
 
+-- texts that compare equal are the same
 pub same_text : (a b : Text) → bytes_eq a b ≡ true → a ≡ b
 same_text a b e = (bytes_eq-Decides a b).0 e
 
@@ -92,8 +93,10 @@ no_dashes word differs = go (bytes_eq word (codes "--")) refl
     go true is = absurd (differs (same_text word (codes "--") is))
     go false is = refl
 
+-- a long option isn't two dashes alone
 pub long_has_no_dashes : (word : Text) (p : Text × Option Text) → long_of word ≡ Some p → bytes_eq word (codes "--") ≡ false
 long_has_no_dashes word p e = no_dashes word (λ is. let none : long_of word ≡ None = ap long_of is in none_is_some (sym none ∙ e))
 
+-- a word without dashes isn't two dashes
 pub bare_has_no_dashes : (word : Text) → IsBare word → bytes_eq word (codes "--") ≡ false
 bare_has_no_dashes word e = no_dashes word (λ is. let some : strip_byte 45 word ≡ Some (45 ∷ []) = ap (strip_byte 45) is in none_is_some (sym e ∙ some))

@@ -7,13 +7,16 @@ use Rattle.clap.specs.declared.error.kind.ErrorKind.{ErrorKind}
 pub some_kind : {k : ErrorKind} {ks : Kinds} → k ∷ ks ≡ [] → ⊥
 some_kind e = cc
 
+-- where neither of two faults comes the first one doesn't
 pub first_passes : (a b : Kinds) → or_else a b ≡ [] → a ≡ []
 first_passes [] b e = refl
 first_passes (k ∷ ks) b e = absurd (some_kind e)
 
+-- where neither of two faults comes the second one doesn't
 pub second_passes : (a b : Kinds) → or_else a b ≡ [] → b ≡ []
 second_passes [] b e = e
 second_passes (k ∷ ks) b e = absurd (some_kind e)
 
+-- where no fault comes from either, none comes
 pub both_pass : (a b : Kinds) → a ≡ [] → b ≡ [] → or_else a b ≡ []
 both_pass a b e f = ap (λ x. or_else x b) e ∙ f

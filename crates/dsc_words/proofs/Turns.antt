@@ -28,12 +28,14 @@ end_fault s h =
 abbrev pub faults : Shape → Walk → List Text → Kinds
 faults s w ws = or_else (walk_fault s [] w ws) (end_fault s (fold (walked s.rules []) w ws).held)
 
+-- words without fault have none at their first word
 pub turn_passes : (s : Shape) (w : Walk) (x : Text) (xs : List Text) → faults s w (x ∷ xs) ≡ [] → turn_fault s [] w x ≡ []
 unfolding walk_fault
 turn_passes s w x xs e =
     first_passes (turn_fault s [] w x) (walk_fault s [] (walked s.rules [] w x) xs)
     (first_passes (walk_fault s [] w (x ∷ xs)) (end_fault s (fold (walked s.rules []) w (x ∷ xs)).held) e)
 
+-- words without fault have none behind their first word
 pub rest_passes : (s : Shape) (w : Walk) (x : Text) (xs : List Text) → faults s w (x ∷ xs) ≡ [] → faults s (walked s.rules [] w x) xs ≡ []
 unfolding walk_fault
 rest_passes s w x xs e =
@@ -41,6 +43,7 @@ rest_passes s w x xs e =
     let rest = walk_fault s [] (walked s.rules [] w x) xs in
     both_pass rest end (second_passes (turn_fault s [] w x) rest (first_passes (walk_fault s [] w (x ∷ xs)) end e)) (second_passes (walk_fault s [] w (x ∷ xs)) end e)
 
+-- a first word without fault, and a rest without one, have none together
 pub join_turn : (s : Shape) (w next : Walk) (x : Text) (xs : List Text) → turn_fault s [] w x ≡ [] → walked s.rules [] w x ≡ next → faults s next xs ≡ [] → faults s w (x ∷ xs) ≡ []
 unfolding walk_fault
 join_turn s w next x xs turn is e =
@@ -57,6 +60,7 @@ turn_by s w word dashes long =
     let met = if dashes then (w.held, trailing w.position) else long_or_other s.rules w.waiting word long w.held in
     or_else (if dashes then [] else flag_word_fault s.rules s.args_override_self long word w.held) (step_fault s w.position met.0 met.1)
 
+-- the walk behind a word, by what it is
 abbrev pub next_by : Shape → Walk → Text → Bool → Option (Text × Option Text) → Walk
 next_by s w word dashes long =
     let met = if dashes then (w.held, trailing w.position) else long_or_other s.rules w.waiting word long w.held in
@@ -68,6 +72,7 @@ short_by s w word short =
     let met = short_or_plain s.rules w.waiting word short w.held in
     or_else (option_map_or (λ flags. bundle_fault s.rules s.args_override_self flags w.held) short []) (step_fault s w.position met.0 met.1)
 
+-- the walk behind a word that may be a short option
 abbrev pub short_next : Shape → Walk → Text → Option Text → Walk
 short_next s w word short =
     let met = short_or_plain s.rules w.waiting word short w.held in
@@ -81,6 +86,7 @@ char_by s w word flags first k =
     or_else (bundle_step_fault s.rules s.args_override_self first flags 0 w.held (flags_fault s.rules s.args_override_self k))
     (step_fault s w.position after.0 after.1)
 
+-- the walk behind a word that begins with one dash, by the character there
 abbrev pub char_next : Shape → Walk → Text → Text → Option ℕ → ℕ → Walk
 char_next s w word flags first k =
     let met = bundle_step s.rules first flags 0 plain w.held (bundle_met s.rules k) in
@@ -113,6 +119,7 @@ stray_short s word None e = stray s e
 stray_short s word (Some []) e = stray s e
 stray_short s word (Some (x ∷ xs)) e = stray_char s word (x ∷ xs) (length xs) (slice_get (chars (x ∷ xs)) 0) e
 
+-- a word that a command doesn't take is a fault
 pub stray_word : (s : Shape) (word : Text) (long : Option (Text × Option Text)) → turn_by (bare s) start word false long ≡ [] → ⊥
 stray_word s word None e = stray_short s word (short_of word) e
 stray_word s word (Some p) e = some_kind e

@@ -59,9 +59,11 @@ fn cause(error: Error) -> PlanError
 /// The plan that the command and the number in the matches ask for.
 fn read(matches: &ArgMatches) -> Option<Plan>
     ensures some { IfSome result (λ plan. (command : Text) × (rows : List Row)
-        × (subcommand_rows_of matches.now ≡ Some (command, rows)) × IsAsked command (first_of (codes "number") rows) plan) }
+        × (subcommand_rows_of matches.now ≡ Some (command, rows))
+        × IsAsked command (first_of (codes "number") rows) plan) }
     ensures none { IsNone result → (command : Text) (rows : List Row) (plan : Plan)
-        → subcommand_rows_of matches.now ≡ Some (command, rows) → IsAsked command (first_of (codes "number") rows) plan → ⊥ }
+        → subcommand_rows_of matches.now ≡ Some (command, rows) → IsAsked command (first_of (codes "number") rows) plan
+        → ⊥ }
 {
     let (command, values) = matches.subcommand()?;
     asked(command, values.get_str("number"))

@@ -7,7 +7,7 @@ use Rattle.std.proofs.lemmas.List.{map-append}
 use Rattle.std.proofs.lemmas.List.FromFn.{map-range_with_len_more}
 use Rattle.ten_unit.specs.Word.{word_of}
 use Rattle.phasing.specs.Sent.{dot, dots, dot_count, sent}
-use Rattle.dsc_files.specs.JoinLine.{sign_of}
+use Rattle.dsc_lines.specs.JoinLine.{sign_of}
 use Rattle.encode_calls.specs.declared.signs.TheConstants.{WORDS}
 
 pub no_dots : [] ≡ map sign_of (dots 0)

@@ -3,7 +3,7 @@ ghost use Rattle.encode_calls.specs.Encoding.{calls_of, encode_meaning, encoded}
 ghost use Rattle.encode_calls.specs.inside.Progress.{HasEncoded};
 
 use crate::lines::append_line;
-use dsc_files::{CallLine, Status, call_line};
+use dsc_lines::{CallLine, Status, call_line};
 use line_engine::{Command, MOST_LINES, Refusal};
 use std::alloc::AllocError;
 
@@ -21,6 +21,10 @@ pub trait Dots: Drop {
 #[derive(Drop)]
 pub struct ShortDots;
 
+/// 200 dots.
+#[derive(Drop)]
+pub struct LongDots;
+
 impl Dots for ShortDots {
     ghost long = { false };
 
@@ -28,10 +32,6 @@ impl Dots for ShortDots {
         false
     }
 }
-
-/// 200 dots.
-#[derive(Drop)]
-pub struct LongDots;
 
 impl Dots for LongDots {
     ghost long = { true };
@@ -59,7 +59,8 @@ impl<D: Dots> Encode<D> {
     /// Appends what a line of calls gives.
     fn encode(&mut self, says: &CallLine, out: &mut Vec<u8>) -> Result<(), AllocError>
         requires few { self.old.count < MOST_LINES }
-        ensures text { OnOk result (out.new.items ≡ out.old.items ++ encoded D.long self.old.count (calls_of (says.now ∷ []))) }
+        ensures text { OnOk result (out.new.items
+            ≡ out.old.items ++ encoded D.long self.old.count (calls_of (says.now ∷ []))) }
         ensures count { OnOk result (self.new.count ≡ self.old.count + length (calls_of (says.now ∷ []))) }
     {
         match says {

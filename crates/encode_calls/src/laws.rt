@@ -2,7 +2,7 @@ ghost use Rattle.std.specs.Prelude.{Bool};
 ghost use Rattle.line_engine.specs.Determined.{IsDetermined};
 ghost use Rattle.encode_calls.specs.Encoding.{encode_meaning};
 
-use dsc_files::one_call_line;
+use dsc_lines::one_call_line;
 
 /// The law that lines of calls determine what `encode` writes. It does nothing.
 pub fn lines_determine_output()

@@ -2,7 +2,7 @@
 ghost use Rattle.std.specs.Prelude.{◌≡◌, ◌<◌, ◌++◌, All, [], map, slice_index_or, OnOk};
 ghost use Rattle.phasing.specs.Sent.{dot, dots, dot_count, sent};
 ghost use Rattle.ten_unit.specs.Word.{word_of};
-ghost use Rattle.dsc_files.specs.JoinLine.{sign_of};
+ghost use Rattle.dsc_lines.specs.JoinLine.{sign_of};
 
 use std::alloc::AllocError;
 

@@ -12,6 +12,7 @@ pub each_set : (P : View → Type 0) (views : List View) (k : ℕ) (w : View) �
 each_set P views k w each here seat view at =
     ⊎_elim (λ t. subst P t.1 here) (λ t. each seat view t.1) (at_set views k seat w view at)
 
+-- what holds of all views and of one more holds of all of them
 pub each_push : (P : View → Type 0) (views : List View) (w : View) → Each P views → P w → Each P (views ++ w ∷ [])
 each_push P views w each here seat view at = ⊎_elim (each seat view) (λ t. subst P t here) (at_snoc views w view seat at)
 

@@ -11,7 +11,7 @@ use Rattle.slot_evidence.specs.Sheet.{seen_at}
 use Rattle.slot_evidence.specs.Allowed.{IsAllowed, OnlyAllowed}
 use Rattle.slot_evidence.specs.TwoNumbers.{seen_between, seen_with, least_of, past_of, AreInOrder}
 use Rattle.slot_evidence.specs.inside.Back.{least_back, past_back}
-use Rattle.slot_evidence.proofs.PublicLaws.{one_or_differ}
+use Rattle.slot_evidence.proofs.PublicLaws.{one_or_differ, order_some}
 use Rattle.evidence_board.specs.Views.{Reach, Place, blank, View, place_at, kept_of, seen_sheet}
 use Rattle.evidence_board.specs.Rule.{words_of, AreAllowed}
 use Rattle.evidence_board.specs.Steps.{loaded_least, loaded_past}
@@ -44,10 +44,6 @@ kept_both old one new p least past greatest inside size unseen order small is fi
 -- order by numbers
 pub rest_tells : (r : Reach) → IsResting r → r.past ≡ 0 → r.least ≡ 128
 rest_tells r rest none = subst (λ (n : ℕ). AreInOrder r.least n) none rest
-
-order_some : (least past : ℕ) → least < past → past ≤ 128 → AreInOrder least past
-order_some least zero below small = absurd (omega arith)
-order_some least (suc greatest) below small = (omega arith, omega arith)
 
 pub order_small : (least past : ℕ) → AreInOrder least past → (least ≤ 128) × (past ≤ 128)
 order_small least zero order = (omega (arith, order), omega arith)
@@ -154,6 +150,7 @@ sheet_further F old new k x size inside is same below p under =
       | inr apart ↦ ap (λ (s : List Seen). seen_at s p) is ∙ get_or-set_other old k p x seen.None apart ∙ below p (omega arith)
     ]
 
+-- a change below leaves the places behind blank
 pub sheet_beyond : (old new : List Seen) (k : ℕ) (x : Seen) → new ≡ set old k x → ((p : ℕ) → k ≤ p → seen_at old p ≡ seen.None) → (p : ℕ) → k + 1 ≤ p → seen_at new p ≡ seen.None
 sheet_beyond old new k x is above p over = ap (λ (s : List Seen). seen_at s p) is ∙ get_or-set_other old k p x seen.None (λ e. omega arith) ∙ above p (omega arith)
 

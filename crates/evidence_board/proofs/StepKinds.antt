@@ -31,10 +31,12 @@ place_empty zero p = refl
 place_empty (suc n) zero = refl
 place_empty (suc n) (suc p) = place_empty n p
 
+-- each place of the first view is blank
 pub place_blank : (p : ℕ) → slice_index_or blanks p blank ≡ blank
 unfolding blanks
 place_blank p = place_empty 64 p
 
+-- the first view has 64 places
 pub blanks_long : length blanks ≡ 64
 unfolding blanks
 blanks_long = length-replicate 64 blank

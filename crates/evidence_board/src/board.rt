@@ -8,7 +8,7 @@ ghost use Rattle.evidence_board.specs.Steps.{admitted, uncounted, joined};
 ghost use Rattle.evidence_board.specs.Looks.{IsLooked};
 
 use crate::allowed::Allowed;
-use crate::looking::{look, taken};
+use crate::looking::{kept_sheet, look};
 use crate::posting::post;
 use crate::seats::{Seat, WHOLE};
 use crate::words::Words;
@@ -49,8 +49,10 @@ impl<A: Allowed> Board<A> {
         requires allowed { OnlyAllowed A.facts sheet.now }
         ensures board { result.table ≡ self.now }
         ensures share { result.view.share ≡ seat.view.share }
-        ensures places { (p : ℕ) → p < 64 → place_at result.view p ≡ admitted (seen_at sheet.now p) (place_at seat.view p) }
-        ensures union { (F G : Facts) → IsEnds F (given_sheet seat.view) → IsEnds G sheet.now → IsEnds (union F G) (given_sheet result.view) }
+        ensures places { (p : ℕ) → p < 64 → place_at result.view p
+            ≡ admitted (seen_at sheet.now p) (place_at seat.view p) }
+        ensures union { (F G : Facts) → IsEnds F (given_sheet seat.view) → IsEnds G sheet.now
+            → IsEnds (union F G) (given_sheet result.view) }
     {
         self.admit_at(&mut seat, sheet);
         seat
@@ -62,8 +64,10 @@ impl<A: Allowed> Board<A> {
         requires allowed { OnlyAllowed A.facts sheet.now }
         ensures board { seat.new.table ≡ self.now }
         ensures share { seat.new.view.share ≡ seat.old.view.share }
-        ensures places { (p : ℕ) → p < 64 → place_at seat.new.view p ≡ admitted (seen_at sheet.now p) (place_at seat.old.view p) }
-        ensures union { (F G : Facts) → IsEnds F (given_sheet seat.old.view) → IsEnds G sheet.now → IsEnds (union F G) (given_sheet seat.new.view) }
+        ensures places { (p : ℕ) → p < 64 → place_at seat.new.view p
+            ≡ admitted (seen_at sheet.now p) (place_at seat.old.view p) }
+        ensures union { (F G : Facts) → IsEnds F (given_sheet seat.old.view) → IsEnds G sheet.now
+            → IsEnds (union F G) (given_sheet seat.new.view) }
     {
         sheet_is_lawful(sheet);
         post(&self.words, &mut seat.token, sheet);
@@ -75,10 +79,12 @@ impl<A: Allowed> Board<A> {
         requires share { 2 ≤ seat.view.share }
         ensures board { (result.0.table ≡ self.now) × (result.1.table ≡ self.now) }
         ensures shares { result.0.view.share + result.1.view.share ≡ seat.view.share }
-        ensures halves { (1 ≤ result.1.view.share) × (result.1.view.share ≤ result.0.view.share) × (result.0.view.share ≤ result.1.view.share + 1) }
+        ensures halves { (1 ≤ result.1.view.share) × (result.1.view.share ≤ result.0.view.share)
+            × (result.0.view.share ≤ result.1.view.share + 1) }
         ensures kept { (p : ℕ) → p < 64 → place_at result.0.view p ≡ place_at seat.view p }
         ensures new { (p : ℕ) → p < 64 → place_at result.1.view p ≡ uncounted (place_at seat.view p) }
-        ensures given { (given_sheet result.0.view ≡ given_sheet seat.view) × (given_sheet result.1.view ≡ given_sheet seat.view) }
+        ensures given { (given_sheet result.0.view ≡ given_sheet seat.view)
+            × (given_sheet result.1.view ≡ given_sheet seat.view) }
     {
         let other = self.split_off(&mut seat);
         (seat, other)
@@ -90,10 +96,12 @@ impl<A: Allowed> Board<A> {
         requires share { 2 ≤ seat.old.view.share }
         ensures board { (seat.new.table ≡ self.now) × (result.table ≡ self.now) }
         ensures shares { seat.new.view.share + result.view.share ≡ seat.old.view.share }
-        ensures halves { (1 ≤ result.view.share) × (result.view.share ≤ seat.new.view.share) × (seat.new.view.share ≤ result.view.share + 1) }
+        ensures halves { (1 ≤ result.view.share) × (result.view.share ≤ seat.new.view.share)
+            × (seat.new.view.share ≤ result.view.share + 1) }
         ensures kept { (p : ℕ) → p < 64 → place_at seat.new.view p ≡ place_at seat.old.view p }
         ensures new { (p : ℕ) → p < 64 → place_at result.view p ≡ uncounted (place_at seat.old.view p) }
-        ensures given { (given_sheet seat.new.view ≡ given_sheet seat.old.view) × (given_sheet result.view ≡ given_sheet seat.old.view) }
+        ensures given { (given_sheet seat.new.view ≡ given_sheet seat.old.view)
+            × (given_sheet result.view ≡ given_sheet seat.old.view) }
     {
         let token = self.words.split(&mut seat.token);
         let half = seat.share / 2;
@@ -107,7 +115,8 @@ impl<A: Allowed> Board<A> {
         ensures board { result.table ≡ self.now }
         ensures share { result.view.share ≡ a.view.share + b.view.share }
         ensures places { (p : ℕ) → p < 64 → place_at result.view p ≡ joined (place_at a.view p) (place_at b.view p) }
-        ensures union { (F G : Facts) → IsEnds F (given_sheet a.view) → IsEnds G (given_sheet b.view) → IsEnds (union F G) (given_sheet result.view) }
+        ensures union { (F G : Facts) → IsEnds F (given_sheet a.view) → IsEnds G (given_sheet b.view)
+            → IsEnds (union F G) (given_sheet result.view) }
     {
         self.join_into(&mut a, b);
         a
@@ -118,8 +127,10 @@ impl<A: Allowed> Board<A> {
         requires board { (seat.old.table ≡ self.now) × (other.table ≡ self.now) }
         ensures board { seat.new.table ≡ self.now }
         ensures share { seat.new.view.share ≡ seat.old.view.share + other.view.share }
-        ensures places { (p : ℕ) → p < 64 → place_at seat.new.view p ≡ joined (place_at seat.old.view p) (place_at other.view p) }
-        ensures union { (F G : Facts) → IsEnds F (given_sheet seat.old.view) → IsEnds G (given_sheet other.view) → IsEnds (union F G) (given_sheet seat.new.view) }
+        ensures places { (p : ℕ) → p < 64 → place_at seat.new.view p
+            ≡ joined (place_at seat.old.view p) (place_at other.view p) }
+        ensures union { (F G : Facts) → IsEnds F (given_sheet seat.old.view) → IsEnds G (given_sheet other.view)
+            → IsEnds (union F G) (given_sheet seat.new.view) }
     {
         let Seat { token, share, .. } = other;
         self.words.join(&mut seat.token, token);
@@ -137,7 +148,8 @@ impl<A: Allowed> Board<A> {
         ensures sheet { result.1 ≡ seen_sheet result.0.view }
         ensures allowed { OnlyAllowed A.facts result.1 }
         ensures given { given_sheet result.0.view ≡ given_sheet seat.view }
-        ensures exact { (F : Facts) → ((p v : ℕ) → IsAllowed A.facts p v → F p v ≡ true) → IsEnds F (given_sheet seat.view) → IsEnds F result.1 }
+        ensures exact { (F : Facts) → ((p v : ℕ) → IsAllowed A.facts p v → F p v ≡ true)
+            → IsEnds F (given_sheet seat.view) → IsEnds F result.1 }
     {
         let sheet = self.look_at(&mut seat);
         (seat, sheet)
@@ -152,7 +164,8 @@ impl<A: Allowed> Board<A> {
         ensures sheet { result ≡ seen_sheet seat.new.view }
         ensures allowed { OnlyAllowed A.facts result }
         ensures given { given_sheet seat.new.view ≡ given_sheet seat.old.view }
-        ensures exact { (F : Facts) → ((p v : ℕ) → IsAllowed A.facts p v → F p v ≡ true) → IsEnds F (given_sheet seat.old.view) → IsEnds F result }
+        ensures exact { (F : Facts) → ((p v : ℕ) → IsAllowed A.facts p v → F p v ≡ true)
+            → IsEnds F (given_sheet seat.old.view) → IsEnds F result }
     {
         look(&self.words, &mut seat.token)
     }
@@ -166,7 +179,7 @@ impl<A: Allowed> Board<A> {
         let Board { words } = self;
         let Seat { token, .. } = seat;
         let closed = words.close(token);
-        let sheet = taken(&closed);
+        let sheet = kept_sheet(&closed);
         closed.free();
         sheet
     }

@@ -82,7 +82,7 @@ fn take_place(closed: &Closed<u8, Global>, sheet: &mut Sheet, p: u8)
 }
 
 /// What words say that no thread shares any more.
-pub(crate) fn taken(closed: &Closed<u8, Global>) -> Sheet
+pub(crate) fn kept_sheet(closed: &Closed<u8, Global>) -> Sheet
     requires count { (slots_len closed.now.words ≡ 128) × IsFull closed.now.words }
     requires rest { (p : ℕ) → p < 64 → IsResting (words_of (slots_items closed.now.words) p) }
     ensures size { length result ≡ 64 }

@@ -52,7 +52,8 @@ pub(crate) fn post<A: Allowed>(words: &Words<A>, token: &mut Token, sheet: &Shee
     requires seated { IsSeated token.old.view }
     requires allowed { OnlyAllowed A.facts sheet.now }
     ensures table { token.new.table ≡ token.old.table }
-    ensures places { Through (λ p before after. after ≡ admitted (seen_at sheet.now p) before) token.old.view token.new.view 64 }
+    ensures places { Through (λ p before after. after
+        ≡ admitted (seen_at sheet.now p) before) token.old.view token.new.view 64 }
 {
     for p in 0..64u8 {
         post_place(words, token, p, sheet.at(p));

@@ -12,13 +12,13 @@ use Rattle.slot_evidence.specs.declared.places.Seen.TheVariants as seen
 use Rattle.slot_evidence.specs.Facts.{Facts, Symbols}
 use Rattle.slot_evidence.specs.Seen.{IsSeen, IsLawful, symbols_in}
 use Rattle.slot_evidence.specs.Sheet.{IsSheet, IsEnds, seen_at, facts_in}
-use Rattle.dsc_files.specs.JoinLine.{JoinLine, IsPair, pair_text, IsLine, evidence}
-use Rattle.dsc_files.specs.declared.lines.Line.{Line}
-use Rattle.dsc_files.specs.declared.lines.Line.TheVariants as line
-use Rattle.dsc_files.specs.declared.lines.LineFault.{LineFault}
-use Rattle.dsc_files.specs.declared.lines.LineFault.TheVariants as fault
-use Rattle.dsc_files.specs.declared.lines.FileKind.TheVariants.{Join}
-use Rattle.dsc_files.specs.Lines.{Says, IsTold, line_of_join, ReadsLine, facts_of_pairs}
+use Rattle.dsc_lines.specs.JoinLine.{JoinLine, IsPair, pair_text, IsLine, evidence}
+use Rattle.dsc_lines.specs.declared.lines.Line.{Line}
+use Rattle.dsc_lines.specs.declared.lines.Line.TheVariants as line
+use Rattle.dsc_lines.specs.declared.lines.LineFault.{LineFault}
+use Rattle.dsc_lines.specs.declared.lines.LineFault.TheVariants as fault
+use Rattle.dsc_lines.specs.declared.lines.FileKind.TheVariants.{Join}
+use Rattle.dsc_lines.specs.Lines.{Says, IsTold, line_of_join, ReadsLine, facts_of_pairs}
 use Rattle.evidence_texts.specs.Evidence.{pairs_at, pairs_below, evidence_text}
 
 -- how long a number is

@@ -4,7 +4,7 @@ use Rattle.std.specs.List.{flat_map}
 use Rattle.slot_evidence.specs.declared.places.Seen.{Seen}
 use Rattle.slot_evidence.specs.declared.places.Seen.TheVariants as seen
 use Rattle.slot_evidence.specs.Sheet.{seen_at}
-use Rattle.dsc_files.specs.JoinLine.{pair_text}
+use Rattle.dsc_lines.specs.JoinLine.{pair_text}
 
 -- the pairs of a place: none, that of its one symbol, or those of the least and of the greatest
 abbrev pub pairs_at : ℕ → Seen → List (ℕ × ℕ)

@@ -2,7 +2,7 @@ ghost use Rattle.std.specs.Prelude.{◌≡◌, ◌+◌, ◌≤◌, ◌<◌, ◌+
 ghost use Rattle.std.specs.List.{flat_map};
 ghost use Rattle.arrayvec.specs.ArrayVec.{array_vec_len};
 ghost use Rattle.slot_evidence.specs.Seen.{IsLawful};
-ghost use Rattle.dsc_files.specs.JoinLine.{pair_text};
+ghost use Rattle.dsc_lines.specs.JoinLine.{pair_text};
 ghost use Rattle.evidence_texts.specs.Evidence.{pairs_at, evidence_text};
 
 use arrayvec::ArrayVec;

@@ -1,3 +1,4 @@
+//! Laws: each function here does nothing, and its contract is a theorem over definitions.
 ghost use Rattle.std.specs.Prelude.{◌≡◌, ◌∷◌, ◌++◌, false, IsTrue};
 ghost use Rattle.std.specs.List.{list_any};
 ghost use Rattle.traffic_rules.specs.Sendings.{is_alert, sends};
@@ -11,9 +12,10 @@ use ship_station::alerts_end_by_hand_or_acknowledgement;
 
 /// The law that in an exchange the ship's distress alert ends only at a cancel, or where an acknowledgement comes to it that the coast
 /// station sent: of an alert that the ship sent before, that came to the coast station before, and whose identity was accepted there, in
-/// every legal history. That alert may belong to an earlier emergency of the ship. It does nothing.
+/// every legal history. That alert may belong to an earlier emergency of the ship.
 pub fn alerts_end_by_cancel_or_acknowledgement()
-    ensures { (who : Parties) (later earlier : WorldHistory) (ended : WorldEntry) → IsLegal who (later ++ ended ∷ earlier)
+    ensures { (who : Parties) (later earlier : WorldHistory) (ended : WorldEntry)
+        → IsLegal who (later ++ ended ∷ earlier)
         → IsTrue (ship_does is_end ended) → MayEnd who.ship.own ended.event earlier }
 {
     alerts_end_by_hand_or_acknowledgement();
@@ -21,10 +23,12 @@ pub fn alerts_end_by_cancel_or_acknowledgement()
 }
 
 /// The law that in an exchange the ship sends no distress alert after the end of one, before the next event that begins one, however many
-/// acknowledgements come, in every legal history. It does nothing.
+/// acknowledgements come, in every legal history.
 pub fn no_alert_after_an_end()
-    ensures { (who : Parties) (later earlier : WorldHistory) (ended : WorldEntry) → IsLegal who (later ++ ended ∷ earlier)
-        → IsTrue (ship_does is_end ended) → list_any begins_alert later ≡ false → list_any (ship_does (sends is_alert)) later ≡ false }
+    ensures { (who : Parties) (later earlier : WorldHistory) (ended : WorldEntry)
+        → IsLegal who (later ++ ended ∷ earlier)
+        → IsTrue (ship_does is_end ended) → list_any begins_alert later ≡ false
+        → list_any (ship_does (sends is_alert)) later ≡ false }
 {
     ship_station::no_alert_after_an_end();
 }

@@ -85,7 +85,8 @@ pub(crate) fn ship_gets(
 ) -> Outcome
     requires { vec_len sent.old + MOST_SENT ≤ vec_capacity sent.old }
     ensures answer { (who : Identities) (h : History AtShip) → ShipStands ship.old who h
-        → given_with result acts.new.items ≡ given_at (ship_rules who) h at number at_ship.Heard (slice_get from_coast.now number) }
+        → given_with result acts.new.items
+        ≡ given_at (ship_rules who) h at number at_ship.Heard (slice_get from_coast.now number) }
     ensures stands { (who : Identities) (h : History AtShip) → ShipStands ship.old who h
         → ShipStands ship.new who (after_event (delivery at_ship.Heard at number from_coast.now) (given_with result acts.new.items) h) }
     ensures sent { sent.new.items ≡ sent.old.items ++ calls_given (given_with result acts.new.items) }
@@ -114,7 +115,8 @@ pub(crate) fn coast_gets(
 ) -> Outcome
     requires { vec_len sent.old + MOST_SENT ≤ vec_capacity sent.old }
     ensures answer { (who : Station) (h : History AtCoast) → CoastStands coast.old who h
-        → given_with result acts.new.items ≡ given_at (coast_rules who) h at number at_coast.Heard (slice_get from_ship.now number) }
+        → given_with result acts.new.items
+        ≡ given_at (coast_rules who) h at number at_coast.Heard (slice_get from_ship.now number) }
     ensures stands { (who : Station) (h : History AtCoast) → CoastStands coast.old who h
         → CoastStands coast.new who (after_event (delivery at_coast.Heard at number from_ship.now) (given_with result acts.new.items) h) }
     ensures sent { sent.new.items ≡ sent.old.items ++ calls_given (given_with result acts.new.items) }

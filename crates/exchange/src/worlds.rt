@@ -52,8 +52,10 @@ impl World {
     /// calls of the acting end is taken before anything else. An act puts its call into the list once, however often in a row it sends it.
     pub fn step(&mut self, event: &WorldEvent) -> Result<Told, AllocError>
         requires { IsFromOutside event.now }
-        ensures answer { IfOk result (λ told. (who : Parties) (w : WorldHistory) → Stands self.old who w → given_of told ≡ answer_behind who (ends_of w) event.now) }
-        ensures stands { OnOk result ((who : Parties) (w : WorldHistory) → Stands self.old who w → Stands self.new who (world_continued who w event.now)) }
+        ensures answer { IfOk result (λ told. (who : Parties) (w : WorldHistory) → Stands self.old who w
+            → given_of told ≡ answer_behind who (ends_of w) event.now) }
+        ensures stands { OnOk result ((who : Parties) (w : WorldHistory) → Stands self.old who w
+            → Stands self.new who (world_continued who w event.now)) }
         ensures still { IfOk result (λ told. IsStill (given_of told) → self.new ≡ self.old) }
         ensures unchanged { OnErr result (self.new ≡ self.old) }
     {
@@ -71,7 +73,8 @@ impl World {
         requires { IsFromOutside event.now }
         ensures answer { IfOk result (λ outcome. (who : Parties) (w : WorldHistory) → Stands self.old who w
             → given_with outcome acts.new.items ≡ answer_behind who (ends_of w) event.now) }
-        ensures stands { OnOk result ((who : Parties) (w : WorldHistory) → Stands self.old who w → Stands self.new who (world_continued who w event.now)) }
+        ensures stands { OnOk result ((who : Parties) (w : WorldHistory) → Stands self.old who w
+            → Stands self.new who (world_continued who w event.now)) }
         ensures still { IfOk result (λ outcome. IsStill (given_with outcome acts.new.items) → self.new ≡ self.old) }
         ensures unchanged { OnErr result (self.new ≡ self.old) }
     {

@@ -1,6 +1,6 @@
 -- The digits of sets by their letters.
 use Rattle.std.proofs.Common.{◌≡◌, ℕ, ◌+◌, ◌*◌, ◌/◌, ◌%◌, ◌≤◌, ◌⊎◌, inl, inr, ◌==◌, Bool, true, false, List, [], ◌∷◌, refl, sym, ◌∙◌, ap, subst, arith}
-use Rattle.std.proofs.lemmas.Bool.Decides.{nat_tests}
+use Rattle.std.proofs.lemmas.Bool.{eqb-true, eqb-false}
 use Rattle.symbol_reader.specs.declared.letters.Letter.TheVariants.{UpTo, UpToOr}
 use Rattle.symbol_reader.specs.Digits.{eight_digits, four_digits}
 use Rattle.symbol_reader.specs.inside.Languages.{Only, Then, Choice}
@@ -11,22 +11,10 @@ use Rattle.expansion.specs.declared.parts.PartKind.{PartKind}
 use Rattle.expansion.specs.declared.parts.PartKind.TheVariants.{LeftOut, NoInformation, Digits}
 use Rattle.expansion.specs.inside.Grammar.{Symbol, EightDigits, FourDigits, eight_of}
 
-pub is_same : (x y : ℕ) → x ≡ y → (x == y) ≡ true
-is_same x y h = grind (arith, nat_tests)
-
-pub is_other : (x y : ℕ) → (x ≡ y → ⊥) → (x == y) ≡ false
-is_other x y h = grind (arith, nat_tests)
-
-pub test_is : (m n : ℕ) → (m == n) ≡ true → m ≡ n
-test_is m n e = grind (arith, nat_tests)
-
-pub test_not : (m n : ℕ) → (m == n) ≡ false → m ≡ n → ⊥
-test_not m n e h = grind (arith, nat_tests)
-
 -- a first character that is not that of no information
 low : (a most : ℕ) → (a ≤ most) ⊎ (a ≡ 126) → (a == 126) ≡ false → a ≤ most
 low a most (inl h) e = h
-low a most (inr h) e = absurd (test_not a 126 e h)
+low a most (inr h) e = absurd (eqb-false a 126 e h)
 
 abbrev pub EightLast : ℕ → ℕ → ℕ → PartKind → List ℕ → Type 0
 EightLast a b c = Then (Symbol (UpTo 99)) (λ d. Only (Digits (eight_of a b c d)))
@@ -62,7 +50,7 @@ to_eight_rest : (a : ℕ) (test : Bool) (v : PartKind) (back word : List ℕ) �
     → word ≡ a ∷ back → EightDigits v word
 to_eight_rest a true v back word h e p w =
     let q = p.yes e in
-    let a_is : a ≡ 126 = test_is a 126 e in
+    let a_is : a ≡ 126 = eqb-true a 126 e in
     let value : v ≡ NoInformation = q.value in
     let tail : back ≡ [] = q.list in
     let list : word ≡ 126 ∷ [] = cc in
@@ -89,7 +77,7 @@ eight_back : (n : ℕ) → n ≡ eight_of (n / 1000000) (n / 10000 % 100) (n / 1
 eight_back n = omega arith
 
 not_none : (a : ℕ) → a ≤ 99 → (a == 126) ≡ true → ⊥
-not_none a h e = let k : a ≡ 126 = test_is a 126 e in absurd (omega arith)
+not_none a h e = let k : a ≡ 126 = eqb-true a 126 e in absurd (omega arith)
 
 from_eight : (v : PartKind) (word : List ℕ) → EightDigits v word → EightParts v word
 from_eight LeftOut word p = absurd p.is_lawful.0
@@ -108,6 +96,7 @@ from_eight (Digits n) word p =
 pub eight_alike : Alike EightParts EightDigits
 eight_alike = record { to = to_eight; back = from_eight }
 
+-- eight digits read back
 pub eight_good : Good EightDigits
 eight_good = alike_good _ _ eight_alike eight_parts_good
 
@@ -133,7 +122,7 @@ to_four_rest : (most a : ℕ) (test : Bool) (v : PartKind) (back word : List ℕ
     → word ≡ a ∷ back → FourDigits most v word
 to_four_rest most a true v back word h e p w =
     let q = p.yes e in
-    let a_is : a ≡ 126 = test_is a 126 e in
+    let a_is : a ≡ 126 = eqb-true a 126 e in
     let value : v ≡ NoInformation = q.value in
     let tail : back ≡ [] = q.list in
     let list : word ≡ 126 ∷ [] = cc in
@@ -173,5 +162,6 @@ from_four most (Digits n) word m p =
 pub four_alike : (most : ℕ) → most ≤ 99 → Alike (FourParts most) (FourDigits most)
 four_alike most m = record { to = to_four most; back = λ v word p. from_four most v word m p }
 
+-- four digits read back
 pub four_good : (most : ℕ) → most ≤ 99 → Good (FourDigits most)
 four_good most m = alike_good _ _ (four_alike most m) (four_parts_good most)

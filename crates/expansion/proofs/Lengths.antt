@@ -3,19 +3,16 @@ use Rattle.std.proofs.Common.{◌≡◌, ℕ, ◌+◌, ◌<◌, ◌≤◌, ◌�
 use Rattle.symbol_reader.specs.Digits.{eight_digits, four_digits}
 use Rattle.symbol_reader.specs.Checks.{check_of}
 use Rattle.symbol_reader.proofs.Characters.{AreCharacters, both, of_eight, of_four, of_check}
+use Rattle.symbol_reader.proofs.Digits.{length-eight}
 use Rattle.call_values.specs.declared.choices.End.{End}
-use Rattle.call_values.specs.declared.choices.End.TheVariants.{Ask, Reply, Plain}
 use Rattle.call_values.specs.Ends.{end_symbol}
+use Rattle.call_values.proofs.PublicLaws.{end_small}
 use Rattle.expansion.specs.declared.parts.PartKind.{PartKind}
 use Rattle.expansion.specs.declared.parts.PartKind.TheVariants.{LeftOut, NoInformation, Digits}
 use Rattle.expansion.specs.declared.values.Sets.{Sets}
 use Rattle.expansion.specs.Parts.{IsThere, IsUpTo}
 use Rattle.expansion.specs.Expansions.{IsExpansion}
 use Rattle.expansion.specs.Spelling.{set_symbols, covered, spell}
-
-length-eight : (n : ℕ) → length (eight_digits n) ≡ 4
-unfolding eight_digits
-length-eight n = refl
 
 length-four : (n : ℕ) → length (four_digits n) ≡ 2
 unfolding four_digits
@@ -55,6 +52,7 @@ length-covered x e =
       length-set 103 x.course,
     )
 
+-- an expansion's list has at most 15 symbols
 pub length-spell : (x : Sets) (e : End) → length (spell x e) ≤ 15
 length-spell x e =
     omega (arith, length-covered x e, length-append (covered x e) (check_of (covered x e) ∷ end_symbol e ∷ end_symbol e ∷ []))
@@ -89,14 +87,9 @@ four_at_most LeftOut h = tt
 four_at_most NoInformation h = tt
 four_at_most (Digits n) h = omega arith
 
-of_end : (e : End) → end_symbol e < 128
-of_end Ask = omega arith
-of_end Reply = omega arith
-of_end Plain = omega arith
-
 pub of_spell : (x : Sets) (e : End) → IsExpansion x → AreCharacters (spell x e)
 of_spell x e h =
-    let last = of_end e in
+    let last = end_small e in
     let course = of_set 103 x.course (omega arith) (four_at_most x.course h.course) in
     let speed = of_set 102 x.speed (omega arith) h.speed in
     let enhanced = of_position 100 x.enhanced (omega arith) h.enhanced in

@@ -1,13 +1,13 @@
 -- Lists of different expansions differ, and how a list that begins with an expansion's list is read.
 use Rattle.std.proofs.Common.{◌≡◌, ℕ, inl, inr, List, [], ◌∷◌, ◌++◌, length, Result, Ok, Err, refl, sym, ◌∙◌, ap, append-nil, append_assoc, length-append, arith}
+use Rattle.std.proofs.lemmas.List.{same_from_push}
 use Rattle.symbol_reader.specs.Checks.{check_of}
 use Rattle.symbol_reader.specs.declared.refusals.ReadRefusal.{ReadRefusal}
 use Rattle.symbol_reader.specs.declared.refusals.ReadRefusal.TheVariants.{Short, Outside, Check}
 use Rattle.symbol_reader.proofs.Laws.{no_word_goes_on}
-use Rattle.symbol_reader.proofs.Steps.{split}
 use Rattle.call_values.specs.declared.choices.End.{End}
-use Rattle.call_values.specs.declared.choices.End.TheVariants.{Ask, Reply, Plain}
 use Rattle.call_values.specs.Ends.{end_symbol}
+use Rattle.call_values.proofs.PublicLaws.{end_one}
 use Rattle.expansion.specs.declared.values.Sets.{Sets}
 use Rattle.expansion.specs.Expansions.{IsExpansion}
 use Rattle.expansion.specs.Spelling.{covered, through_check, spell}
@@ -15,26 +15,7 @@ use Rattle.expansion.specs.Reading.{IsViable, IsReading}
 use Rattle.expansion.specs.inside.Grammar.{CheckedSets}
 use Rattle.expansion.proofs.SetParts.{checked_sets_good}
 use Rattle.expansion.proofs.WholeLists.{lists_good}
-
--- the last symbols of two lists
-last_same : (a b : List ℕ) (x y : ℕ) → a ++ (x ∷ []) ≡ b ++ (y ∷ []) → x ≡ y
-last_same [] [] x y e = cc
-last_same [] (z ∷ b) x y e =
-    let k : length (x ∷ []) ≡ length (z ∷ (b ++ (y ∷ []))) = ap length e in absurd (omega (arith, length-append b (y ∷ [])))
-last_same (z ∷ a) [] x y e =
-    let k : length (z ∷ (a ++ (x ∷ []))) ≡ length (y ∷ []) = ap length e in absurd (omega (arith, length-append a (x ∷ [])))
-last_same (z ∷ a) (u ∷ b) x y e = let k : a ++ (x ∷ []) ≡ b ++ (y ∷ []) = cc in last_same a b x y k
-
-end_one : (e f : End) → end_symbol e ≡ end_symbol f → e ≡ f
-end_one Ask Ask h = refl
-end_one Ask Reply h = absurd (omega arith)
-end_one Ask Plain h = absurd (omega arith)
-end_one Reply Ask h = absurd (omega arith)
-end_one Reply Reply h = refl
-end_one Reply Plain h = absurd (omega arith)
-end_one Plain Ask h = absurd (omega arith)
-end_one Plain Reply h = absurd (omega arith)
-end_one Plain Plain h = refl
+use Rattle.plain_laws.proofs.Lists.{split}
 
 up_to_last : (x : Sets) (e : End) → spell x e ≡ (covered x e ++ (check_of (covered x e) ∷ end_symbol e ∷ [])) ++ (end_symbol e ∷ [])
 up_to_last x e = sym (append_assoc (covered x e) (check_of (covered x e) ∷ end_symbol e ∷ []) (end_symbol e ∷ []))
@@ -48,8 +29,8 @@ same_lists x y e r s h k p =
 pub spell_same : (x y : Sets) (e f : End) → IsExpansion x → IsExpansion y → spell x e ≡ spell y f → (x ≡ y) × (e ≡ f)
 spell_same x y e f h k p =
     let ends : end_symbol e ≡ end_symbol f =
-    last_same (covered x e ++ (check_of (covered x e) ∷ end_symbol e ∷ [])) (covered y f ++ (check_of (covered y f) ∷ end_symbol f ∷ []))
-    (end_symbol e) (end_symbol f) (sym (up_to_last x e) ∙ p ∙ up_to_last y f) in
+    (same_from_push (covered x e ++ (check_of (covered x e) ∷ end_symbol e ∷ [])) (covered y f ++ (check_of (covered y f) ∷ end_symbol f ∷ []))
+    (end_symbol e) (end_symbol f) (sym (up_to_last x e) ∙ p ∙ up_to_last y f)).1 in
     let same : e ≡ f = end_one e f ends in
     let list : spell x e ≡ spell y e = p ∙ ap (λ g. spell y g) (sym same) in
     ((same_lists x y e [] [] h k (ap (λ l. l ++ []) (sym list))).0, same)

@@ -1,5 +1,6 @@
 -- Expansions by their sets.
 use Rattle.std.proofs.Common.{◌≡◌, ℕ, ◌⊎◌, inl, inr, ◌==◌, Bool, true, false, List, [], ◌∷◌, ◌++◌, refl, sym, ◌∙◌, ap, subst, arith}
+use Rattle.std.proofs.lemmas.Bool.{eqb-true, eqb-false}
 use Rattle.symbol_reader.specs.Digits.{eight_digits, four_digits}
 use Rattle.symbol_reader.proofs.Laws.{Good, Alike, alike_good}
 use Rattle.symbol_reader.proofs.Steps.{one_then, joined, spelled_then, spelt}
@@ -13,7 +14,6 @@ use Rattle.expansion.specs.Parts.{IsThere, IsUpTo}
 use Rattle.expansion.specs.Expansions.{IsExpansion}
 use Rattle.expansion.specs.Spelling.{set_symbols, covered}
 use Rattle.expansion.specs.inside.Grammar.{told_symbols, sets_of, AfterSpeed, AfterEnhanced, AfterFirst, SetWords, CheckedSets}
-use Rattle.expansion.proofs.DigitParts.{test_is, test_not}
 use Rattle.expansion.proofs.SetGoods.{CourseAndEnd, SpeedAndRest, set_words_good}
 
 -- a symbol that is no specifier of a set
@@ -52,7 +52,7 @@ to_course : (last : ℕ) (enhanced speed : PartKind) (next : ℕ) (test : Bool) 
 to_course last enhanced speed next true x l e h p =
     let q = p.yes e in
     let r = q.after in
-    let is : next ≡ 103 = test_is next 103 e in
+    let is : next ≡ 103 = eqb-true next 103 e in
     let final : r.chosen ≡ last = r.before.allowed in
     let tail : l ≡ told_symbols four_digits q.chosen ++ (r.chosen ∷ []) = spelt q (joined r r.after.list) in
     let told = q.before.is_lawful in
@@ -67,11 +67,11 @@ to_course last enhanced speed next true x l e h p =
 to_course last enhanced speed next false x l e h p =
     let q = p.no e in
     let tail : l ≡ [] = q.list in
-    let is : next ≡ last = elim h [ inl k ↦ absurd (test_not next 103 e k) | inr k ↦ k ] in
+    let is : next ≡ last = elim h [ inl k ↦ absurd (eqb-false next 103 e k) | inr k ↦ k ] in
     record {
       course = LeftOut;
       range = tt;
-      some = λ k. absurd (test_not next 103 e k);
+      some = λ k. absurd (eqb-false next 103 e k);
       value = q.value;
       list = ap (λ a. a ∷ l) is ∙ ap (λ a. last ∷ a) tail;
     }
@@ -91,7 +91,7 @@ to_speed : (last : ℕ) (enhanced : PartKind) (next : ℕ) (test : Bool) (x : Se
 to_speed last enhanced next true x l e h p =
     let q = p.yes e in
     let r = q.after in
-    let is : next ≡ 102 = test_is next 102 e in
+    let is : next ≡ 102 = eqb-true next 102 e in
     let told = q.before.is_lawful in
     let rest = to_course last enhanced q.chosen r.chosen (r.chosen == 103) x r.back refl r.before.allowed r.after in
     let tail : l ≡ told_symbols four_digits q.chosen ++ course_and rest.course last = spelt q (joined r refl ∙ rest.list) in
@@ -106,7 +106,7 @@ to_speed last enhanced next true x l e h p =
           ∙ ap (λ a. a ++ course_and rest.course last) (sym (there 102 four_digits q.chosen told.0));
     }
 to_speed last enhanced next false x l e h p =
-    let not : next ≡ 102 → ⊥ = test_not next 102 e in
+    let not : next ≡ 102 → ⊥ = eqb-false next 102 e in
     let either : (next ≡ 103) ⊎ (next ≡ last) = elim h [ inl k ↦ absurd (not k) | inr k ↦ k ] in
     let rest = to_course last enhanced LeftOut next (next == 103) x l refl either (p.no e) in
     record {
@@ -124,7 +124,7 @@ to_first : (e : End) (initial : ℕ) (test : Bool) (x : Sets) (l : List ℕ) →
 to_first e initial true x l t h p =
     let q = p.yes t in
     let r = q.after in
-    let is : initial ≡ 100 = test_is initial 100 t in
+    let is : initial ≡ 100 = eqb-true initial 100 t in
     let told = q.before.is_lawful in
     let rest = to_speed (end_symbol e) q.chosen r.chosen (r.chosen == 102) x r.back refl r.before.allowed r.after in
     let tail : l ≡ told_symbols eight_digits q.chosen ++ speed_and rest.speed rest.course (end_symbol e) = spelt q (joined r refl ∙ rest.list) in
@@ -136,7 +136,7 @@ to_first e initial true x l t h p =
       list = list;
     })
 to_first e initial false x l t h p =
-    let later : (initial ≡ 102) ⊎ (initial ≡ 103) = elim h [ inl k ↦ absurd (test_not initial 100 t k) | inr k ↦ k ] in
+    let later : (initial ≡ 102) ⊎ (initial ≡ 103) = elim h [ inl k ↦ absurd (eqb-false initial 100 t k) | inr k ↦ k ] in
     let wider : (initial ≡ 102) ⊎ (initial ≡ 103) ⊎ (initial ≡ end_symbol e) = elim later [ inl k ↦ inl k | inr k ↦ inr (inl k) ] in
     let rest = to_speed (end_symbol e) LeftOut initial (initial == 102) x l refl wider (p.no t) in
     subst (λ a. CheckedSets e a (initial ∷ l)) (sym rest.value) (record {
@@ -159,7 +159,7 @@ course_there last enhanced speed course h k = record {
 from_course : (last : ℕ) (enhanced speed course : PartKind) → IsApart last → IsUpTo 3599 course
     → CourseAndEnd last enhanced speed (sets_of enhanced speed course) (course_and course last)
 from_course last enhanced speed LeftOut a k = one_then last (inr refl) (record {
-  yes = λ t. absurd (a.course (test_is last 103 t));
+  yes = λ t. absurd (a.course (eqb-true last 103 t));
   no = λ _. record { value = refl; list = refl };
 })
 from_course last enhanced speed NoInformation a k = one_then 103 (inl refl) (course_there last enhanced speed NoInformation tt k)
@@ -179,7 +179,7 @@ no_speed : (last : ℕ) (enhanced : PartKind) (x : Sets) (word : List ℕ) → I
 no_speed last enhanced x word a p =
     let not : p.chosen ≡ 102 → ⊥ = λ k. elim p.before.allowed [ inl m ↦ absurd (omega arith) | inr m ↦ a.speed (sym m ∙ k) ] in
     subst (λ w. SpeedAndRest last enhanced x w) (sym (joined p refl))
-    (one_then p.chosen (inr p.before.allowed) (record { yes = λ t. absurd (not (test_is p.chosen 102 t)); no = λ _. p.after }))
+    (one_then p.chosen (inr p.before.allowed) (record { yes = λ t. absurd (not (eqb-true p.chosen 102 t)); no = λ _. p.after }))
 
 from_speed : (last : ℕ) (enhanced speed course : PartKind) → IsApart last → IsUpTo 9999 speed → IsUpTo 3599 course
     → SpeedAndRest last enhanced (sets_of enhanced speed course) (speed_and speed course last)
@@ -231,5 +231,6 @@ from_sets e x word p =
 pub sets_alike : (e : End) → Alike (SetWords (end_symbol e)) (CheckedSets e)
 sets_alike e = record { to = to_sets e; back = from_sets e }
 
+-- the sets of an expansion read back up to its check
 pub checked_sets_good : (e : End) → Good (CheckedSets e)
 checked_sets_good e = alike_good _ _ (sets_alike e) (set_words_good (end_symbol e))

@@ -1,6 +1,8 @@
 -- The whole lists of expansions, and what is read of them.
 use Rattle.std.proofs.Common.{◌≡◌, ℕ, ◌+◌, ◌-◌, ◌≤◌, ◌==◌, Bool, true, false, List, [], ◌∷◌, ◌++◌, length, take, get_or, Result, Ok, Err, refl, sym, ◌∙◌, ap, subst, append_assoc, length-append, arith}
 use Rattle.std.proofs.lemmas.List.{append_cancel_right, take-append-le}
+use Rattle.std.proofs.lemmas.Bool.{eqb-true, eqb-false}
+use Rattle.std.proofs.Math.Seq.{take-length, get_or-append_seam}
 use Rattle.symbol_reader.specs.Checks.{check_of}
 use Rattle.symbol_reader.specs.declared.reading.Stop.{Stop}
 use Rattle.symbol_reader.specs.declared.reading.Stop.TheVariants.{Short, Outside}
@@ -11,7 +13,7 @@ use Rattle.symbol_reader.specs.inside.Languages.{Only, Then, Spelled}
 use Rattle.symbol_reader.specs.inside.Reading.{Begins, Wants, Leaves, Reads}
 use Rattle.symbol_reader.specs.inside.Closings.{Closing}
 use Rattle.symbol_reader.proofs.Laws.{Good, Alike, then_good, only_good, alike_good, no_word_goes_on}
-use Rattle.symbol_reader.proofs.Steps.{alike, next, stop, one_then, joined, spelled_then}
+use Rattle.symbol_reader.proofs.Steps.{alike, next, stop, one_then, joined, spelled_then, length_left}
 use Rattle.symbol_reader.proofs.Closings.{closing_good}
 use Rattle.call_values.specs.declared.choices.End.{End}
 use Rattle.call_values.specs.Ends.{end_symbol}
@@ -20,7 +22,6 @@ use Rattle.expansion.specs.Expansions.{IsExpansion}
 use Rattle.expansion.specs.Spelling.{covered, spell}
 use Rattle.expansion.specs.Reading.{IsViable, IsPart, IsAtCheck, BeginsWith, EndsShort, EndsOutside, EndsWrong, IsReading}
 use Rattle.expansion.specs.inside.Grammar.{CheckedSets}
-use Rattle.expansion.proofs.DigitParts.{test_is, test_not}
 use Rattle.expansion.proofs.SetParts.{checked_sets_good}
 use Rattle.expansion.proofs.Lengths.{length-spell}
 
@@ -102,21 +103,13 @@ checked_short e l new p =
     let whole = alike (whole_alike e) (stop (checked_sets_good e) (λ x _ _. closed_good e x) p) in
     record { part = part_of e l whole.outcome.wants; place = refl }
 
--- the symbol at the end of a front
-at_front : (m rest : List ℕ) (n : ℕ) → get_or (m ++ (n ∷ rest)) (length m) 0 ≡ n
-at_front [] rest n = refl
-at_front (x ∷ m) rest n = at_front m rest n
-
-length_left : (m rest : List ℕ) (n : ℕ) → length (m ++ (n ∷ rest)) - length (n ∷ rest) ≡ length m
-length_left m rest n = omega (arith, length-append m (n ∷ rest))
-
 pub left_place : (e : End) (l new : List ℕ) (v : Leaves (Lists e) l new) → length l - length new ≡ length v.front
 left_place e l new v =
     ap (λ a. length a - length new) v.list ∙ ap (λ a. length (v.front ++ (v.next ∷ v.rest)) - length a) v.left ∙ length_left v.front v.rest v.next
 
 left_symbol : (e : End) (l new : List ℕ) (v : Leaves (Lists e) l new) → get_or l (length l - length new) 0 ≡ v.next
 left_symbol e l new v =
-    ap (λ a. get_or l a 0) (left_place e l new v) ∙ ap (λ a. get_or a (length v.front) 0) v.list ∙ at_front v.front v.rest v.next
+    ap (λ a. get_or l a 0) (left_place e l new v) ∙ ap (λ a. get_or a (length v.front) 0) v.list ∙ get_or-append_seam v.front v.next v.rest 0
 
 left_list : (e : End) (l new : List ℕ) (v : Leaves (Lists e) l new) → l ≡ v.front ++ (get_or l (length l - length new) 0 ∷ v.rest)
 left_list e l new v = v.list ∙ ap (λ a. v.front ++ (a ∷ v.rest)) (sym (left_symbol e l new v))
@@ -238,22 +231,18 @@ pub closed_refused : (e : End) (x : Sets) (l rest new : List ℕ) (v : Leaves (L
     → ((length l - length new ≡ length l - length rest → ⊥) → r ≡ refusal.Outside (length l - length new) (get_or l (length l - length new) 0))
     → IsReading e l (Err r)
 closed_refused e x l rest new v want r true h list w t at else =
-    let n : length l - length new ≡ length l - length rest = test_is _ _ t in
+    let n : length l - length new ≡ length l - length rest = eqb-true _ _ t in
     subst (λ a. IsReading e l (Err a)) (sym (at n))
     (subst (λ a. EndsWrong e l (length l - length new) a (get_or l (length l - length new) 0)) (sym w) (closed_wrong e x l rest new v h list n))
 closed_refused e x l rest new v want r false h list w t at else =
-    let n : length l - length new ≡ length l - length rest → ⊥ = test_not _ _ t in
+    let n : length l - length new ≡ length l - length rest → ⊥ = eqb-false _ _ t in
     subst (λ a. IsReading e l (Err a)) (sym (else n)) (closed_outside e x l rest new v h list n)
-
-take_whole : (l : List ℕ) → take (length l) l ≡ l
-take_whole [] = refl
-take_whole (x ∷ l) = ap (λ a. x ∷ a) (take_whole l)
 
 -- what the check covers stands before its place
 pub covered_part : (e : End) (x : Sets) (l rest : List ℕ) → l ≡ covered x e ++ rest → take (length l - length rest) l ≡ covered x e
 covered_part e x l rest list =
     ap (λ k. take k l) (checked_length e x l rest list) ∙ ap (λ a. take (length (covered x e)) a) list
-    ∙ take-append-le (length (covered x e)) (covered x e) rest (omega arith) ∙ take_whole (covered x e)
+    ∙ take-append-le (length (covered x e)) (covered x e) rest (omega arith) ∙ take-length (covered x e)
 
 -- the same reading under other names
 pub closing_as : (k m last final : ℕ) (l rest new after : List ℕ) (r : Result (Unit {0}) Stop) → k ≡ m → last ≡ final → l ≡ rest → new ≡ after

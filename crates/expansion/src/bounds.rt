@@ -1,5 +1,4 @@
 //! The bounds of the sets of an expansion, each named once: this project's profile.
-ghost use Rattle.std.specs.Prelude.{◌≡◌};
 
 /// The last enhanced position: eight digits, four of decimal minutes of latitude and four of longitude.
 pub const LAST_ENHANCEMENT: u32 = 99_999_999;
@@ -9,10 +8,3 @@ pub const LAST_SPEED: u32 = 9_999;
 
 /// The last course, in tenths of a degree.
 pub const LAST_COURSE: u32 = 3_599;
-
-/// The law that these are the bounds of the sets. It does nothing.
-pub fn bounds_of_sets()
-    ensures last_enhancement { LAST_ENHANCEMENT ≡ 99999999 }
-    ensures last_speed { LAST_SPEED ≡ 9999 }
-    ensures last_course { LAST_COURSE ≡ 3599 }
-{}

@@ -10,10 +10,12 @@ mod specifiers;
 mod spelling;
 mod values;
 
-pub use laws::{fronts_differ, lists_are_characters, lists_are_short, one_list, read_back};
+pub use laws::{
+    bounds_of_sets, expansion_numbers, fronts_differ, lists_are_characters, lists_are_short,
+    one_list, read_back,
+};
 pub use parts::{Part, PartKind};
 pub use reading::{read_checked, read_sets};
-pub use specifiers::expansion_numbers;
 pub use spelling::spell_sets;
 pub use symbol_reader::ReadRefusal;
 pub use values::{Expansion, Sets};

@@ -1,4 +1,5 @@
 ghost use Rattle.std.specs.Prelude.{◌≡◌, ◌↔◌, IsTrue};
+ghost use Rattle.expansion.specs.declared.parts.PartKind.{PartKind};
 ghost use Rattle.expansion.specs.Parts.{IsThere, IsUpTo};
 
 use std::marker::Model;
@@ -21,8 +22,6 @@ pub struct Part {
 }
 
 impl Model for Part {
-    ghost use Rattle.expansion.specs.declared.parts.PartKind.{PartKind};
-
     ghost Value = { PartKind };
 
     ghost view = { λ part. part.kind };

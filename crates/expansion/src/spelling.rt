@@ -44,7 +44,8 @@ fn covered(x: &Expansion, end: End) -> ArrayVec<u8, 16>
 fn append_position(list: &mut ArrayVec<u8, 16>, part: &Part)
     requires room { length list.old.items ≤ 11 }
     requires range { IsUpTo LAST_ENHANCEMENT part.now }
-    ensures list { list.new.items ≡ list.old.items ++ sequence.set_symbols specifiers.ENHANCED_POSITION digits.eight_digits part.now }
+    ensures list { list.new.items ≡ list.old.items
+        ++ sequence.set_symbols specifiers.ENHANCED_POSITION digits.eight_digits part.now }
     ensures short { length list.new.items ≤ length list.old.items + 5 }
 {
     match part.kind() {

@@ -1,4 +1,5 @@
 ghost use Rattle.std.specs.Prelude.{◌≡◌, ◌↔◌, IfSome, IsSome};
+ghost use Rattle.expansion.specs.declared.values.Sets.{Sets};
 ghost use Rattle.expansion.specs.Parts.{IsUpTo};
 ghost use Rattle.expansion.specs.Expansions.{IsExpansion};
 
@@ -25,9 +26,6 @@ pub struct Expansion {
 }
 
 impl Model for Expansion {
-    ghost use Rattle.expansion.specs.declared.values.Sets.{Sets};
-    ghost use Rattle.expansion.specs.Expansions.{IsExpansion};
-
     ghost Value = { Sets };
 
     ghost view = { λ expansion. expansion.sets };

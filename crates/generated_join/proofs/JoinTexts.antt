@@ -2,7 +2,7 @@
 use Rattle.std.proofs.Common.{◌≡◌, ℕ, Bool, ◌&&◌, cond, List, [], ◌∷◌, map, flat_map, refl, ap, subst}
 use Rattle.std.specs.List.{list_all, AllByRecursion}
 use Rattle.slot_join.specs.Answer.{IsAnswer}
-use Rattle.dsc_files.specs.JoinLine.{JoinLine}
+use Rattle.dsc_lines.specs.JoinLine.{JoinLine}
 use Rattle.join_groups.specs.Groups.{group_facts, AreGroups}
 use Rattle.join_groups.specs.Output.{Told, TellsAnswer, answer_line, is_reported, IsJoinText}
 use Rattle.generated_join.specs.declared.summary.Summary.{Summary}

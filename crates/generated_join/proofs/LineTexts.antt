@@ -3,7 +3,7 @@ use Rattle.std.proofs.Common.{ℕ, zero, suc, ◌+◌, ◌<◌, ◌≤◌, ◌^�
 use Rattle.std.specs.Prelude.{codes, decimal}
 use Rattle.std.specs.List.{range_with_len}
 use Rattle.line_engine.specs.Lines.{Lines}
-use Rattle.dsc_files.specs.JoinLine.{JoinLine, reception}
+use Rattle.dsc_lines.specs.JoinLine.{JoinLine, reception}
 use Rattle.join_groups.specs.Groups.{AreLines}
 use Rattle.generated_join.specs.Generator.{heard, reception_text, lines_of_group, generated, generated_texts}
 

@@ -1,6 +1,7 @@
+//! Laws: each function here does nothing, and its contract is a theorem over definitions.
 ghost use Rattle.std.specs.Prelude.{◌≡◌, ℕ, ◌≤◌, ◌^◌, List, if◌then◌else◌};
 ghost use Rattle.std.specs.List.{list_all};
-ghost use Rattle.dsc_files.specs.JoinLine.{JoinLine};
+ghost use Rattle.dsc_lines.specs.JoinLine.{JoinLine};
 ghost use Rattle.join_groups.specs.Groups.{AreLines};
 ghost use Rattle.join_groups.specs.Output.{is_reported, IsJoinText};
 ghost use Rattle.generated_join.specs.declared.summary.Summary.{Summary as Numbers};
@@ -9,19 +10,18 @@ ghost use Rattle.generated_join.specs.Summary.{IsSummary, IsMade};
 
 use slot_join::one_answer;
 
-/// The law that the generated lines are lines of join's input, each of these bytes. It does nothing.
+/// The law that the generated lines are lines of join's input, each of these bytes.
 pub fn generated_lines_are_read()
     ensures { (n : ℕ) → n ≤ 2 ^ 32 → AreLines (generated n) (generated_texts n) }
 {}
 
-/// The law that `join` over lines of which this is the summary ends with status 0 where all groups were reported, and else with 1. It does
-/// nothing.
+/// The law that `join` over lines of which this is the summary ends with status 0 where all groups were reported, and else with 1.
 pub fn joins_end_so()
     ensures { (said : List JoinLine) (summary : Numbers) (is : IsSummary said summary)
         → (text : List ℕ) × IsJoinText said text (if list_all (λ one. is_reported one.answer) is.all then 0 else 1) }
 {}
 
-/// The law that `make n` has one text and status. It does nothing.
+/// The law that `make n` has one text and status.
 pub fn made_text_is_one()
     ensures { (n : ℕ) (a b : List ℕ) (s t : ℕ) → IsMade n a s → IsMade n b t → (a ≡ b) × (s ≡ t) }
 {

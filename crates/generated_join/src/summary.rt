@@ -1,7 +1,7 @@
 ghost use Rattle.std.specs.Prelude.{◌≡◌, ◌+◌, ◌<◌, ◌≤◌, ◌++◌, List, if◌then◌else◌, codes, decimal, length};
 ghost use Rattle.std.specs.List.{list_all};
 ghost use Rattle.arrayvec.specs.ArrayVec.{array_vec_len};
-ghost use Rattle.dsc_files.specs.JoinLine.{JoinLine};
+ghost use Rattle.dsc_lines.specs.JoinLine.{JoinLine};
 ghost use Rattle.join_groups.specs.Output.{is_reported as tells_call};
 ghost use Rattle.generated_join.specs.Summary.{IsSummary, summary_text, is_missing as names_missing};
 ghost use Rattle.generated_join.specs.inside.Counted.{HasCounted};
@@ -44,7 +44,8 @@ impl Summary {
 
     /// The summary of one group more, to whose receptions this is the answer.
     pub(crate) fn with(&self, answer: &Joined) -> Summary
-        requires { (self.now.groups < 1000) × (self.now.receptions < 4000) × (self.now.reported < 1000) × (self.now.missing < 1000) }
+        requires { (self.now.groups < 1000) × (self.now.receptions < 4000) × (self.now.reported < 1000)
+            × (self.now.missing < 1000) }
         ensures groups { result.groups ≡ self.now.groups + 1 }
         ensures receptions { result.receptions ≡ self.now.receptions + 4 }
         ensures reported { result.reported ≡ self.now.reported + (if tells_call answer.now then 1 else 0) }
@@ -60,7 +61,8 @@ impl Summary {
 
     /// Whether a call was reported of every group.
     pub fn is_whole(&self) -> bool
-        ensures { (said : List JoinLine) (is : IsSummary said self.now) → result ≡ list_all (λ one. tells_call one.answer) is.all }
+        ensures { (said : List JoinLine) (is : IsSummary said self.now)
+            → result ≡ list_all (λ one. tells_call one.answer) is.all }
     {
         self.reported == self.groups
     }

@@ -9,8 +9,8 @@ use Rattle.slot_join.specs.Answer.{IsAnswer}
 use Rattle.evidence_texts.specs.Evidence.{evidence_text}
 use Rattle.line_engine.specs.Lines.{Lines}
 use Rattle.line_engine.specs.Determined.{IsDetermined, BeginsWith}
-use Rattle.dsc_files.specs.JoinLine.{JoinLine, IsLine}
-use Rattle.dsc_files.proofs.PublicLaws.{one_column}
+use Rattle.dsc_lines.specs.JoinLine.{JoinLine, IsLine}
+use Rattle.dsc_lines.proofs.PublicLaws.{one_column}
 use Rattle.join_groups.specs.Groups.{group_facts}
 use Rattle.join_groups.specs.Output.{Told, Telling, TellsAnswer, TellsEvidence, IsGroupsText, answer_line, is_reported}
 use Rattle.join_groups.specs.Meanings.{EndsTelling, groups_meaning}

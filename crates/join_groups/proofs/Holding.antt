@@ -13,7 +13,7 @@ use Rattle.ten_unit.specs.declared.character.Element.{Element}
 use Rattle.slot_evidence.specs.declared.places.Seen.{Seen}
 use Rattle.slot_evidence.specs.Facts.{Facts, facts_of, no_facts, union}
 use Rattle.slot_evidence.specs.Sheet.{IsEnds}
-use Rattle.receiver_pool.specs.declared.heard.Heard.{Heard}
+use Rattle.receiver_pool.specs.declared.group_entries.GroupReception.{GroupReception}
 use Rattle.receiver_pool.specs.Groups.{facts_of_group, AreSheets, Belongs}
 use Rattle.join_groups.specs.Groups.{is_among}
 use Rattle.join_groups.specs.Holds.{named_with, facts_with, facts_without, IsFull, IsHeld, HoldsIn}
@@ -58,13 +58,13 @@ eq_one : (k : ℕ) → (k == k) ≡ true
 eq_one k = grind arith
 
 -- batches
-batch_push : (batch : List Heard) (h : Heard) (n p v : ℕ) → facts_of_group (batch ++ h ∷ []) n p v ≡ (facts_of_group batch n p v || (h.group == n && facts_of h.reception p v))
+batch_push : (batch : List GroupReception) (h : GroupReception) (n p v : ℕ) → facts_of_group (batch ++ h ∷ []) n p v ≡ (facts_of_group batch n p v || (h.group == n && facts_of h.reception p v))
 unfolding facts_of_group
 batch_push batch h n p v =
     list_any-append (λ heard. heard.group == n && facts_of heard.reception p v) batch (h ∷ [])
     ∙ ap (λ (b : Bool). list_any (λ heard. heard.group == n && facts_of heard.reception p v) batch || b) (or_nothing (h.group == n && facts_of h.reception p v))
 
-none_of_next : (batch : List Heard) (n p v : ℕ) → All (Belongs n) batch → facts_of_group batch n p v ≡ false
+none_of_next : (batch : List GroupReception) (n p v : ℕ) → All (Belongs n) batch → facts_of_group batch n p v ≡ false
 unfolding facts_of_group
 none_of_next [] n p v all = refl
 none_of_next (h ∷ batch) n p v all =
@@ -76,12 +76,12 @@ unfolding facts_of_group
 none_waits n p v = refl
 
 -- the same groups and facts
-same_held : (named other : Bool) (F G : Facts) (closed : ℕ → Facts) (sheets : ℕ) (batch : List Heard) (o : Option ℕ) → named ≡ other → ((p v : ℕ) → F p v ≡ G p v)
+same_held : (named other : Bool) (F G : Facts) (closed : ℕ → Facts) (sheets : ℕ) (batch : List GroupReception) (o : Option ℕ) → named ≡ other → ((p v : ℕ) → F p v ≡ G p v)
     → IsHeld named F closed sheets batch o → IsHeld other G closed sheets batch o
 same_held named other F G closed sheets batch None n f h = (sym n ∙ h.0, λ p v. sym (f p v) ∙ h.1 p v)
 same_held named other F G closed sheets batch (Some m) n f h = (sym n ∙ h.0, h.1, λ p v. sym (f p v) ∙ h.2 p v)
 
-pub holds_same : (at : ℕ → Option ℕ) (sheets : List (List Seen)) (batch : List Heard) (named other : ℕ → Bool) (F G : ℕ → Facts) → ((k : ℕ) → named k ≡ other k) → ((k p v : ℕ) → F k p v ≡ G k p v)
+pub holds_same : (at : ℕ → Option ℕ) (sheets : List (List Seen)) (batch : List GroupReception) (named other : ℕ → Bool) (F G : ℕ → Facts) → ((k : ℕ) → named k ≡ other k) → ((k p v : ℕ) → F k p v ≡ G k p v)
     → HoldsIn at sheets batch named F → HoldsIn at sheets batch other G
 holds_same at sheets batch named other F G n f h = record {
   closed = h.closed;
@@ -93,16 +93,17 @@ holds_same at sheets batch named other F G n f h = record {
 }
 
 -- what is held of a group that has a number, and of one that has none
-pub held_some : (at : ℕ → Option ℕ) (sheets : List (List Seen)) (batch : List Heard) (named : ℕ → Bool) (F : ℕ → Facts) (k n : ℕ) → at k ≡ Some n → (h : HoldsIn at sheets batch named F)
+pub held_some : (at : ℕ → Option ℕ) (sheets : List (List Seen)) (batch : List GroupReception) (named : ℕ → Bool) (F : ℕ → Facts) (k n : ℕ) → at k ≡ Some n → (h : HoldsIn at sheets batch named F)
     → IsHeld (named k) (F k) h.closed (length sheets) batch (Some n)
 held_some at sheets batch named F k n is h = subst (λ (o : Option ℕ). IsHeld (named k) (F k) h.closed (length sheets) batch o) is (h.held k)
 
-pub held_none : (at : ℕ → Option ℕ) (sheets : List (List Seen)) (batch : List Heard) (named : ℕ → Bool) (F : ℕ → Facts) (k : ℕ) → at k ≡ None → (h : HoldsIn at sheets batch named F)
+-- of a group without a number nothing is held
+pub held_none : (at : ℕ → Option ℕ) (sheets : List (List Seen)) (batch : List GroupReception) (named : ℕ → Bool) (F : ℕ → Facts) (k : ℕ) → at k ≡ None → (h : HoldsIn at sheets batch named F)
     → IsHeld (named k) (F k) h.closed (length sheets) batch None
 held_none at sheets batch named F k is h = subst (λ (o : Option ℕ). IsHeld (named k) (F k) h.closed (length sheets) batch o) is (h.held k)
 
 -- a group that has a number is named once more
-pub holds_named : (at : ℕ → Option ℕ) (sheets : List (List Seen)) (batch : List Heard) (named : ℕ → Bool) (F : ℕ → Facts) (group n : ℕ) → at group ≡ Some n
+pub holds_named : (at : ℕ → Option ℕ) (sheets : List (List Seen)) (batch : List GroupReception) (named : ℕ → Bool) (F : ℕ → Facts) (group n : ℕ) → at group ≡ Some n
     → HoldsIn at sheets batch named F → HoldsIn at sheets batch (named_with group named) F
 holds_named at sheets batch named F group n is h =
     holds_same at sheets batch named (named_with group named) F F
@@ -113,16 +114,16 @@ holds_named at sheets batch named F group n is h =
     (λ k p v. refl) h
 
 -- a group gets the next number
-next_held : (named : Bool) (F : Facts) (closed : ℕ → Facts) (count : ℕ) (batch : List Heard) (o : Option ℕ) → IsHeld named F closed count batch o
+next_held : (named : Bool) (F : Facts) (closed : ℕ → Facts) (count : ℕ) (batch : List GroupReception) (o : Option ℕ) → IsHeld named F closed count batch o
     → IsHeld named F (λ m p v. nat_lt m count && closed m p v) (count + 1) batch o
 next_held named F closed count batch None h = h
 next_held named F closed count batch (Some m) h =
     (h.0, omega (arith, h.1), λ p v. h.2 p v ∙ ap (λ (b : Bool). (b && closed m p v) || facts_of_group batch m p v) (sym (lt-ltb m count h.1)))
 
-below_next : (named : Bool) (F : Facts) (closed : ℕ → Facts) (count : ℕ) (batch : List Heard) (o : Option ℕ) (n : ℕ) → o ≡ Some n → IsHeld named F closed count batch o → n < count
+below_next : (named : Bool) (F : Facts) (closed : ℕ → Facts) (count : ℕ) (batch : List GroupReception) (o : Option ℕ) (n : ℕ) → o ≡ Some n → IsHeld named F closed count batch o → n < count
 below_next named F closed count batch o n is h = (subst (λ (x : Option ℕ). IsHeld named F closed count batch x) is h).1
 
-pub holds_numbered : (at next : ℕ → Option ℕ) (sheets : List (List Seen)) (batch : List Heard) (named : ℕ → Bool) (F : ℕ → Facts) (group : ℕ) (blank : List Seen) → at group ≡ None
+pub holds_numbered : (at next : ℕ → Option ℕ) (sheets : List (List Seen)) (batch : List GroupReception) (named : ℕ → Bool) (F : ℕ → Facts) (group : ℕ) (blank : List Seen) → at group ≡ None
     → ((k : ℕ) → next k ≡ cond (is_eq (nat_cmp group k)) (Some (length sheets)) (at k)) → IsEnds no_facts blank
     → HoldsIn at sheets batch named F → HoldsIn next (sheets ++ blank ∷ []) batch (named_with group named) F
 holds_numbered at next sheets batch named F group blank none is ends h =
@@ -186,7 +187,7 @@ holds_numbered at next sheets batch named F group blank none is ends h =
     or_yes false y e = e
 
 -- the number of one group is no other's
-same_test : (at : ℕ → Option ℕ) (sheets : List (List Seen)) (batch : List Heard) (named : ℕ → Bool) (F : ℕ → Facts) (group n k m : ℕ) → at group ≡ Some n → at k ≡ Some m → HoldsIn at sheets batch named F
+same_test : (at : ℕ → Option ℕ) (sheets : List (List Seen)) (batch : List GroupReception) (named : ℕ → Bool) (F : ℕ → Facts) (group n k m : ℕ) → at group ≡ Some n → at k ≡ Some m → HoldsIn at sheets batch named F
     → (group == k) ≡ (n == m)
 same_test at sheets batch named F group n k m is found h =
     elim (cases_eq group k) [
@@ -204,7 +205,7 @@ no_test at group n k is none = ne_eqb group k (λ e. absurd (never (sym is ∙ a
     never : Some n ≡ None → ⊥
     never e = absurd cc
 
-module _ (at : ℕ → Option ℕ) (sheets : List (List Seen)) (batch : List Heard) (named : ℕ → Bool) (F : ℕ → Facts) (group n : ℕ) (is : at group ≡ Some n) (h : HoldsIn at sheets batch named F) where
+module _ (at : ℕ → Option ℕ) (sheets : List (List Seen)) (batch : List GroupReception) (named : ℕ → Bool) (F : ℕ → Facts) (group n : ℕ) (is : at group ≡ Some n) (h : HoldsIn at sheets batch named F) where
   -- its sheet is met with some facts
   met_held : (G : Facts) (k : ℕ) (o : Option ℕ) → at k ≡ o → IsHeld (named k) (F k) h.closed (length sheets) batch o
       → IsHeld (named k) (facts_with group G F k) (λ m. union (h.closed m) (λ p v. n == m && G p v)) (length sheets) batch o
@@ -256,7 +257,7 @@ module _ (at : ℕ → Option ℕ) (sheets : List (List Seen)) (batch : List Hea
   }
 
 -- the batch is joined into the sheets
-closed_held : (named : Bool) (F : Facts) (closed : ℕ → Facts) (sheets : ℕ) (batch : List Heard) (o : Option ℕ) → IsHeld named F closed sheets batch o
+closed_held : (named : Bool) (F : Facts) (closed : ℕ → Facts) (sheets : ℕ) (batch : List GroupReception) (o : Option ℕ) → IsHeld named F closed sheets batch o
     → IsHeld named F (λ m. union (closed m) (facts_of_group batch m)) sheets [] o
 closed_held named F closed sheets batch None held = held
 closed_held named F closed sheets batch (Some m) held = (
@@ -266,7 +267,8 @@ closed_held named F closed sheets batch (Some m) held = (
       held.2 p v ∙ sym (ap (λ (b : Bool). closed m p v || facts_of_group batch m p v || b) (none_waits m p v) ∙ or_nothing _),
 )
 
-pub holds_closed : (at : ℕ → Option ℕ) (sheets after : List (List Seen)) (batch : List Heard) (named : ℕ → Bool) (F : ℕ → Facts)
+-- a batch that is joined into the sheets leaves all that is held as it was
+pub holds_closed : (at : ℕ → Option ℕ) (sheets after : List (List Seen)) (batch : List GroupReception) (named : ℕ → Bool) (F : ℕ → Facts)
     → ((C : ℕ → Facts) (m : ℕ) → AreSheets C sheets m → AreSheets (λ k. union (C k) (facts_of_group batch k)) after m) → HoldsIn at sheets batch named F → HoldsIn at after [] named F
 holds_closed at sheets after batch named F joined h =
     let are = joined h.closed (length sheets) h.are_sheets in
@@ -280,18 +282,18 @@ holds_closed at sheets after batch named F joined h =
     }
 
 -- what a sheet shows of its group, where no reception waits
-pub shown_whole : (at : ℕ → Option ℕ) (sheets : List (List Seen)) (batch : List Heard) (named : ℕ → Bool) (F : ℕ → Facts) (k n : ℕ) (sheet : List Seen) → batch ≡ [] → at k ≡ Some n → (h : HoldsIn at sheets batch named F)
+pub shown_whole : (at : ℕ → Option ℕ) (sheets : List (List Seen)) (batch : List GroupReception) (named : ℕ → Bool) (F : ℕ → Facts) (k n : ℕ) (sheet : List Seen) → batch ≡ [] → at k ≡ Some n → (h : HoldsIn at sheets batch named F)
     → IsEnds (h.closed n) sheet → IsEnds (F k) sheet
 shown_whole at sheets batch named F k n sheet ended is h ends =
     subst (λ (X : Facts). IsEnds X sheet)
     (same_facts (h.closed n) (F k) (λ p v.
     sym ((held_some at sheets batch named F k n is h).2 p v
-    ∙ ap (λ (b : List Heard). h.closed n p v || facts_of_group b n p v) ended
+    ∙ ap (λ (b : List GroupReception). h.closed n p v || facts_of_group b n p v) ended
     ∙ ap (λ (b : Bool). h.closed n p v || b) (none_waits n p v) ∙ or_nothing (h.closed n p v))))
     ends
 
 -- its facts begin anew
-pub holds_anew : (at : ℕ → Option ℕ) (sheets after : List (List Seen)) (batch : List Heard) (named : ℕ → Bool) (F : ℕ → Facts) (group n : ℕ) → batch ≡ [] → at group ≡ Some n
+pub holds_anew : (at : ℕ → Option ℕ) (sheets after : List (List Seen)) (batch : List GroupReception) (named : ℕ → Bool) (F : ℕ → Facts) (group n : ℕ) → batch ≡ [] → at group ≡ Some n
     → ((C : ℕ → Facts) (m : ℕ) → AreSheets C sheets m → AreSheets (λ k p v. not (n == k) && C k p v) after m)
     → HoldsIn at sheets batch named F → HoldsIn at after batch named (facts_without group F)
 holds_anew at sheets after batch named F group n ended is left h =
@@ -316,7 +318,7 @@ holds_anew at sheets after batch named F group n ended is left h =
       held.0,
       held.1,
       λ p v.
-          (let waits : facts_of_group batch m p v ≡ false = ap (λ (b : List Heard). facts_of_group b m p v) ended ∙ none_waits m p v in
+          (let waits : facts_of_group batch m p v ≡ false = ap (λ (b : List GroupReception). facts_of_group b m p v) ended ∙ none_waits m p v in
           ap (λ (b : Bool). not (group == k) && b) (held.2 p v ∙ ap (λ (b : Bool). h.closed m p v || b) waits)
           ∙ ap (λ (b : Bool). not b && (h.closed m p v || false)) (same_test at sheets batch named F group n k m is found h)
           ∙ less_of (n == m) (h.closed m p v)
@@ -324,7 +326,7 @@ holds_anew at sheets after batch named F group n ended is left h =
     )
 
 -- a group that has no number has no facts to lose
-pub holds_unknown : (at : ℕ → Option ℕ) (sheets : List (List Seen)) (batch : List Heard) (named : ℕ → Bool) (F : ℕ → Facts) (group : ℕ) → at group ≡ None
+pub holds_unknown : (at : ℕ → Option ℕ) (sheets : List (List Seen)) (batch : List GroupReception) (named : ℕ → Bool) (F : ℕ → Facts) (group : ℕ) → at group ≡ None
     → HoldsIn at sheets batch named F → HoldsIn at sheets batch named (facts_without group F)
 holds_unknown at sheets batch named F group none h =
     holds_same at sheets batch named named F (facts_without group F) (λ k. refl)
@@ -336,11 +338,11 @@ holds_unknown at sheets batch named F group none h =
     ]) h
 
 -- the groups that are held
-is_held_some : (named : Bool) (F : Facts) (closed : ℕ → Facts) (sheets : ℕ) (batch : List Heard) (o : Option ℕ) → IsHeld named F closed sheets batch o → is_some o ≡ named
+is_held_some : (named : Bool) (F : Facts) (closed : ℕ → Facts) (sheets : ℕ) (batch : List GroupReception) (o : Option ℕ) → IsHeld named F closed sheets batch o → is_some o ≡ named
 is_held_some named F closed sheets batch None h = sym h.0
 is_held_some named F closed sheets batch (Some n) h = sym h.0
 
-pub held_groups : (numbers : List (ℕ × ℕ)) (sheets : List (List Seen)) (batch : List Heard) (named : ℕ → Bool) (F : ℕ → Facts) → HoldsIn (found numbers) sheets batch named F
+pub held_groups : (numbers : List (ℕ × ℕ)) (sheets : List (List Seen)) (batch : List GroupReception) (named : ℕ → Bool) (F : ℕ → Facts) → HoldsIn (found numbers) sheets batch named F
     → (k : ℕ) → is_among (keys_of numbers) k ≡ named k
 held_groups numbers sheets batch named F h k = among_keys numbers k ∙ is_held_some (named k) (F k) h.closed (length sheets) batch (found numbers k) (h.held k)
 
@@ -349,7 +351,7 @@ length_keys [] = refl
 length_keys (e ∷ numbers) = omega (arith, length_keys numbers)
 
 -- as many as there may be, and one more
-pub is_full : (numbers : List (ℕ × ℕ)) (sheets : List (List Seen)) (batch : List Heard) (named : ℕ → Bool) (F : ℕ → Facts) (group : ℕ) → IsStrictlySortedBy nat_cmp (keys_of numbers) → found numbers group ≡ None
+pub is_full : (numbers : List (ℕ × ℕ)) (sheets : List (List Seen)) (batch : List GroupReception) (named : ℕ → Bool) (F : ℕ → Facts) (group : ℕ) → IsStrictlySortedBy nat_cmp (keys_of numbers) → found numbers group ≡ None
     → 1024 ≤ length numbers → HoldsIn (found numbers) sheets batch named F → IsFull named group
 is_full numbers sheets batch named F group ordered none many h = record {
   is_new = (held_none (found numbers) sheets batch named F group none h).0;
@@ -359,14 +361,14 @@ is_full numbers sheets batch named F group ordered none many h = record {
   many = omega (arith, many, length_keys numbers);
 }
 
-pub full_has_many : (numbers : List (ℕ × ℕ)) (sheets : List (List Seen)) (batch : List Heard) (named : ℕ → Bool) (F : ℕ → Facts) (group : ℕ) → IsStrictlySortedBy nat_cmp (keys_of numbers)
+pub full_has_many : (numbers : List (ℕ × ℕ)) (sheets : List (List Seen)) (batch : List GroupReception) (named : ℕ → Bool) (F : ℕ → Facts) (group : ℕ) → IsStrictlySortedBy nat_cmp (keys_of numbers)
     → HoldsIn (found numbers) sheets batch named F → IsFull named group → 1024 ≤ length numbers
 full_has_many numbers sheets batch named F group ordered h full =
     let same : full.groups ≡ keys_of numbers =
     same_rising full.groups (keys_of numbers) full.rising (rising_keys (keys_of numbers) ordered) (λ k. full.are k ∙ sym (held_groups numbers sheets batch named F h k)) in
     omega (arith, full.many, ap length same, length_keys numbers)
 
-pub known_is_not_full : (at : ℕ → Option ℕ) (sheets : List (List Seen)) (batch : List Heard) (named : ℕ → Bool) (F : ℕ → Facts) (group n : ℕ) → at group ≡ Some n
+pub known_is_not_full : (at : ℕ → Option ℕ) (sheets : List (List Seen)) (batch : List GroupReception) (named : ℕ → Bool) (F : ℕ → Facts) (group n : ℕ) → at group ≡ Some n
     → HoldsIn at sheets batch named F → IsFull named group → ⊥
 known_is_not_full at sheets batch named F group n is h full =
     let known : named group ≡ true = (held_some at sheets batch named F group n is h).0 in
@@ -374,11 +376,11 @@ known_is_not_full at sheets batch named F group n is h full =
     absurd (cc (new, known))
 
 -- nothing is held of no groups
-pub holds_nothing : (at : ℕ → Option ℕ) (sheets : List (List Seen)) (batch : List Heard) → ((k : ℕ) → at k ≡ None) → sheets ≡ [] → batch ≡ [] → HoldsIn at sheets batch (λ k. false) (λ k. no_facts)
+pub holds_nothing : (at : ℕ → Option ℕ) (sheets : List (List Seen)) (batch : List GroupReception) → ((k : ℕ) → at k ≡ None) → sheets ≡ [] → batch ≡ [] → HoldsIn at sheets batch (λ k. false) (λ k. no_facts)
 holds_nothing at sheets batch none no_sheets no_batch = record {
   closed = λ m. no_facts;
   are_sheets = record { count = refl; each = λ k below. absurd (omega (arith, below, ap length no_sheets)) };
-  belong = subst (λ (b : List Heard). All (Belongs (length sheets)) b) (sym no_batch) (All-nil (Belongs (length sheets)));
+  belong = subst (λ (b : List GroupReception). All (Belongs (length sheets)) b) (sym no_batch) (All-nil (Belongs (length sheets)));
   group_with = λ m. 0;
   numbered = λ k n is. absurd (never k n is);
   held = λ k. subst (λ (o : Option ℕ). IsHeld false no_facts (λ m. no_facts) (length sheets) batch o) (sym (none k)) (refl, λ p v. refl);

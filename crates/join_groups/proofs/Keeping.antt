@@ -7,11 +7,11 @@ use Rattle.slot_evidence.specs.declared.places.Seen.{Seen}
 use Rattle.slot_evidence.specs.Facts.{Facts, facts_of, no_facts}
 use Rattle.slot_evidence.specs.Sheet.{IsEnds}
 use Rattle.ten_unit.specs.declared.character.Element.{Element}
-use Rattle.dsc_files.specs.JoinLine.{JoinLine, nothing, reception, evidence, IsLine, body_text, sign_of}
-use Rattle.dsc_files.specs.Lines.{Says, facts_of_pairs}
-use Rattle.dsc_files.specs.declared.join.JoinLine.{JoinLine as Got}
-use Rattle.dsc_files.specs.declared.join.JoinLine.TheVariants as got
-use Rattle.join_groups.specs.declared.groups.Groups.{Groups}
+use Rattle.dsc_lines.specs.JoinLine.{JoinLine, nothing, reception, evidence, IsLine, body_text, sign_of}
+use Rattle.dsc_lines.specs.Lines.{Says, facts_of_pairs}
+use Rattle.dsc_lines.specs.declared.join.JoinLine.{JoinLine as Got}
+use Rattle.dsc_lines.specs.declared.join.JoinLine.TheVariants as got
+use Rattle.join_groups.specs.declared.groups.NamedGroups.{NamedGroups}
 use Rattle.join_groups.specs.Groups.{names, is_named, facts_of_line, group_facts}
 use Rattle.join_groups.specs.Holds.{IsFull, Holds, number_in, named_with, facts_with}
 use Rattle.join_groups.specs.Meanings.{BringsTooMany}
@@ -35,13 +35,13 @@ line_of_one line group k p v named =
     ]
 
 -- before the first line
-pub keeps_none : (groups : Groups) → Holds groups (λ k. false) (λ k. no_facts) → Keeps groups []
+pub keeps_none : (groups : NamedGroups) → Holds groups (λ k. false) (λ k. no_facts) → Keeps groups []
 unfolding is_named group_facts
 keeps_none groups h =
     holds_same (number_in groups) groups.sheets.items groups.batch.items (λ k. false) (is_named []) (λ k. no_facts) (group_facts []) (λ k. refl) (λ k p v. refl) h
 
 -- groups that hold what a line showed of its group keep what is said with it
-pub keeps_line : (groups : Groups) (said : List JoinLine) (line : JoinLine) (group : ℕ) (G : Facts) → ((j : ℕ) → names j line ≡ (group == j)) → facts_of_line group line ≡ G
+pub keeps_line : (groups : NamedGroups) (said : List JoinLine) (line : JoinLine) (group : ℕ) (G : Facts) → ((j : ℕ) → names j line ≡ (group == j)) → facts_of_line group line ≡ G
     → Holds groups (named_with group (is_named said)) (facts_with group G (group_facts said)) → Keeps groups (said ++ line ∷ [])
 keeps_line groups said line group G named facts h =
     holds_same (number_in groups) groups.sheets.items groups.batch.items (named_with group (is_named said)) (is_named (said ++ line ∷ [])) (facts_with group G (group_facts said)) (group_facts (said ++ line ∷ []))
@@ -61,6 +61,7 @@ full_brings said line group named full = record {
   many = full.many;
 }
 
+-- the group that is one too many is this line's
 pub brings_full : (said : List JoinLine) (line : JoinLine) (group : ℕ) → ((j : ℕ) → names j line ≡ (group == j)) → BringsTooMany said line → IsFull (is_named said) group
 brings_full said line group named b =
     let same : group ≡ b.group = eq_is group b.group (sym (named b.group) ∙ b.named) in
@@ -117,6 +118,7 @@ says_reception (reception g heard) group e is =
     parts : {group g : ℕ} {e heard : List Element} → got.Reception group e ≡ got.Reception g heard → (group ≡ g) × (e ≡ heard)
     parts h = (cc, cc)
 
+-- a line of evidence names its group, and its sheet keeps the ends of what it tells
 pub says_evidence : (line : JoinLine) (group : ℕ) (sheet : List Seen) → Says line (got.Evidence group sheet)
     → ((k : ℕ) → names k line ≡ (group == k)) × IsEnds (facts_of_line group line) sheet
 says_evidence nothing group sheet is = absurd (two is)
@@ -141,7 +143,7 @@ says_evidence (evidence g pairs) group sheet is =
     parts h = (cc, cc)
 
 -- a line of which nothing was read leaves all as it was
-pub says_nothing : (said : List JoinLine) (line : JoinLine) (groups : Groups) → Keeps groups said → Says line got.Nothing → (BringsTooMany said line → ⊥) × Keeps groups (said ++ line ∷ [])
+pub says_nothing : (said : List JoinLine) (line : JoinLine) (groups : NamedGroups) → Keeps groups said → Says line got.Nothing → (BringsTooMany said line → ⊥) × Keeps groups (said ++ line ∷ [])
 says_nothing said (reception g heard) groups keeps is = absurd (cc)
 says_nothing said (evidence g pairs) groups keeps is = absurd (two is.1.0)
   where

@@ -4,8 +4,8 @@ use Rattle.line_engine.specs.declared.command.Refusal.{Refusal}
 use Rattle.line_engine.specs.declared.command.Refusal.TheVariants.{Column, TooManyGroups, Memory}
 use Rattle.line_engine.specs.Lines.{Lines}
 use Rattle.line_engine.specs.Commands.{IsTakenBehind, IsRefusedBehind}
-use Rattle.dsc_files.specs.JoinLine.{JoinLine, IsLine}
-use Rattle.join_groups.specs.declared.groups.Groups.{Groups}
+use Rattle.dsc_lines.specs.JoinLine.{JoinLine, IsLine}
+use Rattle.join_groups.specs.declared.groups.NamedGroups.{NamedGroups}
 use Rattle.join_groups.specs.declared.groups.TheConstants.{MOST_IN_BATCH}
 use Rattle.join_groups.specs.Groups.{AreLines}
 use Rattle.join_groups.specs.Output.{Telling}
@@ -33,10 +33,10 @@ same_said one (s ∷ a) (t ∷ b) (l ∷ lines) x y =
     ap (λ (w : JoinLine). w ∷ a) (one s t l x.0 y.0) ∙ ap (λ (w : List JoinLine). t ∷ w) (same_said one a b lines x.1 y.1)
 
 -- the line that was taken, as the groups say it
-abbrev pub Took : Groups → Groups → List ℕ → Type 0
+abbrev pub Took : NamedGroups → NamedGroups → List ℕ → Type 0
 Took old new text = (said : List JoinLine) → Keeps old said → (line : JoinLine) × (IsLine line text × (BringsTooMany said line → ⊥) × Keeps new (said ++ line ∷ []))
 
-pub stands_after : (old new : Groups) (text : List ℕ) (lines : Lines) (told : List ℕ) → Took old new text → (length old.batch.items < MOST_IN_BATCH → length new.batch.items < MOST_IN_BATCH)
+pub stands_after : (old new : NamedGroups) (text : List ℕ) (lines : Lines) (told : List ℕ) → Took old new text → (length old.batch.items < MOST_IN_BATCH → length new.batch.items < MOST_IN_BATCH)
     → StandsFor old lines told → StandsFor new (lines ++ text ∷ []) told
 stands_after old new text lines told took few stands =
     let line = took stands.said stands.keeps in record {
@@ -47,7 +47,7 @@ stands_after old new text lines told took few stands =
       few = few stands.few;
     }
 
-pub taken_behind : OneLine → (tells : Telling) (old new : Groups) (text : List ℕ) (lines : Lines) (told : List ℕ) → Took old new text → StandsFor old lines told
+pub taken_behind : OneLine → (tells : Telling) (old new : NamedGroups) (text : List ℕ) (lines : Lines) (told : List ℕ) → Took old new text → StandsFor old lines told
     → IsTakenBehind (groups_meaning tells) lines text
 taken_behind one tells old new text lines told took stands =
     let line = took stands.said stands.keeps in record {
@@ -58,7 +58,7 @@ taken_behind one tells old new text lines told took stands =
           line.1.1 (subst (λ (l : JoinLine). BringsTooMany stands.said l) same (subst (λ (s : List JoinLine). BringsTooMany s o.line) said o.brings));
     }
 
-pub refused_behind : (tells : Telling) (old : Groups) (text : List ℕ) (lines : Lines) (told : List ℕ) (refusal : Refusal) → ((said : List JoinLine) → Keeps old said → IsRefused said text refusal)
+pub refused_behind : (tells : Telling) (old : NamedGroups) (text : List ℕ) (lines : Lines) (told : List ℕ) (refusal : Refusal) → ((said : List JoinLine) → Keeps old said → IsRefused said text refusal)
     → StandsFor old lines told → IsRefusedBehind (groups_meaning tells) lines text refusal
 refused_behind tells old text lines told (Column n) refused stands = refused stands.said stands.keeps
 refused_behind tells old text lines told TooManyGroups refused stands =

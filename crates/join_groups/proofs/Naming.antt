@@ -4,7 +4,7 @@ use Rattle.std.proofs.Math.Path.{fun_ext}
 use Rattle.std.specs.List.{list_any}
 use Rattle.std.proofs.lemmas.List.Folds.{list_any-append}
 use Rattle.slot_evidence.specs.Facts.{Facts, union}
-use Rattle.dsc_files.specs.JoinLine.{JoinLine, nothing, reception, evidence}
+use Rattle.dsc_lines.specs.JoinLine.{JoinLine, nothing, reception, evidence}
 use Rattle.join_groups.specs.Groups.{names, is_named, facts_of_line, group_facts}
 
 or_nothing : (x : Bool) → (x || false) ≡ x
@@ -19,6 +19,7 @@ or_parts : (x y : Bool) → (x || y) ≡ false → (x ≡ false) × (y ≡ false
 or_parts true y h = absurd cc
 or_parts false y h = (refl, h)
 
+-- facts that are equal everywhere are the same
 pub same_facts : (F G : Facts) → ((p v : ℕ) → F p v ≡ G p v) → F ≡ G
 same_facts F G h = fun_ext (λ p. fun_ext (λ v. h p v))
 

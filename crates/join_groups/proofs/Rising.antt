@@ -41,6 +41,7 @@ first_among m numbers = ap (λ (b : Bool). b || is_among numbers m) (eq_same m)
 rest_among : (m k : ℕ) (numbers : List ℕ) → (m ≡ k → ⊥) → is_among (m ∷ numbers) k ≡ is_among numbers k
 rest_among m k numbers h = ap (λ (b : Bool). b || is_among numbers k) (eq_not m k h)
 
+-- rising lists with the same numbers are the same
 pub same_rising : (a b : List ℕ) → IsRising a → IsRising b → ((k : ℕ) → is_among a k ≡ is_among b k) → a ≡ b
 same_rising [] [] ra rb same = refl
 same_rising [] (y ∷ b) ra rb same = let never : false ≡ true = same y ∙ first_among y b in absurd cc
@@ -87,6 +88,7 @@ above_of : (k : ℕ) (ks : List ℕ) → AllByRecursion (λ y. nat_cmp k y ≡ L
 above_of k [] h = tt
 above_of k (y ∷ ks) h = (less_is k y h.0, above_of k ks h.1)
 
+-- keys in strict order rise
 pub rising_keys : (ks : List ℕ) → IsStrictlySortedBy nat_cmp ks → IsRising ks
 rising_keys [] h = tt
 rising_keys (k ∷ ks) h = (above_of k ks (sorted_head nat_cmp k ks h), rising_keys ks (sorted_tail nat_cmp k ks h))

@@ -10,8 +10,8 @@ use Rattle.std.proofs.lemmas.List.Folds.{list_all-append}
 use Rattle.slot_evidence.specs.declared.places.Seen.{Seen}
 use Rattle.slot_evidence.specs.Facts.{Facts}
 use Rattle.slot_evidence.specs.Sheet.{IsEnds}
-use Rattle.receiver_pool.specs.declared.heard.Heard.{Heard}
-use Rattle.dsc_files.specs.JoinLine.{JoinLine}
+use Rattle.receiver_pool.specs.declared.group_entries.GroupReception.{GroupReception}
+use Rattle.dsc_lines.specs.JoinLine.{JoinLine}
 use Rattle.join_groups.specs.Groups.{is_named, group_facts, AreGroups}
 use Rattle.join_groups.specs.Holds.{HoldsIn}
 use Rattle.join_groups.specs.Output.{Told, Telling, IsGroupsText}
@@ -68,7 +68,7 @@ module _ (tells : Telling) (sheets : List (List Seen)) where
       (subst (λ (k : ℕ). tells (group_facts said k) t) (sym of.0) (of.1 (group_facts said e.0) ends.0), each_told said numbers all of.2 ends.1)
 
   -- all that is told is what is told of the groups that lines named
-  pub groups_text : (said : List JoinLine) (numbers : Numbers) (batch : List Heard) (text : List ℕ) (is_well : Bool) → IsStrictlySortedBy nat_cmp (keys_of numbers) → batch ≡ []
+  pub groups_text : (said : List JoinLine) (numbers : Numbers) (batch : List GroupReception) (text : List ℕ) (is_well : Bool) → IsStrictlySortedBy nat_cmp (keys_of numbers) → batch ≡ []
       → HoldsIn (found numbers) sheets batch (is_named said) (group_facts said) → HasTold tells sheets numbers text is_well → IsGroupsText tells said text (cond is_well 0 1)
   groups_text said numbers batch text is_well ordered ended holds h =
       let same : map (λ told. told.group) h.all ≡ keys_of numbers = groups_of numbers h.all h.are_of in
@@ -84,7 +84,7 @@ module _ (tells : Telling) (sheets : List (List Seen)) where
       }
 
 -- every number is that of a sheet
-pub numbers_inside : (numbers : Numbers) (sheets : List (List Seen)) (batch : List Heard) (named : ℕ → Bool) (F : ℕ → Facts) → IsStrictlySortedBy nat_cmp (keys_of numbers)
+pub numbers_inside : (numbers : Numbers) (sheets : List (List Seen)) (batch : List GroupReception) (named : ℕ → Bool) (F : ℕ → Facts) → IsStrictlySortedBy nat_cmp (keys_of numbers)
     → HoldsIn (found numbers) sheets batch named F → AllByRecursion (λ e. e.1 < length sheets) numbers
 numbers_inside numbers sheets batch named F ordered h =
     each_found (λ k n. n < length sheets) numbers (rising_keys (keys_of numbers) ordered) (λ k n is. (held_some (found numbers) sheets batch named F k n is h).1)

@@ -12,8 +12,8 @@ use Rattle.slot_evidence.specs.Sheet.{IsSheet, IsEnds, seen_at, facts_in}
 use Rattle.slot_evidence.specs.Alike.{AreAlike}
 use Rattle.slot_join.specs.declared.joined.Joined.{Joined}
 use Rattle.slot_join.specs.Answer.{IsAnswer}
-use Rattle.dsc_files.specs.JoinLine.{JoinLine, evidence}
-use Rattle.dsc_files.specs.Lines.{facts_of_pairs}
+use Rattle.dsc_lines.specs.JoinLine.{JoinLine, evidence}
+use Rattle.dsc_lines.specs.Lines.{facts_of_pairs}
 use Rattle.evidence_texts.specs.Evidence.{pairs_below}
 use Rattle.join_groups.specs.Groups.{names, is_named, facts_of_line, group_facts}
 use Rattle.join_groups.specs.Output.{Told, Telling, TellsAnswer, TellsEvidence, IsGroupsText}
@@ -33,9 +33,11 @@ pub record Laws : Type 0 where
 abbrev pub GoesOver : Telling → Type 0
 GoesOver tells = (F G : Facts) (told : Told) → ((p : ℕ) → AreAlike (F p) (G p)) → tells F told → tells G told
 
+-- facts with the same ends have the same answer
 pub answers_go_over : Laws → GoesOver TellsAnswer
 answers_go_over laws F G told alike t = record { answer = t.answer; is_answer = laws.answers F G t.answer alike t.is_answer; line_is = t.line_is; well_is = t.well_is }
 
+-- facts with the same ends have the same evidence
 pub evidence_goes_over : Laws → GoesOver TellsEvidence
 evidence_goes_over laws F G told alike t = record {
   sheet = t.sheet;

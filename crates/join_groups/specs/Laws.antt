@@ -1,6 +1,6 @@
 -- Lines of one group: this project's profile.
 use Rattle.std.specs.Prelude.{◌≡◌, ℕ, ◌==◌, List}
-use Rattle.dsc_files.specs.JoinLine.{JoinLine}
+use Rattle.dsc_lines.specs.JoinLine.{JoinLine}
 use Rattle.join_groups.specs.Groups.{is_named}
 
 -- these lines name this group and no other

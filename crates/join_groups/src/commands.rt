@@ -2,15 +2,15 @@ ghost use Rattle.std.specs.Prelude.{◌≡◌, ℕ, ◌+◌, ◌≤◌, ◌++◌
 ghost use Rattle.line_engine.specs.Lines.{Lines};
 ghost use Rattle.line_engine.specs.Commands.{IsTakenBehind, IsRefusedBehind, KeepsText, StandsBelow};
 ghost use Rattle.line_engine.specs.Endings.{IsFinished};
-ghost use Rattle.dsc_files.specs.JoinLine.{JoinLine};
+ghost use Rattle.dsc_lines.specs.JoinLine.{JoinLine};
 ghost use Rattle.join_groups.specs.Groups.{AreLines};
 ghost use Rattle.join_groups.specs.Meanings.{groups_meaning};
 ghost use Rattle.join_groups.specs.inside.Kept.{StandsFor};
 
-use crate::groups::Groups;
+use crate::groups::NamedGroups;
 use crate::taking::take_line;
 use crate::telling::{Teller, tell_all};
-use dsc_files::one_line;
+use dsc_lines::one_line;
 use dsc_streams::Status;
 use line_engine::{Command, Refusal};
 use receiver_pool::Joiner;
@@ -21,7 +21,7 @@ use std::alloc::{AllocError, Global};
 pub struct TellGroups<W: Joiner, T: Teller> {
     alloc: Global,
     workers: W,
-    groups: Groups,
+    groups: NamedGroups,
     teller: T,
 }
 
@@ -34,7 +34,7 @@ impl<W: Joiner, T: Teller> TellGroups<W, T> {
         TellGroups {
             alloc,
             workers,
-            groups: Groups::new(alloc),
+            groups: NamedGroups::new(alloc),
             teller,
         }
     }

@@ -7,7 +7,7 @@ use crate::commands::TellGroups;
 use crate::telling::Teller;
 use dsc_streams::{Sink, Source, Status};
 use line_engine::drive;
-use receiver_pool::{Gate, Heard, Shown, Workers, pool_groups};
+use receiver_pool::{Gate, GroupReception, GroupSheet, Workers, pool_groups};
 use std::alloc::{AllocError, Global};
 use std::thread::Threads;
 
@@ -37,7 +37,7 @@ pub fn tell_groups<R: Threads + Sync, S: Source, K: Sink, G: Gate, T: Teller>(
     requires { (1 ≤ workers) × (workers ≤ 64) }
     ensures { IsRun (groups_meaning T.tells) S.Source K.Sink source.old source.new sink.old sink.new result }
 {
-    let join = |batch: &[Heard]| -> Result<Vec<Shown>, AllocError>
+    let join = |batch: &[GroupReception]| -> Result<Vec<GroupSheet>, AllocError>
         requires { (1 ≤ workers) × (workers ≤ 64) × All IsShort batch.now }
         ensures { IfOk result (λ v. Shows (facts_of_group batch.now) batch.now v.items) }
     { pool_groups(rt, alloc, batch, workers, gate) };

@@ -6,7 +6,7 @@ ghost use Rattle.join_groups.specs.Holds.{Holds, HoldsSome, IsFull, named_with, 
 use line_engine::Refusal;
 use live_watch::{BatchWatcher, WatchedJoiner};
 use phasing::LONGEST;
-use receiver_pool::{Heard, Joiner, meet_at, take_at};
+use receiver_pool::{GroupReception, Joiner, meet_at, take_at};
 use slot_evidence::{Reception, Sheet};
 use std::alloc::{AllocError, Global};
 use std::collections::BTreeMap;
@@ -20,19 +20,19 @@ pub const MOST_IN_BATCH: usize = 256;
 /// The groups that lines named: each has a number, by first appearance, and a sheet with that number. Receptions wait in a batch until
 /// several workers join it into the sheets; a single worker joins each at once.
 #[derive(Drop)]
-pub struct Groups {
+pub struct NamedGroups {
     pub(crate) numbers: BTreeMap<u32, usize>,
     pub(crate) sheets: Vec<Sheet>,
-    pub(crate) batch: Vec<Heard>,
+    pub(crate) batch: Vec<GroupReception>,
 }
 
-impl Groups {
+impl NamedGroups {
     /// No groups.
-    pub fn new(alloc: Global) -> Groups
+    pub fn new(alloc: Global) -> NamedGroups
         ensures holds { Holds result (λ k. false) (λ k. no_facts) }
         ensures empty { result.batch.items ≡ [] }
     {
-        Groups {
+        NamedGroups {
             numbers: BTreeMap::new(alloc),
             sheets: Vec::new(alloc),
             batch: Vec::new(alloc),
@@ -42,8 +42,10 @@ impl Groups {
     /// The number of a group, which is given one where it has none.
     fn number_of(&mut self, group: u32) -> Result<usize, Refusal>
         ensures ok { IfOk result (λ n. (named : ℕ → Bool) (F : ℕ → Facts) → Holds self.old named F
-            → (IsFull named group → ⊥) × Holds self.new (named_with group named) F × (number_in self.new group ≡ Some n)) }
-        ensures err { IfErr result (λ refusal. (refusal ≡ Refusal.Memory) ⊎ ((named : ℕ → Bool) (F : ℕ → Facts) → Holds self.old named F
+            → (IsFull named group → ⊥) × Holds self.new (named_with group named) F
+            × (number_in self.new group ≡ Some n)) }
+        ensures err { IfErr result (λ refusal. (refusal ≡ Refusal.Memory)
+            ⊎ ((named : ℕ → Bool) (F : ℕ → Facts) → Holds self.old named F
             → (refusal ≡ Refusal.TooManyGroups) × IsFull named group)) }
         ensures kept { IfErr result (λ refusal. refusal ≢ Refusal.Memory → self.new ≡ self.old) }
         ensures batch { self.new.batch ≡ self.old.batch }
@@ -58,8 +60,10 @@ impl Groups {
     fn begin(&mut self, group: u32) -> Result<usize, Refusal>
         requires { number_in self.old group ≡ None }
         ensures ok { IfOk result (λ n. (named : ℕ → Bool) (F : ℕ → Facts) → Holds self.old named F
-            → (IsFull named group → ⊥) × Holds self.new (named_with group named) F × (number_in self.new group ≡ Some n)) }
-        ensures err { IfErr result (λ refusal. (refusal ≡ Refusal.Memory) ⊎ ((named : ℕ → Bool) (F : ℕ → Facts) → Holds self.old named F
+            → (IsFull named group → ⊥) × Holds self.new (named_with group named) F
+            × (number_in self.new group ≡ Some n)) }
+        ensures err { IfErr result (λ refusal. (refusal ≡ Refusal.Memory)
+            ⊎ ((named : ℕ → Bool) (F : ℕ → Facts) → Holds self.old named F
             → (refusal ≡ Refusal.TooManyGroups) × IsFull named group)) }
         ensures kept { IfErr result (λ refusal. refusal ≢ Refusal.Memory → self.new ≡ self.old) }
         ensures batch { self.new.batch ≡ self.old.batch }
@@ -78,9 +82,11 @@ impl Groups {
     /// Takes in what was shown of a group. A group too many leaves all as it was.
     pub fn meet(&mut self, group: u32, shown: &Sheet) -> Result<(), Refusal>
         requires { HoldsSome self.old }
-        ensures ok { OnOk result ((named : ℕ → Bool) (F : ℕ → Facts) (G : Facts) → Holds self.old named F → IsEnds G shown.now
+        ensures ok { OnOk result ((named : ℕ → Bool) (F : ℕ → Facts) (G : Facts) → Holds self.old named F
+            → IsEnds G shown.now
             → (IsFull named group → ⊥) × Holds self.new (named_with group named) (facts_with group G F)) }
-        ensures err { IfErr result (λ refusal. (refusal ≡ Refusal.Memory) ⊎ ((named : ℕ → Bool) (F : ℕ → Facts) → Holds self.old named F
+        ensures err { IfErr result (λ refusal. (refusal ≡ Refusal.Memory)
+            ⊎ ((named : ℕ → Bool) (F : ℕ → Facts) → Holds self.old named F
             → (refusal ≡ Refusal.TooManyGroups) × IsFull named group)) }
         ensures kept { IfErr result (λ refusal. refusal ≢ Refusal.Memory → self.new ≡ self.old) }
         ensures batch { self.new.batch ≡ self.old.batch }
@@ -102,13 +108,16 @@ impl Groups {
         requires ready { HoldsSome self.old }
         requires joins { W.can_join workers.now }
         ensures ok { OnOk result ((named : ℕ → Bool) (F : ℕ → Facts) → Holds self.old named F
-            → (IsFull named group → ⊥) × Holds self.new (named_with group named) (facts_with group (facts_of heard) F)) }
-        ensures err { IfErr result (λ refusal. (refusal ≡ Refusal.Memory) ⊎ ((named : ℕ → Bool) (F : ℕ → Facts) → Holds self.old named F
+            → (IsFull named group → ⊥)
+            × Holds self.new (named_with group named) (facts_with group (facts_of heard) F)) }
+        ensures err { IfErr result (λ refusal. (refusal ≡ Refusal.Memory)
+            ⊎ ((named : ℕ → Bool) (F : ℕ → Facts) → Holds self.old named F
             → (refusal ≡ Refusal.TooManyGroups) × IsFull named group)) }
         ensures kept { IfErr result (λ refusal. refusal ≢ Refusal.Memory → self.new ≡ self.old) }
 
         // The open batch stays below its bound.
-        ensures few { OnOk result (length self.old.batch.items < MOST_IN_BATCH → length self.new.batch.items < MOST_IN_BATCH) }
+        ensures few { OnOk result (length self.old.batch.items < MOST_IN_BATCH
+            → length self.new.batch.items < MOST_IN_BATCH) }
     {
         if let Some(shown) = workers.read_alone(&heard) {
             return self.meet(group, &shown);
@@ -131,8 +140,10 @@ impl Groups {
         requires short { length heard ≤ LONGEST }
         requires ready { HoldsSome self.old }
         ensures ok { OnOk result ((named : ℕ → Bool) (F : ℕ → Facts) → Holds self.old named F
-            → (IsFull named group → ⊥) × Holds self.new (named_with group named) (facts_with group (facts_of heard) F)) }
-        ensures err { IfErr result (λ refusal. (refusal ≡ Refusal.Memory) ⊎ ((named : ℕ → Bool) (F : ℕ → Facts) → Holds self.old named F
+            → (IsFull named group → ⊥)
+            × Holds self.new (named_with group named) (facts_with group (facts_of heard) F)) }
+        ensures err { IfErr result (λ refusal. (refusal ≡ Refusal.Memory)
+            ⊎ ((named : ℕ → Bool) (F : ℕ → Facts) → Holds self.old named F
             → (refusal ≡ Refusal.TooManyGroups) × IsFull named group)) }
         ensures kept { IfErr result (λ refusal. refusal ≢ Refusal.Memory → self.new ≡ self.old) }
     {
@@ -155,11 +166,12 @@ impl Groups {
     /// Puts a reception of the group with this number into the batch.
     fn put(&mut self, number: usize, heard: Reception) -> Result<(), AllocError>
         requires { length heard ≤ LONGEST }
-        ensures holds { OnOk result ((named : ℕ → Bool) (F : ℕ → Facts) (group : ℕ) → Holds self.old named F → number_in self.old group ≡ Some number
+        ensures holds { OnOk result ((named : ℕ → Bool) (F : ℕ → Facts) (group : ℕ) → Holds self.old named F
+            → number_in self.old group ≡ Some number
             → Holds self.new named (facts_with group (facts_of heard) F)) }
         ensures more { OnOk result (length self.new.batch.items ≡ length self.old.batch.items + 1) }
     {
-        self.batch.push(Heard {
+        self.batch.push(GroupReception {
             group: number,
             reception: heard,
         })?;
@@ -170,7 +182,8 @@ impl Groups {
     pub fn close_batch<W: Joiner>(&mut self, workers: &W) -> Result<(), AllocError>
         requires ready { HoldsSome self.old }
         requires joins { W.can_join workers.now }
-        ensures holds { OnOk result ((named : ℕ → Bool) (F : ℕ → Facts) → Holds self.old named F → Holds self.new named F) }
+        ensures holds { OnOk result ((named : ℕ → Bool) (F : ℕ → Facts) → Holds self.old named F
+            → Holds self.new named F) }
         ensures empty { OnOk result (self.new.batch.items ≡ []) }
     {
         if !self.batch.is_empty() {
@@ -192,7 +205,8 @@ impl Groups {
     ) -> Result<BatchWatcher, AllocError>
         requires ready { HoldsSome self.old }
         requires joins { W.can_join workers.now }
-        ensures holds { OnOk result ((named : ℕ → Bool) (F : ℕ → Facts) → Holds self.old named F → Holds self.new named F) }
+        ensures holds { OnOk result ((named : ℕ → Bool) (F : ℕ → Facts) → Holds self.old named F
+            → Holds self.new named F) }
         ensures empty { OnOk result (self.new.batch.items ≡ []) }
     {
         if self.batch.is_empty() {
@@ -214,7 +228,8 @@ impl Groups {
         requires ready { HoldsSome self.old }
         requires ended { self.old.batch.items ≡ [] }
         ensures sheet { (named : ℕ → Bool) (F : ℕ → Facts) → Holds self.old named F → IsEnds (F group) result }
-        ensures anew { (named : ℕ → Bool) (F : ℕ → Facts) → Holds self.old named F → Holds self.new named (facts_without group F) }
+        ensures anew { (named : ℕ → Bool) (F : ℕ → Facts) → Holds self.old named F
+            → Holds self.new named (facts_without group F) }
         ensures batch { self.new.batch ≡ self.old.batch }
     {
         match self.numbers.get(&group) {

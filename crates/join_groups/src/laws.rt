@@ -1,8 +1,9 @@
+//! Laws: each function here does nothing, and its contract is a theorem over definitions.
 ghost use Rattle.std.specs.Prelude.{◌≡◌, ℕ, ◌<◌, ◌^◌, ◌↔◌, ◌++◌, ◌∷◌, List, Contains};
 ghost use Rattle.slot_evidence.specs.declared.places.Seen.{Seen};
 ghost use Rattle.slot_evidence.specs.Sheet.{IsSheet, IsEnds};
 ghost use Rattle.line_engine.specs.Determined.{IsDetermined};
-ghost use Rattle.dsc_files.specs.JoinLine.{JoinLine, IsLine, evidence};
+ghost use Rattle.dsc_lines.specs.JoinLine.{JoinLine, IsLine, evidence};
 ghost use Rattle.evidence_texts.specs.Evidence.{pairs_below, evidence_text};
 ghost use Rattle.join_groups.specs.Groups.{group_facts};
 ghost use Rattle.join_groups.specs.Output.{TellsAnswer, TellsEvidence, IsJoinText, IsEvidenceText};
@@ -10,18 +11,18 @@ ghost use Rattle.join_groups.specs.Meanings.{groups_meaning};
 ghost use Rattle.join_groups.specs.Laws.{AreOfGroup};
 
 use crate::groups::{MOST_GROUPS, MOST_IN_BATCH};
-use dsc_files::one_line;
+use dsc_lines::one_line;
 use evidence_texts::evidence_is_read;
 use slot_evidence::{ends_are_kept, one_sheet};
 use slot_join::{alike_facts_have_one_answer, one_answer};
 
-/// The law that these are the limits of groups. It does nothing.
+/// The law that these are the limits of groups.
 pub fn limits()
     ensures groups { MOST_GROUPS ≡ 1024 }
     ensures batch { MOST_IN_BATCH ≡ 256 }
 {}
 
-/// The law that lines of receptions and evidence determine what `join` and `evidence` write. It does nothing.
+/// The law that lines of receptions and evidence determine what `join` and `evidence` write.
 pub fn lines_determine_output()
     ensures join { IsDetermined (groups_meaning TellsAnswer) }
     ensures evidence { IsDetermined (groups_meaning TellsEvidence) }
@@ -31,12 +32,13 @@ pub fn lines_determine_output()
     one_sheet();
 }
 
-/// The law that texts depend on the set of lines alone: neither their order nor how often one stands there can be seen. It does
-/// nothing.
+/// The law that texts depend on the set of lines alone: neither their order nor how often one stands there can be seen.
 pub fn texts_forget_order()
-    ensures join { (said other : List JoinLine) (text : List ℕ) (status : ℕ) → ((line : JoinLine) → Contains said line ↔ Contains other line)
+    ensures join { (said other : List JoinLine) (text : List ℕ) (status : ℕ)
+        → ((line : JoinLine) → Contains said line ↔ Contains other line)
         → IsJoinText said text status → IsJoinText other text status }
-    ensures evidence { (said other : List JoinLine) (text : List ℕ) (status : ℕ) → ((line : JoinLine) → Contains said line ↔ Contains other line)
+    ensures evidence { (said other : List JoinLine) (text : List ℕ) (status : ℕ)
+        → ((line : JoinLine) → Contains said line ↔ Contains other line)
         → IsEvidenceText said text status → IsEvidenceText other text status }
 {
     alike_facts_have_one_answer();
@@ -45,13 +47,17 @@ pub fn texts_forget_order()
 }
 
 /// The law that the line of evidence which is written for all lines of a group stands for them: whatever other lines there are, the
-/// texts are the same with it in their place. So evidence of evidence is itself. It does nothing.
+/// texts are the same with it in their place. So evidence of evidence is itself.
 pub fn evidence_stands_for_lines()
-    ensures line { (k : ℕ) (sheet : List Seen) → k < 2 ^ 32 → IsSheet sheet → IsLine (evidence k (pairs_below 64 sheet)) (evidence_text k sheet) }
-    ensures join { (heard rest : List JoinLine) (k : ℕ) (sheet : List Seen) (text : List ℕ) (status : ℕ) → IsSheet sheet → AreOfGroup k heard → IsEnds (group_facts heard k) sheet
+    ensures line { (k : ℕ) (sheet : List Seen) → k < 2 ^ 32 → IsSheet sheet
+        → IsLine (evidence k (pairs_below 64 sheet)) (evidence_text k sheet) }
+    ensures join { (heard rest : List JoinLine) (k : ℕ) (sheet : List Seen) (text : List ℕ) (status : ℕ) → IsSheet sheet
+        → AreOfGroup k heard → IsEnds (group_facts heard k) sheet
         → (IsJoinText (heard ++ rest) text status ↔ IsJoinText (evidence k (pairs_below 64 sheet) ∷ rest) text status) }
-    ensures evidence { (heard rest : List JoinLine) (k : ℕ) (sheet : List Seen) (text : List ℕ) (status : ℕ) → IsSheet sheet → AreOfGroup k heard → IsEnds (group_facts heard k) sheet
-        → (IsEvidenceText (heard ++ rest) text status ↔ IsEvidenceText (evidence k (pairs_below 64 sheet) ∷ rest) text status) }
+    ensures evidence { (heard rest : List JoinLine) (k : ℕ) (sheet : List Seen) (text : List ℕ) (status : ℕ)
+        → IsSheet sheet → AreOfGroup k heard → IsEnds (group_facts heard k) sheet
+        → (IsEvidenceText (heard ++ rest) text status
+        ↔ IsEvidenceText (evidence k (pairs_below 64 sheet) ∷ rest) text status) }
 {
     alike_facts_have_one_answer();
     ends_are_kept();

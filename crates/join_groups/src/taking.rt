@@ -1,20 +1,20 @@
 //! The lines of `join` and `evidence`, and what groups take of them.
 ghost use Rattle.std.specs.Prelude.{◌≡◌, ◌≢◌, ◌⊎◌, ◌++◌, ◌∷◌, ◌<◌, ◌≤◌, length, [], List, IfErr, OnOk};
-ghost use Rattle.dsc_files.specs.JoinLine.{JoinLine as Line, IsLine};
-ghost use Rattle.dsc_files.specs.Lines.{Says};
+ghost use Rattle.dsc_lines.specs.JoinLine.{JoinLine as Line, IsLine};
+ghost use Rattle.dsc_lines.specs.Lines.{Says};
 ghost use Rattle.join_groups.specs.Holds.{HoldsSome};
 ghost use Rattle.join_groups.specs.Meanings.{BringsTooMany};
 ghost use Rattle.join_groups.specs.inside.Kept.{Keeps, IsRefused, IsShort};
 
-use crate::groups::{Groups, MOST_IN_BATCH};
-use dsc_files::{JoinLine, LineFault, join_line};
+use crate::groups::{MOST_IN_BATCH, NamedGroups};
+use dsc_lines::{JoinLine, LineFault, join_line};
 use line_engine::{LONGEST_LINE, Refusal};
 use receiver_pool::Joiner;
 use std::alloc::Global;
 
 /// Takes a line of receptions or evidence. A line that is ill-formed, or that brings a group too many, leaves the groups as they were.
 pub(crate) fn take_line<W: Joiner>(
-    groups: &mut Groups,
+    groups: &mut NamedGroups,
     workers: &W,
     alloc: Global,
     text: &[u8],
@@ -23,10 +23,13 @@ pub(crate) fn take_line<W: Joiner>(
     requires ready { HoldsSome groups.old }
     requires joins { W.can_join workers.now }
     ensures ok { OnOk result ((said : List Line) → Keeps groups.old said
-        → (line : Line) × (IsLine line text.now × (BringsTooMany said line → ⊥) × Keeps groups.new (said ++ line ∷ []))) }
-    ensures err { IfErr result (λ refusal. (said : List Line) → Keeps groups.old said → IsRefused said text.now refusal) }
+        → (line : Line) × (IsLine line text.now × (BringsTooMany said line → ⊥)
+        × Keeps groups.new (said ++ line ∷ []))) }
+    ensures err { IfErr result (λ refusal. (said : List Line) → Keeps groups.old said
+        → IsRefused said text.now refusal) }
     ensures kept { IfErr result (λ refusal. refusal ≢ Refusal.Memory → groups.new ≡ groups.old) }
-    ensures few { OnOk result (length groups.old.batch.items < MOST_IN_BATCH → length groups.new.batch.items < MOST_IN_BATCH) }
+    ensures few { OnOk result (length groups.old.batch.items < MOST_IN_BATCH
+        → length groups.new.batch.items < MOST_IN_BATCH) }
 {
     match join_line(alloc, text) {
         Ok(line) => take_read(groups, workers, line),
@@ -36,16 +39,22 @@ pub(crate) fn take_line<W: Joiner>(
 }
 
 /// Takes a line that was read. A group too many leaves all as it was.
-pub fn take_read<W: Joiner>(groups: &mut Groups, workers: &W, read: JoinLine) -> Result<(), Refusal>
+pub fn take_read<W: Joiner>(
+    groups: &mut NamedGroups,
+    workers: &W,
+    read: JoinLine,
+) -> Result<(), Refusal>
     requires short { IsShort read }
     requires ready { HoldsSome groups.old }
     requires joins { W.can_join workers.now }
     ensures ok { OnOk result ((said : List Line) (line : Line) → Keeps groups.old said → Says line read
         → (BringsTooMany said line → ⊥) × Keeps groups.new (said ++ line ∷ [])) }
-    ensures err { IfErr result (λ refusal. (refusal ≡ Refusal.Memory) ⊎ ((said : List Line) (line : Line) → Keeps groups.old said
+    ensures err { IfErr result (λ refusal. (refusal ≡ Refusal.Memory)
+        ⊎ ((said : List Line) (line : Line) → Keeps groups.old said
         → Says line read → (refusal ≡ Refusal.TooManyGroups) × BringsTooMany said line)) }
     ensures kept { IfErr result (λ refusal. refusal ≢ Refusal.Memory → groups.new ≡ groups.old) }
-    ensures few { OnOk result (length groups.old.batch.items < MOST_IN_BATCH → length groups.new.batch.items < MOST_IN_BATCH) }
+    ensures few { OnOk result (length groups.old.batch.items < MOST_IN_BATCH
+        → length groups.new.batch.items < MOST_IN_BATCH) }
 {
     match read {
         JoinLine::Nothing => Ok(()),
@@ -55,12 +64,13 @@ pub fn take_read<W: Joiner>(groups: &mut Groups, workers: &W, read: JoinLine) ->
 }
 
 /// The same of workers who join a batch only where it is closed.
-pub fn take_waiting(groups: &mut Groups, read: JoinLine) -> Result<(), Refusal>
+pub fn take_waiting(groups: &mut NamedGroups, read: JoinLine) -> Result<(), Refusal>
     requires short { IsShort read }
     requires ready { HoldsSome groups.old }
     ensures ok { OnOk result ((said : List Line) (line : Line) → Keeps groups.old said → Says line read
         → (BringsTooMany said line → ⊥) × Keeps groups.new (said ++ line ∷ [])) }
-    ensures err { IfErr result (λ refusal. (refusal ≡ Refusal.Memory) ⊎ ((said : List Line) (line : Line) → Keeps groups.old said
+    ensures err { IfErr result (λ refusal. (refusal ≡ Refusal.Memory)
+        ⊎ ((said : List Line) (line : Line) → Keeps groups.old said
         → Says line read → (refusal ≡ Refusal.TooManyGroups) × BringsTooMany said line)) }
     ensures kept { IfErr result (λ refusal. refusal ≢ Refusal.Memory → groups.new ≡ groups.old) }
 {

@@ -1,13 +1,13 @@
 ghost use Rattle.std.specs.Prelude.{◌≡◌, ℕ, ◌++◌, List, [], IfOk, if◌then◌else◌};
 ghost use Rattle.slot_evidence.specs.Facts.{Facts};
 ghost use Rattle.slot_evidence.specs.Sheet.{IsEnds};
-ghost use Rattle.dsc_files.specs.JoinLine.{JoinLine};
+ghost use Rattle.dsc_lines.specs.JoinLine.{JoinLine};
 ghost use Rattle.join_groups.specs.Output as output;
 ghost use Rattle.join_groups.specs.Output.{Telling, TellsAnswer, TellsEvidence, IsGroupsText};
 ghost use Rattle.join_groups.specs.Holds.{HoldsSome};
 ghost use Rattle.join_groups.specs.inside.Kept.{Keeps};
 
-use crate::groups::Groups;
+use crate::groups::NamedGroups;
 use dsc_texts::put_answer_line;
 use evidence_texts::put_evidence_line;
 use slot_evidence::Sheet;
@@ -22,7 +22,8 @@ pub trait Teller: Drop {
     /// Appends the line of a group with this sheet, and answers whether all is well with it.
     fn tell(group: u32, sheet: &Sheet, out: &mut Vec<u8>) -> Result<bool, AllocError>
         ensures { IfOk result (λ is_well. (line : List ℕ) × ((out.new.items ≡ out.old.items ++ line)
-            × ((F : Facts) → IsEnds F sheet.now → tells F (record { group = group; line = line; is_well = is_well })))) };
+            × ((F : Facts) → IsEnds F sheet.now
+            → tells F (record { group = group; line = line; is_well = is_well })))) };
 }
 
 /// Tells the answer to a group's facts; all is well where a call was reported.
@@ -63,10 +64,11 @@ impl Teller for Ends {
 }
 
 /// Tells of each group by rising number, and answers whether all is well with all of them. No reception waits any more.
-pub fn tell_all<T: Teller>(groups: &Groups, out: &mut Vec<u8>) -> Result<bool, AllocError>
+pub fn tell_all<T: Teller>(groups: &NamedGroups, out: &mut Vec<u8>) -> Result<bool, AllocError>
     requires { HoldsSome groups.now }
     ensures { IfOk result (λ is_well. (said : List JoinLine) → Keeps groups.now said → groups.now.batch.items ≡ []
-        → (text : List ℕ) × ((out.new.items ≡ out.old.items ++ text) × IsGroupsText T.tells said text (if is_well then 0 else 1))) }
+        → (text : List ℕ) × ((out.new.items ≡ out.old.items ++ text)
+        × IsGroupsText T.tells said text (if is_well then 0 else 1))) }
 {
     let mut is_well = true;
     for (group, number) in groups.numbers.iter() {

@@ -9,10 +9,12 @@ use Rattle.line_engine.specs.Faults.{IsFault, IsFaultless}
 use Rattle.line_engine.specs.Commands.{IsTakenBehind}
 use Rattle.line_engine.specs.inside.Progress.{TakesLines}
 
+-- there is no line in an empty list
 pub never_empty : (earlier : Lines) (line : List ℕ) (later : Lines) → [] ≡ earlier ++ line ∷ later → ⊥
 never_empty [] line later e = absurd (cc)
 never_empty (x ∷ earlier) line later e = absurd (cc)
 
+-- no lines have no fault
 pub none_yet : (meaning : Meaning) → IsFaultless meaning []
 none_yet meaning = record { none = λ earlier line later fault e f. never_empty earlier line later e }
 

@@ -52,6 +52,7 @@ split_twice (u ∷ a) x c (v ∷ b) y d e =
       ])
     ]
 
+-- lines have one first fault at most
 pub one_first : (meaning : Meaning) → HasOneColumn meaning → (lines : Lines) (m n : ℕ) (a b : Fault) → IsFirstFault meaning lines m a → IsFirstFault meaning lines n b → (m ≡ n) × (a ≡ b)
 one_first meaning one lines m n a b h k =
     elim (split_twice h.earlier h.line h.later k.earlier k.line k.later (sym h.list ∙ k.list)) [
@@ -64,6 +65,7 @@ one_first meaning one lines m n a b h k =
       ])
     ]
 
+-- lines without a fault have no first one
 pub none_first : (meaning : Meaning) (lines : Lines) (number : ℕ) (fault : Fault) → IsFaultless meaning lines → IsFirstFault meaning lines number fault → ⊥
 none_first meaning lines number fault none h = none.none h.earlier h.line h.later fault h.list h.is_fault
 

@@ -119,6 +119,7 @@ some_more : (a b : List ℕ) → b ≢ [] → a ++ b ≢ []
 some_more [] b some e = some e
 some_more (x ∷ a) b some e = absurd (cc)
 
+-- a write that fails ends the run with what was written before it
 pub stops_in_write : {Command Sink : Type 0} {meaning : Meaning} {stands_for : Command → Lines → List ℕ → Type 0} {written : Sink → Option (List ℕ)} {faults : Sink → ℕ} {start old : Sink}
     {taken rest : List ℕ} {count : ℕ} {command : Command} {before : List ℕ} (new : Sink) (after : List ℕ) (left : Option (List ℕ)) → GivesLaw meaning stands_for
     → IsOn meaning stands_for written faults start taken rest count command before old → (h : Halt) → PendingFails written faults old new before h

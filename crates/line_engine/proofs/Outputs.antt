@@ -71,3 +71,7 @@ begins_asked meaning is lines text whole status (inl h) k =
     let same = (one_text meaning is lines whole text status h.0 k h.1).0 in
     ([], same ∙ sym (append-nil text))
 begins_asked meaning is lines text whole status (inr s) k = begins_output meaning is lines text whole status s.1 k
+
+-- every text begins with nothing
+pub begins_empty : (text whole : List ℕ) → text ≡ [] → BeginsWith whole text
+begins_empty text whole e = (whole, ap (λ (t : List ℕ). t ++ whole) (sym e))

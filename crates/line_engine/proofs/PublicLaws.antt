@@ -4,3 +4,6 @@
 pub use Rattle.line_engine.proofs.FirstFaults.{one_first}
 -- lines that determine their output have one, and whatever of it is written before the input's end begins it
 pub use Rattle.line_engine.proofs.Outputs.{one_text, begins_output, begins_asked}
+-- every text begins with nothing, and no lines have no fault
+pub use Rattle.line_engine.proofs.Outputs.{begins_empty}
+pub use Rattle.line_engine.proofs.Faultless.{none_yet}

@@ -52,18 +52,22 @@ pub trait Command: Drop {
         requires ready { StandsBelow stands_for self.old out.old.items MOST_LINES }
 
         // Whatever lines it stood for and whatever of their text is written.
-        ensures stands { OnOk result ((lines : Lines) (written : List ℕ) → stands_for self.old lines (written ++ out.old.items)
+        ensures stands { OnOk result ((lines : Lines) (written : List ℕ)
+            → stands_for self.old lines (written ++ out.old.items)
             → stands_for self.new (lines ++ line.now ∷ []) (written ++ out.new.items)) }
-        ensures taken { OnOk result ((lines : Lines) (written : List ℕ) → stands_for self.old lines (written ++ out.old.items)
+        ensures taken { OnOk result ((lines : Lines) (written : List ℕ)
+            → stands_for self.old lines (written ++ out.old.items)
             → IsTakenBehind meaning lines line.now) }
-        ensures refused { IfErr result (λ refusal. (lines : Lines) (written : List ℕ) → stands_for self.old lines (written ++ out.old.items)
+        ensures refused { IfErr result (λ refusal. (lines : Lines) (written : List ℕ)
+            → stands_for self.old lines (written ++ out.old.items)
             → IsRefusedBehind meaning lines line.now refusal) }
         ensures unsaid { IfErr result (λ refusal. KeepsText refusal out.old.items out.new.items) };
 
     /// Ends the input: appends what is still to be said, and answers the status, 0 or 1.
     fn finish(&mut self, out: &mut Vec<u8>) -> Result<Status, AllocError>
         requires { StandsBelow stands_for self.old out.old.items (MOST_LINES + 1) }
-        ensures ends { IfOk result (λ status. (lines : Lines) (written : List ℕ) → stands_for self.old lines (written ++ out.old.items)
+        ensures ends { IfOk result (λ status. (lines : Lines) (written : List ℕ)
+            → stands_for self.old lines (written ++ out.old.items)
             → meaning.Ends lines (written ++ out.new.items) status) }
         ensures finished { IfOk result IsFinished };
 

@@ -58,11 +58,16 @@ fn run_lines<C: Command, S: Source, K: Sink>(
     requires fresh { C.stands_for command.old [] [] }
 
     // What was written, by the status.
-    ensures whole { IsFinished result → TellsWhole C.meaning (S.left source.old) (S.left source.new) (K.written sink.old) (K.written sink.new) (K.flushed sink.new) result }
-    ensures faulty { IsOfFault result → TellsFault C.meaning (S.left source.old) (S.left source.new) (K.written sink.old) (K.written sink.new) (K.flushed sink.new) result }
-    ensures stopped { result ≡ 4 → TellsSoFar C.meaning (S.left source.old) (S.left source.new) (K.written sink.old) (K.written sink.new) }
-    ensures cut { result ≡ 5 → CutsOff C.meaning (S.left source.old) (S.left source.new) (K.written sink.old) (K.written sink.new) }
-    ensures memory { result ≡ 6 → TellsFront C.meaning (S.left source.old) (S.left source.new) (K.written sink.old) (K.written sink.new) }
+    ensures whole { IsFinished result
+        → TellsWhole C.meaning (S.left source.old) (S.left source.new) (K.written sink.old) (K.written sink.new) (K.flushed sink.new) result }
+    ensures faulty { IsOfFault result
+        → TellsFault C.meaning (S.left source.old) (S.left source.new) (K.written sink.old) (K.written sink.new) (K.flushed sink.new) result }
+    ensures stopped { result ≡ 4
+        → TellsSoFar C.meaning (S.left source.old) (S.left source.new) (K.written sink.old) (K.written sink.new) }
+    ensures cut { result ≡ 5
+        → CutsOff C.meaning (S.left source.old) (S.left source.new) (K.written sink.old) (K.written sink.new) }
+    ensures memory { result ≡ 6
+        → TellsFront C.meaning (S.left source.old) (S.left source.new) (K.written sink.old) (K.written sink.new) }
 
     // A command that gives nothing before its input's end leaves the sink alone until then.
     ensures unwritten { IsQuiet C.meaning → (result ≡ 4) ⊎ (result ≡ 6) → sink.new ≡ sink.old }
@@ -82,7 +87,8 @@ fn run_lines<C: Command, S: Source, K: Sink>(
 
     // Without a fault of the streams there is no other ending than these.
     ensures range { IsFinished result ⊎ IsOfFault result ⊎ (result ≡ 4) ⊎ (result ≡ 5) ⊎ (result ≡ 6) }
-    ensures completes { (Rises (S.faults source.old) (S.faults source.new) → ⊥) → (Rises (K.faults sink.old) (K.faults sink.new) → ⊥)
+    ensures completes { (Rises (S.faults source.old) (S.faults source.new) → ⊥)
+        → (Rises (K.faults sink.old) (K.faults sink.new) → ⊥)
         → IsFinished result ⊎ IsOfFault result ⊎ (result ≡ 6) }
 {
     let mut out = Vec::new(alloc);

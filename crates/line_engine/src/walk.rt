@@ -54,9 +54,11 @@ fn take_line<C: Command>(
     requires counted { IsCounted C.stands_for command.old out.old.items count }
     requires few { count ≤ MOST_LINES }
     ensures within { OnOk result ((count < MOST_LINES) × (length line.now ≤ LONGEST_LINE)) }
-    ensures taken { OnOk result ((lines : Lines) (text : List ℕ) → C.stands_for command.old lines (text ++ out.old.items) → count ≡ length lines
+    ensures taken { OnOk result ((lines : Lines) (text : List ℕ)
+        → C.stands_for command.old lines (text ++ out.old.items) → count ≡ length lines
         → TakesLines C.meaning C.stands_for lines (line.now ∷ []) command.new (text ++ out.new.items)) }
-    ensures stopped { IfErr result (λ halt. (lines : Lines) (text : List ℕ) → C.stands_for command.old lines (text ++ out.old.items) → count ≡ length lines
+    ensures stopped { IfErr result (λ halt. (lines : Lines) (text : List ℕ)
+        → C.stands_for command.old lines (text ++ out.old.items) → count ≡ length lines
         → StopsAtLine C.meaning lines line.now out.old.items out.new.items halt) }
 {
     check_limits(count, line.len())?;
@@ -84,9 +86,12 @@ pub(crate) fn take_last<C: Command>(
     requires counted { IsCounted C.stands_for command.old out.old.items count }
     requires few { count ≤ MOST_LINES }
     requires open_end { list_all is_inside rest.now ≡ true }
-    ensures taken { OnOk result ((lines : Lines) (text : List ℕ) → C.stands_for command.old lines (text ++ out.old.items) → count ≡ length lines
+    ensures taken { OnOk result ((lines : Lines) (text : List ℕ)
+        → C.stands_for command.old lines (text ++ out.old.items) → count ≡ length lines
         → TakesLines C.meaning C.stands_for lines (lines_of rest.now) command.new (text ++ out.new.items)) }
-    ensures stopped { IfErr result (λ halt. (0 < length rest.now) × ((lines : Lines) (text : List ℕ) → C.stands_for command.old lines (text ++ out.old.items) → count ≡ length lines
+    ensures stopped { IfErr result (λ halt. (0 < length rest.now)
+        × ((lines : Lines) (text : List ℕ) → C.stands_for command.old lines (text ++ out.old.items)
+        → count ≡ length lines
         → StopsAtLine C.meaning lines rest.now out.old.items out.new.items halt)) }
 {
     if rest.is_empty() {
@@ -108,10 +113,13 @@ fn take_and_write<C: Command, K: Sink>(
     ensures within { OnOk result ((count < MOST_LINES) × (length line.now ≤ LONGEST_LINE)) }
     ensures counted { OnOk result (IsCounted C.stands_for command.new out.new.items (count + 1)) }
     ensures on { OnOk result ((start : K) (taken rest : List ℕ) → list_all is_inside line.now ≡ true
-        → IsOn C.meaning C.stands_for K.written K.faults start taken (line.now ++ (10 ∷ rest)) count command.old out.old.items sink.old
+        → IsOn C.meaning C.stands_for K.written K.faults start taken (line.now
+        ++ (10 ∷ rest)) count command.old out.old.items sink.old
         → IsOn C.meaning C.stands_for K.written K.faults start taken rest (count + 1) command.new out.new.items sink.new) }
-    ensures stopped { IfErr result (λ halt. (start : K) (left : Option (List ℕ)) (taken rest : List ℕ) → list_all is_inside line.now ≡ true
-        → IsOn C.meaning C.stands_for K.written K.faults start taken (line.now ++ (10 ∷ rest)) count command.old out.old.items sink.old
+    ensures stopped { IfErr result (λ halt. (start : K) (left : Option (List ℕ)) (taken rest : List ℕ)
+        → list_all is_inside line.now ≡ true
+        → IsOn C.meaning C.stands_for K.written K.faults start taken (line.now
+        ++ (10 ∷ rest)) count command.old out.old.items sink.old
         → Stops C.meaning K.written K.faults start left taken out.new.items sink.new halt) }
     ensures not_flushed { K.flushed sink.new ≡ K.flushed sink.old }
 {
@@ -140,7 +148,8 @@ pub(crate) fn take_lines<C: Command, K: Sink>(
     requires counted { IsCounted C.stands_for command.old out.old.items count }
     requires few { count ≤ MOST_LINES }
     ensures left { IfOk result (λ walked. walked.left ≤ length bytes.now) }
-    ensures open_end { IfOk result (λ walked. list_all is_inside (drop (length bytes.now - walked.left) bytes.now) ≡ true) }
+    ensures open_end { IfOk result (λ walked. list_all is_inside (drop (length bytes.now - walked.left) bytes.now)
+        ≡ true) }
     ensures few { IfOk result (λ walked. walked.count ≤ MOST_LINES) }
     ensures goes_on { IfOk result (λ walked. count * (LONGEST_LINE + 1) + length bytes.now ≤ walked.count * (LONGEST_LINE + 1) + walked.left) }
     ensures counted { IfOk result (λ walked. IsCounted C.stands_for command.new out.new.items walked.count) }

@@ -58,7 +58,8 @@ impl Window {
     /// Reads at most one piece behind its bytes, and says how many came, 0 at the end of the input.
     pub(crate) fn read<S: Source>(&mut self, source: &mut S) -> Result<usize, Failed>
         requires { length self.old ≤ LONGEST_LINE }
-        ensures given { IfOk result (λ n. (given : List ℕ) × (self.new ≡ self.old ++ given) × (length given ≡ n) × Loses (S.left source.old) (S.left source.new) given) }
+        ensures given { IfOk result (λ n. (given : List ℕ) × (self.new ≡ self.old ++ given) × (length given ≡ n)
+            × Loses (S.left source.old) (S.left source.new) given) }
         ensures most { IfOk result (λ n. n ≤ PIECE) }
         ensures end { IfOk result (λ n. n ≡ 0 → IsEnded (S.left source.new)) }
         ensures sound { OnOk result (S.faults source.new ≡ S.faults source.old) }

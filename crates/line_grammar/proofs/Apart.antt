@@ -3,12 +3,12 @@ use Rattle.std.proofs.Common.{◌≡◌, ℕ, ◌+◌, ◌-◌, Bool, true, fals
 use Rattle.std.specs.List.{flat_map, list_any, list_all}
 use Rattle.std.proofs.lemmas.Bool.{and_parts, or_left, or_right, eq-eqb, not-true}
 use Rattle.std.proofs.lemmas.List.{append_cancel_left}
+use Rattle.plain_laws.proofs.Lists.{split}
 use Rattle.line_grammar.specs.Columns.{ReadsAs, with_column}
 use Rattle.line_grammar.specs.Tokens.{Token, IsToken}
 use Rattle.line_grammar.specs.Grammar.{Grammar, finish, anything, word, field, either, Parts, none, part, first, second, Spells}
 use Rattle.line_grammar.specs.inside.Soundness.{may_have, may_follow, is_some_token, is_sound, cut, cut_all, may_end, differs, is_unambiguous}
 use Rattle.line_grammar.specs.inside.Reading.{read}
-use Rattle.line_grammar.proofs.Splits.{split}
 use Rattle.line_grammar.proofs.Stops.{Reads, left_le, IsColumn-stops}
 use Rattle.line_grammar.proofs.Munching.{has, some_byte, no_token}
 use Rattle.line_grammar.proofs.Fields.{follows}
@@ -210,5 +210,6 @@ answered : (G : Grammar) (bytes : List ℕ) (r : Result Parts ℕ) → is_sound 
 answered G bytes (Ok parts) h k m = (m, λ other n. one_reading G other parts bytes h k n m)
 answered G bytes (Err left) h k m = IsColumn-stops (Spells G) bytes left (length bytes + 1 - left) m (omega (arith, left_le (Spells G) bytes left m))
 
+-- an unambiguous grammar's reader answers what the text spells, or its column
 pub answers : (G : Grammar) (bytes : List ℕ) → is_sound G ≡ true → is_unambiguous G ≡ true → ReadsAs (Spells G) bytes (with_column bytes (read G bytes))
 answers G bytes h k = answered G bytes (read G bytes) h k (reads G bytes h)

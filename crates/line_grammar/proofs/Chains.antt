@@ -3,7 +3,7 @@ use Rattle.std.proofs.Common.{◌≡◌, ◌≢◌, ℕ, suc, ◌≤◌, ◌==�
 use Rattle.std.specs.List.{list_all}
 use Rattle.std.proofs.lemmas.Bool.{eqb-true, eq-eqb, cond-true, cond-false, ne_eqb}
 use Rattle.line_grammar.specs.Tokens.{Token, run, is_one_of}
-use Rattle.line_grammar.specs.Grammar.{Grammar, finish, word, field, either, Parts, part, first, second, Spells}
+use Rattle.line_grammar.specs.Grammar.{Grammar, finish, word, field, either, Parts, part, first, second, Spells, none}
 use Rattle.line_grammar.specs.inside.Soundness.{is_some_token, is_sound}
 use Rattle.line_grammar.specs.inside.Reading.{ended, after, read_token, and_then, and_part, named, further, read}
 use Rattle.line_grammar.proofs.Stops.{left_le}
@@ -25,6 +25,7 @@ after_step c b text bytes back true e more h =
     cc
 after_step c b text bytes back false e more h = absurd (cc)
 
+-- behind a word that was read stand the bytes that are left
 pub after_list : (text bytes back : List ℕ) → after text bytes ≡ Ok back → bytes ≡ text ++ back
 unfolding after
 after_list [] bytes back h = let e : bytes ≡ back = cc in e
@@ -37,6 +38,7 @@ run_is signs bytes r front back h e =
     let m = subst (λ (q : Result (List ℕ × List ℕ) ℕ). TokenReads (run signs) bytes q) e h in
     (m.list, m.is_token.0, m.is_token.1)
 
+-- a run of signs was read
 pub run_list : (signs bytes front back : List ℕ) → is_some_token (run signs) ≡ true → read_token (run signs) bytes ≡ Ok (front, back)
     → (bytes ≡ front ++ back) × (front ≢ []) × (list_all (is_one_of signs) front ≡ true)
 run_list signs bytes front back some h = run_is signs bytes (read_token (run signs) bytes) front back (token_reads (run signs) bytes some) h
@@ -46,19 +48,23 @@ pub word_missed : (text : List ℕ) (rest : Grammar) (bytes : List ℕ) (left : 
 unfolding read
 word_missed text rest bytes left h = ap (λ (r : Result (List ℕ) ℕ). and_then r (read rest)) h
 
+-- the fault is behind a word that was read
 pub word_on : (text : List ℕ) (rest : Grammar) (bytes back : List ℕ) (left : ℕ) → after text bytes ≡ Ok back → read rest back ≡ Err left → read (word text rest) bytes ≡ Err left
 unfolding read
 word_on text rest bytes back left h k = ap (λ (r : Result (List ℕ) ℕ). and_then r (read rest)) h ∙ k
 
+-- the fault is in the token
 pub token_missed : (token : Token) (rest : Grammar) (bytes : List ℕ) (left : ℕ) → read_token token bytes ≡ Err left → read (field token rest) bytes ≡ Err left
 unfolding read
 token_missed token rest bytes left h = ap (λ (r : Result (List ℕ × List ℕ) ℕ). and_part r (read rest)) h
 
+-- or behind it
 pub token_on : (token : Token) (rest : Grammar) (bytes front back : List ℕ) (left : ℕ) → read_token token bytes ≡ Ok (front, back) → read rest back ≡ Err left → read (field token rest) bytes ≡ Err left
 unfolding read
 token_on token rest bytes front back left h k =
     ap (λ (r : Result (List ℕ × List ℕ) ℕ). and_part r (read rest)) h ∙ ap (λ (r : Result Parts ℕ). named (part front) r) k
 
+-- the end stops where something is left
 pub end_missed : (bytes : List ℕ) (left : ℕ) → ended bytes ≡ Err left → read finish bytes ≡ Err left
 unfolding read
 end_missed bytes left h = h
@@ -98,3 +104,16 @@ byte_read c text rest bytes = ap (λ (r : Result (List ℕ) ℕ). and_then r (re
 pub word_done : (rest : Grammar) (bytes : List ℕ) → read (word [] rest) bytes ≡ read rest bytes
 unfolding read after
 word_done rest bytes = refl
+
+-- where the line ends, no bytes are left
+pub end_nil : (bytes : List ℕ) → ended bytes ≡ Ok none → bytes ≡ []
+unfolding ended
+end_nil [] h = refl
+end_nil (b ∷ bytes) h = absurd (cc)
+
+-- what spells the end of a line is no bytes
+pub finished : (parts : Parts) (bytes : List ℕ) → Spells finish parts bytes → bytes ≡ []
+finished none bytes h = h
+finished (part a b) bytes h = absurd h
+finished (first a) bytes h = absurd h
+finished (second a) bytes h = absurd h

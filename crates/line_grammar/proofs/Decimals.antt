@@ -58,6 +58,7 @@ leading : (n : ℕ) → n < 2 ^ 64 → HasNoLeadingZero (decimal n)
 leading zero small = subst HasNoLeadingZero (sym (decimal_digit 0 (omega arith))) tt
 leading (suc n) small = no_zero (decimal (suc n)) (decimal_nonempty (suc n) small) (first_decimal (suc n) (omega arith) small)
 
+-- a number's decimal digits are a number's text
 pub decimal_number : (least most n : ℕ) → least ≤ n → n ≤ most → most < 2 ^ 64 → IsNumber least most (decimal n)
 unfolding are_digits
 decimal_number least most n low high small =
@@ -76,6 +77,7 @@ is_number least most bytes r front back h e =
     let m = subst (λ (q : Result (List ℕ × List ℕ) ℕ). TokenReads (free_number least most) bytes q) e h in
     (m.list, m.is_token)
 
+-- what is read as a number is its decimal digits, within the bounds
 pub number_read : (least most n : ℕ) (bytes front back : List ℕ) → least ≤ most → most < 2 ^ 64 → read_token (free_number least most) bytes ≡ Ok (front, back) → value_after 0 front ≡ n
     → (bytes ≡ decimal n ++ back) × (least ≤ n) × (n ≤ most) × (front ≡ decimal n)
 number_read least most n bytes front back order small e value =

@@ -31,6 +31,7 @@ fronts (x ∷ a) r (y ∷ b) s h e =
     let rest = fronts a r b s (omega (arith, h)) (cc) in
     (ap (λ (c : ℕ). c ∷ a) head ∙ ap (λ (l : List ℕ). y ∷ l) rest.0, rest.1)
 
+-- so many digits in front tell one number
 pub one_front : (width m n : ℕ) (r s : List ℕ) → m < 10 ^ width → n < 10 ^ width → digits width m ++ r ≡ digits width n ++ s → (m ≡ n) × (r ≡ s)
 one_front width m n r s h k e =
     let same = fronts (digits width m) r (digits width n) s (digits_length width m ∙ sym (digits_length width n)) e in

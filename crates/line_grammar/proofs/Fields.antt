@@ -1,10 +1,10 @@
 -- a token and what follows it
 use Rattle.std.proofs.Common.{◌≡◌, ℕ, ◌<◌, true, false, List, [], ◌∷◌, ◌++◌, length, inl, inr, sym, ◌∙◌, ap, subst, arith, append_assoc, length-append}
 use Rattle.std.proofs.lemmas.Bool.{and_parts, not-true}
+use Rattle.plain_laws.proofs.Lists.{split}
 use Rattle.line_grammar.specs.Tokens.{Token, IsToken}
 use Rattle.line_grammar.specs.Grammar.{Grammar, finish, anything, word, field, either, Parts, none, part, first, second, Spells}
 use Rattle.line_grammar.specs.inside.Soundness.{may_have, may_follow}
-use Rattle.line_grammar.proofs.Splits.{split}
 use Rattle.line_grammar.proofs.Stops.{Stops}
 use Rattle.line_grammar.proofs.Tokens.{Munches, Misses}
 use Rattle.line_grammar.proofs.Munching.{has}
@@ -38,6 +38,7 @@ pub record IsField (token : Token) (G : Grammar) (bytes : List ℕ) : Type 0 whe
   pub list : bytes ≡ front ++ back
   pub spelled : Spells G parts back
 
+-- a text that begins with a token has it as its field
 pub field_of : (token : Token) (G : Grammar) (parts : Parts) (bytes : List ℕ) → Spells (field token G) parts bytes → IsField token G bytes
 field_of token G (part front parts) bytes h =
     record { front = front; back = h.1.0; parts = parts; is_token = h.0; list = h.1.1; spelled = h.1.2 }

@@ -3,9 +3,9 @@ use Rattle.std.proofs.Common.{◌≡◌, ◌≢◌, ℕ, zero, suc, ◌+◌, ◌
 use Rattle.std.specs.List.{list_all}
 use Rattle.std.proofs.lemmas.Bool.{and_parts, and_from, leb-true, leb-false, le-leb, eqb-true, eqb-false, cases_lt}
 use Rattle.std.proofs.lemmas.List.Folds.{list_all-append}
+use Rattle.plain_laws.proofs.Lists.{split}
 use Rattle.line_grammar.specs.Tokens.{free_number, is_digit, value_after, HasNoLeadingZero, IsNumber}
 use Rattle.line_grammar.specs.inside.Reading.{reaches, goes_on, judged, judged_zero, read_digits, read_number}
-use Rattle.line_grammar.proofs.Splits.{split}
 use Rattle.line_grammar.proofs.Tokens.{Misses, TokenReads}
 
 -- values
@@ -17,7 +17,8 @@ pub value_append : (n : ℕ) (a b : List ℕ) → value_after n (a ++ b) ≡ val
 value_append n [] b = refl
 value_append n (c ∷ a) b = value_append (10 * n + (c - 48)) a b
 
-digit_bounds : (b : ℕ) → is_digit b ≡ true → (48 ≤ b) × (b ≤ 57)
+-- a digit is one of ten bytes
+pub digit_bounds : (b : ℕ) → is_digit b ≡ true → (48 ≤ b) × (b ≤ 57)
 digit_bounds b h = let k = and_parts (nat_le 48 b) (nat_le b 57) h in (leb-true 48 b k.0, leb-true b 57 k.1)
 
 digit_of : (d : ℕ) → d < 10 → is_digit (48 + d) ≡ true

@@ -4,11 +4,11 @@ use Rattle.std.specs.List.{list_all}
 use Rattle.std.proofs.lemmas.Bool.{and_parts, and_from, or_left, or_right, or_cases, eq-eqb, eqb-true, eqb-false, leb-true, not-true, agree_below_at}
 use Rattle.std.proofs.lemmas.List.{append_cancel_left}
 use Rattle.std.proofs.lemmas.List.Folds.{list_all-append, list_any-append}
+use Rattle.plain_laws.proofs.Lists.{split}
 use Rattle.line_grammar.specs.Shapes.{Shape, letters, fixed_number, pair, choice, digits, is_within, IsShaped}
 use Rattle.line_grammar.specs.Tokens.{is_one_of, is_digit, shaped}
 use Rattle.line_grammar.specs.inside.Reading.{fits, read_shape}
 use Rattle.line_grammar.specs.inside.Soundness.{shape_may_have, firsts, may_begin, begin_apart, both_widths, one_width, is_width, width_of, are_as_wide, leading, part_ways, are_apart, are_ranges, is_some_shape}
-use Rattle.line_grammar.proofs.Splits.{split}
 use Rattle.line_grammar.proofs.Tokens.{TokenReads}
 use Rattle.line_grammar.proofs.ShapesNumerals.{are_all_of, digits_all, digits_length, digits_first, numbered_start, numbered_next, some_numeral, Numbered}
 use Rattle.line_grammar.proofs.ShapesReading.{Finds, finds_alike, letters_read, numeral_read}

@@ -15,6 +15,7 @@ pub power_positive : (k : ℕ) → 0 < 10 ^ k
 power_positive zero = omega (arith, pow-zero 10)
 power_positive (suc k) = let h = power_positive k in let e = pow-suc 10 k in omega (arith, h, e)
 
+-- more digits write larger numbers
 pub power_order : (a b : ℕ) → a ≤ b → 10 ^ a ≤ 10 ^ b
 power_order a zero h = let e : a ≡ 0 = omega arith in omega (arith, ap (λ (k : ℕ). 10 ^ k) e)
 power_order a (suc b) h =
@@ -47,6 +48,7 @@ pub digits_none : (n : ℕ) → digits 0 n ≡ []
 unfolding digits
 digits_none n = refl
 
+-- so many digits are so many bytes
 pub digits_length : (width n : ℕ) → length (digits width n) ≡ width
 unfolding digits
 digits_length zero n = refl
@@ -59,6 +61,7 @@ digit_is n =
     let d : n % 10 < 10 = omega arith in
     and_from (nat_le 48 (48 + n % 10)) (nat_le (48 + n % 10) 57) (le-leb 48 (48 + n % 10) (omega arith)) (le-leb (48 + n % 10) 57 (omega arith))
 
+-- digits are digits all
 pub digits_all : (width n : ℕ) → list_all is_digit (digits width n) ≡ true
 unfolding digits
 digits_all zero n = refl
@@ -70,6 +73,7 @@ digits_all (suc width) n =
 abbrev pub are_all : (width : ℕ) → List (ℕ × ℕ) → Bool
 are_all width ranges = list_all (λ each. nat_le each.0 each.1 && not (nat_le (10 ^ width) each.1)) ranges
 
+-- ranges that are lawful are lawful one by one
 pub are_all_of : (width : ℕ) (ranges : List (ℕ × ℕ)) → are_ranges width ranges ≡ true → are_all width ranges ≡ true
 are_all_of width [] h = refl
 are_all_of width (range ∷ ranges) h = h
@@ -197,6 +201,7 @@ pub record IsNext (more : ℕ) (ranges : List (ℕ × ℕ)) (n b : ℕ) (bytes :
   pub goes_on : fits more ranges (10 * n + (b - 48)) ≡ true
   pub rest : Numbered more ranges (10 * n + (b - 48)) bytes
 
+-- a number's digits begin with one behind which the rest goes on
 pub numbered_next : (more : ℕ) (ranges : List (ℕ × ℕ)) (n b : ℕ) (bytes : List ℕ) → Numbered (suc more) ranges n (b ∷ bytes) → IsNext more ranges n b bytes
 numbered_next more ranges n b bytes h =
     let x = h.0 / 10 ^ more in

@@ -2,8 +2,8 @@
 use Rattle.std.proofs.Common.{◌≡◌, ℕ, ◌<◌, min, List, ◌∷◌, ◌++◌, length, Result, Ok, Err, ◌⊎◌, inl, inr, refl, sym, ◌∙◌, ap, subst, append_assoc, arith, length-append}
 use Rattle.std.proofs.lemmas.Bool.{cases_lt}
 use Rattle.std.proofs.lemmas.List.{append_cancel_left}
+use Rattle.plain_laws.proofs.Lists.{split}
 use Rattle.line_grammar.specs.inside.Reading.{behind, and_shape, further}
-use Rattle.line_grammar.proofs.Splits.{split}
 use Rattle.line_grammar.proofs.ShapesReading.{Fails, Finds, fails_le}
 
 -- a part and then another

@@ -19,6 +19,7 @@ abbrev pub Reads : {W : Type 0} (L : W → List ℕ → Type 0) (bytes : List �
 Reads L bytes (Ok w) = L w bytes
 Reads L bytes (Err left) = Stops L bytes left
 
+-- no more bytes are left than there are
 pub left_le : {W : Type 0} (L : W → List ℕ → Type 0) (bytes : List ℕ) (left : ℕ) → Stops L bytes left → left ≤ length bytes
 left_le L bytes left s = omega (arith, ap length s.list, length-append s.front s.back, s.left_is)
 
@@ -29,6 +30,7 @@ Begins-take L front k b = record {
   whole = subst (L b.value) (ap (λ (l : List ℕ). l ++ b.rest) (sym (take-append-drop k front)) ∙ append_assoc (take k front) (drop k front) b.rest) b.whole;
 }
 
+-- how many are left tells the column
 pub IsColumn-stops : {W : Type 0} (L : W → List ℕ → Type 0) (bytes : List ℕ) (left n : ℕ) → Stops L bytes left → n + left ≡ length bytes + 1 → IsColumn L bytes n
 IsColumn-stops L bytes left n s e =
     let long : length bytes ≡ length s.front + left = ap length s.list ∙ length-append s.front s.back ∙ ap (λ (k : ℕ). length s.front + k) s.left_is in
@@ -93,6 +95,7 @@ pub record IsAlike {V W : Type 0} (L : V → List ℕ → Type 0) (M : W → Lis
   pub to : (v : V) (bytes : List ℕ) → L v bytes → (w : W) × M w bytes
   pub back : (w : W) (bytes : List ℕ) → M w bytes → (v : V) × L v bytes
 
+-- a fault of the one is a fault of the other
 pub Stops-alike : {V W : Type 0} (L : V → List ℕ → Type 0) (M : W → List ℕ → Type 0) (bytes : List ℕ) (left : ℕ) → IsAlike L M → Stops L bytes left → Stops M bytes left
 Stops-alike L M bytes left same s =
     let b = same.to s.begins.value (s.front ++ s.begins.rest) s.begins.whole in

@@ -23,6 +23,7 @@ pub record Misses (token : Token) (bytes : List ℕ) (left : ℕ) : Type 0 where
   pub past : (p q rest : List ℕ) → bytes ≡ p ++ q → length q < left → IsToken token (p ++ rest) → ⊥
   pub none : (a s : List ℕ) → bytes ≡ a ++ s → IsToken token a → ⊥
 
+-- what a token's reader has to answer
 abbrev pub TokenReads : (token : Token) (bytes : List ℕ) → Result (List ℕ × List ℕ) ℕ → Type 0
 TokenReads token bytes (Ok (front, back)) = Munches token bytes front back
 TokenReads token bytes (Err left) = Misses token bytes left

@@ -75,6 +75,7 @@ read_back : (G : Grammar) (parts : Parts) (bytes : List ℕ) (r : Result Parts �
 read_back G parts bytes (Ok found) h k = ap (λ (p : Parts). Ok p) (sym (k.1 parts h))
 read_back G parts bytes (Err left) h k = absurd (k.is_none parts h)
 
+-- what a grammar writes it reads again
 pub written_is_read : (G : Grammar) (parts : Parts) → is_sound G ≡ true → is_unambiguous G ≡ true → AreParts G parts → read G (written G parts) ≡ Ok parts
 written_is_read G parts sound plain h =
     let line = written G parts in

@@ -4,6 +4,8 @@ ghost use Rattle.line_grammar.specs.Tokens.{is_digit, value_after};
 ghost use Rattle.line_grammar.specs.inside.Reading as readers;
 ghost use Rattle.line_grammar.specs.inside.Reading.{judged, read_digits, read_token};
 
+use crate::reading::Left;
+
 /// Whether some number from the least to the most begins with the digits of this one, which isn't 0.
 fn goes_on(least: u64, most: u64, number: u64) -> bool
     requires { least < 2 ^ 60 }
@@ -24,7 +26,8 @@ fn with_digit(least: u64, most: u64, number: u64, byte: u8) -> Option<u64>
     requires number { number < 2 ^ 60 }
     ensures { MatchOption result
         ((is_digit byte && readers.goes_on least most (10 * number + (byte - 48))) ≡ false)
-        (λ next. (next ≤ most) × (next ≡ 10 * number + (byte - 48)) × ((is_digit byte && readers.goes_on least most next) ≡ true)) }
+        (λ next. (next ≤ most) × (next ≡ 10 * number + (byte - 48))
+        × ((is_digit byte && readers.goes_on least most next) ≡ true)) }
 {
     if !byte.is_ascii_digit() {
         return None;
@@ -62,11 +65,13 @@ fn more_digits(least: u64, most: u64, first: u64, bytes: &[u8]) -> (u64, &[u8])
 }
 
 /// A decimal number from the least to the most at the front of these bytes, without leading zeros and as far as its
-/// digits go, and what follows it. An error is how many bytes are left where no such number goes on.
-pub fn free_number(least: u64, most: u64, bytes: &[u8]) -> Result<(u64, &[u8]), usize>
+/// digits go, and what follows it.
+pub fn free_number(least: u64, most: u64, bytes: &[u8]) -> Result<(u64, &[u8]), Left>
     requires most { most < 2 ^ 60 }
     requires least { least ≤ most }
-    ensures number { IfOk result (λ parts. (front : List ℕ) × (read_token (tokens.free_number least most) bytes.now ≡ Ok (front, parts.1.now)) × (value_after 0 front ≡ parts.0)) }
+    ensures number { IfOk result (λ parts. (front : List ℕ)
+        × (read_token (tokens.free_number least most) bytes.now ≡ Ok (front, parts.1.now))
+        × (value_after 0 front ≡ parts.0)) }
     ensures most { IfOk result (λ parts. parts.0 ≤ most) }
     ensures left { IfErr result (λ left. read_token (tokens.free_number least most) bytes.now ≡ Err left) }
 {

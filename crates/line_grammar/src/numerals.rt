@@ -5,6 +5,8 @@ ghost use Rattle.line_grammar.specs.Tokens.{is_digit};
 ghost use Rattle.line_grammar.specs.inside.Reading.{fits, read_shape};
 ghost use Rattle.line_grammar.specs.inside.Soundness.{are_ranges};
 
+use crate::reading::Left;
+
 /// Ten to this power.
 fn power_of_ten(exponent: usize) -> u64
     requires { exponent ≤ 10 }
@@ -43,16 +45,16 @@ fn with_digit(more: usize, ranges: &[(u64, u64)], number: u64, byte: u8) -> Opti
     }
 }
 
-/// A number of these ranges in so many digits at the front of these bytes, and what follows it. An error is how many
-/// bytes are left where no such number goes on.
+/// A number of these ranges in so many digits at the front of these bytes, and what follows it.
 pub fn fixed_number<'a>(
     width: usize,
     ranges: &[(u64, u64)],
     bytes: &'a [u8],
-) -> Result<(u64, &'a [u8]), usize>
+) -> Result<(u64, &'a [u8]), Left>
     requires width { width ≤ 10 }
     requires ranges { are_ranges width ranges.now ≡ true }
-    ensures number { IfOk result (λ parts. (is_within ranges.now parts.0 ≡ true) × (read_shape (shape.fixed_number width ranges.now) bytes.now ≡ Ok (digits width parts.0, parts.1.now))) }
+    ensures number { IfOk result (λ parts. (is_within ranges.now parts.0 ≡ true)
+        × (read_shape (shape.fixed_number width ranges.now) bytes.now ≡ Ok (digits width parts.0, parts.1.now))) }
     ensures left { IfErr result (λ left. read_shape (shape.fixed_number width ranges.now) bytes.now ≡ Err left) }
 {
     let mut number = 0;

@@ -2,10 +2,14 @@ ghost use Rattle.std.specs.Prelude.{◌≡◌, ◌+◌, ◌≤◌, ◌<◌, ◌^
 ghost use Rattle.std.specs.List.{prefix_len};
 ghost use Rattle.line_grammar.specs.Grammar.{none};
 ghost use Rattle.line_grammar.specs.Tokens as tokens;
+ghost use Rattle.line_grammar.specs.inside.Reading as readers;
 ghost use Rattle.line_grammar.specs.inside.Reading.{after, ended, read_token};
 
-/// What follows a word at the front of these bytes. An error is how many bytes are left where they leave the word.
-pub fn word<'a>(text: &[u8], bytes: &'a [u8]) -> Result<&'a [u8], usize>
+/// How many bytes of a text were left to read at its fault: from where it leaves what its grammar has, 0 where it ends too early.
+pub type Left = usize;
+
+/// What follows a word at the front of these bytes.
+pub fn word<'a>(text: &[u8], bytes: &'a [u8]) -> Result<&'a [u8], Left>
     ensures rest { IfOk result (λ rest. after text.now bytes.now ≡ Ok rest.now) }
     ensures left { IfErr result (λ left. after text.now bytes.now ≡ Err left) }
 {
@@ -30,9 +34,8 @@ fn run_length(signs: &[u8], bytes: &[u8]) -> usize
     bytes.iter().take_while(|b| signs.contains(*b)).count()
 }
 
-/// A run of these signs at the front of these bytes, as far as it goes, and what follows it. An error is how many
-/// bytes are left, all of them, where no sign stands.
-pub fn run<'a>(signs: &[u8], bytes: &'a [u8]) -> Result<(&'a [u8], &'a [u8]), usize>
+/// A run of these signs at the front of these bytes, as far as it goes, and what follows it.
+pub fn run<'a>(signs: &[u8], bytes: &'a [u8]) -> Result<(&'a [u8], &'a [u8]), Left>
     ensures parts { IfOk result (λ parts. read_token (tokens.run signs.now) bytes.now ≡ Ok (parts.0.now, parts.1.now)) }
     ensures left { IfErr result (λ left. read_token (tokens.run signs.now) bytes.now ≡ Err left) }
 {
@@ -43,8 +46,8 @@ pub fn run<'a>(signs: &[u8], bytes: &'a [u8]) -> Result<(&'a [u8], &'a [u8]), us
     Ok(bytes.split_at(n))
 }
 
-/// Whether the line ends there. An error is how many bytes are left, all of them.
-pub fn end(bytes: &[u8]) -> Result<(), usize>
+/// Whether the line ends there.
+pub fn end(bytes: &[u8]) -> Result<(), Left>
     ensures end { OnOk result (ended bytes.now ≡ Ok none) }
     ensures left { IfErr result (λ left. ended bytes.now ≡ Err left) }
 {
@@ -55,8 +58,19 @@ pub fn end(bytes: &[u8]) -> Result<(), usize>
     }
 }
 
-/// The column of a fault at which this many of a line's bytes are left.
-pub fn column(bytes: &[u8], left: usize) -> usize
+/// Of two answers the one that is no fault, or the further fault. By reference, since the borrow checker has no rule for
+/// a call that takes by value a `Result` of a value with an invariant beside the bytes that follow it.
+pub fn further<T: Copy>(first: &Result<T, Left>, second: &Result<T, Left>) -> Result<T, Left>
+    ensures { result ≡ readers.further first.now second.now }
+{
+    match (first, second) {
+        (Ok(value), _) | (Err(_), Ok(value)) => Ok(*value),
+        (Err(left), Err(right)) => Err(*left.min(right)),
+    }
+}
+
+/// The column of a fault, by the bytes of its line.
+pub fn column(bytes: &[u8], left: Left) -> usize
     requires left { left ≤ length bytes.now }
     requires fits { length bytes.now < 2 ^ 63 }
     ensures { result + left ≡ length bytes.now + 1 }

@@ -1,19 +1,19 @@
 -- What a watch answers, and the facts that may be posted on its board.
 use Rattle.std.proofs.Common.{◌≡◌, ◌⊎◌, ℕ, zero, suc, ◌<◌, Bool, true, false, cond, ◌||◌, List, [], ◌∷◌, length, set, replicate, Option, Some, None, Contains, refl, sym, ap, subst, ◌∙◌, inl, inr, arith}
 use Rattle.std.specs.Prelude.{filter}
-use Rattle.std.proofs.lemmas.List.{get_or-set_same, get_or-set_other, get_or_past, get_or-replicate, length-set, length-replicate}
-use Rattle.std.proofs.lemmas.Bool.{cases_eq, cases_lt, eq-eqb, eqb-true, ltb-true, or_cases, or_left, or_right, and_parts}
+use Rattle.std.proofs.lemmas.List.{get_or-set_same, get_or-set_other, length-set, length-replicate}
+use Rattle.std.proofs.lemmas.Bool.{cases_eq, eq-eqb, or_cases, or_left, or_right}
+use Rattle.std.proofs.Math.Bool.{or_self_left}
 use Rattle.ten_unit.specs.declared.character.Element.{Element}
-use Rattle.phasing.specs.Origin.{lead_of}
 use Rattle.call_values.specs.declared.calls.Call.{Call}
 use Rattle.slot_evidence.specs.declared.places.Seen.{Seen}
 use Rattle.slot_evidence.specs.declared.places.Seen.TheVariants as seen
 use Rattle.slot_evidence.specs.Alike.{AreAlike}
-use Rattle.slot_evidence.specs.Facts.{Symbols, Facts, no_facts, facts_at, facts_of, facts_of_all, union}
-use Rattle.slot_evidence.specs.Seen.{IsSeen, IsLawful, symbols_in}
+use Rattle.slot_evidence.specs.Facts.{Symbols, Facts, no_facts, facts_of_all, union}
+use Rattle.slot_evidence.specs.Seen.{IsLawful, symbols_in}
 use Rattle.slot_evidence.specs.Sheet.{IsSheet, IsEnds, seen_at, facts_in}
 use Rattle.slot_evidence.specs.Allowed.{IsAllowed, OnlyAllowed}
-use Rattle.slot_evidence.proofs.PublicLaws.{IsEnds-same}
+use Rattle.slot_evidence.proofs.PublicLaws.{IsEnds-same, kept_shown, all_small, blank_at}
 use Rattle.slot_join.specs.declared.joined.Joined.{Joined}
 use Rattle.slot_join.specs.declared.joined.Joined.TheVariants.{Reported}
 use Rattle.slot_join.specs.declared.joined.Extra.{Extra}
@@ -26,16 +26,6 @@ use Rattle.live_watch.specs.declared.watchers.News.TheVariants as news
 use Rattle.live_watch.specs.Watching.{IsNews}
 use Rattle.live_watch.specs.inside.Known.{known_facts, listed_facts, AreAllAllowed}
 use Rattle.live_watch.specs.inside.Posted.{IsToldOn, IsUnreported}
-
--- what is kept of symbols is among them
-kept_among : (S : Symbols) (x : Seen) (v : ℕ) → IsSeen S x → symbols_in x v ≡ true → S v ≡ true
-kept_among S seen.None v is kept = absurd (cc)
-kept_among S (seen.One w) v is kept = ap S (eqb-true v w kept) ∙ is.0
-kept_among S (seen.Differ a b) v is kept =
-    elim (or_cases _ _ kept) [
-      | inl least ↦ ap S (eqb-true v a least) ∙ is.has_least
-      | inr greatest ↦ ap S (eqb-true v b greatest) ∙ is.has_greatest
-    ]
 
 -- the laws of facts that are alike
 pub record Alike : Type 0 where
@@ -54,11 +44,7 @@ last_unreported laws sheet before after (news.Not joined) F ends is =
 
 -- facts that were posted twice
 twice : (F G : Facts) (sheet : List Seen) → IsEnds (union (union no_facts F) (union (union no_facts F) G)) sheet → IsEnds (union F G) sheet
-twice F G sheet ends = IsEnds-same _ (union F G) sheet (λ p v. once (F p v) (G p v)) ends
-  where
-    once : (a b : Bool) → (a || (a || b)) ≡ (a || b)
-    once true b = refl
-    once false b = refl
+twice F G sheet ends = IsEnds-same _ (union F G) sheet (λ p v. or_self_left (F p v) (G p v)) ends
 
 -- what was posted through two halves of a seat, once they are joined
 pub both_posted : (F G : Facts) (begun first second after met : List Seen) → IsEnds (union no_facts F) begun → first ≡ begun → second ≡ begun
@@ -84,7 +70,7 @@ module _ (alike : Alike) (tell : Tell) (facts : List (ℕ × ℕ)) (so_far : Lis
   module _ (F : Facts) (ends : IsEnds F so_far) where
     among : (p v : ℕ) → known_facts so_far list p v ≡ true → union F (facts_of_all list) p v ≡ true
     among p v is = elim (or_cases (facts_in so_far p v) (facts_of_all list p v) is) [
-      | inl before ↦ or_left _ _ (kept_among (F p) (seen_at so_far p) v (ends.each p) before)
+      | inl before ↦ or_left _ _ (kept_shown (F p) (seen_at so_far p) v (ends.each p) before)
       | inr heard ↦ or_right (F p v) _ heard
     ]
 
@@ -135,35 +121,9 @@ module _ (test : ℕ × ℕ → Bool) where
   tested [] x held = no_element x held
   tested (e ∷ es) x held = tested_more (test e) e (filter test es) x refl (tested es x) held
 
--- receptions show places and symbols that there are
-at_small : (e : List Element) (lead : Option ℕ) (p v : ℕ) → facts_at e lead p v ≡ true → (p < 64) × (v < 128)
-at_small e None p v is = absurd (cc)
-at_small e (Some lead) p v is =
-    let both = and_parts _ _ is in
-    (ltb-true p 64 both.0, ltb-true v 128 (and_parts _ _ both.1).0)
-
-fact_small : (e : List Element) (p v : ℕ) → facts_of e p v ≡ true → (p < 64) × (v < 128)
-unfolding facts_of
-fact_small e p v is = at_small e (lead_of e) p v is
-
-all_small : (list : List (List Element)) (p v : ℕ) → facts_of_all list p v ≡ true → (p < 64) × (v < 128)
-unfolding facts_of_all
-all_small [] p v is = absurd (cc)
-all_small (e ∷ list) p v is =
-    elim (or_cases _ _ is) [
-      | inl here ↦ fact_small e p v here
-      | inr other ↦ all_small list p v other
-    ]
-
 -- every fact with a place and a symbol that there are may be posted where every sheet may
 one_fact_sheet : ℕ → ℕ → List Seen
 one_fact_sheet p v = set (replicate 64 seen.None) p (seen.One v)
-
-none_there : (q : ℕ) → seen_at (replicate 64 seen.None) q ≡ seen.None
-none_there q = elim (cases_lt q 64) [
-  | inl below ↦ get_or-replicate 64 q seen.None seen.None below
-  | inr above ↦ get_or_past (replicate 64 seen.None) q seen.None (omega (arith, length-replicate 64 seen.None))
-]
 
 one_there : (p v : ℕ) → p < 64 → seen_at (one_fact_sheet p v) p ≡ seen.One v
 unfolding one_fact_sheet
@@ -173,7 +133,7 @@ one_lawful : (p v q : ℕ) → p < 64 → v < 128 → IsLawful (seen_at (one_fac
 unfolding one_fact_sheet
 one_lawful p v q place symbol = elim (cases_eq q p) [
   | inl here ↦ subst (λ (k : ℕ). IsLawful (seen_at (set (replicate 64 seen.None) p (seen.One v)) k)) (sym here) (subst IsLawful (sym (get_or-set_same (replicate 64 seen.None) p (seen.One v) seen.None (omega (arith, length-replicate 64 seen.None)))) symbol)
-  | inr apart ↦ subst IsLawful (sym (get_or-set_other (replicate 64 seen.None) p q (seen.One v) seen.None apart ∙ none_there q)) (tt {0})
+  | inr apart ↦ subst IsLawful (sym (get_or-set_other (replicate 64 seen.None) p q (seen.One v) seen.None apart ∙ blank_at q)) (tt {0})
 ]
 
 one_long : (p v : ℕ) → length (one_fact_sheet p v) ≡ 64

@@ -1,8 +1,8 @@
 -- A call that facts report may be told of them.
-use Rattle.std.proofs.Common.{◌≡◌, ℕ, ◌+◌, ◌<◌, ◌≤◌, true, ◌||◌, List, [], ◌∷◌, ◌++◌, length, get_or, take, drop, sym, ap, subst, ◌∙◌, inl, inr, append_assoc, arith}
-use Rattle.std.proofs.Math.Seq.{take-append_seam}
+use Rattle.std.proofs.Common.{◌≡◌, ℕ, ◌+◌, ◌<◌, true, ◌||◌, List, [], ◌∷◌, ◌++◌, length, get_or, take, drop, sym, ap, subst, ◌∙◌, inl, inr, append_assoc, arith}
 use Rattle.std.proofs.lemmas.Bool.{cases_lt, or_cases, or_left, or_right}
-use Rattle.std.proofs.lemmas.List.{take-append-le, take-append-drop, length-take-le, drop_more, get_or_push, length_push}
+use Rattle.std.proofs.lemmas.List.{take-append-drop, length-take-le, drop_more, get_or_push, length_push}
+use Rattle.plain_laws.proofs.Lists.{divide}
 use Rattle.call_values.specs.declared.calls.Call.{Call}
 use Rattle.call_values.specs.Calls.{IsCall}
 use Rattle.call_grammar.specs.Spelling.{up_to_end, through_check, covered, fields_of, format_of, check_of, end_of}
@@ -28,12 +28,6 @@ OneEndPlace = (l : List ℕ) (x : ℕ) → IsAtEnd l → IsViable (l ++ x ∷ []
 -- what stands before the first end of sequence
 abbrev pub before_end : Call → List ℕ
 before_end c = format_of c ∷ (format_of c ∷ fields_of c)
-
--- of two lists with which one list begins, the longer begins with the shorter
-divide : (a b r s : List ℕ) → a ++ r ≡ b ++ s → length a ≤ length b → b ≡ a ++ drop (length a) b
-divide a b r s e le =
-    let front : a ≡ take (length a) b = sym (take-append_seam a r) ∙ ap (λ (x : List ℕ). take (length a) x) e ∙ take-append-le (length a) b s le in
-    sym (take-append-drop (length a) b) ∙ ap (λ (x : List ℕ). x ++ drop (length a) b) (sym front)
 
 -- a list begins with one call's up to its end of sequence
 one_front : OneCheckPlace → (c d : Call) (r s : List ℕ) → IsCall c → IsCall d → up_to_end c ++ r ≡ up_to_end d ++ s → c ≡ d

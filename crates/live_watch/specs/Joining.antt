@@ -3,14 +3,14 @@ use Rattle.std.specs.Prelude.{List, All, IfOk, Result}
 use Rattle.std.specs.Borrow.{Bor}
 use Rattle.std.specs.declared.vec.Vec.{Vec}
 use Rattle.slot_evidence.specs.declared.places.Seen.{Seen}
-use Rattle.receiver_pool.specs.declared.heard.Heard.{Heard}
-use Rattle.receiver_pool.specs.declared.heard.Shown.{Shown}
+use Rattle.receiver_pool.specs.declared.group_entries.GroupReception.{GroupReception}
+use Rattle.receiver_pool.specs.declared.group_entries.GroupSheet.{GroupSheet}
 use Rattle.receiver_pool.specs.Groups.{facts_of_group, IsShort, Shows}
 
 -- it may be called with what is known, a batch of receptions that aren't too long, and a watcher; and then gives what the batch shows of
 -- each group
-pub record JoinsWatched {W Z E : Type 0} (may : Bor (List (List Seen)) → Bor (List Heard) → W → Type 0)
-    (gives : Bor (List (List Seen)) → Bor (List Heard) → W → Result (Vec Shown Z × W) E → Type 0) : Type 0 where
-  pub accepts : (known : Bor (List (List Seen))) (batch : Bor (List Heard)) (watcher : W) → All IsShort batch.now → may known batch watcher
-  pub answers : (known : Bor (List (List Seen))) (batch : Bor (List Heard)) (watcher : W) (answer : Result (Vec Shown Z × W) E)
+pub record JoinsWatched {W Z E : Type 0} (may : Bor (List (List Seen)) → Bor (List GroupReception) → W → Type 0)
+    (gives : Bor (List (List Seen)) → Bor (List GroupReception) → W → Result (Vec GroupSheet Z × W) E → Type 0) : Type 0 where
+  pub accepts : (known : Bor (List (List Seen))) (batch : Bor (List GroupReception)) (watcher : W) → All IsShort batch.now → may known batch watcher
+  pub answers : (known : Bor (List (List Seen))) (batch : Bor (List GroupReception)) (watcher : W) (answer : Result (Vec GroupSheet Z × W) E)
       → gives known batch watcher answer → IfOk answer (λ v. Shows (facts_of_group batch.now) batch.now v.0.items)

@@ -9,7 +9,8 @@ use crate::watching::MOST_POLLS;
 use call_values::Call;
 use evidence_board::{AllFacts, Board, Seat};
 use receiver_pool::{
-    Beside, Gate, Heard, Shown, look_at, meet_entries, pool_groups, pool_groups_beside,
+    Beside, Gate, GroupReception, GroupSheet, look_at, meet_entries, pool_groups,
+    pool_groups_beside,
 };
 use slot_evidence::Sheet;
 use slot_join::{Joined, report};
@@ -174,11 +175,11 @@ pub fn watch_batch<R: Threads + Sync, G: Gate>(
     rt: &R,
     alloc: Global,
     known: &[Sheet],
-    batch: &[Heard],
+    batch: &[GroupReception],
     workers: u32,
     gate: &G,
     watcher: BatchWatcher,
-) -> Result<(Vec<Shown>, BatchWatcher), AllocError>
+) -> Result<(Vec<GroupSheet>, BatchWatcher), AllocError>
     requires workers { (1 ≤ workers) × (workers ≤ 64) }
     requires short { All IsShort batch.now }
     ensures { IfOk result (λ v. Shows (facts_of_group batch.now) batch.now v.0.items) }
@@ -200,11 +201,12 @@ pub trait WatchedJoiner: Drop {
         &self,
         watcher: BatchWatcher,
         sheets: &mut [Sheet],
-        batch: &[Heard],
+        batch: &[GroupReception],
     ) -> Result<BatchWatcher, AllocError>
         requires joins { can_join self.now }
         requires belong { All (Belongs (length sheets.old)) batch.now }
-        ensures { IfOk result (λ watcher. (F : ℕ → Facts) (n : ℕ) → AreSheets F sheets.old n → AreSheets (λ k. union (F k) (facts_of_group batch.now k)) sheets.new n) };
+        ensures { IfOk result (λ watcher. (F : ℕ → Facts) (n : ℕ) → AreSheets F sheets.old n
+            → AreSheets (λ k. union (F k) (facts_of_group batch.now k)) sheets.new n) };
 }
 
 /// Workers who read batches by this function, as `watch_batch` does.
@@ -215,7 +217,11 @@ pub struct WatchedWorkers<J> {
 
 impl<
     J: Drop
-        + Fn(&[Sheet], &[Heard], BatchWatcher) -> Result<(Vec<Shown>, BatchWatcher), AllocError>,
+        + Fn(
+            &[Sheet],
+            &[GroupReception],
+            BatchWatcher,
+        ) -> Result<(Vec<GroupSheet>, BatchWatcher), AllocError>,
 > WatchedJoiner for WatchedWorkers<J> {
     ghost can_join = { λ workers. JoinsWatched (J.pre workers.join) (J.post workers.join) };
 
@@ -223,7 +229,7 @@ impl<
         &self,
         watcher: BatchWatcher,
         sheets: &mut [Sheet],
-        batch: &[Heard],
+        batch: &[GroupReception],
     ) -> Result<BatchWatcher, AllocError> {
         let (entries, watcher) = (self.join)(sheets, batch, watcher)?;
         meet_entries(sheets, &entries);

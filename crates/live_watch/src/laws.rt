@@ -16,8 +16,10 @@ use slot_join::call_or_missing_place;
 /// places of a call that was sent showed no other symbols than its own, no other call may be told. It does nothing.
 pub fn told_calls()
     ensures answered { (F : Facts) (call : Call) (extra : Extra) → IsAnswer F (Reported call extra) → IsTold F call }
-    ensures more { (F G : Facts) (call : Call) → ((p v : ℕ) → F p v ≡ true → G p v ≡ true) → IsTold F call → IsTold G call }
-    ensures sent { (F : Facts) (call told : Call) → IsCall call → ShowsNoOther F (through_check call) → IsTold F told → told ≡ call }
+    ensures more { (F G : Facts) (call : Call) → ((p v : ℕ) → F p v ≡ true → G p v ≡ true) → IsTold F call
+        → IsTold G call }
+    ensures sent { (F : Facts) (call told : Call) → IsCall call → ShowsNoOther F (through_check call) → IsTold F told
+        → told ≡ call }
 {
     call_or_missing_place();
     formats_begin_calls();

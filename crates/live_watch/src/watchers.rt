@@ -1,15 +1,15 @@
 //! A watcher of a board.
 ghost use Rattle.std.specs.Prelude.{◌≡◌, ℕ, ◌+◌, ◌<◌, true, List, None};
-ghost use Rattle.call_values.specs.declared.calls.Call.{Call as Sent};
 ghost use Rattle.call_values.specs.Calls.{IsCall};
-ghost use Rattle.slot_evidence.specs.Facts.{Facts, union};
-ghost use Rattle.slot_evidence.specs.Sheet.{IsEnds};
-ghost use Rattle.slot_evidence.specs.Allowed.{IsAllowed};
-ghost use Rattle.slot_join.specs.OneCall.{AreOneCalls};
+ghost use Rattle.call_values.specs.declared.calls.Call.{Call as Sent};
 ghost use Rattle.evidence_board.specs.Looks.{IsLooked};
 ghost use Rattle.evidence_board.specs.Views.{place_at, given_sheet, seen_sheet};
 ghost use Rattle.live_watch.specs.Watching.{IsNews, IsNewsOf, CarriesCall, SawCall};
 ghost use Rattle.live_watch.specs.inside.Posted.{call_in, IsFirst, IsToldOn};
+ghost use Rattle.slot_evidence.specs.Allowed.{IsAllowed};
+ghost use Rattle.slot_evidence.specs.Facts.{Facts, union};
+ghost use Rattle.slot_evidence.specs.Sheet.{IsEnds};
+ghost use Rattle.slot_join.specs.OneCall.{AreOneCalls};
 
 use call_grammar::lists_are_short;
 use call_values::Call;
@@ -62,14 +62,18 @@ impl<A: Allowed> Watcher<A> {
         requires { self.seat.table ≡ board.now }
         ensures board { result.0.seat.table ≡ board.now }
         ensures share { result.0.seat.view.share ≡ self.seat.view.share }
-        ensures places { (p : ℕ) → p < 64 → IsLooked A.facts p (place_at self.seat.view p) (place_at result.0.seat.view p) }
+        ensures places { (p : ℕ) → p < 64
+            → IsLooked A.facts p (place_at self.seat.view p) (place_at result.0.seat.view p) }
         ensures given { given_sheet result.0.seat.view ≡ given_sheet self.seat.view }
-        ensures exact { (F : Facts) → ((p v : ℕ) → IsAllowed A.facts p v → F p v ≡ true) → IsEnds F (given_sheet self.seat.view) → IsEnds F (seen_sheet result.0.seat.view) }
+        ensures exact { (F : Facts) → ((p v : ℕ) → IsAllowed A.facts p v → F p v ≡ true)
+            → IsEnds F (given_sheet self.seat.view) → IsEnds F (seen_sheet result.0.seat.view) }
         ensures news { IsNews (seen_sheet result.0.seat.view) self.told result.0.told result.1 }
 
         // Where one call's facts alone may be posted, no other call is told; and it is told where the seat knew each of its places.
-        ensures one { (call : Sent) (tail : List ℕ) → IsCall call → AreOneCalls A.facts call tail → IsNewsOf call (seen_sheet result.0.seat.view) result.1 }
-        ensures known { (call : Sent) (tail : List ℕ) → IsCall call → AreOneCalls A.facts call tail → SawCall self.seat.view call → CarriesCall call result.1 }
+        ensures one { (call : Sent) (tail : List ℕ) → IsCall call → AreOneCalls A.facts call tail
+            → IsNewsOf call (seen_sheet result.0.seat.view) result.1 }
+        ensures known { (call : Sent) (tail : List ℕ) → IsCall call → AreOneCalls A.facts call tail
+            → SawCall self.seat.view call → CarriesCall call result.1 }
     {
         looks_report_the_call();
         lists_are_short();
@@ -91,7 +95,8 @@ impl<A: Allowed> Watcher<A> {
         requires { (self.seat.table ≡ board.now) × (other.table ≡ board.now) }
         ensures board { result.seat.table ≡ board.now }
         ensures share { result.seat.view.share ≡ self.seat.view.share + other.view.share }
-        ensures union { (F G : Facts) → IsEnds F (given_sheet self.seat.view) → IsEnds G (given_sheet other.view) → IsEnds (union F G) (given_sheet result.seat.view) }
+        ensures union { (F G : Facts) → IsEnds F (given_sheet self.seat.view) → IsEnds G (given_sheet other.view)
+            → IsEnds (union F G) (given_sheet result.seat.view) }
     {
         let Watcher { seat, told } = self;
         Watcher {

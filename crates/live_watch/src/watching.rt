@@ -60,20 +60,26 @@ fn post_beside<A: Allowed, R: Threads + Sync, G: Gate>(
     ensures board { (result.0.seat.table ≡ board.now) × (result.1.table ≡ board.now) }
     ensures share { (result.0.seat.view.share ≡ watcher.seat.view.share) × (result.1.view.share ≡ seat.view.share) }
     ensures given { given_sheet result.0.seat.view ≡ given_sheet watcher.seat.view }
-    ensures ends { (F : Facts) → IsEnds F (given_sheet seat.view) → IsEnds (union F (facts_of_all list.now)) (given_sheet result.1.view) }
+    ensures ends { (F : Facts) → IsEnds F (given_sheet seat.view)
+        → IsEnds (union F (facts_of_all list.now)) (given_sheet result.1.view) }
 {
     join(
         rt,
         move || -> Watcher<A>
             requires { IsSync G.row × (watcher.seat.table ≡ board.now) }
-            ensures { (result.seat.table ≡ board.entry.now) × (result.seat.view.share ≡ watcher.seat.view.share) × (given_sheet result.seat.view ≡ given_sheet watcher.seat.view) }
+            ensures { (result.seat.table ≡ board.entry.now) × (result.seat.view.share ≡ watcher.seat.view.share)
+                × (given_sheet result.seat.view ≡ given_sheet watcher.seat.view) }
         {
             gate.enter(workers);
             poll_meanwhile(watcher, board)
         },
         move || -> Seat<A>
-            requires { IsSync R.row × IsSync A.row × IsSend A.row × IsSync G.row × (seat.table ≡ board.now) × MayAllBePosted A.facts list.now × ((1 ≤ workers) × (workers ≤ seat.view.share)) × All (λ heard. length heard ≤ LONGEST) list.now }
-            ensures { (result.table ≡ board.entry.now) × (result.view.share ≡ seat.view.share) × ((F : Facts) → IsEnds F (given_sheet seat.view) → IsEnds (union F (facts_of_all list.entry.now)) (given_sheet result.view)) }
+            requires { IsSync R.row × IsSync A.row × IsSend A.row × IsSync G.row × (seat.table ≡ board.now)
+                × MayAllBePosted A.facts list.now × ((1 ≤ workers) × (workers ≤ seat.view.share))
+                × All (λ heard. length heard ≤ LONGEST) list.now }
+            ensures { (result.table ≡ board.entry.now) × (result.view.share ≡ seat.view.share)
+                × ((F : Facts) → IsEnds F (given_sheet seat.view)
+                → IsEnds (union F (facts_of_all list.entry.now)) (given_sheet result.view)) }
         { post_all(rt, board, seat, list, workers, gate) },
     )
 }
@@ -84,7 +90,8 @@ fn poll_last<A: Allowed>(watcher: Watcher<A>, board: &Board<A>) -> Watcher<A>
     ensures board { result.seat.table ≡ board.now }
     ensures share { result.seat.view.share ≡ watcher.seat.view.share }
     ensures given { given_sheet result.seat.view ≡ given_sheet watcher.seat.view }
-    ensures last { (F : Facts) → ((p v : ℕ) → IsAllowed A.facts p v → F p v ≡ true) → IsEnds F (given_sheet watcher.seat.view) → IsUnreported F result.told }
+    ensures last { (F : Facts) → ((p v : ℕ) → IsAllowed A.facts p v → F p v ≡ true)
+        → IsEnds F (given_sheet watcher.seat.view) → IsUnreported F result.told }
 {
     if watcher.told().is_some() {
         return watcher;
@@ -107,8 +114,10 @@ fn watch_on<A: Allowed, R: Threads + Sync, G: Gate>(
     requires known { AreAllAllowed A.facts (known_facts so_far.now list.now) }
     requires workers { (1 ≤ workers) × (workers ≤ 64) }
     requires short { All (λ heard. length heard ≤ LONGEST) list.now }
-    ensures ends { IfOk result (λ watched. (F : Facts) → IsEnds F so_far.now → IsEnds (union F (facts_of_all list.now)) watched.0) }
-    ensures told { IfOk result (λ watched. (F : Facts) → IsEnds F so_far.now → IsWatched (union F (facts_of_all list.now)) watched.1) }
+    ensures ends { IfOk result (λ watched. (F : Facts) → IsEnds F so_far.now
+        → IsEnds (union F (facts_of_all list.now)) watched.0) }
+    ensures told { IfOk result (λ watched. (F : Facts) → IsEnds F so_far.now
+        → IsWatched (union F (facts_of_all list.now)) watched.1) }
 {
     told_calls();
     alike_facts_have_one_answer();
@@ -137,8 +146,10 @@ pub fn watch<R: Threads + Sync, G: Gate>(
 ) -> Result<(Sheet, Option<Call>), AllocError>
     requires workers { (1 ≤ workers) × (workers ≤ 64) }
     requires short { All (λ heard. length heard ≤ LONGEST) list.now }
-    ensures ends { IfOk result (λ watched. (F : Facts) → IsEnds F so_far.now → IsEnds (union F (facts_of_all list.now)) watched.0) }
-    ensures told { IfOk result (λ watched. (F : Facts) → IsEnds F so_far.now → IsWatched (union F (facts_of_all list.now)) watched.1) }
+    ensures ends { IfOk result (λ watched. (F : Facts) → IsEnds F so_far.now
+        → IsEnds (union F (facts_of_all list.now)) watched.0) }
+    ensures told { IfOk result (λ watched. (F : Facts) → IsEnds F so_far.now
+        → IsWatched (union F (facts_of_all list.now)) watched.1) }
 {
     all_facts_may_be_posted();
     sheet_is_lawful(so_far);

@@ -2,15 +2,16 @@
 use Rattle.std.proofs.Common.{◌≡◌, ℕ, ◌+◌, ◌-◌, ◌<◌, ◌≤◌, true, false, List, length, take, drop, get_or, Option, Some, None, inl, inr, refl, arith, ap, sym, ◌∙◌}
 use Rattle.std.proofs.lemmas.Bool.{cases_lt, both_ways}
 use Rattle.std.proofs.lemmas.List.{get_or_past, get_or-take, get_or-drop, length-take, length-drop}
+use Rattle.plain_laws.proofs.Searches.{find_least, find_none}
 use Rattle.ten_unit.specs.declared.character.Element.{Element}
 use Rattle.ten_unit.specs.declared.character.Element.TheVariants.{Lost}
 use Rattle.phasing.specs.Origin.{is_phased}
 use Rattle.phasing.specs.inside.Places.{element_at}
+use Rattle.phasing.proofs.PublicLaws.{element_at-inside, element_at-before}
 use Rattle.slot_evidence.specs.Facts.{facts_at}
 use Rattle.long_capture.specs.Starts.{next_start, before, facts_from}
 use Rattle.long_capture.specs.inside.Reads.{IsWindow}
-use Rattle.long_capture.proofs.Near.{Laws, at_inside, at_before, at_index, facts_alike}
-use Rattle.long_capture.proofs.Leads.{find_least, find_none}
+use Rattle.long_capture.proofs.Near.{Laws, at_index, facts_alike}
 
 -- the leads of a window up to index 1,440 are phased as those of the stream
 pub window_phased : Laws → (w e : List Element) (q k : ℕ) → IsWindow w e q → k ≤ 1440 → is_phased w (k + 150) ≡ is_phased e (q + k)
@@ -57,19 +58,19 @@ cut_at w e q end next j window few inside back =
           let near : q + j < next = inside below in
           get_or-take end w j Lost below ∙ window.same j (omega arith)
           ∙ elim (cases_lt (q + j) 150) as (λ _. element_at e (q + j) ≡ element_at (take (next - 150) e) (q + j)) [
-            | inl early ↦ at_before e (q + j) early ∙ sym (at_before (take (next - 150) e) (q + j) early)
+            | inl early ↦ element_at-before e (q + j) early ∙ sym (element_at-before (take (next - 150) e) (q + j) early)
             | inr late ↦
-                at_inside e (q + j) late ∙ sym (get_or-take (next - 150) e (q + j - 150) Lost (omega arith))
-                ∙ sym (at_inside (take (next - 150) e) (q + j) late)
+                element_at-inside e (q + j) late ∙ sym (get_or-take (next - 150) e (q + j - 150) Lost (omega arith))
+                ∙ sym (element_at-inside (take (next - 150) e) (q + j) late)
           ]
       | inr past ↦
           get_or_past (take end w) j Lost (omega (arith, length-take end w))
           ∙ elim (cases_lt (q + j) 150) as (λ _. Lost ≡ element_at (take (next - 150) e) (q + j)) [
-            | inl early ↦ sym (at_before (take (next - 150) e) (q + j) early)
+            | inl early ↦ sym (element_at-before (take (next - 150) e) (q + j) early)
             | inr late ↦
                 let beyond : next ≤ q + j =
                 elim (cases_lt (q + j) next) [ inl near ↦ absurd (omega (arith, back near)) | inr far ↦ far ] in
-                sym (at_inside (take (next - 150) e) (q + j) late ∙ get_or_past (take (next - 150) e) (q + j - 150) Lost (omega (arith, length-take (next - 150) e)))
+                sym (element_at-inside (take (next - 150) e) (q + j) late ∙ get_or_past (take (next - 150) e) (q + j - 150) Lost (omega (arith, length-take (next - 150) e)))
           ]
     ]
 

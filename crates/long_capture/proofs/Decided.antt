@@ -4,24 +4,25 @@ use Rattle.std.specs.List.{range_with_len}
 use Rattle.std.proofs.lemmas.Bool.{cases_lt}
 use Rattle.std.proofs.lemmas.List.{get_or_append_left}
 use Rattle.std.proofs.lemmas.List.FromFn.{length-map-range_with_len, get_or-map-range_with_len}
+use Rattle.plain_laws.proofs.Searches.{find_least, find_none}
 use Rattle.ten_unit.specs.declared.character.Element.{Element}
 use Rattle.ten_unit.specs.declared.character.Element.TheVariants.{Lost}
 use Rattle.phasing.specs.Origin.{is_phased}
 use Rattle.phasing.specs.inside.Places.{element_at}
+use Rattle.phasing.proofs.PublicLaws.{element_at-inside, element_at-before}
 use Rattle.long_capture.specs.Starts.{starts_below, facts_from}
 use Rattle.long_capture.specs.inside.Reads.{IsWindow}
 use Rattle.long_capture.proofs.Cuts.{IsAfter, rest_of, facts_cut}
-use Rattle.long_capture.proofs.Leads.{find_least, find_none}
 use Rattle.long_capture.proofs.Lists.{none_below, below_more}
-use Rattle.long_capture.proofs.Near.{Laws, at_inside, at_before}
+use Rattle.long_capture.proofs.Near.{Laws}
 
 -- an element of a stream that goes on
 at_more : (e more : List Element) (place : ℕ) → place < length e + 150 → element_at (e ++ more) place ≡ element_at e place
 at_more e more place inside =
     elim (cases_lt place 150) [
-      | inl early ↦ at_before (e ++ more) place early ∙ sym (at_before e place early)
+      | inl early ↦ element_at-before (e ++ more) place early ∙ sym (element_at-before e place early)
       | inr late ↦
-          at_inside (e ++ more) place late ∙ get_or_append_left e more Lost (place - 150) (omega arith) ∙ sym (at_inside e place late)
+          element_at-inside (e ++ more) place late ∙ get_or_append_left e more Lost (place - 150) (omega arith) ∙ sym (element_at-inside e place late)
     ]
 
 pub phased_stays : Laws → (e more : List Element) (lead : ℕ) → lead + 1450 ≤ length e → is_phased (e ++ more) lead ≡ is_phased e lead

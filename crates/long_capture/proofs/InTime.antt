@@ -1,26 +1,24 @@
 -- slots that end before a cut
-use Rattle.std.proofs.Common.{◌≡◌, ℕ, ◌+◌, ◌-◌, ◌*◌, ◌<◌, Bool, false, ◌&&◌, nat_le, List, [], length, take, inl, inr, refl, arith, ap, sym, ◌∙◌}
+use Rattle.std.proofs.Common.{◌≡◌, ℕ, ◌+◌, ◌-◌, ◌*◌, ◌<◌, Bool, false, ◌&&◌, nat_le, List, length, take, inl, inr, arith, ap, sym, ◌∙◌}
 use Rattle.std.proofs.lemmas.Bool.{cases_lt, cond-false, le-leb, lt-leb, and_left, and_right}
 use Rattle.std.proofs.lemmas.List.{get_or-take, length-take}
 use Rattle.ten_unit.specs.declared.character.Element.{Element}
 use Rattle.ten_unit.specs.declared.character.Element.TheVariants.{Lost}
-use Rattle.ten_unit.specs.Word.{is_word, word_of}
+use Rattle.ten_unit.specs.Word.{is_word}
+use Rattle.ten_unit.proofs.PublicLaws.{is_word-none}
 use Rattle.phasing.specs.Slot.{shows}
 use Rattle.phasing.specs.inside.Places.{element_at}
-use Rattle.long_capture.proofs.Near.{Laws, at_inside, at_before}
+use Rattle.phasing.proofs.PublicLaws.{element_at-inside, element_at-before}
+use Rattle.long_capture.proofs.Near.{Laws}
 
 -- an element before the cut
 kept_at : (e : List Element) (next place : ℕ) → place < next → element_at (take (next - 150) e) place ≡ element_at e place
 kept_at e next place near =
     elim (cases_lt place 150) [
-      | inl early ↦ at_before (take (next - 150) e) place early ∙ sym (at_before e place early)
+      | inl early ↦ element_at-before (take (next - 150) e) place early ∙ sym (element_at-before e place early)
       | inr late ↦
-          at_inside (take (next - 150) e) place late ∙ get_or-take (next - 150) e (place - 150) Lost (omega arith) ∙ sym (at_inside e place late)
+          element_at-inside (take (next - 150) e) place late ∙ get_or-take (next - 150) e (place - 150) Lost (omega arith) ∙ sym (element_at-inside e place late)
     ]
-
-is_word-none : (v : ℕ) → is_word [] v ≡ false
-unfolding is_word word_of
-is_word-none v = refl
 
 -- a slot that ends behind the cut is not inside
 cut_off : (e : List Element) (next lead s v : ℕ) → next < lead + 10 * s + 10 → shows (take (next - 150) e) lead s v ≡ false
@@ -34,6 +32,7 @@ cut_off e next lead s v past =
           ap (λ (w : List Element). is_word w v) (cond-false _ _ _ (and_right (nat_le 150 (lead + 10 * s)) _ (lt-leb _ _ outside))) ∙ is_word-none v
     ]
 
+-- a slot is shown by a front of the elements as soon as it is whole
 pub in_time : Laws → (e : List Element) (lead s v next : ℕ) → shows (take (next - 150) e) lead s v ≡ (nat_le (lead + 10 * s + 10) next && shows e lead s v)
 in_time laws e lead s v next =
     elim (cases_lt next (lead + 10 * s + 10)) [

@@ -1,6 +1,5 @@
 mod LastElements
 mod Near
-mod Leads
 mod Cuts
 mod Steps
 mod Blocks

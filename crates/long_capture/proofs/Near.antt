@@ -1,12 +1,13 @@
 -- elements that two lists have alike decide the same facts; elements at places
-use Rattle.std.proofs.Common.{◌≡◌, ℕ, ◌+◌, ◌-◌, ◌*◌, ◌<◌, ◌≤◌, Bool, true, false, ◌&&◌, ◌||◌, nat_le, nat_lt, List, length, get_or, Some, refl, arith, ap, ◌∙◌}
-use Rattle.std.proofs.lemmas.Bool.{cond-true, cond-false, le-leb, lt-leb, ltb-true}
+use Rattle.std.proofs.Common.{◌≡◌, ℕ, ◌+◌, ◌-◌, ◌*◌, ◌<◌, ◌≤◌, Bool, true, false, ◌&&◌, ◌||◌, nat_lt, List, length, get_or, Some, refl, arith, ap, ◌∙◌}
+use Rattle.std.proofs.lemmas.Bool.{ltb-true}
 use Rattle.ten_unit.specs.declared.character.Element.{Element}
 use Rattle.ten_unit.specs.declared.character.Element.TheVariants.{Lost}
 use Rattle.time_diversity.specs.Slots.{dx_slot, rx_slot}
 use Rattle.phasing.specs.Origin.{is_phased}
 use Rattle.phasing.specs.Slot.{shows}
 use Rattle.phasing.specs.inside.Places.{element_at}
+use Rattle.phasing.proofs.PublicLaws.{element_at-inside}
 use Rattle.slot_evidence.specs.Facts.{facts_at}
 
 -- the laws of phasing that proofs here stand on
@@ -15,17 +16,11 @@ pub record Laws : Type 0 where
   pub lead : (e f : List Element) (q r : ℕ) → ((i : ℕ) → i < 160 → element_at e (q + i) ≡ element_at f (r + i)) → is_phased e q ≡ is_phased f r
   pub past : (e : List Element) (lead : ℕ) → length e + 150 ≤ lead → is_phased e lead ≡ false
 
-pub at_inside : (e : List Element) (place : ℕ) → 150 ≤ place → element_at e place ≡ get_or e (place - 150) Lost
-at_inside e place low = cond-true (nat_le 150 place) _ Lost (le-leb 150 place low)
-
-pub at_before : (e : List Element) (place : ℕ) → place < 150 → element_at e place ≡ Lost
-at_before e place low = cond-false (nat_le 150 place) _ Lost (lt-leb 150 place low)
-
 -- an element at a place, by its index
 pub at_index : (e : List Element) (i : ℕ) → element_at e (150 + i) ≡ get_or e i Lost
 at_index e i =
     let index : 150 + i - 150 ≡ i = omega arith in
-    at_inside e (150 + i) (omega arith) ∙ ap (λ (n : ℕ). get_or e n Lost) index
+    element_at-inside e (150 + i) (omega arith) ∙ ap (λ (n : ℕ). get_or e n Lost) index
 
 -- a slot whose elements are alike shows the same
 alike_slot : Laws → (e f : List Element) (q r s v : ℕ) → ((j : ℕ) → j < 1440 → element_at e (q + j) ≡ element_at f (r + j)) → s < 144 → shows e q s v ≡ shows f r s v

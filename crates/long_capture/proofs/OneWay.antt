@@ -1,22 +1,19 @@
 -- the facts at a start whose reception went wrong in one sense alone
-use Rattle.std.proofs.Common.{◌≡◌, ℕ, ◌+◌, ◌*◌, ◌<◌, ◌≤◌, true, ◌&&◌, ◌||◌, nat_le, nat_lt, List, [], ◌∷◌, ◌++◌, length, get_or, Option, Some, None, inl, inr, refl, arith, ap, sym, subst, ◌∙◌, All, append_assoc, length-append}
-use Rattle.std.specs.Prelude.{◌↔◌}
+use Rattle.std.proofs.Common.{◌≡◌, ℕ, ◌+◌, ◌*◌, ◌<◌, ◌≤◌, true, ◌&&◌, ◌||◌, nat_le, nat_lt, List, [], ◌∷◌, ◌++◌, length, get_or, Option, Some, None, inl, inr, refl, arith, sym, ◌∙◌, length-append}
 use Rattle.std.proofs.lemmas.Bool.{ltb-true, and_parts, or_cases}
 use Rattle.std.proofs.lemmas.List.{get_or_append_left}
 use Rattle.std.proofs.lemmas.List.Elements.{All-get_or}
-use Rattle.std.proofs.lemmas.List.FromFn.{length-map-range_with_len, get_or-map-range_with_len}
 use Rattle.ten_unit.specs.declared.character.Element.{Element}
-use Rattle.ten_unit.specs.Word.{word_of, is_word}
-use Rattle.ten_unit.specs.Errors.{IsOneWay}
-use Rattle.time_diversity.specs.Slots.{dx_slot, rx_slot, IsSlotOf}
-use Rattle.time_diversity.specs.OnAir.{sent_symbol, on_air}
-use Rattle.phasing.specs.Slot.{slot, shows}
+use Rattle.time_diversity.specs.Slots.{dx_slot, rx_slot}
+use Rattle.phasing.specs.Slot.{shows}
 use Rattle.call_values.specs.declared.calls.Call.{Call}
 use Rattle.call_values.specs.Calls.{IsCall}
 use Rattle.call_grammar.specs.Spelling.{spell, through_check, end_of}
 use Rattle.slot_evidence.specs.Facts.{facts_at}
 use Rattle.slot_join.specs.Heard.{IsOneWayAt}
 use Rattle.slot_join.specs.OneCall.{ShowsNoOther}
+use Rattle.slot_join.proofs.PublicLaws as heard
+use Rattle.slot_join.proofs.PublicLaws.{slot_told, in_call}
 use Rattle.long_capture.specs.Starts.{before, next_start, facts_from}
 use Rattle.long_capture.proofs.InTime.{in_time}
 use Rattle.long_capture.proofs.Near as near
@@ -24,31 +21,7 @@ use Rattle.long_capture.proofs.Near as near
 -- the laws of the crates below that this one stands on
 pub record Laws : Type 0 where
   pub near : near.Laws
-  pub equal : (w : List Element) (v : ℕ) → (is_word w v ≡ true) ↔ (w ≡ word_of v)
-  pub one_way : (received : List Element) (u v : ℕ) → u < 128 → v < 128 → IsOneWay (word_of v) received → is_word received u ≡ true → u ≡ v
-  pub slots : (list : List ℕ) (s p : ℕ) → IsSlotOf s p → sent_symbol list s ≡ get_or list p 0
-  pub characters : (c : Call) → IsCall c → All (λ v. v < 128) (spell c)
-
-length-on_air : (list : List ℕ) → length (on_air list) ≡ 2 * length list + 12
-unfolding on_air
-length-on_air list = length-map-range_with_len (sent_symbol list) 0 (2 * length list + 12)
-
-sent_at : (list : List ℕ) (s : ℕ) → s < 2 * length list + 12 → get_or (on_air list) s 0 ≡ sent_symbol list s
-unfolding on_air
-sent_at list s below = get_or-map-range_with_len (sent_symbol list) 0 (2 * length list + 12) s s 0 below (omega arith)
-
-ten : (v : ℕ) → length (word_of v) ≡ 10
-unfolding word_of
-ten v = refl
-
--- a slot shows what was sent in it or nothing
-slot_told : Laws → (e : List Element) (list : List ℕ) (lead s p v : ℕ) → IsOneWayAt e list lead → s < 2 * length list + 12 → IsSlotOf s p → get_or list p 0 < 128 → v < 128 → shows e lead s v ≡ true → v ≡ get_or list p 0
-unfolding shows
-slot_told laws e list lead s p v heard below is small bv has =
-    let word = (laws.equal (slot e lead s) v).0 has in
-    let sent : get_or (on_air list) s 0 ≡ get_or list p 0 = sent_at list s below ∙ laws.slots list s p is in
-    let one_way = heard s (omega (arith, length-on_air list)) (ap length word ∙ ten v) in
-    laws.one_way (slot e lead s) v (get_or list p 0) bv small (subst (λ (x : ℕ). IsOneWay (word_of x) (slot e lead s)) sent one_way) has
+  pub heard : heard.Laws
 
 -- before the next start a slot shows nothing else than in the stream
 slot_before : Laws → (e : List Element) (next : Option ℕ) (lead s v : ℕ) → shows (before e next) lead s v ≡ true → shows e lead s v ≡ true
@@ -63,15 +36,9 @@ place_told laws e next list lead p v heard below small has =
     let b = and_parts (nat_lt v 128) (shows cut lead (dx_slot p) v || shows cut lead (rx_slot p) v) a.1 in
     let bv : v < 128 = ltb-true v 128 b.0 in
     elim (or_cases (shows cut lead (dx_slot p) v) (shows cut lead (rx_slot p) v) b.1) [
-      | inl here ↦ slot_told laws e list lead (dx_slot p) p v heard (omega arith) (inl refl) small bv (slot_before laws e next lead (dx_slot p) v here)
-      | inr here ↦ slot_told laws e list lead (rx_slot p) p v heard (omega arith) (inr refl) small bv (slot_before laws e next lead (rx_slot p) v here)
+      | inl here ↦ slot_told laws.heard e list lead (dx_slot p) p v heard (omega arith) (inl refl) small bv (slot_before laws e next lead (dx_slot p) v here)
+      | inr here ↦ slot_told laws.heard e list lead (rx_slot p) p v heard (omega arith) (inr refl) small bv (slot_before laws e next lead (rx_slot p) v here)
     ]
-
--- the places of a call up to its check are those of what was sent
-in_call : (c : Call) (tail : List ℕ) (p : ℕ) → p < length (through_check c) → get_or (spell c ++ tail) p 0 ≡ get_or (through_check c) p 0
-in_call c tail p below =
-    let ends = end_of c ∷ end_of c ∷ [] in
-    ap (λ (l : List ℕ). get_or l p 0) (append_assoc (through_check c) ends tail) ∙ get_or_append_left (through_check c) (ends ++ tail) 0 p below
 
 -- at a start whose reception is of a call's list, the facts show no other symbols up to the check
 pub start_shows : Laws → (c : Call) (tail : List ℕ) (e : List Element) (lead : ℕ) → IsCall c → IsOneWayAt e (spell c ++ tail) lead → ShowsNoOther (facts_from e lead) (through_check c)
@@ -79,7 +46,7 @@ unfolding facts_from
 start_shows laws c tail e lead lawful heard p v below has =
     let ends = end_of c ∷ end_of c ∷ [] in
     let long : length (through_check c) + 2 ≤ length (spell c ++ tail) = omega (arith, length-append (spell c) tail, length-append (through_check c) ends) in
-    let character : get_or (spell c) p 0 < 128 = All-get_or (λ v. v < 128) (spell c) p 0 (omega (arith, length-append (through_check c) ends)) (laws.characters c lawful) in
+    let character : get_or (spell c) p 0 < 128 = All-get_or (λ v. v < 128) (spell c) p 0 (omega (arith, length-append (through_check c) ends)) (laws.heard.characters c lawful) in
     let same = in_call c tail p below in
     let in_list : get_or (spell c) p 0 ≡ get_or (through_check c) p 0 = get_or_append_left (through_check c) ends 0 p below in
     place_told laws e (next_start e lead) (spell c ++ tail) lead p v heard (omega (arith, long)) (omega (arith, same, in_list, character)) has ∙ same

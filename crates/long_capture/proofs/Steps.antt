@@ -7,11 +7,12 @@ use Rattle.ten_unit.specs.declared.character.Element.{Element}
 use Rattle.ten_unit.specs.declared.character.Element.TheVariants.{Lost}
 use Rattle.phasing.specs.Origin.{is_phased}
 use Rattle.phasing.specs.inside.Places.{element_at}
+use Rattle.phasing.proofs.PublicLaws.{element_at-before}
 use Rattle.long_capture.specs.declared.scans.Scan.{Scan}
 use Rattle.long_capture.specs.declared.starts.Start.{Start}
 use Rattle.long_capture.specs.Told.{AreQuiet, Tells}
 use Rattle.long_capture.specs.inside.Reads.{IsWindow, Looks, Reads}
-use Rattle.long_capture.proofs.Near.{at_before, at_index}
+use Rattle.long_capture.proofs.Near.{at_index}
 use Rattle.long_capture.proofs.LastElements.{pushed_before, pushed_last, length-pushed}
 
 -- before the first element
@@ -21,7 +22,7 @@ reads_none window lost e = record {
   long = ap length lost ∙ length-replicate 1600 Lost;
   window =
       λ k place below is.
-      ap (λ (w : List Element). get_or w k Lost) lost ∙ get_or-replicate 1600 k Lost Lost below ∙ sym (at_before e place (omega arith));
+      ap (λ (w : List Element). get_or w k Lost) lost ∙ get_or-replicate 1600 k Lost Lost below ∙ sym (element_at-before e place (omega arith));
   quiet = λ k lead below is. absurd (omega arith);
   early = λ _. refl;
 }

@@ -47,7 +47,8 @@ impl Capture {
         requires few { taken self.old < 2 ^ 40 }
         requires going { IsOpen self.old }
         ensures stands { (e : List Element) → Stands self.old e → Stands self.new (e ++ x ∷ []) }
-        ensures tells { (e more : List Element) → Stands self.old e → Tells (e ++ x ∷ more) (reached self.old) (reached self.new) result }
+        ensures tells { (e more : List Element) → Stands self.old e
+            → Tells (e ++ x ∷ more) (reached self.old) (reached self.new) result }
     {
         self.scan.step(x)
     }
@@ -60,7 +61,8 @@ impl Capture {
         ensures front { result.count ≤ length xs.now }
         ensures some { 0 < length xs.now → 0 < result.count }
         ensures stands { (e : List Element) → Stands self.old e → Stands self.new (e ++ take result.count xs.now) }
-        ensures tells { (e more : List Element) → Stands self.old e → Tells (e ++ (take result.count xs.now ++ more)) (reached self.old) (reached self.new) result.start }
+        ensures tells { (e more : List Element) → Stands self.old e
+            → Tells (e ++ (take result.count xs.now ++ more)) (reached self.old) (reached self.new) result.start }
     {
         let count = self.scan.skip(xs);
         if count > 0 {

@@ -40,8 +40,10 @@ impl Scan {
     pub fn step(&mut self, x: Element) -> Option<Start>
         requires { self.old.seen < 2 ^ 62 }
         ensures seen { self.new.seen ≡ self.old.seen + 1 }
-        ensures reads { (e : List Element) (n : ℕ) → Reads self.old e n → element_at e (n + 150) ≡ x → Reads self.new e (n + 1) }
-        ensures tells { (e : List Element) (n : ℕ) → Reads self.old e n → element_at e (n + 150) ≡ x → Tells e (n - 1449) (n + 1 - 1449) result }
+        ensures reads { (e : List Element) (n : ℕ) → Reads self.old e n → element_at e (n + 150) ≡ x
+            → Reads self.new e (n + 1) }
+        ensures tells { (e : List Element) (n : ℕ) → Reads self.old e n → element_at e (n + 150) ≡ x
+            → Tells e (n - 1449) (n + 1 - 1449) result }
     {
         self.window.push(x);
         self.seen += 1;
@@ -58,7 +60,8 @@ impl Scan {
         requires { self.old.seen + length xs.now < 2 ^ 62 }
         ensures front { result ≤ length xs.now }
         ensures seen { self.new.seen ≡ self.old.seen + result }
-        ensures reads { (e : List Element) (n : ℕ) → Reads self.old e n → ((k : ℕ) → k < result → element_at e (n + 150 + k) ≡ slice_index_or xs.now k Element.Lost)
+        ensures reads { (e : List Element) (n : ℕ) → Reads self.old e n
+            → ((k : ℕ) → k < result → element_at e (n + 150 + k) ≡ slice_index_or xs.now k Element.Lost)
             → Reads self.new e (n + result) }
         ensures quiet { (e : List Element) (n : ℕ) → Reads self.old e n → AreQuiet e (n - 1449) (n + result - 1449) }
     {
@@ -75,7 +78,8 @@ impl Scan {
         requires { self.old.seen < 2 ^ 63 }
         ensures window { self.new.window ≡ self.old.window }
         ensures seen { self.new.seen ≡ self.old.seen }
-        ensures looks { (e : List Element) (q : ℕ) → IsWindow self.old.window e q → self.old.seen ≡ q + 1450 → Looks e q result self.new.quiet }
+        ensures looks { (e : List Element) (q : ℕ) → IsWindow self.old.window e q → self.old.seen ≡ q + 1450
+            → Looks e q result self.new.quiet }
     {
         elements_decide();
         none_past_the_end();

@@ -5,7 +5,8 @@ use Rattle.std.proofs.lemmas.Bool.{cases_lt}
 use Rattle.std.proofs.lemmas.Nat.{and_le_l, or_lt, shr_le}
 use Rattle.std.proofs.lemmas.Nat.Bits.{bit_at-zero, bit_at_and, bit_at_or, bit_at_not, bit_at_above, bit_at_ones, bit_at-trailing_zeros}
 use Rattle.ten_unit.specs.inside.Marks.{IsMarks}
-use Rattle.phasing.proofs.Bits.{bit_at-shr, moved_up, moved_up-low, moved_up-high}
+use Rattle.ten_unit.proofs.PublicLaws.{bit_at-shr}
+use Rattle.phasing.proofs.Bits.{moved_up, moved_up-low, moved_up-high}
 
 bit_and_test : (x y : Bool) → min (cond x 1 0) (cond y 1 0) ≡ cond (x && y) 1 0
 bit_and_test true true = refl

@@ -7,6 +7,7 @@ use Rattle.phasing.specs.declared.marking.Phasing.{Phasing}
 use Rattle.phasing.specs.inside.Marked.{ArePhasing, IsCount}
 use Rattle.phasing.proofs.BitTests.{same_marks}
 
+-- a count goes by the numbers alone
 pub same_count : (count : Count) (base : ℕ) (m n : ℕ → ℕ) → ((p : ℕ) → m p ≡ n p) → IsCount count base m → IsCount count base n
 same_count count base m n same h = record {
   one = same_marks count.one base _ _ (λ p. ap (nat_le 1) (same p)) h.one;

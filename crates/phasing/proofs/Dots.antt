@@ -7,6 +7,7 @@ pub dots-none : [] ≡ dots 0
 unfolding dots
 dots-none = refl
 
+-- so many dots are so many elements
 pub length-dots : (n : ℕ) → length (dots n) ≡ n
 unfolding dots
 length-dots n = length-map-range_with_len dot 0 n

@@ -9,16 +9,9 @@ use Rattle.std.proofs.lemmas.List.{length-take-le, length-drop, get_or-take, get
 use Rattle.ten_unit.specs.declared.character.Element.{Element}
 use Rattle.ten_unit.specs.declared.character.Element.TheVariants.{Y, B, Lost}
 use Rattle.ten_unit.specs.Word.{element, information, count_of_b, elements_eq, is_word, word_of}
-use Rattle.ten_unit.proofs.PublicLaws.{elements_same, elements_own}
+use Rattle.ten_unit.proofs.PublicLaws.{elements_same, elements_own, element-sent, length-word}
 use Rattle.phasing.specs.Origin.{dx_right, rx_right, is_enough, is_phased}
 use Rattle.phasing.specs.Slot.{shows}
-
-choice-sent : (b : Bool) → cond b Y B ≡ Lost → ⊥
-choice-sent true h = cc
-choice-sent false h = cc
-
-element-sent : (digit : ℕ) → element digit ≡ Lost → ⊥
-element-sent digit h = choice-sent _ h
 
 -- the binary digits of a word's ten elements
 abbrev digits : ℕ → List ℕ
@@ -36,10 +29,6 @@ word-sent v i below h =
     element-sent (get_or (digits v) i 0)
     (sym (get_or-map element (digits v) i 0 Lost below) ∙ ap (λ (l : List Element). get_or l i Lost) (sym (word-digits v)) ∙ h)
 
-pub length-word : (v : ℕ) → length (word_of v) ≡ 10
-unfolding word_of
-length-word v = refl
-
 -- the ten elements from an index on, counted from 150 before the first, are inside the list and are the word of a symbol
 pub record IsWordAt (e : List Element) (at v : ℕ) : Type 0 where
   pub low : 150 ≤ at
@@ -52,6 +41,7 @@ inside true true xs v h = (refl, refl, elements_same xs (word_of v) h)
 inside true false xs v h = absurd cc
 inside false b xs v h = absurd cc
 
+-- a slot that shows a symbol has its word
 pub word_at : (e : List Element) (lead s v : ℕ) → shows e lead s v ≡ true → IsWordAt e (lead + 10 * s) v
 unfolding shows
 word_at e lead s v h =
@@ -62,6 +52,7 @@ word_at e lead s v h =
       word = parts.2;
     }
 
+-- a slot with a symbol's word shows it
 pub shown : (e : List Element) (lead s v : ℕ) → IsWordAt e (lead + 10 * s) v → shows e lead s v ≡ true
 unfolding shows is_word
 shown e lead s v w =

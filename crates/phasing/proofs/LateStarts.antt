@@ -59,6 +59,7 @@ none_before e slots long lead format q f h k below =
     (early_unphased format long (q + shift) f (omega arith))
     (kept_phased e (sent (start_symbols format) long) shift (lead + 10) q (kept_start e slots long lead format h k) (omega arith) phased))
 
+-- an intact start is found
 pub found : (e : List Element) (slots : List ℕ) (long : Bool) (lead format : ℕ) → list_any (λ f. f == format) formats ≡ true → take 16 slots ≡ start_symbols format → IsIntactStart e slots long lead → lead_of e ≡ Some lead
 found e slots long lead format f h k =
     least_found e lead (lead_of e) refl k.phased (λ q below. none_before e slots long lead format q f h k below)

@@ -1,3 +1,4 @@
+pub mod PublicLaws
 mod Slots
 mod Leads
 mod BitTests

@@ -2,10 +2,11 @@
 use Rattle.std.proofs.Common.{◌≡◌, ℕ, suc, ◌+◌, ◌-◌, ◌*◌, ◌/◌, ◌<◌, ◌≤◌, ◌&&◌, Bool, List, [], ◌∷◌, length, add-zero, refl, arith, ap, sym, ◌∙◌}
 use Rattle.ten_unit.specs.declared.character.Element.{Element}
 use Rattle.ten_unit.specs.Word.{element_eq, word_of}
+use Rattle.ten_unit.proofs.PublicLaws.{length-word}
 use Rattle.phasing.specs.inside.Places.{element_at, is_at}
 use Rattle.phasing.specs.Origin.{dx_right, rx_right, is_enough, is_phased}
 use Rattle.phasing.specs.Slot.{shows}
-use Rattle.phasing.proofs.Kept.{length-word, no_fewer}
+use Rattle.phasing.proofs.Kept.{no_fewer}
 use Rattle.phasing.proofs.Words.{is_at-shows}
 
 -- a word begins at two places that have the same elements, or at neither

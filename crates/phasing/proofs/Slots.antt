@@ -5,6 +5,7 @@ use Rattle.std.proofs.Math.Seq.{take-length}
 use Rattle.std.proofs.lemmas.List.{length-take-le, length-drop}
 use Rattle.ten_unit.specs.declared.character.Element.{Element}
 use Rattle.ten_unit.specs.Word.{is_word, word_of}
+use Rattle.ten_unit.proofs.PublicLaws.{is_word-none}
 use Rattle.phasing.specs.Slot.{slot, shows}
 
 is_short-cond : (inside : Bool) (xs : List Element) → (inside ≡ true → length xs ≡ 10) → length (cond inside xs []) < 10 → cond inside xs [] ≡ []
@@ -34,10 +35,6 @@ take-slot e lead s =
     (λ inside.
     let both = and_parts (nat_le 150 (lead + 10 * s)) (nat_le (lead + 10 * s + 10) (length e + 150)) inside in
     length-inside e (lead + 10 * s) (leb-true _ _ both.0) (leb-true _ _ both.1))
-
-is_word-none : (v : ℕ) → is_word [] v ≡ false
-unfolding is_word word_of
-is_word-none v = refl
 
 -- a slot with no elements shows nothing
 pub shows-none : (e : List Element) (lead s v : ℕ) → slot e lead s ≡ [] → shows e lead s v ≡ false

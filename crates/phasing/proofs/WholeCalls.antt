@@ -5,12 +5,13 @@ use Rattle.std.proofs.lemmas.List.{length-take}
 use Rattle.std.proofs.Math.Seq.{drop-append-add, take-append_seam}
 use Rattle.ten_unit.specs.declared.character.Element.TheVariants.{Lost}
 use Rattle.ten_unit.specs.Word.{is_word, word_of}
+use Rattle.ten_unit.proofs.PublicLaws.{length-word}
 use Rattle.phasing.specs.Slot.{shows}
 use Rattle.phasing.specs.Origin.{is_phased, lead_of}
 use Rattle.phasing.specs.Sent.{dots, dot_count, sent}
 use Rattle.phasing.specs.Start.{start_symbols, formats}
 use Rattle.phasing.proofs.Dots.{length-dots}
-use Rattle.phasing.proofs.Kept.{length-word, shown, kept_phased}
+use Rattle.phasing.proofs.Kept.{shown, kept_phased}
 use Rattle.phasing.proofs.LateStarts.{same_start, found}
 
 length-words : (slots : List ℕ) → length (flat_map word_of slots) ≡ 10 * length slots

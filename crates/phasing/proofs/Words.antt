@@ -2,50 +2,34 @@
 use Rattle.std.proofs.Common.{◌≡◌, ℕ, zero, suc, ◌+◌, ◌-◌, ◌*◌, ◌<◌, ◌≤◌, Bool, true, false, ◌&&◌, nat_le, List, [], ◌∷◌, length, take, drop, get_or, add-zero, add-one, inl, inr, refl, arith, ap, sym, subst, ◌∙◌}
 use Rattle.std.proofs.lemmas.Bool.{cases_lt, and_parts, and_from, cond-true, cond-false, le-leb, lt-leb, false_from_ne_true}
 use Rattle.std.proofs.lemmas.List.{get_or_past, length-take-le, length-drop, ext_get_or}
+use Rattle.std.proofs.Math.Bool.{and-true, and_assoc}
+use Rattle.std.proofs.lemmas.Bool.Decides.{same_from_decides}
 use Rattle.ten_unit.specs.declared.character.Element.{Element}
 use Rattle.ten_unit.specs.declared.character.Element.TheVariants.{Y, B, Lost}
 use Rattle.ten_unit.specs.inside.Marks.{IsMarks}
 use Rattle.ten_unit.specs.Word.{element_eq, word_of}
-use Rattle.ten_unit.proofs.PublicLaws.{elements_same}
+use Rattle.ten_unit.proofs.PublicLaws.{elements_same, length-word, element_same, element_own}
 use Rattle.phasing.specs.inside.Places.{element_at, is_at}
 use Rattle.phasing.specs.Slot.{shows}
-use Rattle.phasing.proofs.Kept.{IsWordAt, word-sent, length-word, word_at, shown, get_or-part}
+use Rattle.phasing.proofs.Kept.{IsWordAt, word-sent, word_at, shown, get_or-part}
 use Rattle.phasing.proofs.BitTests.{moved_marks, same_marks}
-
-and_assoc : (x y z : Bool) → (x && (y && z)) ≡ (x && y && z)
-and_assoc true y z = refl
-and_assoc false y z = refl
-
-and_true : (x : Bool) → (x && true) ≡ x
-and_true true = refl
-and_true false = refl
 
 is_at-more : (e : ℕ → Element) (w : List Element) (k place : ℕ) → k < length w → is_at e (take (suc k) w) place ≡ (is_at e (take k w) place && element_eq (e (place + k)) (get_or w k Y))
 is_at-more e [] k place h = absurd (omega arith)
 is_at-more e (a ∷ w) zero place h =
-    and_true (element_eq (e place) a) ∙ ap (λ (p : ℕ). element_eq (e p) a) (sym (add-zero place))
+    and-true (element_eq (e place) a) ∙ ap (λ (p : ℕ). element_eq (e p) a) (sym (add-zero place))
 is_at-more e (a ∷ w) (suc k) place h =
     let place_one : place + 1 + k ≡ place + suc k = omega arith in
     ap (λ (b : Bool). element_eq (e place) a && b) (is_at-more e w k (place + 1) (omega arith))
-    ∙ and_assoc (element_eq (e place) a) (is_at e (take k w) (place + 1)) _
+    ∙ sym (and_assoc (element_eq (e place) a) (is_at e (take k w) (place + 1)) _)
     ∙ ap (λ (p : ℕ). element_eq (e place) a && is_at e (take k w) (place + 1) && element_eq (e p) (get_or w k Y)) place_one
 
 -- one element more
 pub is_at_push : (e : ℕ → Element) (w : List Element) (k place : ℕ) → k < length w → is_at e (take (k + 1) w) place ≡ (is_at e (take k w) place && element_eq (e (place + k)) (get_or w k Y))
 is_at_push e w k place h = ap (λ (n : ℕ). is_at e (take n w) place) (add-one k) ∙ is_at-more e w k place h
 
-element_same : (a b : Element) → element_eq a b ≡ true → a ≡ b
-element_same a b h =
-    let whole = elements_same (a ∷ []) (b ∷ []) (and_true (element_eq a b) ∙ h) in
-    cc
-
-element_own : (a b : Element) → a ≡ b → element_eq a b ≡ true
-element_own a b h = ap (element_eq a) (sym h) ∙ own a
-  where
-    own : (x : Element) → element_eq x x ≡ true
-    own Y = refl
-    own B = refl
-    own Lost = refl
+equal_elements : (a b : Element) → a ≡ b → element_eq a b ≡ true
+equal_elements a b h = ap (element_eq a) (sym h) ∙ element_own a
 
 -- each element is the word's
 each_at : (e : ℕ → Element) (w : List Element) (place : ℕ) → is_at e w place ≡ true → (k : ℕ) → k < length w → e (place + k) ≡ get_or w k Lost
@@ -60,20 +44,20 @@ at_each : (e : ℕ → Element) (w : List Element) (place : ℕ) → ((k : ℕ) 
 at_each e [] place h = refl
 at_each e (a ∷ w) place h =
     and_from (element_eq (e place) a) (is_at e w (place + 1))
-    (element_own (e place) a (ap e (sym (add-zero place)) ∙ h 0 (omega arith)))
+    (equal_elements (e place) a (ap e (sym (add-zero place)) ∙ h 0 (omega arith)))
     (at_each e w (place + 1)
     (λ k below.
     let next : place + 1 + k ≡ place + suc k = omega arith in
     ap e next ∙ h (suc k) (omega arith)))
 
--- an element inside a reception
+-- an element inside a reception, and that outside all are lost
 pub element_at-inside : (e : List Element) (place : ℕ) → 150 ≤ place → element_at e place ≡ get_or e (place - 150) Lost
 element_at-inside e place low = cond-true (nat_le 150 place) _ Lost (le-leb 150 place low)
 
-element_at-before : (e : List Element) (place : ℕ) → place < 150 → element_at e place ≡ Lost
+pub element_at-before : (e : List Element) (place : ℕ) → place < 150 → element_at e place ≡ Lost
 element_at-before e place low = cond-false (nat_le 150 place) _ Lost (lt-leb 150 place low)
 
-element_at-past : (e : List Element) (place : ℕ) → length e + 150 ≤ place → element_at e place ≡ Lost
+pub element_at-past : (e : List Element) (place : ℕ) → length e + 150 ≤ place → element_at e place ≡ Lost
 element_at-past e place past = element_at-inside e place (omega arith) ∙ get_or_past e (place - 150) Lost (omega arith)
 
 -- a place with an element that is not lost
@@ -120,15 +104,11 @@ word_is_at e at v w =
     ∙ sym (get_or-part e (at - 150) k few)
     ∙ ap (λ (l : List Element). get_or l k Lost) w.word)
 
-same_tests : (x y : Bool) → (x ≡ true → y ≡ true) → (y ≡ true → x ≡ true) → x ≡ y
-same_tests true y there back = sym (there refl)
-same_tests false true there back = back refl
-same_tests false false there back = refl
-
 -- the word of a symbol begins at a slot's place where the slot shows the symbol
 pub is_at-shows : (e : List Element) (lead s v : ℕ) → is_at (element_at e) (word_of v) (lead + 10 * s) ≡ shows e lead s v
 is_at-shows e lead s v =
-    same_tests _ _ (λ h. shown e lead s v (at_word e (lead + 10 * s) v h)) (λ h. word_is_at e (lead + 10 * s) v (word_at e lead s v h))
+    same_from_decides {P = shows e lead s v ≡ true} _ _
+    (λ h. shown e lead s v (at_word e (lead + 10 * s) v h), λ h. word_is_at e (lead + 10 * s) v (word_at e lead s v h)) (λ h. h, λ h. h)
 
 -- no word begins before the first element
 pub is_at-early : (e : List Element) (place v : ℕ) → place < 150 → is_at (element_at e) (word_of v) place ≡ false

@@ -24,7 +24,8 @@ impl Count {
 
     /// One more at each place where this test holds.
     pub fn add(self, right: u64) -> Self
-        ensures { (base : ℕ) (number : ℕ → ℕ) (f : ℕ → Bool) → IsCount self base number → IsMarks right base f → IsCount result base (λ place. number place + cond (f place) 1 0) }
+        ensures { (base : ℕ) (number : ℕ → ℕ) (f : ℕ → Bool) → IsCount self base number → IsMarks right base f
+            → IsCount result base (λ place. number place + cond (f place) 1 0) }
     {
         Count {
             one: self.one | right,

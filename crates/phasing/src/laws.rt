@@ -1,3 +1,4 @@
+//! Laws: each function here does nothing, and its contract is a theorem over definitions.
 ghost use Rattle.std.specs.Prelude.{◌≡◌, ℕ, ◌+◌, ◌*◌, ◌==◌, ◌<◌, ◌≤◌, Bool, true, false, List, length, take, slice_index, Some, None, IsTrue, pos, ◌-ℤ◌};
 ghost use Rattle.std.specs.List.{list_any};
 ghost use Rattle.ten_unit.specs.declared.character.Element.{Element};
@@ -9,7 +10,7 @@ ghost use Rattle.phasing.specs.Start.{start_symbols, formats, IsIntactStart};
 
 use crate::reception::{LAST_LEAD, LONGEST};
 
-/// The law that these are the limits of a search. It does nothing.
+/// The law that these are the limits of a search.
 pub fn limits()
     ensures longest { LONGEST ≡ 1000000 }
     ensures last { LAST_LEAD ≡ LONGEST + 150 }
@@ -28,22 +29,31 @@ pub fn origin_is_least()
 {}
 
 /// The law that a call whose start is intact is found at its origin, however late the reception begins: the origin, which is what
-/// `origin` answers, is 150 below the lead. It does nothing.
+/// `origin` answers, is 150 below the lead.
 pub fn late_starts_are_found()
-    ensures lead { (e : List Element) (slots : List ℕ) (long : Bool) (lead : ℕ) (format : ℕ) → list_any (λ f. f == format) formats ≡ true → take 16 slots ≡ start_symbols format → IsIntactStart e slots long lead → lead_of e ≡ Some lead }
-    ensures origin { (e : List Element) (slots : List ℕ) (long : Bool) (lead : ℕ) (format : ℕ) → list_any (λ f. f == format) formats ≡ true → take 16 slots ≡ start_symbols format → IsIntactStart e slots long lead → origin_of e ≡ Some (pos lead -ℤ pos 150) }
+    ensures lead { (e : List Element) (slots : List ℕ) (long : Bool) (lead : ℕ) (format : ℕ)
+        → list_any (λ f. f == format) formats ≡ true → take 16 slots ≡ start_symbols format
+        → IsIntactStart e slots long lead → lead_of e ≡ Some lead }
+    ensures origin { (e : List Element) (slots : List ℕ) (long : Bool) (lead : ℕ) (format : ℕ)
+        → list_any (λ f. f == format) formats ≡ true → take 16 slots ≡ start_symbols format
+        → IsIntactStart e slots long lead → origin_of e ≡ Some (pos lead -ℤ pos 150) }
 {}
 
-/// The law that what is sent of a call has its origin behind the dots, and that each slot shows its symbol there. It does nothing.
+/// The law that what is sent of a call has its origin behind the dots, and that each slot shows its symbol there.
 pub fn whole_calls_are_found()
-    ensures lead { (slots : List ℕ) (long : Bool) (format : ℕ) → list_any (λ f. f == format) formats ≡ true → take 16 slots ≡ start_symbols format → lead_of (sent slots long) ≡ Some (dot_count long + 150) }
-    ensures slots { (slots : List ℕ) (long : Bool) (slot : ℕ) → slot < length slots → shows (sent slots long) (dot_count long + 150) slot (slice_index slots slot) ≡ true }
+    ensures lead { (slots : List ℕ) (long : Bool) (format : ℕ) → list_any (λ f. f == format) formats ≡ true
+        → take 16 slots ≡ start_symbols format → lead_of (sent slots long) ≡ Some (dot_count long + 150) }
+    ensures slots { (slots : List ℕ) (long : Bool) (slot : ℕ) → slot < length slots
+        → shows (sent slots long) (dot_count long + 150) slot (slice_index slots slot) ≡ true }
     ensures length { (slots : List ℕ) (long : Bool) → length (sent slots long) ≡ dot_count long + 10 * length slots }
 {}
 
 /// The law that the ten elements of a slot decide what it shows, and the 160 from an origin on whether it is phased, whatever
-/// stands around them. It does nothing.
+/// stands around them.
 pub fn elements_decide()
-    ensures slot { (e f : List Element) (q r s v : ℕ) → ((i : ℕ) → i < 10 → element_at e (q + 10 * s + i) ≡ element_at f (r + 10 * s + i)) → shows e q s v ≡ shows f r s v }
-    ensures lead { (e f : List Element) (q r : ℕ) → ((i : ℕ) → i < 160 → element_at e (q + i) ≡ element_at f (r + i)) → is_phased e q ≡ is_phased f r }
+    ensures slot { (e f : List Element) (q r s v : ℕ)
+        → ((i : ℕ) → i < 10 → element_at e (q + 10 * s + i) ≡ element_at f (r + 10 * s + i))
+        → shows e q s v ≡ shows f r s v }
+    ensures lead { (e f : List Element) (q r : ℕ) → ((i : ℕ) → i < 160 → element_at e (q + i) ≡ element_at f (r + i))
+        → is_phased e q ≡ is_phased f r }
 {}

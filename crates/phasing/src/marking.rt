@@ -29,7 +29,8 @@ impl Phasing {
 #[inline(always)]
 pub(crate) fn shifted(low: u64, high: u64, shift: u32) -> u64
     requires { shift < 64 }
-    ensures { (base : ℕ) (f : ℕ → Bool) → IsMarks low base f → IsMarks high (base + 64) f → IsMarks result (base + shift) f }
+    ensures { (base : ℕ) (f : ℕ → Bool) → IsMarks low base f → IsMarks high (base + 64) f
+        → IsMarks result (base + shift) f }
 {
     low >> shift | high << 1 << (63 - shift)
 }

@@ -13,7 +13,8 @@ use ten_unit::{Element, Planes};
 
 /// How many DX slots show their phasing symbol at each of 64 leads, from the marks of the places from the first lead on.
 fn dx_right(first: &Phasing, second: &Phasing, third: &Phasing) -> Count
-    ensures { (base : ℕ) (e : List Element) → ArePhasing first.now base (element_at e) → ArePhasing second.now (base + 64) (element_at e)
+    ensures { (base : ℕ) (e : List Element) → ArePhasing first.now base (element_at e)
+        → ArePhasing second.now (base + 64) (element_at e)
         → ArePhasing third.now (base + 128) (element_at e) → IsCount result base (sequence.dx_right e) }
 {
     Count::none()
@@ -27,8 +28,10 @@ fn dx_right(first: &Phasing, second: &Phasing, third: &Phasing) -> Count
 
 /// How many RX slots show theirs.
 fn rx_right(first: &Phasing, second: &Phasing, third: &Phasing, fourth: &Phasing) -> Count
-    ensures { (base : ℕ) (e : List Element) → ArePhasing first.now base (element_at e) → ArePhasing second.now (base + 64) (element_at e)
-        → ArePhasing third.now (base + 128) (element_at e) → ArePhasing fourth.now (base + 192) (element_at e) → IsCount result base (sequence.rx_right e) }
+    ensures { (base : ℕ) (e : List Element) → ArePhasing first.now base (element_at e)
+        → ArePhasing second.now (base + 64) (element_at e)
+        → ArePhasing third.now (base + 128) (element_at e) → ArePhasing fourth.now (base + 192) (element_at e)
+        → IsCount result base (sequence.rx_right e) }
 {
     Count::none()
         .add(shifted(first.rx[0], second.rx[0], 10))
@@ -43,15 +46,18 @@ fn rx_right(first: &Phasing, second: &Phasing, third: &Phasing, fourth: &Phasing
 
 /// At which of 64 leads so many right phasing symbols are enough.
 fn enough(dx: Count, rx: Count) -> u64
-    ensures { (base : ℕ) (e : List Element) → IsCount dx base (sequence.dx_right e) → IsCount rx base (sequence.rx_right e) → IsMarks result base (sequence.is_phased e) }
+    ensures { (base : ℕ) (e : List Element) → IsCount dx base (sequence.dx_right e)
+        → IsCount rx base (sequence.rx_right e) → IsMarks result base (sequence.is_phased e) }
 {
     dx.two & rx.one | rx.two & dx.one | rx.three
 }
 
 /// At which of 64 leads enough phasing symbols are right. Slot 15 of the last lead begins in the fourth block of 64 places.
 fn phased(first: &Phasing, second: &Phasing, third: &Phasing, fourth: &Phasing) -> u64
-    ensures { (base : ℕ) (e : List Element) → ArePhasing first.now base (element_at e) → ArePhasing second.now (base + 64) (element_at e)
-        → ArePhasing third.now (base + 128) (element_at e) → ArePhasing fourth.now (base + 192) (element_at e) → IsMarks result base (sequence.is_phased e) }
+    ensures { (base : ℕ) (e : List Element) → ArePhasing first.now base (element_at e)
+        → ArePhasing second.now (base + 64) (element_at e)
+        → ArePhasing third.now (base + 128) (element_at e) → ArePhasing fourth.now (base + 192) (element_at e)
+        → IsMarks result base (sequence.is_phased e) }
 {
     enough(
         dx_right(first, second, third),

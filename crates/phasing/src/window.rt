@@ -2,7 +2,7 @@ ghost use Rattle.std.specs.Prelude.{◌≡◌, ℕ, ◌+◌, ◌<◌, length, sl
 ghost use Rattle.ten_unit.specs.inside.Marks.{IsPlanes};
 ghost use Rattle.phasing.specs.inside.Places.{element_at};
 
-use ten_unit::{Element, Planes, packed};
+use ten_unit::{Element, Planes, pack_elements};
 
 /// These elements, fewer than 64, and lost ones after them.
 fn padded(e: &[Element]) -> [Element; 64]
@@ -24,7 +24,7 @@ pub fn planes_from(e: &[Element], begin: usize) -> Planes
 {
     let rest = &e[begin.min(e.len())..];
     match rest.first_chunk::<64>() {
-        Some(block) => packed(block),
-        None => packed(&padded(rest)),
+        Some(block) => pack_elements(block),
+        None => pack_elements(&padded(rest)),
     }
 }

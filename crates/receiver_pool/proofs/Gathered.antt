@@ -3,11 +3,12 @@ use Rattle.std.proofs.Common.{◌≡◌, ℕ, zero, suc, ◌+◌, ◌%◌, ◌<�
 use Rattle.std.proofs.lemmas.Bool.{cases_eq, cases_lt, eq-eqb, ne_eqb}
 use Rattle.std.proofs.lemmas.List.{get_or_append_left, get_or_push, length-append}
 use Rattle.std.proofs.lemmas.List.Elements.{All-get_or}
+use Rattle.std.proofs.Math.Bool.{and-false, or-false}
 use Rattle.slot_evidence.specs.Facts.{Facts, facts_of, union}
 use Rattle.slot_evidence.specs.declared.places.Seen.{Seen}
 use Rattle.slot_evidence.specs.Sheet.{IsEnds}
-use Rattle.receiver_pool.specs.declared.heard.Heard.{Heard}
-use Rattle.receiver_pool.specs.declared.heard.Shown.{Shown}
+use Rattle.receiver_pool.specs.declared.group_entries.GroupReception.{GroupReception}
+use Rattle.receiver_pool.specs.declared.group_entries.GroupSheet.{GroupSheet}
 use Rattle.receiver_pool.specs.Groups.{facts_of_group, AreSheets, AreShown, Belongs, IsOneOf, Shows}
 use Rattle.receiver_pool.specs.inside.Turns.{is_turn, group_part, nobody}
 use Rattle.receiver_pool.specs.inside.Numbers.{AreNumbered, IsBelow, IsPlaced, nth_at, place_part, gathered}
@@ -22,10 +23,6 @@ or_both true false false x y = refl
 or_both false true b x y = refl
 or_both false false true x y = refl
 or_both false false false x y = refl
-
-and_none : (a : Bool) → (a && false) ≡ false
-and_none true = refl
-and_none false = refl
 
 and_swap : (a b c : Bool) → (a && (b && c)) ≡ (b && (a && c))
 and_swap true b c = refl
@@ -46,7 +43,7 @@ module _ (groups : List ℕ) (k p v : ℕ) where
   gathered_none F (suc m) none =
       ap (λ (b : Bool). b || ((slice_index groups m == k) && F m p v)) (gathered_none F m (λ j below. none j (omega arith)))
       ∙ ap (λ (b : Bool). (slice_index groups m == k) && b) (none m (omega arith))
-      ∙ and_none (slice_index groups m == k)
+      ∙ and-false (slice_index groups m == k)
 
   -- what is shown of one place
   gathered_one : (F : ℕ → Facts) (b : Bool) (place m : ℕ) → place < m → ((j : ℕ) → F j p v ≡ ((place == j) && b)) → gathered groups F m k p v ≡ ((slice_index groups place == k) && b)
@@ -61,17 +58,13 @@ module _ (groups : List ℕ) (k p v : ℕ) where
             ∙ ap (λ (j : ℕ). (slice_index groups j == k) && b) (sym here)
         | inr apart ↦
             ap (λ (x : Bool). gathered groups F m k p v || ((slice_index groups m == k) && x)) (is m ∙ ap (λ (x : Bool). x && b) (ne_eqb place m apart))
-            ∙ ap (λ (x : Bool). gathered groups F m k p v || x) (and_none (slice_index groups m == k))
-            ∙ or_none (gathered groups F m k p v)
+            ∙ ap (λ (x : Bool). gathered groups F m k p v || x) (and-false (slice_index groups m == k))
+            ∙ or-false (gathered groups F m k p v)
             ∙ gathered_one F b place m (omega arith) is
       ]
-    where
-      or_none : (a : Bool) → (a || false) ≡ a
-      or_none true = refl
-      or_none false = refl
 
 -- all places together show what the receptions show
-pub gathered_part : (takes : ℕ → Bool) (batch : List Heard) (groups places : List ℕ) (N n k p v : ℕ) → n ≤ N → AreNumbered batch N groups places
+pub gathered_part : (takes : ℕ → Bool) (batch : List GroupReception) (groups places : List ℕ) (N n k p v : ℕ) → n ≤ N → AreNumbered batch N groups places
     → gathered groups (place_part takes batch places n) (length groups) k p v ≡ group_part takes batch n k p v
 gathered_part takes batch groups places N zero k p v inside are = gathered_none groups k p v (place_part takes batch places 0) (length groups) (λ j below. refl)
 gathered_part takes batch groups places N (suc n) k p v inside are =
@@ -86,7 +79,7 @@ gathered_part takes batch groups places N (suc n) k p v inside are =
     ∙ and_swap ((slice_index_or batch n nobody).group == k) (takes n) x)
 
 -- the entries of a batch's groups
-pub gathered_shown : (workers : ℕ) (batch : List Heard) (groups places : List ℕ) (entries : List Shown) → 0 < workers → AreNumbered batch (length batch) groups places
+pub gathered_shown : (workers : ℕ) (batch : List GroupReception) (groups places : List ℕ) (entries : List GroupSheet) → 0 < workers → AreNumbered batch (length batch) groups places
     → AreShown (gathered groups (place_part (is_turn workers 0 workers) batch places (length batch)) (length groups)) entries → ((n : ℕ) → All (IsBelow n) groups → All (IsOneOf n) entries)
     → Shows (facts_of_group batch) batch entries
 gathered_shown workers batch groups places entries some_there are shown belong = record {
@@ -99,7 +92,7 @@ gathered_shown workers batch groups places entries some_there are shown belong =
 }
 
 -- one reception more
-pub next_part : (workers worker index : ℕ) (batch : List Heard) (places : List ℕ) (heard : Heard) (sheets : List (List Seen)) (n : ℕ) → heard ≡ slice_index_or batch index nobody
+pub next_part : (workers worker index : ℕ) (batch : List GroupReception) (places : List ℕ) (heard : GroupReception) (sheets : List (List Seen)) (n : ℕ) → heard ≡ slice_index_or batch index nobody
     → AreSheets (λ k. union (place_part (is_turn workers worker (worker + 1)) batch places index k) (λ p v. slice_index places index == k && ((index % workers) == worker && facts_of heard.reception p v))) sheets n
     → AreSheets (place_part (is_turn workers worker (worker + 1)) batch places (index + 1)) sheets n
 next_part workers worker index batch places heard sheets n is are =
@@ -111,11 +104,11 @@ next_part workers worker index batch places heard sheets n is are =
     ap (λ (b : Bool). part index k p v || b)
     (and_swap (place == k) ((index % workers) == worker) (facts_of heard.reception p v)
     ∙ ap (λ (b : Bool). b && (place == k && facts_of heard.reception p v)) (one_turn workers worker index)
-    ∙ ap (λ (h : Heard). is_turn workers worker (worker + 1) index && (place == k && facts_of h.reception p v)) is))
+    ∙ ap (λ (h : GroupReception). is_turn workers worker (worker + 1) index && (place == k && facts_of h.reception p v)) is))
     are)
 
 -- one entry more
-pub next_entry : (groups : List ℕ) (F : ℕ → Facts) (i : ℕ) (entry : Shown) (entries : List Shown) → entry.group ≡ slice_index groups i → IsEnds (F i) entry.sheet
+pub next_entry : (groups : List ℕ) (F : ℕ → Facts) (i : ℕ) (entry : GroupSheet) (entries : List GroupSheet) → entry.group ≡ slice_index groups i → IsEnds (F i) entry.sheet
     → AreShown (gathered groups F i) entries → AreShown (gathered groups F (i + 1)) (entries ++ entry ∷ [])
 next_entry groups F i entry entries is ends are =
     subst (λ (m : ℕ). AreShown (gathered groups F m) (entries ++ entry ∷ [])) (sym (add-one i))
@@ -124,7 +117,7 @@ next_entry groups F i entry entries is ends are =
     (shown_append (gathered groups F i) (λ k p v. entry.group == k && F i p v) entries (entry ∷ []) are (shown_one entry (F i) ends)))
 
 -- one reception more is numbered
-pub next_numbered : (batch : List Heard) (i place group : ℕ) (old new places : List ℕ) → i < length batch → group ≡ (slice_index_or batch i nobody).group → IsPlaced group place old new
+pub next_numbered : (batch : List GroupReception) (i place group : ℕ) (old new places : List ℕ) → i < length batch → group ≡ (slice_index_or batch i nobody).group → IsPlaced group place old new
     → AreNumbered batch i old places → AreNumbered batch (i + 1) new (places ++ place ∷ [])
 next_numbered batch i place group old new places inside is placed was =
     let before : (j : ℕ) → j < i → slice_index (places ++ place ∷ []) j ≡ slice_index places j = λ j low. get_or_append_left places (place ∷ []) 0 j (omega (arith, was.count)) in

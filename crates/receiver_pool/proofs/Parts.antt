@@ -1,47 +1,29 @@
 -- The facts of the receptions whose turn it is.
 use Rattle.std.proofs.Common.{◌≡◌, ℕ, zero, suc, ◌+◌, ◌%◌, ◌<◌, ◌≤◌, ◌==◌, Bool, true, false, not, ◌&&◌, ◌||◌, nat_le, List, [], length, set, take, slice_index_or, refl, arith, ap, sym, ◌∙◌, subst, inl, inr, add-one}
 use Rattle.std.specs.List.{list_any}
-use Rattle.std.proofs.lemmas.Bool.{cases_eq, cases_lt, eq-eqb, ne_eqb, lt-ltb, le-ltb, le-leb, lt-leb}
+use Rattle.std.proofs.lemmas.Bool.{cases_eq, cases_lt, eq-eqb, ne_eqb, lt-ltb, le-ltb, le-leb, lt-leb, and_left, and_right, or_left, and_from}
 use Rattle.std.proofs.lemmas.List.{take_all, length-set, get_or-set_same, get_or-set_other}
 use Rattle.std.proofs.lemmas.List.Folds.{list_any_more}
+use Rattle.std.proofs.Math.Bool.{or-false}
+use Rattle.plain_laws.proofs.Tests.{or_false_left}
 use Rattle.ten_unit.specs.declared.character.Element.{Element}
 use Rattle.slot_evidence.specs.Facts.{Facts, no_facts, facts_of, facts_of_all, union}
 use Rattle.slot_evidence.specs.declared.places.Seen.{Seen}
 use Rattle.slot_evidence.specs.Sheet.{IsEnds}
 use Rattle.slot_evidence.proofs.PublicLaws.{IsEnds-same}
-use Rattle.receiver_pool.specs.declared.heard.Heard.{Heard}
+use Rattle.receiver_pool.specs.declared.group_entries.GroupReception.{GroupReception}
 use Rattle.receiver_pool.specs.Groups.{facts_of_group, AreSheets}
 use Rattle.receiver_pool.specs.inside.Turns.{is_turn, taken, nth, part, nobody, nth_of, group_part}
 
-both_true : (a b : Bool) → a ≡ true → b ≡ true → (a && b) ≡ true
-both_true a b p q = ap (λ (x : Bool). x && b) p ∙ q
-
-left_false : (a b : Bool) → a ≡ false → (a && b) ≡ false
-left_false a b p = ap (λ (x : Bool). x && b) p
-
-right_false : (a b : Bool) → b ≡ false → (a && b) ≡ false
-right_false true b q = q
-right_false false b q = refl
-
-or_left_false : (a b : Bool) → a ≡ false → (a || b) ≡ b
-or_left_false a b p = ap (λ (x : Bool). x || b) p
-
-or_left_true : (a b : Bool) → a ≡ true → (a || b) ≡ true
-or_left_true a b p = ap (λ (x : Bool). x || b) p
-
-or_false : (a : Bool) → (a || false) ≡ a
-or_false true = refl
-or_false false = refl
-
 -- whose turn it is
 pub turn_yes : (workers low high index : ℕ) → low ≤ index % workers → index % workers < high → is_turn workers low high index ≡ true
-turn_yes workers low high index above below = both_true _ _ (le-leb low (index % workers) above) (lt-ltb (index % workers) high below)
+turn_yes workers low high index above below = and_from _ _ (le-leb low (index % workers) above) (lt-ltb (index % workers) high below)
 
 turn_below : (workers low high index : ℕ) → index % workers < low → is_turn workers low high index ≡ false
-turn_below workers low high index below = left_false _ _ (lt-leb low (index % workers) below)
+turn_below workers low high index below = and_left _ _ (lt-leb low (index % workers) below)
 
 turn_above : (workers low high index : ℕ) → high ≤ index % workers → is_turn workers low high index ≡ false
-turn_above workers low high index above = right_false (nat_le low (index % workers)) _ (le-ltb (index % workers) high above)
+turn_above workers low high index above = and_right (nat_le low (index % workers)) _ (le-ltb (index % workers) high above)
 
 pub one_turn : (workers worker index : ℕ) → ((index % workers) == worker) ≡ is_turn workers worker (worker + 1) index
 one_turn workers worker index =
@@ -57,14 +39,14 @@ one_turn workers worker index =
 turn_halves : (workers low middle high index : ℕ) → low ≤ middle → middle ≤ high → is_turn workers low high index ≡ (is_turn workers low middle index || is_turn workers middle high index)
 turn_halves workers low middle high index left right =
     elim (cases_lt (index % workers) low) [
-      | inl below ↦ turn_below workers low high index below ∙ sym (or_left_false _ _ (turn_below workers low middle index below) ∙ turn_below workers middle high index (omega arith))
+      | inl below ↦ turn_below workers low high index below ∙ sym (or_false_left _ _ (turn_below workers low middle index below) ∙ turn_below workers middle high index (omega arith))
       | inr above ↦
           elim (cases_lt (index % workers) middle) [
-            | inl first ↦ turn_yes workers low high index above (omega arith) ∙ sym (or_left_true _ _ (turn_yes workers low middle index above first))
+            | inl first ↦ turn_yes workers low high index above (omega arith) ∙ sym (or_left _ _ (turn_yes workers low middle index above first))
             | inr second ↦
                 elim (cases_lt (index % workers) high) [
-                  | inl inside ↦ turn_yes workers low high index above inside ∙ sym (or_left_false _ _ (turn_above workers low middle index second) ∙ turn_yes workers middle high index second inside)
-                  | inr outside ↦ turn_above workers low high index outside ∙ sym (or_left_false _ _ (turn_above workers low middle index second) ∙ turn_above workers middle high index outside)
+                  | inl inside ↦ turn_yes workers low high index above inside ∙ sym (or_false_left _ _ (turn_above workers low middle index second) ∙ turn_yes workers middle high index second inside)
+                  | inr outside ↦ turn_above workers low high index outside ∙ sym (or_false_left _ _ (turn_above workers low middle index second) ∙ turn_above workers middle high index outside)
                 ]
           ]
     ]
@@ -110,7 +92,7 @@ pub part_all : (workers : ℕ) (list : List (List Element)) (p v : ℕ) → 0 < 
 unfolding facts_of_all
 part_all workers list p v some_there = all_taken (λ e. facts_of e p v) list [] workers (nth list) p v some_there (λ k. refl)
 
-pub groups_all : (workers : ℕ) (batch : List Heard) (k p v : ℕ) → 0 < workers → group_part (is_turn workers 0 workers) batch (length batch) k p v ≡ facts_of_group batch k p v
+pub groups_all : (workers : ℕ) (batch : List GroupReception) (k p v : ℕ) → 0 < workers → group_part (is_turn workers 0 workers) batch (length batch) k p v ≡ facts_of_group batch k p v
 unfolding facts_of_group
 groups_all workers batch k p v some_there = all_taken (λ heard. heard.group == k && facts_of heard.reception p v) batch nobody workers (nth_of batch k) p v some_there (λ i. refl)
 
@@ -168,7 +150,7 @@ turned_at number F G old new met n inside changed ends are = record {
         subst (λ (s : List Seen). IsEnds (union (F k) (λ p v. number == k && G p v)) s)
         (sym (ap (λ (s : List (List Seen)). slice_index_or s k []) changed ∙ get_or-set_other old number k met [] apart))
         (IsEnds-same _ _ _
-        (λ p v. sym (ap (λ (b : Bool). F k p v || (b && G p v)) (ne_eqb number k (λ e. apart (sym e))) ∙ or_false (F k p v)))
+        (λ p v. sym (ap (λ (b : Bool). F k p v || (b && G p v)) (ne_eqb number k (λ e. apart (sym e))) ∙ or-false (F k p v)))
         (are.each k below))
   ];
 }

@@ -1,17 +1,17 @@
 -- What receptions show may be posted where it is allowed, and so may the sheet of any part of it.
-use Rattle.std.proofs.Common.{◌≡◌, ℕ, zero, suc, ◌<◌, ◌&&◌, ◌||◌, Bool, true, false, Option, Some, None, List, [], ◌∷◌, length, map, replicate, get_or, refl, arith, ap, sym, ◌∙◌, subst, inl, inr}
-use Rattle.std.proofs.lemmas.Bool.{cases_lt, eqb-true, ltb-true, or_cases, or_left, or_right, and_from, and_parts}
+use Rattle.std.proofs.Common.{◌≡◌, ℕ, zero, suc, ◌<◌, ◌&&◌, Bool, true, false, List, length, map, replicate, get_or, refl, arith, ap, sym, ◌∙◌, subst, inl, inr}
+use Rattle.std.proofs.lemmas.Bool.{cases_lt, or_cases, or_left, or_right, and_from, and_parts}
 use Rattle.std.proofs.lemmas.List.{get_or-map, get_or_past, get_or-replicate, length-replicate}
+use Rattle.plain_laws.proofs.Tests.{or_false_right}
 use Rattle.ten_unit.specs.declared.character.Element.{Element}
-use Rattle.phasing.specs.Origin.{lead_of}
 use Rattle.slot_evidence.specs.declared.places.Seen.{Seen}
 use Rattle.slot_evidence.specs.declared.places.Seen.TheVariants as seen
-use Rattle.slot_evidence.specs.Facts.{Symbols, Facts, facts_at, facts_of, facts_of_all, union}
-use Rattle.slot_evidence.specs.Seen.{ShowsNone, IsSeen, IsLawful, symbols_in}
+use Rattle.slot_evidence.specs.Facts.{Facts, facts_of_all, union}
+use Rattle.slot_evidence.specs.Seen.{ShowsNone, IsSeen, IsLawful}
 use Rattle.slot_evidence.specs.Sheet.{IsSheet, IsEnds, seen_at}
 use Rattle.slot_evidence.specs.TwoNumbers.{least_of}
 use Rattle.slot_evidence.specs.Allowed.{IsAllowed, OnlyAllowed}
-use Rattle.slot_evidence.proofs.PublicLaws.{IsEnds-same}
+use Rattle.slot_evidence.proofs.PublicLaws.{IsEnds-same, all_small, kept_shown}
 use Rattle.evidence_board.specs.Facts.{all_facts}
 use Rattle.receiver_pool.specs.Posting.{MayAllBePosted}
 use Rattle.receiver_pool.specs.inside.Turns.{is_turn, taken, nth, part}
@@ -32,38 +32,8 @@ part_among takes list p v is =
     sym (part_all 1 list p v (omega arith))
     ∙ taken_among takes (is_turn 1 0 1) (nth list) (length list) p v (λ i. turn_yes 1 0 1 i (omega arith) (omega arith)) is
 
--- what is kept of symbols is among them
-kept_among : (S : Symbols) (x : Seen) (v : ℕ) → IsSeen S x → symbols_in x v ≡ true → S v ≡ true
-kept_among S seen.None v seen is = absurd (cc)
-kept_among S (seen.One w) v seen is = ap S (eqb-true v w is) ∙ seen.0
-kept_among S (seen.Differ a b) v seen is =
-    elim (or_cases _ _ is) [
-      | inl least ↦ ap S (eqb-true v a least) ∙ seen.has_least
-      | inr greatest ↦ ap S (eqb-true v b greatest) ∙ seen.has_greatest
-    ]
-
 pub sheet_among : (facts : List (ℕ × ℕ)) (F : Facts) (sheet : List Seen) → IsEnds F sheet → ((p v : ℕ) → F p v ≡ true → IsAllowed facts p v) → OnlyAllowed facts sheet
-sheet_among facts F sheet ends among p v is = among p v (kept_among (F p) (seen_at sheet p) v (ends.each p) is)
-
--- a reception shows places and symbols that there are
-at_small : (e : List Element) (lead : Option ℕ) (p v : ℕ) → facts_at e lead p v ≡ true → (p < 64) × (v < 128)
-at_small e None p v is = absurd (cc)
-at_small e (Some lead) p v is =
-    let both = and_parts _ _ is in
-    (ltb-true p 64 both.0, ltb-true v 128 (and_parts _ _ both.1).0)
-
-fact_small : (e : List Element) (p v : ℕ) → facts_of e p v ≡ true → (p < 64) × (v < 128)
-unfolding facts_of
-fact_small e p v is = at_small e (lead_of e) p v is
-
-all_small : (list : List (List Element)) (p v : ℕ) → facts_of_all list p v ≡ true → (p < 64) × (v < 128)
-unfolding facts_of_all
-all_small [] p v is = absurd (cc)
-all_small (e ∷ list) p v is =
-    elim (or_cases _ _ is) [
-      | inl here ↦ fact_small e p v here
-      | inr later ↦ all_small list p v later
-    ]
+sheet_among facts F sheet ends among p v is = among p v (kept_shown (F p) (seen_at sheet p) v (ends.each p) is)
 
 pub all_may : (list : List (List Element)) → MayAllBePosted all_facts list
 all_may list p v is = let small = all_small list p v is in every_fact p v small.0 small.1
@@ -88,12 +58,8 @@ left_true false b is = is
 pub nothing_posted : (sheet blank given : List Seen) (F G : Facts) → IsSheet sheet → blank ≡ replicate 64 seen.None → map least_of sheet ≡ map least_of blank
     → IsEnds F given → IsEnds G sheet → IsEnds (union F G) given
 nothing_posted sheet blank given F G lawful is same f g =
-    IsEnds-same F (union F G) given (λ p v. sym (or_nothing (F p v) (G p v) (none p v))) f
+    IsEnds-same F (union F G) given (λ p v. sym (or_false_right (F p v) (G p v) (none p v))) f
   where
-    or_nothing : (a b : Bool) → b ≡ false → (a || b) ≡ a
-    or_nothing true b e = refl
-    or_nothing false b e = e
-
     none : (p : ℕ) → ShowsNone (G p)
     none p =
         elim (cases_lt p 64) [

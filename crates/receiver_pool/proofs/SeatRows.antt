@@ -17,6 +17,7 @@ use Rattle.receiver_pool.proofs.Turning.{Row}
 abbrev pub Seats : ℕ → (ℕ → Facts) → List TableId → ℕ → Held → Type 0
 Seats share F boards j seat = IsSeatOf (table_at boards j) share (F j) seat
 
+-- sheets from this number on keep the ends of their groups' facts
 abbrev pub Sheets : (ℕ → Facts) → ℕ → List Seen → Type 0
 Sheets F j sheet = IsEnds (F j) sheet
 
@@ -29,6 +30,7 @@ Tables boards j board = board ≡ table_at boards j
 pub seats_row : (share : ℕ) (F : ℕ → Facts) (boards : List TableId) (seats : List Held) → AreSeats share F boards seats → Row (Seats share F boards) no_seat seats (length boards)
 seats_row share F boards seats are = record { count = are.count; each = are.each }
 
+-- a row of seats is one seat of each board
 pub row_seats : (share : ℕ) (F : ℕ → Facts) (boards : List TableId) (seats : List Held) → Row (Seats share F boards) no_seat seats (length boards) → AreSeats share F boards seats
 row_seats share F boards seats row = record { count = row.count; each = row.each }
 

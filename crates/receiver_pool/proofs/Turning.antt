@@ -1,7 +1,7 @@
 -- Rows whose elements turn one by one, grow or shrink.
-use Rattle.std.proofs.Common.{◌≡◌, ℕ, ◌+◌, ◌<◌, ◌≤◌, List, [], ◌∷◌, ◌++◌, length, set, take, drop, slice_index_or, refl, arith, ap, sym, ◌∙◌, subst, inl, inr}
+use Rattle.std.proofs.Common.{◌≡◌, ℕ, ◌+◌, ◌<◌, ◌≤◌, List, [], ◌∷◌, ◌++◌, length, set, slice_index_or, refl, arith, ap, sym, ◌∙◌, subst, inl, inr}
 use Rattle.std.proofs.lemmas.Bool.{cases_eq, cases_lt}
-use Rattle.std.proofs.lemmas.List.{length-set, length-append, get_or-set_same, get_or-set_other, get_or_append_left, get_or_push, take_all, drop_all, append-nil}
+use Rattle.std.proofs.lemmas.List.{length-set, length-append, get_or-set_same, get_or-set_other, get_or_append_left, get_or_push}
 
 -- below k the elements are as before, and from k on they turned, or the other way round
 pub record Turned {X : Type 0} (P Q : ℕ → X → Type 0) (d : X) (xs : List X) (k n : ℕ) : Type 0 where
@@ -90,10 +90,3 @@ module _ {X : Type 0} (P : ℕ → X → Type 0) (d : X) where
   row_last old new n x row is =
       let long = row_length old new n x row is in
       subst (P (length new)) (ap (λ (xs : List X). slice_index_or xs (length new) d) is ∙ get_or_push new x d (length new) refl) (row.each (length new) (omega (arith, long)))
-
--- a row that was lent whole
-pub lent_whole : (X : Type 0) (items new : List X) (len : ℕ) → len ≡ length items → length new ≡ length items → take len (new ++ drop (length new) items) ≡ new
-lent_whole X items new len is same =
-    ap (λ (rest : List X). take len (new ++ rest)) (drop_all (length new) items (omega arith))
-    ∙ ap (take len) (append-nil new)
-    ∙ take_all len new (omega arith)

@@ -7,7 +7,7 @@ ghost use Rattle.receiver_pool.specs.inside.Numbers.{AreNumbered, ArePlaces, Are
 
 use crate::boards::blank_sheets;
 use crate::gate::Entered;
-use crate::heard::{Heard, Shown};
+use crate::group_entries::{GroupReception, GroupSheet};
 use crate::pools::take_turn;
 use slot_evidence::Sheet;
 use std::alloc::{AllocError, Global};
@@ -57,7 +57,7 @@ fn place_of(
 /// The groups that a batch names, and of each reception where its group stands among them.
 pub(crate) fn number_groups(
     alloc: Global,
-    batch: &[Heard],
+    batch: &[GroupReception],
 ) -> Result<(Vec<usize>, Vec<usize>), AllocError>
     ensures { IfOk result (λ made. AreNumbered batch.now (length batch.now) made.0.items made.1.items) }
 {
@@ -80,7 +80,13 @@ pub struct Turns {
 }
 
 /// Reads a worker's receptions into the sheets of their groups.
-fn read_into(sheets: &mut [Sheet], batch: &[Heard], places: &[usize], workers: u32, worker: u32)
+fn read_into(
+    sheets: &mut [Sheet],
+    batch: &[GroupReception],
+    places: &[usize],
+    workers: u32,
+    worker: u32,
+)
     requires worker { worker < workers }
     requires short { All IsShort batch.now }
     requires places { ArePlaces (length batch.now) (length sheets.old) places.now }
@@ -97,7 +103,7 @@ fn read_into(sheets: &mut [Sheet], batch: &[Heard], places: &[usize], workers: u
 pub(crate) fn shown_to(
     _entered: &Entered,
     alloc: Global,
-    batch: &[Heard],
+    batch: &[GroupReception],
     turns: &Turns,
     count: usize,
     worker: u32,
@@ -116,14 +122,15 @@ pub(crate) fn entries_of(
     alloc: Global,
     groups: &[usize],
     sheets: &[Sheet],
-) -> Result<Vec<Shown>, AllocError>
+) -> Result<Vec<GroupSheet>, AllocError>
     requires { length sheets.now ≡ length groups.now }
-    ensures { IfOk result (λ v. ((F : ℕ → Facts) → AreSheets F sheets.now (length groups.now) → AreShown (gathered groups.now F (length groups.now)) v.items)
+    ensures { IfOk result (λ v. ((F : ℕ → Facts) → AreSheets F sheets.now (length groups.now)
+        → AreShown (gathered groups.now F (length groups.now)) v.items)
         × ((n : ℕ) → All (IsBelow n) groups.now → All (IsOneOf n) v.items)) }
 {
     let mut entries = Vec::new(alloc);
     for (k, group) in groups.iter().enumerate() {
-        entries.push(Shown {
+        entries.push(GroupSheet {
             group: *group,
             sheet: sheets[k],
         })?;

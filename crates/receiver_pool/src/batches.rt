@@ -10,7 +10,7 @@ ghost use Rattle.receiver_pool.specs.Rows.{Sit};
 use crate::batch_groups::{Turns, entries_of, number_groups, shown_to};
 use crate::boards::{boards_for, close_each, join_each, post_each, split_each};
 use crate::gate::{Gate, enter};
-use crate::heard::{Heard, Shown};
+use crate::group_entries::{GroupReception, GroupSheet};
 use evidence_board::{AllFacts, Board, Seat, WHOLE};
 use slot_evidence::Sheet;
 use std::alloc::{AllocError, Global};
@@ -29,7 +29,8 @@ pub fn meet_at(sheets: &mut [Sheet], number: usize, shown: &Sheet)
 pub fn take_at(sheets: &mut [Sheet], number: usize) -> Sheet
     requires { number < length sheets.old }
     ensures taken { (F : ℕ → Facts) (n : ℕ) → AreSheets F sheets.old n → IsEnds (F number) result }
-    ensures left { (F : ℕ → Facts) (n : ℕ) → AreSheets F sheets.old n → AreSheets (λ k p v. not (number == k) && F k p v) sheets.new n }
+    ensures left { (F : ℕ → Facts) (n : ℕ) → AreSheets F sheets.old n
+        → AreSheets (λ k p v. not (number == k) && F k p v) sheets.new n }
 {
     let sheet = sheets[number];
     sheets[number] = Sheet::empty();
@@ -41,7 +42,7 @@ fn work<G: Gate>(
     alloc: Global,
     boards: &[Board<AllFacts>],
     mut seats: Vec<Seat<AllFacts>>,
-    batch: &[Heard],
+    batch: &[GroupReception],
     turns: &Turns,
     worker: u32,
     gate: &G,
@@ -64,7 +65,7 @@ pub(crate) fn fork_groups<R: Threads + Sync, G: Gate>(
     alloc: Global,
     boards: &[Board<AllFacts>],
     mut seats: Vec<Seat<AllFacts>>,
-    batch: &[Heard],
+    batch: &[GroupReception],
     turns: &Turns,
     low: u32,
     high: u32,
@@ -84,11 +85,13 @@ pub(crate) fn fork_groups<R: Threads + Sync, G: Gate>(
     let (first, second) = join(
         rt,
         move || -> Result<Vec<Seat<AllFacts>>, AllocError>
-            requires { IsSync R.row × IsSync G.row × ((low < middle) × (middle ≤ turns.now.workers)) × Sit (middle - low) boards.now seats.items × AreTurns (length boards.now) batch.now turns.now }
+            requires { IsSync R.row × IsSync G.row × ((low < middle) × (middle ≤ turns.now.workers))
+                × Sit (middle - low) boards.now seats.items × AreTurns (length boards.now) batch.now turns.now }
             ensures { IfOk result (λ v. HavePosted (read_by batch.entry.now turns.entry.now low middle) boards.entry.now seats.items v.items) }
         { fork_groups(rt, alloc, boards, seats, batch, turns, low, middle, gate) },
         move || -> Result<Vec<Seat<AllFacts>>, AllocError>
-            requires { IsSync R.row × IsSync G.row × ((middle < high) × (high ≤ turns.now.workers)) × Sit (high - middle) boards.now others.items × AreTurns (length boards.now) batch.now turns.now }
+            requires { IsSync R.row × IsSync G.row × ((middle < high) × (high ≤ turns.now.workers))
+                × Sit (high - middle) boards.now others.items × AreTurns (length boards.now) batch.now turns.now }
             ensures { IfOk result (λ v. HavePosted (read_by batch.entry.now turns.entry.now middle high) boards.entry.now others.items v.items) }
         { fork_groups(rt, alloc, boards, others, batch, turns, middle, high, gate) },
     );
@@ -108,7 +111,7 @@ fn start_groups<R: Threads + Sync, G: Gate>(
     alloc: Global,
     boards: &[Board<AllFacts>],
     seats: Vec<Seat<AllFacts>>,
-    batch: &[Heard],
+    batch: &[GroupReception],
     turns: &Turns,
     gate: &G,
 ) -> Result<Vec<Seat<AllFacts>>, AllocError>
@@ -126,7 +129,8 @@ fn start_groups<R: Threads + Sync, G: Gate>(
         rt,
         || {},
         move || -> Result<Vec<Seat<AllFacts>>, AllocError>
-            requires { IsSync R.row × IsSync G.row × ((1 ≤ workers) × (workers ≤ turns.now.workers)) × Sit workers boards.now seats.items × AreTurns (length boards.now) batch.now turns.now }
+            requires { IsSync R.row × IsSync G.row × ((1 ≤ workers) × (workers ≤ turns.now.workers))
+                × Sit workers boards.now seats.items × AreTurns (length boards.now) batch.now turns.now }
             ensures { IfOk result (λ v. HavePosted (read_by batch.entry.now turns.entry.now 0 workers) boards.entry.now seats.items v.items) }
         { fork_groups(rt, alloc, boards, seats, batch, turns, 0, workers, gate) },
     );
@@ -137,7 +141,7 @@ fn start_groups<R: Threads + Sync, G: Gate>(
 fn share_groups<R: Threads + Sync, G: Gate>(
     rt: &R,
     alloc: Global,
-    batch: &[Heard],
+    batch: &[GroupReception],
     turns: &Turns,
     count: usize,
     gate: &G,
@@ -162,10 +166,10 @@ fn share_groups<R: Threads + Sync, G: Gate>(
 pub fn pool_groups<R: Threads + Sync, G: Gate>(
     rt: &R,
     alloc: Global,
-    batch: &[Heard],
+    batch: &[GroupReception],
     workers: u32,
     gate: &G,
-) -> Result<Vec<Shown>, AllocError>
+) -> Result<Vec<GroupSheet>, AllocError>
     requires workers { (1 ≤ workers) × (workers ≤ 64) }
     requires short { All IsShort batch.now }
     ensures { IfOk result (λ v. Shows (facts_of_group batch.now) batch.now v.items) }

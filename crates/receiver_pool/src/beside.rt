@@ -10,7 +10,7 @@ use crate::batch_groups::{Turns, entries_of, number_groups};
 use crate::batches::fork_groups;
 use crate::boards::{boards_for, close_each, join_each, split_each};
 use crate::gate::Gate;
-use crate::heard::{Heard, Shown};
+use crate::group_entries::{GroupReception, GroupSheet};
 use evidence_board::{AllFacts, Board, Seat, WHOLE};
 use slot_evidence::Sheet;
 use std::alloc::{AllocError, Global};
@@ -58,7 +58,7 @@ fn fork_beside<R: Threads + Sync, G: Gate, B: Beside>(
     boards: &[Board<AllFacts>],
     seats: Vec<Seat<AllFacts>>,
     others: Vec<Seat<AllFacts>>,
-    batch: &[Heard],
+    batch: &[GroupReception],
     turns: &Turns,
     gate: &G,
     beside: B,
@@ -68,7 +68,8 @@ fn fork_beside<R: Threads + Sync, G: Gate, B: Beside>(
     requires seats { Sit turns.now.workers boards.now seats.items }
     requires others { Sit 1 boards.now others.items }
     requires turns { AreTurns (length boards.now) batch.now turns.now }
-    ensures { IfOk result (λ v. (share other : ℕ) (F H : ℕ → Facts) → AreSeats share F boards.now seats.items → AreSeats other H boards.now others.items
+    ensures { IfOk result (λ v. (share other : ℕ) (F H : ℕ → Facts) → AreSeats share F boards.now seats.items
+        → AreSeats other H boards.now others.items
         → AreSeats (share + other) (λ k. union (union (F k) (read_by batch.now turns.now 0 turns.now.workers k)) (H k)) boards.now v.1.items) }
 {
     let workers = turns.workers;
@@ -79,7 +80,8 @@ fn fork_beside<R: Threads + Sync, G: Gate, B: Beside>(
             ensures { AreAsBefore boards.entry.now others.items result.1.items }
         { go_beside(known, groups, boards, others, workers, gate, beside) },
         move || -> Result<Vec<Seat<AllFacts>>, AllocError>
-            requires { IsSync R.row × IsSync G.row × ((1 ≤ workers) × (workers ≤ turns.now.workers)) × Sit workers boards.now seats.items × AreTurns (length boards.now) batch.now turns.now }
+            requires { IsSync R.row × IsSync G.row × ((1 ≤ workers) × (workers ≤ turns.now.workers))
+                × Sit workers boards.now seats.items × AreTurns (length boards.now) batch.now turns.now }
             ensures { IfOk result (λ v. HavePosted (read_by batch.entry.now turns.entry.now 0 workers) boards.entry.now seats.items v.items) }
         { fork_groups(rt, alloc, boards, seats, batch, turns, 0, workers, gate) },
     );
@@ -96,7 +98,8 @@ fn halved(
     mut seats: Vec<Seat<AllFacts>>,
 ) -> Result<(Vec<Seat<AllFacts>>, Vec<Seat<AllFacts>>), AllocError>
     requires { AreSeats WHOLE (λ k. no_facts) boards.now seats.items }
-    ensures { IfOk result (λ v. AreSeats (WHOLE / 2) (λ k. no_facts) boards.now v.0.items × AreSeats (WHOLE / 2) (λ k. no_facts) boards.now v.1.items) }
+    ensures { IfOk result (λ v. AreSeats (WHOLE / 2) (λ k. no_facts) boards.now v.0.items
+        × AreSeats (WHOLE / 2) (λ k. no_facts) boards.now v.1.items) }
 {
     let others = split_each(alloc, boards, &mut seats)?;
     Ok((seats, others))
@@ -108,7 +111,7 @@ fn share_beside<R: Threads + Sync, G: Gate, B: Beside>(
     alloc: Global,
     known: &[Sheet],
     groups: &[usize],
-    batch: &[Heard],
+    batch: &[GroupReception],
     turns: &Turns,
     gate: &G,
     beside: B,
@@ -134,11 +137,11 @@ pub fn pool_groups_beside<R: Threads + Sync, G: Gate, B: Beside>(
     rt: &R,
     alloc: Global,
     known: &[Sheet],
-    batch: &[Heard],
+    batch: &[GroupReception],
     workers: u32,
     gate: &G,
     beside: B,
-) -> Result<(Vec<Shown>, B), AllocError>
+) -> Result<(Vec<GroupSheet>, B), AllocError>
     requires workers { (1 ≤ workers) × (workers ≤ 64) }
     requires short { All IsShort batch.now }
     ensures { IfOk result (λ v. Shows (facts_of_group batch.now) batch.now v.0.items) }

@@ -35,7 +35,8 @@ pub(crate) fn post_sheet<A: Allowed>(board: &Board<A>, seat: &mut Seat<A>, sheet
     requires allowed { OnlyAllowed A.facts sheet.now }
     ensures board { seat.new.table ≡ board.now }
     ensures share { seat.new.view.share ≡ seat.old.view.share }
-    ensures ends { (F G : Facts) → IsEnds F (given_sheet seat.old.view) → IsEnds G sheet.now → IsEnds (union F G) (given_sheet seat.new.view) }
+    ensures ends { (F G : Facts) → IsEnds F (given_sheet seat.old.view) → IsEnds G sheet.now
+        → IsEnds (union F G) (given_sheet seat.new.view) }
 {
     sheet_is_lawful(sheet);
     if *sheet == Sheet::empty() {
@@ -48,7 +49,8 @@ pub(crate) fn post_sheet<A: Allowed>(board: &Board<A>, seat: &mut Seat<A>, sheet
 pub(crate) fn post_each(boards: &[Board<AllFacts>], seats: &mut [Seat<AllFacts>], sheets: &[Sheet])
     requires seats { Sit 1 boards.now seats.old }
     requires sheets { (G : ℕ → Facts) × AreSheets G sheets.now (length boards.now) }
-    ensures { (share : ℕ) (F G : ℕ → Facts) → AreSeats share F boards.now seats.old → AreSheets G sheets.now (length boards.now)
+    ensures { (share : ℕ) (F G : ℕ → Facts) → AreSeats share F boards.now seats.old
+        → AreSheets G sheets.now (length boards.now)
         → AreSeats share (λ k. union (F k) (G k)) boards.now seats.new }
 {
     all_facts_may_be_posted();
@@ -84,7 +86,8 @@ pub(crate) fn join_each(
 )
     requires seats { Sit 1 boards.now seats.old }
     requires others { Sit 1 boards.now others.items }
-    ensures { (share other : ℕ) (F G : ℕ → Facts) → AreSeats share F boards.now seats.old → AreSeats other G boards.now others.items
+    ensures { (share other : ℕ) (F G : ℕ → Facts) → AreSeats share F boards.now seats.old
+        → AreSeats other G boards.now others.items
         → AreSeats (share + other) (λ k. union (F k) (G k)) boards.now seats.new }
 {
     while let Some(other) = others.pop() {
@@ -109,7 +112,8 @@ pub(crate) fn close_each(
     seats: Vec<Seat<AllFacts>>,
 ) -> Result<Vec<Sheet>, AllocError>
     requires { (F : ℕ → Facts) × AreSeats WHOLE F boards.items seats.items }
-    ensures { IfOk result (λ v. (F : ℕ → Facts) → AreSeats WHOLE F boards.items seats.items → AreSheets F v.items (length boards.items)) }
+    ensures { IfOk result (λ v. (F : ℕ → Facts) → AreSeats WHOLE F boards.items seats.items
+        → AreSheets F v.items (length boards.items)) }
 {
     let mut sheets = blank_sheets(alloc, boards.len())?;
     close_into(&mut sheets, boards, seats);
@@ -124,7 +128,8 @@ fn close_into(
 )
     requires seats { (F : ℕ → Facts) × AreSeats WHOLE F boards.items seats.items }
     requires sheets { length sheets.old ≡ length boards.items }
-    ensures { (F : ℕ → Facts) → AreSeats WHOLE F boards.items seats.items → AreSheets F sheets.new (length boards.items) }
+    ensures { (F : ℕ → Facts) → AreSeats WHOLE F boards.items seats.items
+        → AreSheets F sheets.new (length boards.items) }
 {
     while let Some(board) = boards.pop() {
         let Some(seat) = seats.pop() else {

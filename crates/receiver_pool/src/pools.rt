@@ -54,7 +54,8 @@ fn work<A: Allowed, G: Gate>(
     requires short { All (λ heard. length heard ≤ LONGEST) list.now }
     ensures board { result.table ≡ board.now }
     ensures share { result.view.share ≡ seat.view.share }
-    ensures ends { (F : Facts) → IsEnds F (given_sheet seat.view) → IsEnds (union F (part (is_turn workers worker (worker + 1)) list.now (length list.now))) (given_sheet result.view) }
+    ensures ends { (F : Facts) → IsEnds F (given_sheet seat.view)
+        → IsEnds (union F (part (is_turn workers worker (worker + 1)) list.now (length list.now))) (given_sheet result.view) }
 {
     let entered = enter(gate, worker);
     let sheet = heard_by(&entered, list, workers, worker);
@@ -82,7 +83,8 @@ fn fork<A: Allowed, R: Threads + Sync, G: Gate>(
     requires short { All (λ heard. length heard ≤ LONGEST) list.now }
     ensures board { result.table ≡ board.now }
     ensures share { result.view.share ≡ seat.view.share }
-    ensures ends { (F : Facts) → IsEnds F (given_sheet seat.view) → IsEnds (union F (part (is_turn workers low high) list.now (length list.now))) (given_sheet result.view) }
+    ensures ends { (F : Facts) → IsEnds F (given_sheet seat.view)
+        → IsEnds (union F (part (is_turn workers low high) list.now (length list.now))) (given_sheet result.view) }
 {
     if high - low == 1 {
         return work(board, seat, list, workers, low, gate);
@@ -92,12 +94,20 @@ fn fork<A: Allowed, R: Threads + Sync, G: Gate>(
     let (first, second) = join(
         rt,
         move || -> Seat<A>
-            requires { IsSync R.row × IsSync A.row × IsSend A.row × IsSync G.row × (first.table ≡ board.now) × MayAllBePosted A.facts list.now × ((low < middle) × (middle ≤ workers)) × (middle ≤ low + first.view.share) × All (λ heard. length heard ≤ LONGEST) list.now }
-            ensures { (result.table ≡ board.entry.now) × (result.view.share ≡ first.view.share) × ((F : Facts) → IsEnds F (given_sheet first.view) → IsEnds (union F (part (is_turn workers low middle) list.entry.now (length list.entry.now))) (given_sheet result.view)) }
+            requires { IsSync R.row × IsSync A.row × IsSend A.row × IsSync G.row × (first.table ≡ board.now)
+                × MayAllBePosted A.facts list.now × ((low < middle) × (middle ≤ workers))
+                × (middle ≤ low + first.view.share) × All (λ heard. length heard ≤ LONGEST) list.now }
+            ensures { (result.table ≡ board.entry.now) × (result.view.share ≡ first.view.share)
+                × ((F : Facts) → IsEnds F (given_sheet first.view)
+                → IsEnds (union F (part (is_turn workers low middle) list.entry.now (length list.entry.now))) (given_sheet result.view)) }
         { fork(rt, board, first, list, low, middle, workers, gate) },
         move || -> Seat<A>
-            requires { IsSync R.row × IsSync A.row × IsSend A.row × IsSync G.row × (second.table ≡ board.now) × MayAllBePosted A.facts list.now × ((middle < high) × (high ≤ workers)) × (high ≤ middle + second.view.share) × All (λ heard. length heard ≤ LONGEST) list.now }
-            ensures { (result.table ≡ board.entry.now) × (result.view.share ≡ second.view.share) × ((F : Facts) → IsEnds F (given_sheet second.view) → IsEnds (union F (part (is_turn workers middle high) list.entry.now (length list.entry.now))) (given_sheet result.view)) }
+            requires { IsSync R.row × IsSync A.row × IsSend A.row × IsSync G.row × (second.table ≡ board.now)
+                × MayAllBePosted A.facts list.now × ((middle < high) × (high ≤ workers))
+                × (high ≤ middle + second.view.share) × All (λ heard. length heard ≤ LONGEST) list.now }
+            ensures { (result.table ≡ board.entry.now) × (result.view.share ≡ second.view.share)
+                × ((F : Facts) → IsEnds F (given_sheet second.view)
+                → IsEnds (union F (part (is_turn workers middle high) list.entry.now (length list.entry.now))) (given_sheet result.view)) }
         { fork(rt, board, second, list, middle, high, workers, gate) },
     );
     board.join(first, second)
@@ -121,7 +131,8 @@ pub fn post_all<A: Allowed, R: Threads + Sync, G: Gate>(
     requires short { All (λ heard. length heard ≤ LONGEST) list.now }
     ensures board { result.table ≡ board.now }
     ensures share { result.view.share ≡ seat.view.share }
-    ensures ends { (F : Facts) → IsEnds F (given_sheet seat.view) → IsEnds (union F (facts_of_all list.now)) (given_sheet result.view) }
+    ensures ends { (F : Facts) → IsEnds F (given_sheet seat.view)
+        → IsEnds (union F (facts_of_all list.now)) (given_sheet result.view) }
 {
     fork(rt, board, seat, list, 0, workers, workers, gate)
 }

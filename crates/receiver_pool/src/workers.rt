@@ -7,7 +7,7 @@ ghost use Rattle.receiver_pool.specs.Joining.{JoinsBatches};
 
 use crate::batches::meet_at;
 use crate::gate::{Entered, Gate, enter};
-use crate::heard::{Heard, Shown};
+use crate::group_entries::{GroupReception, GroupSheet};
 use phasing::LONGEST;
 use slot_evidence::{Reception, Sheet, shown_by};
 use std::alloc::AllocError;
@@ -23,10 +23,11 @@ pub trait Joiner: Drop {
         ensures { IfSome result (λ sheet. IsEnds (facts_of heard.now) sheet) };
 
     /// Joins a batch of receptions into the sheets of their groups. The error is want of memory.
-    fn join_into(&self, sheets: &mut [Sheet], batch: &[Heard]) -> Result<(), AllocError>
+    fn join_into(&self, sheets: &mut [Sheet], batch: &[GroupReception]) -> Result<(), AllocError>
         requires joins { can_join self.now }
         requires belong { All (Belongs (length sheets.old)) batch.now }
-        ensures { OnOk result ((F : ℕ → Facts) (n : ℕ) → AreSheets F sheets.old n → AreSheets (λ k. union (F k) (facts_of_group batch.now k)) sheets.new n) };
+        ensures { OnOk result ((F : ℕ → Facts) (n : ℕ) → AreSheets F sheets.old n
+            → AreSheets (λ k. union (F k) (facts_of_group batch.now k)) sheets.new n) };
 }
 
 /// Those who join receptions: one worker, who joins each at once, or several, who read batches by this function, as `pool_groups` does.
@@ -51,7 +52,7 @@ impl<J: Drop> Workers<J> {
     }
 }
 
-impl<J: Drop + Fn(&[Heard]) -> Result<Vec<Shown>, AllocError>> Joiner for Workers<J> {
+impl<J: Drop + Fn(&[GroupReception]) -> Result<Vec<GroupSheet>, AllocError>> Joiner for Workers<J> {
     ghost can_join = { λ workers. JoinsBatches (J.pre workers.join) (J.post workers.join) };
 
     fn read_alone(&self, heard: &Reception) -> Option<Sheet> {
@@ -61,7 +62,7 @@ impl<J: Drop + Fn(&[Heard]) -> Result<Vec<Shown>, AllocError>> Joiner for Worker
         }
     }
 
-    fn join_into(&self, sheets: &mut [Sheet], batch: &[Heard]) -> Result<(), AllocError> {
+    fn join_into(&self, sheets: &mut [Sheet], batch: &[GroupReception]) -> Result<(), AllocError> {
         let entries = (self.join)(batch)?;
         meet_entries(sheets, &entries);
         Ok(())
@@ -77,9 +78,10 @@ fn read_by(_entered: &Entered, heard: &Reception) -> Sheet
 }
 
 /// Takes what was shown of groups into their sheets.
-pub fn meet_entries(sheets: &mut [Sheet], entries: &[Shown])
+pub fn meet_entries(sheets: &mut [Sheet], entries: &[GroupSheet])
     requires { All (IsOneOf (length sheets.old)) entries.now }
-    ensures { (F G : ℕ → Facts) (n : ℕ) → AreSheets F sheets.old n → AreShown G entries.now → AreSheets (λ k. union (F k) (G k)) sheets.new n }
+    ensures { (F G : ℕ → Facts) (n : ℕ) → AreSheets F sheets.old n → AreShown G entries.now
+        → AreSheets (λ k. union (F k) (G k)) sheets.new n }
 {
     for entry in entries {
         meet_at(sheets, entry.group, &entry.sheet);

@@ -4,11 +4,11 @@ use Rattle.std.specs.List.{list_all, flat_map}
 use Rattle.line_grammar.specs.Columns.{IsColumn}
 use Rattle.line_engine.specs.Lines.{Lines}
 use Rattle.line_engine.specs.Meaning.{Meaning}
-use Rattle.dsc_files.specs.declared.calls.CallLine.{CallLine}
-use Rattle.dsc_files.specs.declared.calls.CallLine.TheVariants as line
-use Rattle.dsc_files.specs.declared.sentences.SentenceLine.{SentenceLine}
-use Rattle.dsc_files.specs.declared.sentences.SentenceLine.TheVariants.{Said, Sentence}
-use Rattle.dsc_files.specs.SentenceLine.{IsSentenceLine}
+use Rattle.dsc_lines.specs.declared.calls.CallLine.{CallLine}
+use Rattle.dsc_lines.specs.declared.calls.CallLine.TheVariants as line
+use Rattle.dsc_lines.specs.declared.sentences.SentenceLine.{SentenceLine}
+use Rattle.dsc_lines.specs.declared.sentences.SentenceLine.TheVariants.{Said, Sentence}
+use Rattle.dsc_lines.specs.SentenceLine.{IsSentenceLine}
 use Rattle.dsc_sentences.specs.declared.verdicts.Verdict.{Verdict}
 use Rattle.dsc_sentences.specs.declared.verdicts.Verdict.TheVariants.{Accepted, Refused}
 use Rattle.dsc_sentences.specs.CallSentences.{sentences_of}

@@ -4,7 +4,7 @@ ghost use Rattle.dsc_sentences.specs.CallSentences.{sentences_of};
 ghost use Rattle.sentence_files.specs.Telling.{call_sentences, is_accepted, is_well, line_text, sentences_meaning};
 ghost use Rattle.sentence_files.specs.inside.Progress.{HasTold};
 
-use dsc_files::{CallLine, SentenceLine, Status, sentence_line};
+use dsc_lines::{CallLine, SentenceLine, Status, sentence_line};
 use dsc_sentences::{Verdict, put_sentences, put_verdict, verdict_on};
 use line_engine::{Command, Refusal};
 use std::alloc::AllocError;
@@ -48,8 +48,10 @@ impl Sentences {
 
     /// Appends the verdict on a sentence.
     fn judge(&mut self, sentence: &[u8], out: &mut Vec<u8>) -> Result<(), AllocError>
-        ensures text { OnOk result (out.new.items ≡ out.old.items ++ (verdict_text (verdict_of sentence.now) ++ 10 ∷ [])) }
-        ensures refused { OnOk result (self.new.refused ≡ (self.old.refused || not (is_accepted (verdict_of sentence.now)))) }
+        ensures text { OnOk result (out.new.items
+            ≡ out.old.items ++ (verdict_text (verdict_of sentence.now) ++ 10 ∷ [])) }
+        ensures refused { OnOk result (self.new.refused
+            ≡ (self.old.refused || not (is_accepted (verdict_of sentence.now)))) }
     {
         let verdict = verdict_on(sentence);
         out.extend_from_slice(&put_verdict(&verdict))?;

@@ -8,6 +8,7 @@ use Rattle.sentence_frame.specs.Refusals.{texts, framed, opened}
 use Rattle.sentence_frame.specs.Shapes.{is_among}
 use Rattle.sentence_frame.specs.declared.refusals.SentenceRefusal.TheVariants.{FieldCount}
 
+-- this byte is a comma
 abbrev pub is_comma : ℕ → Bool
 is_comma b = nat_eq b 44
 

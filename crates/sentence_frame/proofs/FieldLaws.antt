@@ -9,6 +9,7 @@ use Rattle.line_grammar.specs.Tokens.{is_digit, value_after}
 use Rattle.line_grammar.proofs.Digits.{value_of_digits}
 use Rattle.line_grammar.proofs.DigitSteps.{value_push}
 use Rattle.line_grammar.proofs.ShapesNumerals.{digits_length, digits_all}
+use Rattle.line_grammar.proofs.Numbers.{digit_bounds}
 use Rattle.sentence_frame.specs.Shapes as shape
 use Rattle.sentence_frame.specs.Shapes.{Shape, accepts, are_digits, is_among, is_nothing, number_of, digits_of}
 use Rattle.sentence_frame.specs.Texts.{digits, digit_text, perhaps_text, AreDigits, IsDigits, IsUpToDigits}
@@ -28,9 +29,6 @@ front_last n t h =
     let none : drop (suc n) t ≡ [] = drop_all (suc n) t (omega (arith, h)) in
     sym (take-append-drop n t) ∙ ap (λ (l : List ℕ). take n t ++ l) (last ∙ ap (λ (l : List ℕ). get_or t n 0 ∷ l) none)
 
-digit_range : (b : ℕ) → is_digit b ≡ true → (48 ≤ b) × (b ≤ 57)
-digit_range b h = let k = and_parts (nat_le 48 b) (nat_le b 57) h in (leb-true 48 b k.0, leb-true b 57 k.1)
-
 digits_again : (width : ℕ) (t : List ℕ) → length t ≡ width → list_all is_digit t ≡ true → digits width (value_after 0 t) ≡ t
 unfolding digits
 digits_again zero [] h all = refl
@@ -39,7 +37,7 @@ digits_again (suc width) t h all =
     let front = take width t in
     let b = get_or t width 0 in
     let parts : t ≡ front ++ b ∷ [] = front_last width t h in
-    let digit = digit_range b (passes_at is_digit t width (omega (arith, h)) all) in
+    let digit = digit_bounds b (passes_at is_digit t width (omega (arith, h)) all) in
     let both = and_parts (list_all is_digit front) (is_digit b && true)
     (sym (list_all-append is_digit front (b ∷ [])) ∙ ap (λ (l : List ℕ). list_all is_digit l) (sym parts) ∙ all) in
     let n = value_after 0 front in
@@ -93,6 +91,7 @@ among_below most (m ∷ numbers) n all h =
       | inr there ↦ among_below most numbers n both.1 there
     ]
 
+-- a code of two digits is written and read back
 pub code_kind : (numbers : List ℕ) → are_below 100 numbers ≡ true → IsKind (shape.code numbers) (digits 2) number_of (λ n. is_among numbers n ≡ true)
 unfolding accepts
 code_kind numbers all = record {
@@ -132,14 +131,14 @@ values_digits : (t : List ℕ) → list_all is_digit t ≡ true → AreDigits (d
 values_digits [] h = refl
 values_digits (b ∷ t) h =
     let both = and_parts (is_digit b) (list_all is_digit t) h in
-    let range = digit_range b both.0 in
+    let range = digit_bounds b both.0 in
     and_from (is_value (b - 48)) (list_all is_value (digits_of t)) (lt-ltb (b - 48) 10 (omega (arith, range))) (values_digits t both.1)
 
 text_again : (t : List ℕ) → list_all is_digit t ≡ true → digit_text (digits_of t) ≡ t
 text_again [] h = refl
 text_again (b ∷ t) h =
     let both = and_parts (is_digit b) (list_all is_digit t) h in
-    let range = digit_range b both.0 in
+    let range = digit_bounds b both.0 in
     let e : 48 + (b - 48) ≡ b = omega (arith, range) in
     ap (λ (c : ℕ). c ∷ digit_text (digits_of t)) e ∙ ap (λ (l : List ℕ). b ∷ l) (text_again t both.1)
 
@@ -149,6 +148,7 @@ text_length values = simp length-map
 values_length : (t : List ℕ) → length (digits_of t) ≡ length t
 values_length t = simp length-map
 
+-- so many digits are written and read back
 pub digits_kind : (width : ℕ) → IsKind (shape.digits width) digit_text digits_of (IsDigits width)
 unfolding accepts
 digits_kind width = record {
@@ -160,6 +160,7 @@ digits_kind width = record {
   again = λ t h. text_again t (are_digits_facts width t h).all;
 }
 
+-- up to so many digits are written and read back
 pub up_to_kind : (width : ℕ) → IsKind (shape.at_most width) digit_text digits_of (IsUpToDigits width)
 unfolding accepts
 up_to_kind width = record {
@@ -200,6 +201,7 @@ unfolding accepts
 perhaps_again s text value Fits k [] h = refl
 perhaps_again s text value Fits k (b ∷ t) h = k.again (b ∷ t) h
 
+-- a field that may be empty is written and read back
 pub maybe_kind : {V : Type 0} (s : Shape) (text : V → List ℕ) (value : List ℕ → V) (Fits : V → Type 0) → IsKind s text value Fits → accepts s [] ≡ false → IsKind (shape.maybe s) (perhaps_text text) (perhaps value) (λ o. IfSome o Fits)
 maybe_kind s text value Fits k none = record {
   shown = perhaps_shown s text value Fits k;

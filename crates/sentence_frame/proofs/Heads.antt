@@ -21,6 +21,7 @@ pub record IsHead (head : List ℕ) : Type 0 where
   pub long : 4 < length head
   pub clean : list_all is_clean (drop 1 head) ≡ true
 
+-- what passes as a head is one
 pub head_facts : (head : List ℕ) → is_head head ≡ true → IsHead head
 unfolding is_head
 head_facts head h =
@@ -33,6 +34,7 @@ pub record Begins (head bytes : List ℕ) : Type 0 where
   pub comma : get_or bytes (length head) 0 ≡ 44
   pub long : length head < length bytes
 
+-- bytes that pass as beginning with a head do
 pub begins_facts : (head bytes : List ℕ) → begins head bytes ≡ true → Begins head bytes
 begins_facts head bytes b =
     let both = and_parts (starts_with nat_eq bytes head) (nat_eq (get_or bytes (length head) 0) 44) b in
@@ -67,6 +69,7 @@ pub record IsEnding (bytes : List ℕ) : Type 0 where
   pub cr : get_or bytes 3 0 ≡ 13
   pub lf : get_or bytes 4 0 ≡ 10
 
+-- what passes as an ending is one
 pub ending_facts : (bytes : List ℕ) → is_ending bytes ≡ true → IsEnding bytes
 ending_facts bytes h =
     let a = nat_eq (length bytes) 5 in

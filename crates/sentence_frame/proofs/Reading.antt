@@ -25,11 +25,13 @@ length_text (b ∷ t) rest h e =
     let k = length_text t rest both.1 e in
     rw here (omega (arith, k))
 
+-- the first text behind a comma reaches to the next comma
 pub first_behind : (t : List ℕ) (ts : List (List ℕ)) → has_no_comma t ≡ true → first_of (behind_commas (t ∷ ts)) ≡ t
 unfolding first_of
 first_behind t ts h =
     ap (λ (k : ℕ). take k (t ++ behind_commas ts)) (length_text t (behind_commas ts) h (length_behind ts)) ∙ take-append_seam t (behind_commas ts)
 
+-- behind the first text the others follow
 pub rest_behind : (t : List ℕ) (ts : List (List ℕ)) → has_no_comma t ≡ true → rest_of (behind_commas (t ∷ ts)) ≡ behind_commas ts
 unfolding rest_of
 rest_behind t ts h =
@@ -39,6 +41,7 @@ rest_behind t ts h =
 abbrev pub Agrees : {V : Type 0} → Result V SentenceRefusal → Result (List (List ℕ)) SentenceRefusal → List (List ℕ) → (V → Type 0) → Type 0
 Agrees read judgement all P = MatchResult read (λ v. (judgement ≡ Ok all) × P v) (λ e. judgement ≡ Err e)
 
+-- a reader that takes one field more agrees with the judgement of all
 pub agree_step : {V W : Type 0} (k : ℕ) (s : Shape) (value : List ℕ → W) (t : List ℕ) (more : W → Result V SentenceRefusal) (judgement : Result (List (List ℕ)) SentenceRefusal) (all : List (List ℕ)) (P : V → Type 0)
     → (accepts s t ≡ true → Agrees (more (value t)) judgement all P)
     → Agrees (and_then (field k s value t) more) (cond (accepts s t) judgement (Err (Field k))) all P

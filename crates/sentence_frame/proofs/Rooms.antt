@@ -64,6 +64,7 @@ sentence_short head ts room h fits =
     let whole = head ++ behind_commas ts in
     omega (arith, h, fits, length-append whole (ending (checksum (drop 1 whole))), length-append head (behind_commas ts))
 
+-- texts that are accepted and fit are those of the form
 pub are_texts : (form : Form) (ts : List (List ℕ)) → is_head form.head ≡ true → ts ≢ [] → is_among form.counts (length ts) ≡ true → length (form.shapes ts) ≡ length ts → list_all has_plain_letters (form.shapes ts) ≡ true → length form.head + total (form.shapes ts) ≤ 77 → accepted (form.shapes ts) ts ≡ true → AreTexts form ts
 are_texts form ts head some count same letters room all = record {
   head = head;

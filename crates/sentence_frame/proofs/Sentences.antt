@@ -59,6 +59,7 @@ open_ok head counts bytes fields (Ok all) h =
       | inr isnt ↦ absurd (let k = rw isnt at h in cc)
     ]
 
+-- a sentence that is opened has its head, its checksum and so many fields
 pub opened_sound : (head counts bytes fields : List ℕ) → opened head counts bytes ≡ Ok fields → IsOpened head counts bytes fields
 unfolding opened
 opened_sound head counts bytes fields h =
@@ -71,6 +72,7 @@ pub record AreCut (head bytes fields : List ℕ) : Type 0 where
   pub cut : fields ≡ behind_commas (texts fields)
   pub free : list_all has_no_comma (texts fields) ≡ true
 
+-- a sentence's frame is cut at its commas
 pub framed_cut : (head bytes fields : List ℕ) → is_head head ≡ true → framed head bytes ≡ Ok fields → AreCut head bytes fields
 unfolding sentence
 framed_cut head bytes fields h e =
@@ -91,6 +93,7 @@ texts_step form bytes ts (Ok fields) o h =
     let k = judged_all 1 (form.shapes (texts fields)) (texts fields) (texts fields) ts h in
     (fields, o, sym k.1)
 
+-- what is read as texts is their sentence
 pub texts_sound : (form : Form) (bytes : List ℕ) (ts : List (List ℕ)) → is_head form.head ≡ true → texts_of form bytes ≡ Ok ts → bytes ≡ sentence form.head ts
 unfolding texts_of
 texts_sound form bytes ts h e =
@@ -113,6 +116,7 @@ pub texts_cut : (ts : List (List ℕ)) → ts ≢ [] → list_all are_plain ts �
 texts_cut [] some plain = absurd (some refl)
 texts_cut (t ∷ ts) some plain = texts_behind t ts (all_free (t ∷ ts) plain)
 
+-- a sentence's texts are read back
 pub texts_back : (form : Form) (ts : List (List ℕ)) → AreTexts form ts → texts_of form (sentence form.head ts) ≡ Ok ts
 unfolding texts_of
 texts_back form ts a =
@@ -120,6 +124,7 @@ texts_back form ts a =
     let cut : texts (behind_commas ts) ≡ ts = texts_cut ts a.some a.plain in
     rw o (ap (λ (l : List (List ℕ)). judged 1 (form.shapes l) l l) cut ∙ a.accepted)
 
+-- a sentence of more than 82 bytes is too long
 pub texts_too_long : (form : Form) (bytes : List ℕ) → 82 < length bytes → texts_of form bytes ≡ Err (TooLong (length bytes))
 unfolding texts_of opened
 texts_too_long form bytes h =

@@ -9,7 +9,7 @@ use arrayvec::ArrayVec;
 use text_pieces::append;
 
 /// A sentence that begins with this head.
-pub fn begun(head: &[u8]) -> ArrayVec<u8, LONGEST_SENTENCE>
+pub fn begin_sentence(head: &[u8]) -> ArrayVec<u8, LONGEST_SENTENCE>
     requires { length head.now ≤ 82 }
     ensures { result.items ≡ head.now }
 {
@@ -19,7 +19,7 @@ pub fn begun(head: &[u8]) -> ArrayVec<u8, LONGEST_SENTENCE>
 }
 
 /// Appends a comma and a text.
-pub fn put(out: &mut ArrayVec<u8, LONGEST_SENTENCE>, text: &[u8])
+pub fn append_field(out: &mut ArrayVec<u8, LONGEST_SENTENCE>, text: &[u8])
     requires { array_vec_len out.old + length text.now < 82 }
     ensures items { out.new.items ≡ out.old.items ++ 44 ∷ text.now }
     ensures len { array_vec_len out.new ≡ array_vec_len out.old + 1 + length text.now }
@@ -42,7 +42,7 @@ pub fn append_fixed_number<const N: usize>(out: &mut ArrayVec<u8, N>, width: usi
 }
 
 /// Appends a comma and a number in so many digits.
-pub fn put_number(out: &mut ArrayVec<u8, LONGEST_SENTENCE>, width: usize, number: u32)
+pub fn append_number_field(out: &mut ArrayVec<u8, LONGEST_SENTENCE>, width: usize, number: u32)
     requires { array_vec_len out.old + width < 82 }
     ensures items { out.new.items ≡ out.old.items ++ 44 ∷ digits width number }
     ensures len { array_vec_len out.new ≡ array_vec_len out.old + 1 + width }
@@ -64,7 +64,7 @@ pub fn append_digit_text<const N: usize>(out: &mut ArrayVec<u8, N>, digits: &[u8
 }
 
 /// Appends a comma and digits.
-pub fn put_digits(out: &mut ArrayVec<u8, LONGEST_SENTENCE>, digits: &[u8])
+pub fn append_digits_field(out: &mut ArrayVec<u8, LONGEST_SENTENCE>, digits: &[u8])
     requires room { array_vec_len out.old + length digits.now < 82 }
     requires digits { AreDigits digits.now }
     ensures items { out.new.items ≡ out.old.items ++ 44 ∷ digit_text digits.now }
@@ -75,7 +75,7 @@ pub fn put_digits(out: &mut ArrayVec<u8, LONGEST_SENTENCE>, digits: &[u8])
 }
 
 /// Appends a comma, and digits where there are some.
-pub fn put_perhaps_digits<const N: usize>(
+pub fn append_perhaps_digits_field<const N: usize>(
     out: &mut ArrayVec<u8, LONGEST_SENTENCE>,
     digits: &Option<[u8; N]>,
 )

@@ -18,6 +18,7 @@ use Rattle.ship_station.specs.Past.{open_alert, delays_left}
 use Rattle.ship_station.specs.ShipRules.{Identities, held, refused_where, refusal_at, due_at, ship_rules}
 use Rattle.ship_station.specs.Stands.{Keeps, Stands}
 
+-- a ship that takes an event stands for the longer history
 pub accepted : (who : Identities) (h : History ShipWhat) (at : ℕ) (what : ShipWhat) (acts : List Act) (new : Ship) → last_moment h ≤ at → IsShipWhat what
     → Legal (ship_rules who) h → refusal_at who h what ≡ None → due_at who h at what ≡ acts
     → Keeps new who (record { at = at; what = what; acts = acts } ∷ h) → Stands new who (continued (ship_rules who) h at what)
@@ -26,6 +27,7 @@ accepted who h at what acts new late event legal none due keeps =
     let here = subst (λ (some : List Act). Keeps new who (record { at = at; what = what; acts = some } ∷ h)) (sym due) keeps in
     (legal_continued (ship_rules who) h at what event legal, subst (λ (g : History ShipWhat). Keeps new who g) (sym goes) here)
 
+-- where its cause doesn't hold a refusal doesn't come
 pub not_refused : (test : Bool) (refusal : StationRefusal) → test ≡ false → refused_where test refusal ≡ None
 not_refused test refusal h = ap (λ b. refused_where b refusal) h
 

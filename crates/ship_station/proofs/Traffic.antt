@@ -21,9 +21,11 @@ use Rattle.ship_station.specs.Past.{is_attempt, is_end, kept, open_alert, last_a
 use Rattle.ship_station.specs.ShipRules.{Identities, attempt, at_tick, at_call}
 use Rattle.ship_station.specs.Stands.{Keeps}
 
+-- no act of traffic is an attempt
 pub attempts_missed : Misses is_attempt
 attempts_missed = record { sent = λ c is. refl; shown = refl; held = λ n. refl; answered = λ n. refl; gave_up = λ n. refl; distress = λ c. refl }
 
+-- no act of traffic ends the alert
 pub ends_missed : Misses is_end
 ends_missed = record { sent = λ c is. refl; shown = refl; held = λ n. refl; answered = λ n. refl; gave_up = λ n. refl; distress = λ c. refl }
 
@@ -45,6 +47,7 @@ passed_quiet : (own : ℕ) (place : Whereabouts) (alert : OwnAlert) (passed : Bo
 passed_quiet own place alert true = record { begin = λ k. refl; end = λ k. refl }
 passed_quiet own place alert false = record { begin = λ k. refl; end = λ k. refl }
 
+-- the acts of a tick are no acts of traffic
 pub tick_quiet : (own : ℕ) (place : Whereabouts) (alert : Option OwnAlert) (delays : List ℕ) (last at : ℕ) → AreQuiet (at_tick own place alert delays last at)
 tick_quiet own place (Some alert) (delay ∷ delays) last at = passed_quiet own place alert (has_passed delay last at)
 tick_quiet own place (Some alert) [] last at = record { begin = λ k. refl; end = λ k. refl }

@@ -5,31 +5,31 @@ use std::marker::Model;
 
 /// At most 16 groups of ships, by their identities.
 #[derive(Drop)]
-pub(crate) struct Groups {
-    places: [Mmsi; 16],
+pub(crate) struct OwnGroups {
+    identities: [Mmsi; 16],
     count: usize,
 }
 
-impl Model for Groups {
+impl Model for OwnGroups {
     ghost use Rattle.std.specs.Prelude.{ℕ, List, ◌≤◌, take};
 
     ghost Value = { List ℕ };
 
-    ghost view = { λ g. take g.count g.places };
+    ghost view = { λ g. take g.count g.identities };
 
     ghost invariant = { λ g. g.count ≤ 16 };
 }
 
-impl Groups {
+impl OwnGroups {
     /// These groups. The places behind them hold an identity of no meaning.
-    pub(crate) fn new(groups: &[Mmsi], blank: Mmsi) -> Groups
+    pub(crate) fn new(groups: &[Mmsi], blank: Mmsi) -> OwnGroups
         requires { length groups.now ≤ 16 }
         ensures { result ≡ groups.now }
     {
-        let mut places = [blank; 16];
-        places[..groups.len()].copy_from_slice(groups);
-        Groups {
-            places,
+        let mut identities = [blank; 16];
+        identities[..groups.len()].copy_from_slice(groups);
+        OwnGroups {
+            identities,
             count: groups.len(),
         }
     }
@@ -38,6 +38,6 @@ impl Groups {
     pub(crate) fn list(&self) -> &[Mmsi]
         ensures { result.now ≡ self.now }
     {
-        &self.places[..self.count]
+        &self.identities[..self.count]
     }
 }

@@ -1,3 +1,4 @@
+//! Laws: each function here does nothing, and its contract is a theorem over definitions.
 ghost use Rattle.std.specs.Prelude.{◌≡◌, ℕ, ◌+◌, ◌≤◌, ◌⊎◌, Bool, false, List, ◌∷◌, ◌++◌, IsTrue};
 ghost use Rattle.call_values.specs.declared.calls.Call.{Call};
 ghost use Rattle.traffic_rules.specs.declared.acts.Act.{Act};
@@ -14,38 +15,42 @@ ghost use Rattle.ship_station.specs.ShipRules.{Identities, ship_rules};
 use call_values::bounds::SHORTEST_ALERT_DELAY;
 
 /// The law that after the end of a distress alert no attempt comes before the next event that begins one, in every legal
-/// history. It does nothing.
+/// history.
 pub fn no_attempt_after_an_end()
-    ensures { (who : Identities) (later earlier : History ShipWhat) (ended : Entry ShipWhat) → Legal (ship_rules who) (later ++ ended ∷ earlier)
+    ensures { (who : Identities) (later earlier : History ShipWhat) (ended : Entry ShipWhat)
+        → Legal (ship_rules who) (later ++ ended ∷ earlier)
         → IsTrue (does is_end ended) → NoneIs begins_alert later → NoneIs (does is_attempt) later }
 {}
 
 /// The law that after the end of its distress alert a ship sends no distress alert, however often in a row, before the next event that
-/// begins one, in every legal history. It does nothing.
+/// begins one, in every legal history.
 pub fn no_alert_after_an_end()
-    ensures { (who : Identities) (later earlier : History ShipWhat) (ended : Entry ShipWhat) → Legal (ship_rules who) (later ++ ended ∷ earlier)
+    ensures { (who : Identities) (later earlier : History ShipWhat) (ended : Entry ShipWhat)
+        → Legal (ship_rules who) (later ++ ended ∷ earlier)
         → IsTrue (does is_end ended) → NoneIs begins_alert later → NoneIs (does (sends is_alert)) later }
 {}
 
 /// The law that a distress alert ends only at a cancel, or where a distress acknowledgement that names the ship is heard, in
-/// every legal history. It does nothing.
+/// every legal history.
 pub fn alerts_end_by_hand_or_acknowledgement()
-    ensures { (who : Identities) (later earlier : History ShipWhat) (ended : Entry ShipWhat) → Legal (ship_rules who) (later ++ ended ∷ earlier)
+    ensures { (who : Identities) (later earlier : History ShipWhat) (ended : Entry ShipWhat)
+        → Legal (ship_rules who) (later ++ ended ∷ earlier)
         → IsTrue (does is_end ended) → MayEndAlert who.own ended.what }
 {}
 
 /// The law that two attempts of one distress alert which follow each other are at least 210,000 ms apart, in every legal
-/// history. The second one belongs to another alert where its event begins one. It does nothing.
+/// history. The second one belongs to another alert where its event begins one.
 pub fn attempts_are_apart()
     ensures { (who : Identities) (later between earlier : History ShipWhat) (first second : Entry ShipWhat)
         → Legal (ship_rules who) (later ++ second ∷ (between ++ first ∷ earlier))
-        → IsTrue (does is_attempt first) → NoneIs (does is_attempt) between → IsTrue (does is_attempt second) → begins_alert second ≡ false
+        → IsTrue (does is_attempt first) → NoneIs (does is_attempt) between → IsTrue (does is_attempt second)
+        → begins_alert second ≡ false
         → first.at + SHORTEST_ALERT_DELAY ≤ second.at }
 {}
 
 /// The law that a ship sends its distress alert as attempts alone: 5 times in a row, as its own, with the position and the time that
 /// are kept, at the event that begins the alert or at a tick at which it is on; and that it sends every other call once, in every
-/// legal history. It does nothing.
+/// legal history.
 pub fn alerts_are_sent_as_attempts()
     ensures { (who : Identities) (later earlier : History ShipWhat) (sent : Entry ShipWhat) (call : Call) (times : ℕ) (first last : List Act)
         → Legal (ship_rules who) (later ++ sent ∷ earlier) → sent.acts ≡ first ++ act.Send call times ∷ last
@@ -54,10 +59,11 @@ pub fn alerts_are_sent_as_attempts()
 
 /// The law that a call that asks for an acknowledgement is sent at most twice for each time that it is held: once as it begins to be
 /// held, and at ticks not more often than that, in every legal history. Of such calls any may be counted: one call alone, those to
-/// one station, or all of them. It does nothing.
+/// one station, or all of them.
 pub fn held_calls_are_sent_at_most_twice()
     ensures first { (who : Identities) (h : History ShipWhat) (is_such : Call → Bool) → Legal (ship_rules who) h
-        → times_sent (asking is_such) h ≡ times_held (asking is_such) h + times_sent_again ship_occurs (asking is_such) h }
+        → times_sent (asking is_such) h
+        ≡ times_held (asking is_such) h + times_sent_again ship_occurs (asking is_such) h }
     ensures again { (who : Identities) (h : History ShipWhat) (is_such : Call → Bool) → Legal (ship_rules who) h
         → times_sent_again ship_occurs (asking is_such) h ≤ times_held (asking is_such) h }
 {}

@@ -16,7 +16,7 @@ ghost use Rattle.ship_station.specs.inside.Handling.{AnswersEvent, GoesOn};
 
 use crate::alerts::OwnAlert;
 use crate::events::{ShipEvent, ShipWhat};
-use crate::groups::Groups;
+use crate::groups::OwnGroups;
 use area_rules::for_ship;
 use arrayvec::ArrayVec;
 use call_values::{AlertDelay, Call, Casualty, Comm, HourMinute, Mmsi, Nature, Position};
@@ -31,7 +31,7 @@ const CALLS_OF_AN_ATTEMPT: u8 = 5;
 #[derive(Drop)]
 pub struct Ship {
     own: Mmsi,
-    groups: Groups,
+    groups: OwnGroups,
     /// The moment of the last accepted event.
     last: u64,
     position: Position,
@@ -55,7 +55,7 @@ impl Ship {
     {
         Ship {
             own,
-            groups: Groups::new(groups, own),
+            groups: OwnGroups::new(groups, own),
             last: 0,
             position: Position::unknown(),
             time: HourMinute::unknown(),
@@ -73,8 +73,10 @@ impl Ship {
     /// a call that the operator may not send (`NotSendable`); an answer to a number under which no call that was got is held
     /// (`NoSuchCall`); a sent or heard call that must be held where no number is free (`Full`).
     pub fn step(&mut self, event: &ShipEvent) -> Result<Acts, StationRefusal>
-        ensures answer { (who : Identities) (h : History What) → Stands self.old who h → listed result ≡ answer_to (ship_rules who) h event.now.at event.now.what }
-        ensures stands { (who : Identities) (h : History What) → Stands self.old who h → Stands self.new who (continued (ship_rules who) h event.now.at event.now.what) }
+        ensures answer { (who : Identities) (h : History What) → Stands self.old who h
+            → listed result ≡ answer_to (ship_rules who) h event.now.at event.now.what }
+        ensures stands { (who : Identities) (h : History What) → Stands self.old who h
+            → Stands self.new who (continued (ship_rules who) h event.now.at event.now.what) }
         ensures unchanged { OnErr result (self.new ≡ self.old) }
     {
         let mut acts = ArrayVec::new();
@@ -87,7 +89,8 @@ impl Ship {
     pub fn step_into(&mut self, event: &ShipEvent, acts: &mut Acts) -> Result<(), StationRefusal>
         ensures answer { (who : Identities) (h : History What) → Stands self.old who h
             → answer_with result acts.new.items ≡ answer_to (ship_rules who) h event.now.at event.now.what }
-        ensures stands { (who : Identities) (h : History What) → Stands self.old who h → Stands self.new who (continued (ship_rules who) h event.now.at event.now.what) }
+        ensures stands { (who : Identities) (h : History What) → Stands self.old who h
+            → Stands self.new who (continued (ship_rules who) h event.now.at event.now.what) }
         ensures none { OnErr result (acts.new.items ≡ []) }
         ensures unchanged { OnErr result (self.new ≡ self.old) }
     {
@@ -205,10 +208,13 @@ impl Ship {
     /// Makes an attempt of the alert that is on, where at least the first delay has passed since the last attempt.
     fn attempt_again(&mut self, at: u64, acts: &mut Acts)
         requires { acts.old.items ≡ [] }
-        ensures acts { acts.new.items ≡ at_tick self.old.own (self.old.position, self.old.time) self.old.alert self.old.delays.items self.old.attempted_at at }
+        ensures acts { acts.new.items
+            ≡ at_tick self.old.own (self.old.position, self.old.time) self.old.alert self.old.delays.items self.old.attempted_at at }
         ensures few { length acts.new.items ≤ 1 }
-        ensures attempted { self.new.attempted_at ≡ if list_any is_attempt acts.new.items then at else self.old.attempted_at }
-        ensures delays { self.new.delays.items ≡ if list_any is_attempt acts.new.items then drop 1 self.old.delays.items else self.old.delays.items }
+        ensures attempted { self.new.attempted_at
+            ≡ if list_any is_attempt acts.new.items then at else self.old.attempted_at }
+        ensures delays { self.new.delays.items
+            ≡ if list_any is_attempt acts.new.items then drop 1 self.old.delays.items else self.old.delays.items }
         ensures others { self.new ≡ record self.old { attempted_at = self.new.attempted_at; delays = self.new.delays } }
     {
         let Some(alert) = self.alert else {
@@ -282,7 +288,8 @@ impl Ship {
 
     /// Whether another station sent a call that is for this ship.
     fn is_for_this(&self, call: &Call) -> bool
-        ensures { result ≡ (not (sender_of call.now == self.now.own) && is_for_ship call.now self.now.own self.now.groups self.now.position) }
+        ensures { result ≡ (not (sender_of call.now == self.now.own)
+            && is_for_ship call.now self.now.own self.now.groups self.now.position) }
     {
         call.sender().number() != self.own.number()
             && for_ship(call, self.own, self.groups.list(), &self.position)
@@ -293,7 +300,8 @@ impl Ship {
         requires { acts.old.items ≡ [] }
         ensures answer { answer_with result acts.new.items ≡ refusal_or (heard_refusal self.old.held call.now)
             (heard_due self.old.own (Some (self.old.position, self.old.time)) self.old.held call.now) }
-        ensures held { OnOk result (self.new ≡ record self.old { last = at; held = after_hearing self.old.held call.now at }) }
+        ensures held { OnOk result (self.new
+            ≡ record self.old { last = at; held = after_hearing self.old.held call.now at }) }
         ensures none { OnErr result (acts.new.items ≡ []) }
         ensures unchanged { OnErr result (self.new ≡ self.old) }
     {
@@ -306,8 +314,12 @@ impl Ship {
     /// Ends the alert that is on, where its acknowledgement names this ship.
     fn hear_acknowledgement(&mut self, casualty: &Casualty, acts: &mut Acts)
         requires { acts.old.items ≡ [] }
-        ensures acts { acts.new.items ≡ if is_some self.old.alert && (casualty.now.mmsi == self.old.own) then AlertEnded ∷ [] else [] }
-        ensures ended { self.new ≡ record self.old { alert = if is_some self.old.alert && (casualty.now.mmsi == self.old.own) then None else self.old.alert } }
+        ensures acts { acts.new.items ≡ if is_some self.old.alert
+            && (casualty.now.mmsi == self.old.own) then AlertEnded ∷ [] else [] }
+        ensures ended { self.new ≡ record self.old {
+          alert = if is_some self.old.alert
+              && (casualty.now.mmsi == self.old.own) then None else self.old.alert;
+        } }
     {
         if self.alert.is_some() && casualty.mmsi.number() == self.own.number() {
             self.alert = None;

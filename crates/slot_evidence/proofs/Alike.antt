@@ -1,6 +1,6 @@
 -- sets of symbols with the same ends are kept alike, and so are their unions
-use Rattle.std.proofs.Common.{◌≡◌, ℕ, ◌≤◌, Bool, true, false, ◌||◌, ◌==◌, List, refl, sym, subst, inl, inr, arith}
-use Rattle.std.proofs.lemmas.Bool.{eq-eqb, eqb-true, or_left, or_right, or_cases}
+use Rattle.std.proofs.Common.{◌≡◌, ℕ, ◌≤◌, true, false, ◌||◌, ◌==◌, List, refl, sym, subst, inl, inr, arith, ◌∙◌}
+use Rattle.std.proofs.lemmas.Bool.{eq-eqb, eqb-true, or_left, or_right, or_cases, false_from_ne_true}
 use Rattle.slot_evidence.specs.declared.places.Seen.{Seen}
 use Rattle.slot_evidence.specs.declared.places.Seen.TheVariants as seen
 use Rattle.slot_evidence.specs.Facts.{Symbols, Facts}
@@ -8,12 +8,8 @@ use Rattle.slot_evidence.specs.Seen.{IsSeen, symbols_in}
 use Rattle.slot_evidence.specs.Sheet.{IsEnds, seen_at, facts_in}
 use Rattle.slot_evidence.specs.Alike.{IsBetween, AreAlike}
 
-unshown : (b : Bool) → (b ≡ true → ⊥) → b ≡ false
-unshown true h = absurd (h refl)
-unshown false h = refl
-
 -- a symbol of a set stands between itself and itself
-itself : (S : Symbols) (v : ℕ) → S v ≡ true → IsBetween S v
+pub itself : (S : Symbols) (v : ℕ) → S v ≡ true → IsBetween S v
 itself S v has = record { low = v; high = v; has_low = has; has_high = has; above = omega arith; below = omega arith }
 
 -- what stands between two of a span stands in it
@@ -42,7 +38,7 @@ greatest_too S T a b alike span has =
 -- alike sets are kept alike
 pub kept_alike : (S T : Symbols) (x : Seen) → AreAlike S T → IsSeen S x → IsSeen T x
 kept_alike S T seen.None alike none =
-    λ v. unshown (T v) (λ has. let b = alike.back v has in let no : S b.low ≡ false = none b.low in let yes : S b.low ≡ true = b.has_low in cc)
+    λ v. false_from_ne_true (T v) (λ has. let b = alike.back v has in let no : S b.low ≡ false = none b.low in let yes : S b.low ≡ true = b.has_low in cc)
 kept_alike S T (seen.One w) alike one =
     let span : (u : ℕ) → S u ≡ true → (w ≤ u) × (u ≤ w) = λ u has. let is = one.1 u has in (omega (arith, is), omega (arith, is)) in (
       least_too S T w w alike span one.0,
@@ -89,6 +85,13 @@ unions_alike S T U V one other = record {
   forth = between_either S T U V one.forth other.forth;
   back = between_either T S V U one.back other.back;
 }
+
+-- sets that have the same symbols are alike, and sets are alike either way round
+pub same_alike : (S T : Symbols) → ((v : ℕ) → S v ≡ T v) → AreAlike S T
+same_alike S T same = record { forth = λ v has. itself T v (sym (same v) ∙ has); back = λ v has. itself S v (same v ∙ has) }
+
+pub flip_alike : (S T : Symbols) → AreAlike S T → AreAlike T S
+flip_alike S T a = record { forth = a.back; back = a.forth }
 
 pub itself_alike : (S : Symbols) → AreAlike S S
 itself_alike S = record { forth = itself S; back = itself S }

@@ -26,7 +26,8 @@ order_none : (least past : ℕ) → least ≡ 128 → past ≡ 0 → AreInOrder 
 order_none least zero is none = is
 order_none least (suc greatest) is none = absurd (omega arith)
 
-order_some : (least past : ℕ) → least < past → past ≤ 128 → AreInOrder least past
+-- a least symbol below the number past the greatest is in order
+pub order_some : (least past : ℕ) → least < past → past ≤ 128 → AreInOrder least past
 order_some least zero below small = absurd (omega arith)
 order_some least (suc greatest) below small = (omega arith, omega arith)
 

@@ -1,10 +1,10 @@
 -- sheets: the facts of one, and that facts have one
-use Rattle.std.proofs.Common.{◌≡◌, ℕ, ◌<◌, ◌≤◌, Bool, true, false, ◌||◌, ◌==◌, List, length, refl, arith, ap, sym, ◌∙◌, subst, inl, inr, set, replicate, nat_lt, ◌&&◌, ◌+◌, ◌≢◌, Option, Some}
+use Rattle.std.proofs.Common.{◌≡◌, ℕ, ◌<◌, ◌≤◌, Bool, true, false, ◌||◌, ◌==◌, List, length, refl, arith, ap, sym, ◌∙◌, subst, inl, inr, set, replicate, nat_lt, ◌&&◌, ◌+◌, ◌≢◌, Option, Some, ltb-true, ◌∷◌, None, []}
 use Rattle.std.proofs.lemmas.Bool.{eq-eqb, eqb-true, or_left, or_right, or_cases, cases_eq, cases_lt, ne_eqb, lt-ltb, and_from, and_parts, and_left}
 use Rattle.std.proofs.lemmas.List.{ext_get_or, get_or-set_same, get_or-set_other, get_or-replicate, get_or_past, length-set}
 use Rattle.slot_evidence.specs.declared.places.Seen.{Seen}
 use Rattle.slot_evidence.specs.declared.places.Seen.TheVariants as seen
-use Rattle.slot_evidence.specs.Facts.{Facts, no_facts, one_fact, union, facts_at, facts_of}
+use Rattle.slot_evidence.specs.Facts.{Facts, no_facts, one_fact, union, facts_at, facts_of, facts_of_all, Symbols}
 use Rattle.slot_evidence.specs.Seen.{IsSeen, IsLawful, symbols_in}
 use Rattle.slot_evidence.specs.Sheet.{IsSheet, IsEnds, seen_at, facts_in}
 use Rattle.slot_evidence.proofs.Sets.{IsSeen-same, one_seen, or_none}
@@ -25,25 +25,12 @@ pub one_sheet : (F : Facts) (s t : List Seen) → IsEnds F s → IsEnds F t → 
 one_sheet F s t a b =
     ext_get_or seen.None s t (a.places ∙ sym b.places) (λ p below. one_seen (F p) _ _ (a.each p) (b.each p))
 
+-- facts have one sheet
 pub same_sheet : (F G : Facts) (s t : List Seen) → ((p v : ℕ) → F p v ≡ G p v) → IsEnds F s → IsEnds G t → s ≡ t
 same_sheet F G s t same a b = one_sheet G s t (IsEnds-same F G s same a) b
 
-pub or_order : (a b : Bool) → (a || b) ≡ (b || a)
-or_order true true = refl
-or_order true false = refl
-or_order false true = refl
-or_order false false = refl
-
-pub or_groups : (a b c : Bool) → (a || b || c) ≡ (a || (b || c))
-or_groups true b c = refl
-or_groups false b c = refl
-
-pub or_repeats : (a : Bool) → (a || a) ≡ a
-or_repeats true = refl
-or_repeats false = refl
-
 -- what is kept is kept of the symbols that it names
-seen_by : (x : Seen) → IsLawful x → IsSeen (symbols_in x) x
+pub seen_by : (x : Seen) → IsLawful x → IsSeen (symbols_in x) x
 seen_by seen.None h = λ v. refl
 seen_by (seen.One w) h = (eq-eqb w w refl, λ v e. eqb-true v w e)
 seen_by (seen.Differ a b) h = record {
@@ -58,17 +45,19 @@ seen_by (seen.Differ a b) h = record {
       ];
 }
 
+-- a sheet keeps the ends of its own facts
 pub own_ends : (s : List Seen) → IsSheet s → IsEnds (facts_in s) s
 own_ends s h = record { places = h.places; each = λ p. seen_by (seen_at s p) (h.lawful p) }
 
--- no facts have the blank sheet
-blank_at : (p : ℕ) → seen_at (replicate 64 seen.None) p ≡ seen.None
+-- the blank sheet shows nothing anywhere
+pub blank_at : (p : ℕ) → seen_at (replicate 64 seen.None) p ≡ seen.None
 blank_at p =
     elim (cases_lt p 64) [
       | inl inside ↦ get_or-replicate 64 p seen.None seen.None inside
       | inr past ↦ get_or_past (replicate 64 seen.None) p seen.None past
     ]
 
+-- no facts have the blank sheet
 pub IsEnds-blank : IsEnds no_facts (replicate 64 seen.None)
 IsEnds-blank = record { places = refl; each = λ p. subst (IsSeen (no_facts p)) (sym (blank_at p)) (λ v. refl) }
 
@@ -132,10 +121,6 @@ place_seen e lead p dx rx x inside is_dx is_rx =
     ∙ ap (λ (s : ℕ). (nat_lt v 128 && shows e lead (dx_slot p) v) || (nat_lt v 128 && shows e lead s v)) is_rx
     ∙ place_facts (nat_lt p 64) (nat_lt v 128) _ _ (lt-ltb p 64 inside))
 
-pub no_place : (inside shown : Bool) → inside ≡ false → (inside && shown) ≡ false
-no_place true shown h = cc
-no_place false shown h = refl
-
 -- the sheet of what the places show at the origin's lead
 pub IsEnds-read : (e : List Element) (lead : ℕ) (s : List Seen) → Some lead ≡ lead_of e → IsSheet s → ((p : ℕ) → IsSeen (facts_at e (Some lead) p) (seen_at s p)) → IsEnds (facts_of e) s
 unfolding facts_of
@@ -143,3 +128,34 @@ IsEnds-read e lead s origin sheet each = record {
   places = sheet.places;
   each = λ p. subst (λ (o : Option ℕ). IsSeen (facts_at e o p) (seen_at s p)) origin (each p);
 }
+
+-- a symbol that is kept was shown
+pub kept_shown : (S : Symbols) (x : Seen) (v : ℕ) → IsSeen S x → symbols_in x v ≡ true → S v ≡ true
+kept_shown S seen.None v is kept = absurd (cc)
+kept_shown S (seen.One w) v is kept = ap S (eqb-true v w kept) ∙ is.0
+kept_shown S (seen.Differ a b) v is kept =
+    elim (or_cases _ _ kept) [
+      | inl least ↦ ap S (eqb-true v a least) ∙ is.has_least
+      | inr greatest ↦ ap S (eqb-true v b greatest) ∙ is.has_greatest
+    ]
+
+-- a reception shows places and symbols that there are
+at_small : (e : List Element) (lead : Option ℕ) (p v : ℕ) → facts_at e lead p v ≡ true → (p < 64) × (v < 128)
+at_small e None p v is = absurd (cc)
+at_small e (Some lead) p v is =
+    let both = and_parts _ _ is in
+    (ltb-true p 64 both.0, ltb-true v 128 (and_parts _ _ both.1).0)
+
+pub fact_small : (e : List Element) (p v : ℕ) → facts_of e p v ≡ true → (p < 64) × (v < 128)
+unfolding facts_of
+fact_small e p v is = at_small e (lead_of e) p v is
+
+-- and so do all receptions
+pub all_small : (list : List (List Element)) (p v : ℕ) → facts_of_all list p v ≡ true → (p < 64) × (v < 128)
+unfolding facts_of_all
+all_small [] p v is = absurd (cc)
+all_small (e ∷ list) p v is =
+    elim (or_cases _ _ is) [
+      | inl here ↦ fact_small e p v here
+      | inr later ↦ all_small list p v later
+    ]

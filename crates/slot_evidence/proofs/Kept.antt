@@ -60,9 +60,11 @@ seen_long (least ∷ leasts) (past ∷ pasts) ordered = ap suc (seen_long leasts
 pub kept_long : (leasts pasts : List ℕ) → AreKept leasts pasts → length (seen_of leasts pasts) ≡ 64
 kept_long leasts pasts kept = seen_long leasts pasts kept.ordered ∙ kept.places
 
+-- what is kept at a place is what its two words keep
 pub kept_at : (leasts pasts : List ℕ) → AreKept leasts pasts → (p : ℕ) → seen_at (seen_of leasts pasts) p ≡ seen_between (slice_index_or leasts p 128) (slice_index_or pasts p 0)
 kept_at leasts pasts kept = at_place leasts pasts kept.ordered
 
+-- what the words keep is a sheet
 pub IsSheet-kept : (leasts pasts : List ℕ) → AreKept leasts pasts → IsSheet (seen_of leasts pasts)
 IsSheet-kept leasts pasts kept = record {
   places = kept_long leasts pasts kept;

@@ -8,3 +8,11 @@ pub use Rattle.slot_evidence.proofs.Edges.{seen_edges, edges_seen, edges_met, or
 pub use Rattle.slot_evidence.proofs.Sets.{or_none-seen}
 -- what the numbers of a place say: one symbol, or two that differ
 pub use Rattle.slot_evidence.proofs.Kept.{one_or_differ}
+-- what is kept of a lawful place is kept of the symbols that it names, and the blank sheet shows nothing
+pub use Rattle.slot_evidence.proofs.Ends.{seen_by, blank_at}
+-- a symbol that is kept was shown, and receptions show places and symbols that there are
+pub use Rattle.slot_evidence.proofs.Ends.{kept_shown, fact_small, all_small}
+-- a least symbol below the number past the greatest is in order
+pub use Rattle.slot_evidence.proofs.Edges.{order_some}
+-- a symbol stands between itself and itself; sets that have the same symbols are alike, either way round
+pub use Rattle.slot_evidence.proofs.Alike.{itself, same_alike, flip_alike}

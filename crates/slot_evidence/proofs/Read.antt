@@ -1,6 +1,6 @@
 -- The sheet of a reception, from the symbols of its slots.
 use Rattle.std.proofs.Common.{◌≡◌, ℕ, ◌+◌, ◌*◌, ◌<◌, min, max, nat_lt, Bool, ◌&&◌, List, length, slice_index, Option, Some, ap, sym, ◌∙◌, arith, subst}
-use Rattle.std.proofs.lemmas.Bool.{lt-ltb, le-ltb}
+use Rattle.std.proofs.lemmas.Bool.{lt-ltb, le-ltb, and_left}
 use Rattle.ten_unit.specs.declared.character.Element.{Element}
 use Rattle.ten_unit.specs.Word.{is_word}
 use Rattle.ten_unit.specs.inside.Symbol.{IsSymbol}
@@ -12,7 +12,7 @@ use Rattle.slot_evidence.specs.Facts.{Symbols, facts_at, facts_of}
 use Rattle.slot_evidence.specs.Sheet.{IsEnds}
 use Rattle.slot_evidence.specs.TwoNumbers.{AreInOrder}
 use Rattle.slot_evidence.specs.inside.Kept.{seen_of, past_symbol, AreKept}
-use Rattle.slot_evidence.proofs.Ends.{place_facts, no_place}
+use Rattle.slot_evidence.proofs.Ends.{place_facts}
 use Rattle.slot_evidence.proofs.Edges.{IsEdges, edges_met, edges_symbol, order_met, order_symbol, kept_from, ends_from}
 
 edges_same : (S T : Symbols) (least past : ℕ) → ((v : ℕ) → S v ≡ T v) → IsEdges S least past → IsEdges T least past
@@ -67,7 +67,7 @@ ends_read e lead dx rx leasts pasts read =
     subst (λ (n : ℕ). IsEdges (facts_at e (Some lead) p) n (slice_index pasts p)) (sym (read.least p inside))
     (subst (λ (n : ℕ). IsEdges (facts_at e (Some lead) p) (min (slice_index dx p) (slice_index rx (p + 2))) n) (sym (read.past p inside))
     (place_edges e lead p _ _ inside (read.even p (omega arith)) (rx_read e lead dx rx leasts pasts read p inside))))
-    (λ p v past. no_place _ _ (le-ltb p 64 past))
+    (λ p v past. and_left _ _ (le-ltb p 64 past))
 
 -- at the lead of the origin the facts are the reception's
 pub origin_facts : (e : List Element) (lead : ℕ) (s : List Seen) → Some lead ≡ lead_of e → IsEnds (facts_at e (Some lead)) s → IsEnds (facts_of e) s

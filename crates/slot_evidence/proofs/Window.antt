@@ -1,24 +1,16 @@
 -- A reception through a window: elements at places, and what ten of them in a row show.
-use Rattle.std.proofs.Common.{◌≡◌, ℕ, zero, suc, ◌+◌, ◌-◌, ◌*◌, ◌<◌, ◌≤◌, ◌==◌, nat_le, Bool, true, false, cond, ◌&&◌, List, [], ◌∷◌, length, take, drop, replicate, set, slice_index, slice_index_or, refl, ap, sym, ◌∙◌, arith, subst, inl, inr}
-use Rattle.std.proofs.lemmas.Bool.{cases_lt, cases_eq, cases_Bool, le-leb, leb-true, lt-leb, and_parts, and_from, ne_eqb}
-use Rattle.std.proofs.lemmas.List.{get_or_past, get_or-replicate, length-set, get_or-set_same, get_or-set_other}
+use Rattle.std.proofs.Common.{◌≡◌, ℕ, zero, suc, ◌+◌, ◌-◌, ◌*◌, ◌<◌, ◌≤◌, nat_le, Bool, true, false, cond, ◌&&◌, List, [], ◌∷◌, length, take, drop, replicate, set, slice_index, slice_index_or, refl, ap, sym, ◌∙◌, arith, subst, inl, inr}
+use Rattle.std.proofs.lemmas.Bool.{cases_lt, cases_eq, cases_Bool, le-leb, leb-true, lt-leb, and_parts, and_from, ne_eqb, and_right}
+use Rattle.std.proofs.lemmas.List.{get_or-replicate, length-set, get_or-set_same, get_or-set_other}
 use Rattle.std.proofs.Math.Seq.{drop-cons}
 use Rattle.ten_unit.specs.declared.character.Element.{Element}
 use Rattle.ten_unit.specs.declared.character.Element.TheVariants.{Y, B, Lost}
-use Rattle.ten_unit.specs.Word.{word_of, is_word, element, element_eq, elements_eq}
+use Rattle.ten_unit.specs.Word.{word_of, is_word, element_eq, elements_eq}
 use Rattle.ten_unit.specs.inside.Symbol.{IsSymbol, stretch}
+use Rattle.ten_unit.proofs.PublicLaws.{element-sent, is_word-none}
 use Rattle.phasing.specs.Slot.{slot}
 use Rattle.phasing.specs.inside.Places.{element_at}
-
--- the element at a place inside the reception, and that outside all are lost
-inside_at : (e : List Element) (place : ℕ) → 150 ≤ place → element_at e place ≡ slice_index_or e (place - 150) Lost
-inside_at e place inside = ap (λ (b : Bool). cond b (slice_index_or e (place - 150) Lost) Lost) (le-leb 150 place inside)
-
-before_at : (e : List Element) (place : ℕ) → place < 150 → element_at e place ≡ Lost
-before_at e place before = ap (λ (b : Bool). cond b (slice_index_or e (place - 150) Lost) Lost) (lt-leb 150 place before)
-
-past_at : (e : List Element) (place : ℕ) → length e + 150 ≤ place → element_at e place ≡ Lost
-past_at e place past = inside_at e place (omega arith) ∙ get_or_past e (place - 150) Lost (omega arith)
+use Rattle.phasing.proofs.PublicLaws.{element_at-inside, element_at-before, element_at-past}
 
 -- an element of a stretch
 stretch_at : (e : ℕ → Element) (n p i : ℕ) → i < n → slice_index_or (stretch e n p) i Lost ≡ e (p + i)
@@ -33,18 +25,11 @@ unfolding stretch
 stretch_inside e zero p begun inside = refl
 stretch_inside e (suc n) p begun inside =
     let more : p + 1 - 150 ≡ suc (p - 150) = omega arith in
-    ap (λ (x : Element). x ∷ stretch (element_at e) n (p + 1)) (inside_at e p begun)
+    ap (λ (x : Element). x ∷ stretch (element_at e) n (p + 1)) (element_at-inside e p begun)
     ∙ ap (λ (l : List Element). slice_index_or e (p - 150) Lost ∷ l) (stretch_inside e n (p + 1) (omega arith) (omega arith) ∙ ap (λ (k : ℕ). take n (drop k e)) more)
     ∙ sym (ap (take (suc n)) (drop-cons e (p - 150) Lost (omega arith)))
 
 -- no word has a lost element
-either_told : (b : Bool) → cond b Y B ≡ Lost → ⊥
-either_told true e = cc
-either_told false e = cc
-
-never_lost : (d : ℕ) → element d ≡ Lost → ⊥
-never_lost d = either_told (d == 1)
-
 lost_one : (x y : Element) → x ≡ Lost → (y ≡ Lost → ⊥) → element_eq x y ≡ false
 lost_one Y y lost told = absurd cc
 lost_one B y lost told = absurd cc
@@ -52,38 +37,30 @@ lost_one Lost Y lost told = refl
 lost_one Lost B lost told = refl
 lost_one Lost Lost lost told = absurd (told refl)
 
-and_false : (a b : Bool) → b ≡ false → (a && b) ≡ false
-and_false true b h = h
-and_false false b h = refl
-
 lost_apart : (w word : List Element) (i : ℕ) → i < length word → slice_index_or w i Lost ≡ Lost → (slice_index_or word i Lost ≡ Lost → ⊥) → elements_eq w word ≡ false
 lost_apart [] [] i inside lost told = absurd (omega arith)
 lost_apart [] (y ∷ ys) i inside lost told = refl
 lost_apart (x ∷ xs) [] i inside lost told = refl
 lost_apart (x ∷ xs) (y ∷ ys) zero inside lost told = ap (λ (b : Bool). b && elements_eq xs ys) (lost_one x y lost told)
-lost_apart (x ∷ xs) (y ∷ ys) (suc i) inside lost told = and_false (element_eq x y) (elements_eq xs ys) (lost_apart xs ys i (omega arith) lost told)
+lost_apart (x ∷ xs) (y ∷ ys) (suc i) inside lost told = and_right (element_eq x y) (elements_eq xs ys) (lost_apart xs ys i (omega arith) lost told)
 
 no_word_first : (w : List Element) (v : ℕ) → slice_index_or w 0 Lost ≡ Lost → is_word w v ≡ false
 unfolding is_word word_of
-no_word_first w v lost = lost_apart w (word_of v) 0 (omega arith) lost (never_lost _)
+no_word_first w v lost = lost_apart w (word_of v) 0 (omega arith) lost (element-sent _)
 
 no_word_last : (w : List Element) (v : ℕ) → slice_index_or w 9 Lost ≡ Lost → is_word w v ≡ false
 unfolding is_word word_of
-no_word_last w v lost = lost_apart w (word_of v) 9 (omega arith) lost (never_lost _)
-
-no_word_empty : (v : ℕ) → is_word [] v ≡ false
-unfolding is_word word_of
-no_word_empty v = refl
+no_word_last w v lost = lost_apart w (word_of v) 9 (omega arith) lost (element-sent _)
 
 no_word_outside : (e : List Element) (p v : ℕ) → (150 ≤ p → p + 10 ≤ length e + 150 → ⊥) → is_word (stretch (element_at e) 10 p) v ≡ false
 no_word_outside e p v outside =
     elim (cases_lt p 150) [
       | inl before ↦
           let first : p + 0 ≡ p = omega arith in
-          no_word_first _ v (stretch_at (element_at e) 10 p 0 (omega arith) ∙ ap (element_at e) first ∙ before_at e p before)
+          no_word_first _ v (stretch_at (element_at e) 10 p 0 (omega arith) ∙ ap (element_at e) first ∙ element_at-before e p before)
       | inr begun ↦
           elim (cases_lt (length e + 150) (p + 10)) [
-            | inl past ↦ no_word_last _ v (stretch_at (element_at e) 10 p 9 (omega arith) ∙ past_at e (p + 9) (omega arith))
+            | inl past ↦ no_word_last _ v (stretch_at (element_at e) 10 p 9 (omega arith) ∙ element_at-past e (p + 9) (omega arith))
             | inr inside ↦ absurd (outside begun inside)
           ]
     ]
@@ -111,15 +88,15 @@ slot_shown e lead s p x place is =
           shown_alike _ _ x
           (λ v.
           no_word_outside e q v (λ begun inside. absurd (cc (and_from _ _ (le-leb 150 q begun) (le-leb (q + 10) (length e + 150) inside))))
-          ∙ sym (ap (λ (l : List Element). is_word l v) (slot_is e lead s false other) ∙ no_word_empty v))
+          ∙ sym (ap (λ (l : List Element). is_word l v) (slot_is e lead s false other) ∙ is_word-none v))
           there
     ]
 
 -- a slot that begins past the end shows nothing
 pub slot_past : (e : List Element) (lead s : ℕ) → length e + 150 ≤ lead + 10 * s → IsSymbol (slot e lead s) 128
 slot_past e lead s past =
-    subst (λ (l : List Element). IsSymbol l 128) (sym (slot_is e lead s false (and_false (nat_le 150 (lead + 10 * s)) _ (lt-leb (lead + 10 * s + 10) (length e + 150) (omega arith)))))
-    (record { within = omega arith; shown = λ v below. no_word_empty v ∙ sym (ne_eqb v 128 (λ e. omega arith)) })
+    subst (λ (l : List Element). IsSymbol l 128) (sym (slot_is e lead s false (and_right (nat_le 150 (lead + 10 * s)) _ (lt-leb (lead + 10 * s + 10) (length e + 150) (omega arith)))))
+    (record { within = omega arith; shown = λ v below. is_word-none v ∙ sym (ne_eqb v 128 (λ e. omega arith)) })
 
 -- symbols of every second slot: the first n are there, and the rest are 128
 pub record IsFilled (e : List Element) (lead first : ℕ) (symbols : List ℕ) (n : ℕ) : Type 0 where

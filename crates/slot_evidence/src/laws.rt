@@ -19,7 +19,8 @@ pub fn one_sheet()
 /// The sheet of united facts doesn't tell in which order, in which groups or how often they were united.
 pub fn unions_forget_order()
     ensures order { (F G : Facts) (s t : List Seen) → IsEnds (union F G) s → IsEnds (union G F) t → s ≡ t }
-    ensures groups { (F G H : Facts) (s t : List Seen) → IsEnds (union (union F G) H) s → IsEnds (union F (union G H)) t → s ≡ t }
+    ensures groups { (F G H : Facts) (s t : List Seen) → IsEnds (union (union F G) H) s → IsEnds (union F (union G H)) t
+        → s ≡ t }
     ensures repeats { (F : Facts) (s t : List Seen) → IsEnds (union F F) s → IsEnds F t → s ≡ t }
 {}
 

@@ -42,7 +42,8 @@ impl Seen {
 
     /// The least and the greatest symbol, if there is one.
     fn span(self) -> Option<(u8, u8)>
-        ensures ends { (S : Symbols) → IsSeen S self → MatchOption result (ShowsNone S) (λ ends. IsSpan S ends.0 ends.1) }
+        ensures ends { (S : Symbols) → IsSeen S self
+            → MatchOption result (ShowsNone S) (λ ends. IsSpan S ends.0 ends.1) }
         ensures lawful { IsLawful self → MatchOption result (Unit {0}) IsLawfulSpan }
     {
         match self {

@@ -6,7 +6,7 @@ ghost use Rattle.slot_evidence.specs.Sheet.{IsEnds};
 
 use crate::receptions::Reception;
 use crate::sheets::Sheet;
-use crate::slots::{Shown, read_slots};
+use crate::slots::{ShownSlot, read_slots};
 use phasing::{LAST_LEAD, LONGEST, lead};
 use ten_unit::Element;
 
@@ -18,9 +18,10 @@ fn past(symbol: u8) -> u8
 }
 
 /// The lesser symbol of each place's two slots.
-fn leasts_of(shown: &Shown) -> [u8; 64]
+fn leasts_of(shown: &ShownSlot) -> [u8; 64]
     ensures places { length result ≡ 64 }
-    ensures each { (p : ℕ) → p < 64 → slice_index result p ≡ min (slice_index shown.now.dx p) (slice_index shown.now.rx (p + 2)) }
+    ensures each { (p : ℕ) → p < 64 → slice_index result p
+        ≡ min (slice_index shown.now.dx p) (slice_index shown.now.rx (p + 2)) }
 {
     let mut leasts = [128; 64];
     for p in 0..64 {
@@ -30,9 +31,10 @@ fn leasts_of(shown: &Shown) -> [u8; 64]
 }
 
 /// The greater number after the symbol of each place's two slots.
-fn pasts_of(shown: &Shown) -> [u8; 64]
+fn pasts_of(shown: &ShownSlot) -> [u8; 64]
     ensures places { length result ≡ 64 }
-    ensures each { (p : ℕ) → p < 64 → slice_index result p ≡ max (past_symbol (slice_index shown.now.dx p)) (past_symbol (slice_index shown.now.rx (p + 2))) }
+    ensures each { (p : ℕ) → p < 64 → slice_index result p
+        ≡ max (past_symbol (slice_index shown.now.dx p)) (past_symbol (slice_index shown.now.rx (p + 2))) }
 {
     let mut pasts = [0; 64];
     for p in 0..64 {

@@ -9,7 +9,7 @@ use ten_unit::{Element, symbol_at};
 /// The symbols of slots 12 to 143, 128 for none: in `dx` those of the even ones, in turn, from slot 12 on, which is the DX
 /// slot of place 0; and in `rx` those of the odd ones from slot 13 on, two before the RX slot of place 0.
 #[derive(Drop)]
-pub(crate) struct Shown {
+pub(crate) struct ShownSlot {
     pub(crate) dx: [u8; 66],
     pub(crate) rx: [u8; 66],
 }
@@ -17,7 +17,7 @@ pub(crate) struct Shown {
 /// What slots 12 to 143 show at the lead of an origin. Slots from a reception's end on cost nothing.
 ///
 /// It packs 64 elements a step as bits, of which 60 are six slots', and looks into a table by each slot's ten bits.
-pub(crate) fn read_slots(e: &[Element], lead: u32) -> Shown
+pub(crate) fn read_slots(e: &[Element], lead: u32) -> ShownSlot
     requires length { length e.now ≤ LONGEST }
     requires begun { 40 ≤ lead }
     requires lead { lead ≤ LAST_LEAD }
@@ -33,7 +33,7 @@ pub(crate) fn read_slots(e: &[Element], lead: u32) -> Shown
             rx[(3 * window + k) as usize] = symbol_at(&planes, 20 * k + 10);
         }
     }
-    Shown { dx, rx }
+    ShownSlot { dx, rx }
 }
 
 /// How many windows of six slots from slot 12 on begin inside a reception of this length, at most 22.

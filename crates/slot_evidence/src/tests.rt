@@ -9,11 +9,9 @@ use ten_unit::{Element, word};
 fn received(alloc: Global, slots: &[u8; 52], lost: &[usize]) -> Result<Vec<Element>, AllocError> {
     let mut elements = Vec::new(alloc);
     for (slot, symbol) in slots.iter().enumerate() {
-        if lost.contains(&slot) {
-            elements.extend_from_slice(&[Element::Lost; 10])?;
-        } else {
-            elements.extend_from_slice(&word(*symbol % 128))?;
-        }
+        let is_lost = lost.contains(&slot);
+        let sent = word(*symbol % 128);
+        elements.extend_from_slice(&if is_lost { [Element::Lost; 10] } else { sent })?;
     }
     Ok(elements)
 }

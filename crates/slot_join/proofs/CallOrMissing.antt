@@ -1,8 +1,8 @@
 -- Where the places of a call showed no other symbols than its own, the answer is the call or a missing place.
-use Rattle.std.proofs.Common.{◌≡◌, ℕ, zero, suc, ◌+◌, ◌<◌, ◌≤◌, Bool, true, false, ◌||◌, List, [], ◌∷◌, ◌++◌, length, get_or, take, drop, refl, sym, ap, subst, ◌∙◌, inl, inr, append_assoc, length-append, arith}
+use Rattle.std.proofs.Common.{◌≡◌, ℕ, zero, suc, ◌+◌, ◌<◌, ◌≤◌, true, List, [], ◌∷◌, ◌++◌, length, get_or, take, drop, refl, sym, ap, subst, ◌∙◌, inl, inr, append_assoc, length-append, arith}
 use Rattle.std.specs.Prelude.{◌↔◌}
 use Rattle.std.proofs.Math.Seq.{take-length, take-append_seam}
-use Rattle.std.proofs.lemmas.Bool.{cases_lt, or_cases}
+use Rattle.std.proofs.lemmas.Bool.{cases_lt, or_cases, false_from_ne_true, or_parts}
 use Rattle.std.proofs.lemmas.List.{append-nil, take-append-drop, length-take-le, take_more_same, drop_more, drop_all, get_or_append_left, get_or_push, length_push}
 use Rattle.call_values.specs.declared.calls.Call.{Call}
 use Rattle.call_values.specs.Calls.{IsCall}
@@ -55,17 +55,9 @@ last_of c k = get_or k (length (before_end c)) 0
 abbrev pub beyond : Call → List ℕ → List ℕ
 beyond c k = drop (length (before_end c) + 1) k
 
-pub not_true : (b : Bool) → (b ≡ true → ⊥) → b ≡ false
-not_true true never = absurd (never refl)
-not_true false never = refl
-
-or_false_left : (x y : Bool) → (x || y) ≡ false → x ≡ false
-or_false_left true y e = absurd cc
-or_false_left false y e = refl
-
 -- where neither place of the format specifier showed a symbol, the first didn't
 none_first : (F : Facts) → ShowsNone (head_of F) → ShowsNone (F 0)
-none_first F none v = or_false_left (F 0 v) (F 1 v) (none v)
+none_first F none v = (or_parts (F 0 v) (F 1 v) (none v)).0
 
 module _ (laws : Laws) (F : Facts) (c : Call) (lawful : IsCall c) (only : ShowsNoOther F (through_check c)) where
   end_symbol_at : get_or (through_check c) (length (before_end c)) 0 ≡ end_of c
@@ -238,7 +230,7 @@ module _ (laws : Laws) (F : Facts) (c : Call) (lawful : IsCall c) (only : ShowsN
     -- the longest list ends before the end of sequence
     late_none : length s.list ≤ length (before_end c) → ShowsNone (F (length s.list)) → IsEndPlace c (length s.list) → ShowsNoOtherEnd F c (length s.list)
         → ShowsNone (late_of F (length s.list))
-    late_none le none place other v = not_true (late_of F (length s.list) v) (λ has.
+    late_none le none place other v = false_from_ne_true (late_of F (length s.list) v) (λ has.
         let n : length s.list ≡ length (before_end c) = omega (arith, place, length_push (before_end c) (end_of c)) in
         let front : s.list ≡ before_end c =
         sym (take-length s.list) ∙ ap (λ (m : ℕ). take m s.list) n ∙ front_is s.list s.longest.shown (omega arith) in

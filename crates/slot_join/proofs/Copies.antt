@@ -39,6 +39,7 @@ any_told law (e ∷ receptions) call tail p v lawful heard below has =
       | inr there ↦ any_told law receptions call tail p v lawful (λ k d inside. heard (suc k) d (omega (arith, inside))) below there
     ]
 
+-- receptions that are heard show no other symbols than the call's
 pub all_told : HeardLaw → (receptions : List (List Element)) (call : Call) (tail : List ℕ) → IsCall call → All (λ reception. IsHeard reception (spell call ++ tail)) receptions
     → ShowsNoOther (facts_of_all receptions) (through_check call)
 unfolding facts_of_all

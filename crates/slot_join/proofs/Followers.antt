@@ -1,11 +1,11 @@
 -- What follows a call is read in one way.
 use Rattle.std.proofs.Common.{◌≡◌, ℕ, ◌+◌, ◌<◌, ◌≤◌, false, List, [], ◌∷◌, ◌++◌, length, get_or, take, drop, refl, sym, ap, subst, ◌∙◌, inl, inr, append_assoc, length-append, arith}
 use Rattle.std.proofs.lemmas.Bool.{cases_lt}
-use Rattle.std.proofs.lemmas.List.{length-take-le, get_or-take, take-append-drop, ext_get_or, get_or_append_left, get_or_push, drop_more, length_push}
+use Rattle.std.proofs.lemmas.List.{length-take-le, get_or-take, take-append-drop, ext_get_or, get_or_append_left, get_or_push, drop_more, length_push, append-nil}
 use Rattle.call_values.specs.declared.choices.End.{End}
-use Rattle.call_values.specs.declared.choices.End.TheVariants.{Ask, Reply, Plain}
 use Rattle.call_values.specs.declared.calls.Call.{Call}
 use Rattle.call_values.specs.Calls.{IsCall}
+use Rattle.call_values.proofs.PublicLaws.{end_one}
 use Rattle.call_grammar.specs.Spelling.{end_symbol, end_of, spell, check_of}
 use Rattle.expansion.specs.declared.values.Sets.{Sets}
 use Rattle.expansion.specs.Expansions.{IsExpansion}
@@ -34,18 +34,6 @@ ExpansionsAreShort = (x : Sets) (e : End) → IsExpansion x → (6 ≤ length (e
 -- calls are short
 abbrev pub CallsAreShort : Type 0
 CallsAreShort = (c : Call) → IsCall c → (4 ≤ length (spell c)) × (length (spell c) ≤ 32)
-
--- ends of sequence have symbols of their own
-pub one_end : (e f : End) → end_symbol e ≡ end_symbol f → e ≡ f
-one_end Ask Ask h = refl
-one_end Ask Reply h = absurd (omega arith)
-one_end Ask Plain h = absurd (omega arith)
-one_end Reply Ask h = absurd (omega arith)
-one_end Reply Reply h = refl
-one_end Reply Plain h = absurd (omega arith)
-one_end Plain Ask h = absurd (omega arith)
-one_end Plain Reply h = absurd (omega arith)
-one_end Plain Plain h = refl
 
 -- a list that has another's symbols as far as that goes begins with it
 pub pointwise : (l m : List ℕ) → ((k : ℕ) → k < length l → get_or l k 0 ≡ get_or m k 0) → length l ≤ length m → m ≡ l ++ drop (length l) m
@@ -116,7 +104,7 @@ same_extra differ F from e (Broken m) (Broken n) inside x y = ap Broken (same_br
 
 -- behind a call the extra is read in one way
 pub extra_with : (F : Facts) (c : Call) (a : Extra) (e : End) → end_symbol e ≡ end_of c → Follows F c a → IsExtra F (length (spell c)) e a
-extra_with F c a e own x = subst (λ (f : End). IsExtra F (length (spell c)) f a) (one_end x.last e (x.own ∙ sym own)) x.is
+extra_with F c a e own x = subst (λ (f : End). IsExtra F (length (spell c)) f a) (end_one x.last e (x.own ∙ sym own)) x.is
 
 pub same_follows : ExpansionsDiffer → CallsAreShort → (F : Facts) (c : Call) (a b : Extra) → IsCall c → Follows F c a → Follows F c b → a ≡ b
 same_follows differ short F c a b lawful x y =
@@ -167,14 +155,10 @@ module _ (differ : ExpansionsDiffer) (F : Facts) (from : ℕ) (e : End) (list : 
     -- behind the front nothing that is shown goes on
     none_longer : (rest' : List ℕ) → rest ≡ rest' → (other : List ℕ) → IsShownFrom F from other → IsViable e other → length front < length other → ⊥
     none_longer [] same other so vo longer =
-        let whole : list ≡ front = is ∙ ap (λ (l : List ℕ). front ++ l) same ∙ append_nil_of front in
+        let whole : list ≡ front = is ∙ ap (λ (l : List ℕ). front ++ l) same ∙ append-nil front in
         let one : ShowsOne (F (from + length front)) (get_or other (length front) 0) = so (length front) longer in
         let there : from + length list < 64 = omega (arith, ap length whole) in
         stops (get_or other (length front) 0) there (subst (λ (l : List ℕ). ShowsOne (F (from + length l)) (get_or other (length front) 0)) (sym whole) one)
-      where
-        append_nil_of : (l : List ℕ) → l ++ [] ≡ l
-        append_nil_of [] = refl
-        append_nil_of (x ∷ l) = ap (λ (t : List ℕ). x ∷ t) (append_nil_of l)
     none_longer (x ∷ more) same other so vo longer =
         let n : ℕ = length front in
         let begins : other ≡ front ++ drop n other = agree_from F from front other front_shown so (omega arith) in

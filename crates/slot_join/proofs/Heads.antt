@@ -14,6 +14,7 @@ kept_none S seen.None h n = refl
 kept_none S (seen.One v) h n = let a : S v ≡ true = h.0 in let b : S v ≡ false = n v in absurd (cc)
 kept_none S (seen.Differ least greatest) h n = let a : S least ≡ true = h.has_least in let b : S least ≡ false = n least in absurd (cc)
 
+-- a place that shows nothing keeps nothing
 pub blank_there : (F : Facts) (s : List Seen) (p : ℕ) → IsEnds F s → ShowsNone (F p) → seen_at s p ≡ seen.None
 blank_there F s p ends n = kept_none (F p) (seen_at s p) (seen_there F s p (seen_at s p) ends refl) n
 

@@ -1,11 +1,12 @@
 -- What receptions that end with the transmission show of its last places, and of the later copies of the end of sequence.
-use Rattle.std.proofs.Common.{◌≡◌, ℕ, ◌+◌, ◌*◌, ◌<◌, ◌≤◌, Bool, true, false, ◌&&◌, ◌||◌, ltb, List, [], ◌∷◌, ◌++◌, length, get_or, Option, Some, None, refl, sym, ap, subst, ◌∙◌, inl, inr, ◌⊎◌, arith, length-append, All}
-use Rattle.std.proofs.lemmas.Bool.{cases_lt, ltb-true, and_parts, or_cases, or_left, or_right}
+use Rattle.std.proofs.Common.{◌≡◌, ℕ, ◌+◌, ◌*◌, ◌<◌, ◌≤◌, true, false, ◌&&◌, ◌||◌, ltb, List, [], ◌∷◌, ◌++◌, length, get_or, Option, Some, None, refl, sym, ap, subst, ◌∙◌, inl, inr, ◌⊎◌, arith, length-append, All}
+use Rattle.std.proofs.lemmas.Bool.{cases_lt, ltb-true, and_parts, or_cases, or_left, or_right, or_parts}
 use Rattle.std.proofs.lemmas.List.{get_or_append_left, get_or-append-add, length_push}
 use Rattle.std.proofs.lemmas.List.Elements.{All-get_or}
 use Rattle.ten_unit.specs.declared.character.Element.{Element}
 use Rattle.time_diversity.specs.Slots.{dx_slot, rx_slot}
 use Rattle.time_diversity.specs.OnAir.{on_air}
+use Rattle.time_diversity.proofs.PublicLaws.{length-on_air}
 use Rattle.phasing.specs.Slot.{shows}
 use Rattle.call_values.specs.declared.calls.Call.{Call}
 use Rattle.call_values.specs.Calls.{IsCall}
@@ -16,7 +17,7 @@ use Rattle.slot_join.specs.Shown.{late_of}
 use Rattle.slot_join.specs.Heard.{IsOneWayAt, IsHeard}
 use Rattle.slot_join.specs.OneCall.{IsEndPlace, ShowsNoOtherEnd}
 use Rattle.slot_join.specs.Intact.{EndsWithin, CameNowhere, CameSomewhere}
-use Rattle.slot_join.proofs.OneWay.{Laws, length-on_air, slot_told}
+use Rattle.slot_join.proofs.OneWay.{Laws, slot_told}
 use Rattle.slot_join.proofs.Copies.{Lists, LateAreLost, somewhere_told}
 use Rattle.slot_join.proofs.Tails.{any_of, blank_list, shows_nothing}
 
@@ -45,14 +46,6 @@ within_told laws list e p v (inl none) within below small has =
     absurd (cc)
 within_told laws list e p v (inr found) within below small has =
     within_at laws e list found.0 p v found.2 (within found.0 found.1) below small (subst (λ (lead : Option ℕ). facts_at e lead p v ≡ true) found.1 has)
-
-none_left : (x y : Bool) → (x || y) ≡ false → x ≡ false
-none_left true y e = absurd cc
-none_left false y e = refl
-
-none_right : (x y : Bool) → (x || y) ≡ false → y ≡ false
-none_right true y e = absurd cc
-none_right false y e = e
 
 abbrev pub WithinLaw : Type 0
 WithinLaw = (list : List ℕ) (e : List Element) (p v : ℕ) → IsHeard e list → EndsWithin e list → p < length list → get_or list p 0 < 128
@@ -111,9 +104,9 @@ module _ (law : WithinLaw) (lists : Lists) (receptions : List (List Element)) (c
   late_nowhere : ShowsNone (late_of (facts_of_all receptions) n) → CameNowhere receptions (spell c ++ tail) (n + 2) × CameNowhere receptions (spell c ++ tail) (n + 3)
   late_nowhere none = (
     blank_list receptions (spell c ++ tail) (n + 2) (omega (arith, long, (lists.short c lawful).1)) (omega (arith, second, small))
-        (λ v. none_left (facts_of_all receptions (n + 2) v) (facts_of_all receptions (n + 3) v) (none v)),
+        (λ v. (or_parts (facts_of_all receptions (n + 2) v) (facts_of_all receptions (n + 3) v) (none v)).0),
     blank_list receptions (spell c ++ tail) (n + 3) (omega (arith, long, (lists.short c lawful).1)) (omega (arith, third, small))
-        (λ v. none_right (facts_of_all receptions (n + 2) v) (facts_of_all receptions (n + 3) v) (none v)),
+        (λ v. (or_parts (facts_of_all receptions (n + 2) v) (facts_of_all receptions (n + 3) v) (none v)).1),
   )
 
 -- where the receptions end with the transmission, they show the call's end of sequence there or nothing

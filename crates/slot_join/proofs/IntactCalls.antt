@@ -1,7 +1,7 @@
 -- A call whose slots arrive intact is shown, character by character.
-use Rattle.std.proofs.Common.{◌≡◌, ℕ, ◌+◌, ◌*◌, ◌<◌, ◌≤◌, Bool, true, false, ◌&&◌, ◌||◌, ltb, List, [], ◌∷◌, ◌++◌, ◌-◌, length, get_or, drop, Some, refl, sym, ap, subst, ◌∙◌, inl, inr, arith, length-append, All, ◌⊎◌}
+use Rattle.std.proofs.Common.{◌≡◌, ℕ, ◌+◌, ◌*◌, ◌<◌, ◌≤◌, true, ◌&&◌, ◌||◌, ltb, List, [], ◌∷◌, ◌++◌, ◌-◌, length, get_or, drop, Some, refl, sym, ap, subst, ◌∙◌, inl, inr, arith, length-append, All}
 use Rattle.std.specs.Prelude.{◌↔◌}
-use Rattle.std.proofs.lemmas.Bool.{lt-ltb, ltb-true, cases_lt}
+use Rattle.std.proofs.lemmas.Bool.{lt-ltb, ltb-true, cases_lt, or_left, and_parts, or_cases}
 use Rattle.std.proofs.lemmas.List.{get_or_append_left, get_or-append-add}
 use Rattle.std.proofs.lemmas.List.Elements.{All-get_or}
 use Rattle.ten_unit.specs.declared.character.Element.{Element}
@@ -16,6 +16,7 @@ use Rattle.call_grammar.specs.Walk.{IsViable}
 use Rattle.expansion.specs.declared.values.Sets.{Sets}
 use Rattle.expansion.specs.Spelling.{through_check as expanded_check, spell as expanded}
 use Rattle.dsc_symbols.specs.Formats.{IsFormat}
+use Rattle.time_diversity.proofs.PublicLaws.{length-on_air, sent_at}
 use Rattle.slot_evidence.specs.Facts.{Facts, facts_of, facts_at}
 use Rattle.slot_evidence.specs.Seen.{ShowsOne}
 use Rattle.slot_evidence.specs.declared.places.Seen.TheVariants as seen
@@ -29,7 +30,6 @@ use Rattle.slot_join.specs.Answer.{HasFormat, IsAnswer}
 use Rattle.slot_join.specs.OneCall.{IsCallReported}
 use Rattle.slot_join.specs.Intact.{ArrivesIntact, EndsWithin, IsExpandedBy}
 use Rattle.slot_join.proofs.ShownLists.{viable_front, front_viable}
-use Rattle.slot_join.proofs.OneWay.{length-on_air, sent_at}
 use Rattle.slot_join.proofs.Stops.{FrontsDiffer}
 use Rattle.slot_join.proofs.OneAnswer.{OneSeen}
 use Rattle.slot_join.proofs.ShownCalls.{shown_is_reported}
@@ -45,18 +45,6 @@ WordsApart = (u v : ℕ) → u < 128 → v < 128 → word_of u ≡ word_of v →
 abbrev pub BothSlots : Type 0
 BothSlots = (list : List ℕ) (slot p : ℕ) → IsSlotOf slot p → sent_symbol list slot ≡ get_or list p 0
 
-and_both : (x y : Bool) → (x && y) ≡ true → (x ≡ true) × (y ≡ true)
-and_both true y e = (refl, e)
-and_both false y e = absurd cc
-
-or_either : (x y : Bool) → (x || y) ≡ true → (x ≡ true) ⊎ (y ≡ true)
-or_either true y e = inl refl
-or_either false y e = inr e
-
-or_left : (x y : Bool) → x ≡ true → (x || y) ≡ true
-or_left true y e = refl
-or_left false y e = absurd cc
-
 -- one symbol's word stands in a slot
 module _ (equal : WordsEqual) (apart : WordsApart) (e : List Element) (lead : ℕ) where
   one_symbol : (s u v : ℕ) → u < 128 → v < 128 → shows e lead s u ≡ true → shows e lead s v ≡ true → u ≡ v
@@ -71,10 +59,10 @@ module _ (equal : WordsEqual) (apart : WordsApart) (e : List Element) (lead : �
       let either : (shows e lead (dx_slot p) v || shows e lead (rx_slot p) v) ≡ true = or_left (shows e lead (dx_slot p) v) (shows e lead (rx_slot p) v) dx in (
         rw (place, symbol) either,
         λ w has.
-            let a = and_both (ltb p 64) (ltb w 128 && (shows e lead (dx_slot p) w || shows e lead (rx_slot p) w)) has in
-            let b = and_both (ltb w 128) (shows e lead (dx_slot p) w || shows e lead (rx_slot p) w) a.1 in
+            let a = and_parts (ltb p 64) (ltb w 128 && (shows e lead (dx_slot p) w || shows e lead (rx_slot p) w)) has in
+            let b = and_parts (ltb w 128) (shows e lead (dx_slot p) w || shows e lead (rx_slot p) w) a.1 in
             let bw : w < 128 = ltb-true w 128 b.0 in
-            elim (or_either (shows e lead (dx_slot p) w) (shows e lead (rx_slot p) w) b.1) [
+            elim (or_cases (shows e lead (dx_slot p) w) (shows e lead (rx_slot p) w) b.1) [
               | inl here ↦ one_symbol (dx_slot p) w v bw bv here dx
               | inr here ↦ one_symbol (rx_slot p) w v bw bv here rx
             ],
@@ -98,7 +86,7 @@ module _ (equal : WordsEqual) (apart : WordsApart) (slots : BothSlots) (e : List
       subst (λ (F : Facts). ShowsOne (F p) v) (sym facts_are) here
 
 one_or_other : (F : Facts) (f : ℕ) → ShowsOne (F 0) f → ShowsOne (F 1) f → ShowsOne (head_of F) f
-one_or_other F f a b = (or_left (F 0 f) (F 1 f) a.0, λ w has. elim (or_either (F 0 w) (F 1 w) has) [ inl here ↦ a.1 w here | inr here ↦ b.1 w here ])
+one_or_other F f a b = (or_left (F 0 f) (F 1 f) a.0, λ w has. elim (or_cases (F 0 w) (F 1 w) has) [ inl here ↦ a.1 w here | inr here ↦ b.1 w here ])
 
 some_front : (c : Call) → 2 < length (through_check c)
 some_front c = omega (arith, length-append (covered c) (check_of (covered c) ∷ []), length-append (fields_of c) (end_of c ∷ []))

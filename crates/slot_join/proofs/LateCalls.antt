@@ -16,6 +16,7 @@ to_listed (to.Area area) = refl
 to_listed (to.Group mmsi) = refl
 to_listed (to.One mmsi) = refl
 
+-- a call's format specifier is one of those that phasing looks for
 pub format_listed : (c : Call) → list_any (λ f. f == format_of c) formats ≡ true
 format_listed (Alert casualty) = refl
 format_listed (Ack from casualty) = refl
@@ -31,5 +32,6 @@ list_start : (format : ℕ) (rest : List ℕ) → take 16 (on_air (format ∷ fo
 unfolding on_air sent_symbol
 list_start format rest = take-map-range_with_len (sent_symbol (format ∷ format ∷ rest)) 0 (2 * length (format ∷ format ∷ rest) + 12) 16 (omega arith)
 
+-- a call's transmission begins with its phasing sequence and format specifier
 pub call_start : (c : Call) (tail : List ℕ) → take 16 (on_air (spell c ++ tail)) ≡ start_symbols (format_of c)
 call_start c tail = list_start (format_of c) _

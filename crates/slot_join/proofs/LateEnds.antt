@@ -1,8 +1,8 @@
 -- The end of sequence that its later copies show.
-use Rattle.std.proofs.Common.{◌≡◌, ℕ, ◌≤◌, List, [], ◌∷◌, ◌++◌, length, take, drop, refl, sym, ap, subst, ◌∙◌, inl, inr, append_assoc, arith}
-use Rattle.std.proofs.Math.Seq.{take-append_seam}
+use Rattle.std.proofs.Common.{◌≡◌, ℕ, ◌≤◌, List, [], ◌∷◌, ◌++◌, length, drop, refl, sym, ap, subst, ◌∙◌, inl, inr, append_assoc, arith}
 use Rattle.std.proofs.lemmas.Bool.{cases_lt}
-use Rattle.std.proofs.lemmas.List.{take-append-le, take-append-drop, append_cancel_left}
+use Rattle.std.proofs.lemmas.List.{append_cancel_left}
+use Rattle.plain_laws.proofs.Lists.{divide}
 use Rattle.call_values.specs.declared.calls.Call.{Call}
 use Rattle.call_values.specs.Calls.{IsCall}
 use Rattle.call_grammar.specs.Spelling.{up_to_end, through_check, covered, check_of, end_of}
@@ -23,12 +23,6 @@ OneCheckPlace = (c d : Call) (rest : List ℕ) → IsCall c → IsCall d → up_
 -- where an end of sequence is next, a check follows each symbol with which a call goes on
 abbrev pub OneEndPlace : Type 0
 OneEndPlace = (l : List ℕ) (x : ℕ) → IsAtEnd l → IsViable (l ++ x ∷ []) → IsAtCheck (l ++ x ∷ [])
-
--- of two lists with which one list begins, the longer begins with the shorter
-divide : (a b r s : List ℕ) → a ++ r ≡ b ++ s → length a ≤ length b → b ≡ a ++ drop (length a) b
-divide a b r s e le =
-    let front : a ≡ take (length a) b = sym (take-append_seam a r) ∙ ap (λ (x : List ℕ). take (length a) x) e ∙ take-append-le (length a) b s le in
-    sym (take-append-drop (length a) b) ∙ ap (λ (x : List ℕ). x ++ drop (length a) b) (sym front)
 
 -- a list begins with one call's up to its end of sequence
 pub one_front : OneCheckPlace → (c d : Call) (r s : List ℕ) → IsCall c → IsCall d → up_to_end c ++ r ≡ up_to_end d ++ s → (c ≡ d) × (r ≡ s)

@@ -1,3 +1,4 @@
+pub mod PublicLaws
 mod ShownLists
 mod Stops
 mod LateEnds

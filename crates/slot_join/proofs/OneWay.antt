@@ -4,12 +4,13 @@ use Rattle.std.specs.Prelude.{◌↔◌}
 use Rattle.std.proofs.lemmas.Bool.{ltb-true, and_parts, and_right, or_cases, lt-leb, cond-false}
 use Rattle.std.proofs.lemmas.List.{get_or_append_left}
 use Rattle.std.proofs.lemmas.List.Elements.{All-get_or}
-use Rattle.std.proofs.lemmas.List.FromFn.{length-map-range_with_len, get_or-map-range_with_len}
 use Rattle.ten_unit.specs.declared.character.Element.{Element}
 use Rattle.ten_unit.specs.Word.{word_of, is_word}
 use Rattle.ten_unit.specs.Errors.{IsOneWay}
+use Rattle.ten_unit.proofs.PublicLaws.{length-word}
 use Rattle.time_diversity.specs.Slots.{dx_slot, rx_slot, IsSlotOf}
 use Rattle.time_diversity.specs.OnAir.{sent_symbol, on_air}
+use Rattle.time_diversity.proofs.PublicLaws.{length-on_air, sent_at}
 use Rattle.phasing.specs.Slot.{slot, shows}
 use Rattle.call_values.specs.declared.calls.Call.{Call}
 use Rattle.call_values.specs.Calls.{IsCall}
@@ -25,25 +26,13 @@ pub record Laws : Type 0 where
   pub slots : (list : List ℕ) (s p : ℕ) → IsSlotOf s p → sent_symbol list s ≡ get_or list p 0
   pub characters : (c : Call) → IsCall c → All (λ v. v < 128) (spell c)
 
-pub length-on_air : (list : List ℕ) → length (on_air list) ≡ 2 * length list + 12
-unfolding on_air
-length-on_air list = length-map-range_with_len (sent_symbol list) 0 (2 * length list + 12)
-
-pub sent_at : (list : List ℕ) (s : ℕ) → s < 2 * length list + 12 → get_or (on_air list) s 0 ≡ sent_symbol list s
-unfolding on_air
-sent_at list s below = get_or-map-range_with_len (sent_symbol list) 0 (2 * length list + 12) s s 0 below (omega arith)
-
-ten : (v : ℕ) → length (word_of v) ≡ 10
-unfolding word_of
-ten v = refl
-
 -- a slot shows what was sent in it or nothing
 pub slot_told : Laws → (e : List Element) (list : List ℕ) (lead s p v : ℕ) → IsOneWayAt e list lead → s < 2 * length list + 12 → IsSlotOf s p → get_or list p 0 < 128 → v < 128 → shows e lead s v ≡ true → v ≡ get_or list p 0
 unfolding shows
 slot_told laws e list lead s p v heard below is small bv has =
     let word = (laws.equal (slot e lead s) v).0 has in
     let sent : get_or (on_air list) s 0 ≡ get_or list p 0 = sent_at list s below ∙ laws.slots list s p is in
-    let one_way = heard s (omega (arith, length-on_air list)) (ap length word ∙ ten v) in
+    let one_way = heard s (omega (arith, length-on_air list)) (ap length word ∙ length-word v) in
     laws.one_way (slot e lead s) v (get_or list p 0) bv small (subst (λ (x : ℕ). IsOneWay (word_of x) (slot e lead s)) sent one_way) has
 
 at_lead : Laws → (e : List Element) (list : List ℕ) (lead p v : ℕ) → IsOneWayAt e list lead → p + 2 < length list → get_or list p 0 < 128 → facts_at e (Some lead) p v ≡ true → v ≡ get_or list p 0

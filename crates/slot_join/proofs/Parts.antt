@@ -1,7 +1,7 @@
 -- A call whose places came intact, each at some receiver, is the answer.
 use Rattle.std.proofs.Common.{◌≡◌, ℕ, ◌<◌, ◌≤◌, Bool, true, false, List, [], ◌∷◌, ◌++◌, length, get_or, take, drop, refl, sym, ap, subst, ◌∙◌, inl, inr, append_assoc, arith, All}
 use Rattle.std.proofs.Math.Seq.{take-append_seam}
-use Rattle.std.proofs.lemmas.Bool.{or_left, or_right}
+use Rattle.std.proofs.lemmas.Bool.{or_left, or_right, false_from_ne_true}
 use Rattle.std.proofs.lemmas.List.{get_or_append_left, get_or_push, length_push}
 use Rattle.ten_unit.specs.declared.character.Element.{Element}
 use Rattle.call_values.specs.declared.calls.Call.{Call}
@@ -18,7 +18,7 @@ use Rattle.slot_join.specs.Heard.{IsHeard}
 use Rattle.slot_join.specs.OneCall.{ShowsNoOther, IsEndPlace, ShowsNoOtherEnd, IsCallReported}
 use Rattle.slot_join.specs.Intact.{CameSomewhere, EndCameLate, IsSent, IsSentOrLostPlace, ArrivesInParts}
 use Rattle.slot_join.proofs.ShownLists.{viable_front, front_viable}
-use Rattle.slot_join.proofs.CallOrMissing.{FormatsBegin, head_is, before_end, not_true}
+use Rattle.slot_join.proofs.CallOrMissing.{FormatsBegin, head_is, before_end}
 use Rattle.slot_join.proofs.Copies.{HeardLaw, Lists, all_told, somewhere_shown}
 use Rattle.slot_join.proofs.HeardEnds.{WithinLaw, as_sent, later_shown}
 use Rattle.slot_join.proofs.Stops.{FrontsDiffer}
@@ -70,7 +70,7 @@ module _ (law : HeardLaw) (within_law : WithinLaw) (lists : Lists) (formats : Fo
       let at_end : IsAtEnd (before_end c) = record { call = c; lawful = lawful; list = refl } in
       record {
         at_end = subst IsAtEnd (sym (front n place)) at_end;
-        none = λ v. not_true (facts_of_all receptions n v) (end_none n v place none);
+        none = λ v. false_from_ne_true (facts_of_all receptions n v) (end_none n v place none);
         copies = subst (λ (v : ℕ). ShowsOne (late_of (facts_of_all receptions) n) v) (sym (symbol n place)) (shown, λ v has. other v has);
       }
 

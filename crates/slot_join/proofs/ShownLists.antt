@@ -11,6 +11,7 @@ use Rattle.slot_evidence.specs.Facts.{Facts, Symbols}
 use Rattle.slot_evidence.specs.Seen.{ShowsOne}
 use Rattle.slot_join.specs.Shown.{head_of, late_of, IsLate, Gives, IsShown, IsShownLate, IsLongest}
 
+-- a place shows one symbol at most where it shows one alone
 pub only_one : (S : Symbols) (u v : ℕ) → ShowsOne S u → ShowsOne S v → u ≡ v
 only_one S u v a b = b.1 u a.0
 
@@ -114,15 +115,19 @@ late_push F l v late = record {
       (subst (λ (u : ℕ). IsLate F l (length l) u) (sym (get_or_push l v 0 (length l) refl)) late);
 }
 
+-- behind a shown list the next symbol is its next one
 pub after_shown : (F : Facts) (l : List ℕ) (v : ℕ) → IsShown F l → after l v ≡ l ++ v ∷ []
 after_shown F l v a = ap (λ (x : List ℕ). after x v) a.begins ∙ sym (ap (λ (x : List ℕ). x ++ v ∷ []) a.begins)
 
+-- what begins a viable list is viable
 pub viable_front : (l t : List ℕ) → IsViable (l ++ t) → IsViable l
 viable_front l t a = record { call = a.call; rest = t ++ a.rest; lawful = a.lawful; list = a.list ∙ append_assoc l t a.rest }
 
+-- a call's list up to its check is viable
 pub front_viable : (c : Call) → IsCall c → IsViable (through_check c)
 front_viable c lawful = record { call = c; rest = end_of c ∷ end_of c ∷ []; lawful = lawful; list = refl }
 
+-- an open list is viable
 pub open_viable : (l : List ℕ) → IsOpen l → IsViable l
 open_viable l a =
     let whole : IsViable (l ++ a.next ∷ a.rest) = subst IsViable a.list (front_viable a.call a.lawful) in

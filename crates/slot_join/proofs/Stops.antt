@@ -44,6 +44,7 @@ blank_stops : (F : Facts) (l : List ℕ) → IsShown F l → ShowsNone (F (lengt
 blank_stops F l shown here never v (inl one) viable = absurd (cc (here v, one.0))
 blank_stops F l shown here never v (inr late) viable = never v late (subst IsViable (sym (after_shown F l v shown)) viable)
 
+-- a list stops at a place that shows nothing
 pub stops_missing : FrontsDiffer → (F : Facts) (l : List ℕ) (n : ℕ) → length l ≡ n → IsOpen l → IsShown F l → ShowsNone (F n)
     → ((v : ℕ) → IsLate F l n v → IsViable (after l v) → ⊥) → IsStopped F (Missing n)
 stops_missing differ F l n len o shown none never =
@@ -55,6 +56,7 @@ several_stops : (F : Facts) (l : List ℕ) (a b : ℕ) → ShowsSeveral (F (leng
 several_stops F l a b here v (inl one) viable = absurd (omega (arith, one.1 a here.has_least, one.1 b here.has_greatest, here.apart))
 several_stops F l a b here v (inr late) viable = absurd (cc (late.none a, here.has_least))
 
+-- a list stops at a place that shows several symbols
 pub stops_differ : FrontsDiffer → (F : Facts) (l : List ℕ) (n a b : ℕ) → length l ≡ n → IsOpen l → IsShown F l → ShowsSeveral (F n) a b → IsStopped F (Differ n a b)
 stops_differ differ F l n a b len o shown several =
     let here : ShowsSeveral (F (length l)) a b = subst (λ (k : ℕ). ShowsSeveral (F k) a b) (sym len) several in

@@ -1,14 +1,16 @@
 -- What is told of what was sent behind a call.
-use Rattle.std.proofs.Common.{◌≡◌, ℕ, suc, ◌+◌, ◌*◌, ◌<◌, ◌≤◌, Bool, true, false, ◌&&◌, ◌||◌, ltb, nat_le, List, [], ◌∷◌, ◌++◌, length, get_or, drop, Option, Some, None, refl, sym, ap, subst, ◌∙◌, inl, inr, append_assoc, length-append, arith, All}
+use Rattle.std.proofs.Common.{◌≡◌, ℕ, suc, ◌+◌, ◌*◌, ◌<◌, ◌≤◌, true, false, ltb, nat_le, List, [], ◌∷◌, ◌++◌, length, get_or, drop, Option, Some, None, refl, sym, ap, subst, ◌∙◌, inl, inr, append_assoc, length-append, arith, All}
 use Rattle.std.specs.Prelude.{◌↔◌}
 use Rattle.std.specs.List.{list_any}
-use Rattle.std.proofs.lemmas.Bool.{cases_lt, or_cases, cond-false, lt-leb}
+use Rattle.std.proofs.lemmas.Bool.{cases_lt, or_cases, cond-false, lt-leb, or_from, and_right, false_from_ne_true}
 use Rattle.std.proofs.lemmas.List.{get_or_append_left, get_or-append-add, get_or_default, drop_more}
 use Rattle.std.proofs.lemmas.List.Elements.{All-get_or, All-append}
 use Rattle.ten_unit.specs.declared.character.Element.{Element}
 use Rattle.ten_unit.specs.Word.{word_of, is_word}
+use Rattle.ten_unit.proofs.PublicLaws.{length-word}
 use Rattle.time_diversity.specs.Slots.{dx_slot, rx_slot}
 use Rattle.time_diversity.specs.OnAir.{on_air}
+use Rattle.time_diversity.proofs.PublicLaws.{length-on_air}
 use Rattle.phasing.specs.Slot.{slot, shows}
 use Rattle.phasing.specs.Origin.{lead_of}
 use Rattle.call_values.specs.declared.choices.End.{End}
@@ -26,7 +28,6 @@ use Rattle.slot_join.specs.declared.joined.Extra.TheVariants.{Absent, Whole, Bro
 use Rattle.slot_join.specs.Extra.{IsBlankFrom, IsShownFrom, IsBroken, IsExtra, Follows}
 use Rattle.slot_join.specs.Heard.{IsHeard}
 use Rattle.slot_join.specs.Intact.{CameNowhere, IsExpandedBy, EndsWithin, IsLostAt, TellsTail}
-use Rattle.slot_join.proofs.OneWay.{length-on_air}
 use Rattle.slot_join.proofs.Copies.{any_shows, copy_shows}
 use Rattle.slot_join.proofs.Followers.{ExpansionsDiffer, ExpansionsAreShort, CallsAreShort, pointwise, push_from, shown_some, some_check, extra_with}
 
@@ -38,34 +39,15 @@ ExpansionsAreCharacters = (x : Sets) (e : End) → IsExpansion x → All (λ sym
 abbrev pub WordsEqual : Type 0
 WordsEqual = (w : List Element) (v : ℕ) → (is_word w v ≡ true) ↔ (w ≡ word_of v)
 
-ten : (v : ℕ) → length (word_of v) ≡ 10
-unfolding word_of
-ten v = refl
-
-not_true : (b : Bool) → (b ≡ true → ⊥) → b ≡ false
-not_true true never = absurd (never refl)
-not_true false never = refl
-
-and_false : (a b : Bool) → b ≡ false → (a && b) ≡ false
-and_false true b h = h
-and_false false b h = refl
-
-or_false : (a b : Bool) → a ≡ false → b ≡ false → (a || b) ≡ false
-or_false true b h k = absurd cc
-or_false false b h k = k
-
-not_le : (a b : ℕ) → b < a → nat_le a b ≡ false
-not_le a b h = lt-leb a b h
-
 module _ (equal : WordsEqual) (e : List Element) where
   pub shows_nothing : (lead s v : ℕ) → length e + 150 < lead + 10 * s + 10 → shows e lead s v ≡ false
   unfolding shows
   shows_nothing lead s v past =
       let none : slot e lead s ≡ [] =
-      cond-false _ _ _ (and_false (nat_le 150 (lead + 10 * s)) (nat_le (lead + 10 * s + 10) (length e + 150)) (not_le (lead + 10 * s + 10) (length e + 150) past)) in
-      not_true (is_word (slot e lead s) v) (λ said.
+      cond-false _ _ _ (and_right (nat_le 150 (lead + 10 * s)) (nat_le (lead + 10 * s + 10) (length e + 150)) (lt-leb (lead + 10 * s + 10) (length e + 150) past)) in
+      false_from_ne_true (is_word (slot e lead s) v) (λ said.
       (let is : slot e lead s ≡ word_of v = (equal (slot e lead s) v).0 said in
-      absurd (omega (arith, ap length (sym none ∙ is) ∙ ten v))))
+      absurd (omega (arith, ap length (sym none ∙ is) ∙ length-word v))))
 
   past_at : (o : Option ℕ) (list : List ℕ) (p v : ℕ) → ((lead : ℕ) → o ≡ Some lead → length e + 150 ≤ lead + 10 * length (on_air list)) → length list ≤ p → facts_at e o p v ≡ false
   past_at None list p v within beyond = refl
@@ -74,7 +56,7 @@ module _ (equal : WordsEqual) (e : List Element) where
       let air : length (on_air list) ≡ 2 * length list + 12 = length-on_air list in
       let dx : shows e lead (dx_slot p) v ≡ false = shows_nothing lead (dx_slot p) v (omega arith) in
       let rx : shows e lead (rx_slot p) v ≡ false = shows_nothing lead (rx_slot p) v (omega arith) in
-      and_false (ltb p 64) _ (and_false (ltb v 128) _ (or_false (shows e lead (dx_slot p) v) (shows e lead (rx_slot p) v) dx rx))
+      and_right (ltb p 64) _ (and_right (ltb v 128) _ (or_from (shows e lead (dx_slot p) v) (shows e lead (rx_slot p) v) dx rx))
 
   pub past_end : (list : List ℕ) (p v : ℕ) → EndsWithin e list → length list ≤ p → facts_of e p v ≡ false
   unfolding facts_of
@@ -94,7 +76,7 @@ none_of : (P : List Element → Type 0) (p v : ℕ) → ((e : List Element) → 
     → list_any (λ e. facts_of e p v) receptions ≡ false
 none_of P p v tell [] each = refl
 none_of P p v tell (e ∷ receptions) each =
-    or_false (facts_of e p v) (list_any (λ d. facts_of d p v) receptions) (tell e (each 0 e (omega arith)))
+    or_from (facts_of e p v) (list_any (λ d. facts_of d p v) receptions) (tell e (each 0 e (omega arith)))
     (none_of P p v tell receptions (λ k d inside. each (suc k) d (omega (arith, inside))))
 
 -- a place that no reception showed came intact nowhere
@@ -201,7 +183,7 @@ module _ (differ : ExpansionsDiffer) (calls : CallsAreShort) (short : Expansions
     broken_lost receptions all n b =
         let place = broken_place n b in
         let k : ℕ = place.0 in
-        let none : ShowsNone (F n) = λ v. not_true (F n v) (broken_blank n b v) in
+        let none : ShowsNone (F n) = λ v. false_from_ne_true (F n v) (broken_blank n b v) in
         let small : get_or (spell c ++ tail) n 0 < 128 = subst (λ (q : ℕ). get_or (spell c ++ tail) q 0 < 128) (sym place.1.1) (character_of k place.1.0) in
         record {
           inside = omega (arith, place.1.1, place.1.0, tail_long, list_long);

@@ -1,6 +1,7 @@
 -- what is sent of a call arrives intact where nothing is lost
 use Rattle.std.proofs.Common.{◌≡◌, ℕ, ◌+◌, ◌*◌, ◌<◌, ◌==◌, Bool, true, List, [], ◌++◌, length, take, slice_index, Some, arith, sym, subst, ◌∙◌, append-nil}
 use Rattle.std.specs.List.{list_any}
+use Rattle.std.proofs.lemmas.Option.{same_Some}
 use Rattle.call_values.specs.declared.calls.Call.{Call}
 use Rattle.call_grammar.specs.Spelling.{format_of, spell}
 use Rattle.time_diversity.specs.OnAir.{on_air}
@@ -31,11 +32,8 @@ pub arrives_alone : Laws → (call : Call) (long : Bool) → ArrivesIntact (sent
 arrives_alone laws call long =
     subst (λ l. ArrivesIntact (sent (on_air l) long) l) (append-nil (spell call)) (arrives laws call [] long)
 
-same_lead : (a b : ℕ) → Some a ≡ Some b → a ≡ b
-same_lead a b h = cc
-
 pub ends_alone : Laws → (call : Call) (long : Bool) → EndsWithin (sent (on_air (spell call)) long) (spell call)
 ends_alone laws call long = λ lead found.
     let alone : lead_of (sent (on_air (spell call)) long) ≡ Some (dot_count long + 150) = subst (λ l. lead_of (sent (on_air l) long) ≡ Some (dot_count long + 150)) (append-nil (spell call)) (origin laws call [] long) in
-    let same : lead ≡ dot_count long + 150 = same_lead lead (dot_count long + 150) (sym found ∙ alone) in
+    let same : lead ≡ dot_count long + 150 = same_Some lead (dot_count long + 150) (sym found ∙ alone) in
     omega (arith, same, laws.length (on_air (spell call)) long)

@@ -52,7 +52,8 @@ pub(crate) fn shown_from(sheet: &Sheet, from: u8) -> ArrayVec<u8, 64>
     requires { from ≤ 64 }
     ensures shown { (F : Facts) → IsEnds F sheet.now → IsShownFrom F from result.items }
     ensures most { from + length result.items ≤ 64 }
-    ensures stops { from + length result.items < 64 → (v : ℕ) → seen_at sheet.now (from + length result.items) ≡ Seen.One v → ⊥ }
+    ensures stops { from + length result.items < 64 → (v : ℕ)
+        → seen_at sheet.now (from + length result.items) ≡ Seen.One v → ⊥ }
 {
     let mut symbols = ArrayVec::new();
     for p in from..64 {

@@ -19,7 +19,8 @@ use slot_evidence::one_seen;
 /// It does nothing.
 pub fn sent_call_is_answered()
     ensures { (receptions : List (List Element)) (call : Call) (tail : List ℕ) (answer : Joined) → IsCall call
-        → All (λ reception. IsHeard reception (spell call ++ tail)) receptions → IsAnswer (facts_of_all receptions) answer
+        → All (λ reception. IsHeard reception (spell call ++ tail)) receptions
+        → IsAnswer (facts_of_all receptions) answer
         → IsSentOrLostPlace receptions call tail answer }
 {
     heard_calls_show_no_other();
@@ -33,7 +34,7 @@ pub fn sent_call_is_answered()
 
 /// The law that such receptions are answered by the call wherever each of its places up to the error check character came
 /// intact in one copy at one of them. Of the end of sequence the second or the third is enough where all of them end with the
-/// transmission. It does nothing.
+/// transmission.
 pub fn intact_copies_report_the_call()
     ensures { (receptions : List (List Element)) (call : Call) (tail : List ℕ) (answer : Joined) → IsCall call
         → All (λ reception. IsHeard reception (spell call ++ tail)) receptions → ArrivesInParts receptions call tail

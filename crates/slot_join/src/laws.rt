@@ -1,25 +1,26 @@
+//! Laws: each function here does nothing, and its contract is a theorem over definitions.
 ghost use Rattle.std.specs.Prelude.{◌≡◌, ◌+◌, ◌<◌, ◌≤◌, ◌++◌, ◌↔◌, ℕ, Bool, true, false, List, length, slice_index, Some, All, pos, ◌-ℤ◌};
-ghost use Rattle.ten_unit.specs.declared.character.Element.{Element};
-ghost use Rattle.call_values.specs.declared.calls.Call.{Call};
-ghost use Rattle.call_values.specs.Calls.{IsCall};
 ghost use Rattle.call_grammar.specs.Spelling.{spell, through_check};
+ghost use Rattle.call_values.specs.Calls.{IsCall};
+ghost use Rattle.call_values.specs.declared.calls.Call.{Call};
 ghost use Rattle.expansion.specs.declared.values.Sets.{Sets};
-ghost use Rattle.time_diversity.specs.OnAir.{on_air};
 ghost use Rattle.phasing.specs.Origin.{lead_of, origin_of};
 ghost use Rattle.phasing.specs.Sent.{sent};
 ghost use Rattle.phasing.specs.Start.{IsIntactStart};
-ghost use Rattle.slot_evidence.specs.declared.places.Seen.{Seen};
-ghost use Rattle.slot_evidence.specs.Facts.{Facts, facts_of, union};
-ghost use Rattle.slot_evidence.specs.Sheet.{IsEnds, facts_in};
 ghost use Rattle.slot_evidence.specs.Alike.{AreAlike};
 ghost use Rattle.slot_evidence.specs.Allowed.{OnlyAllowed};
-ghost use Rattle.slot_join.specs.declared.joined.Joined.{Joined};
-ghost use Rattle.slot_join.specs.declared.joined.Joined.TheVariants.{Reported};
-ghost use Rattle.slot_join.specs.declared.joined.Extra.TheVariants.{Absent, Whole};
+ghost use Rattle.slot_evidence.specs.Facts.{Facts, facts_of, union};
+ghost use Rattle.slot_evidence.specs.Sheet.{IsEnds, facts_in};
+ghost use Rattle.slot_evidence.specs.declared.places.Seen.{Seen};
 ghost use Rattle.slot_join.specs.Answer.{IsAnswer};
 ghost use Rattle.slot_join.specs.Heard.{IsOneWayAt, IsTrulyPhased, IsHeard};
 ghost use Rattle.slot_join.specs.Intact.{ArrivesIntact, EndsWithin, IsExpandedBy};
 ghost use Rattle.slot_join.specs.OneCall.{ShowsNoOther, IsCallOrMissing, AreOneCalls};
+ghost use Rattle.slot_join.specs.declared.joined.Extra.TheVariants.{Absent, Whole};
+ghost use Rattle.slot_join.specs.declared.joined.Joined.TheVariants.{Reported};
+ghost use Rattle.slot_join.specs.declared.joined.Joined.{Joined};
+ghost use Rattle.ten_unit.specs.declared.character.Element.{Element};
+ghost use Rattle.time_diversity.specs.OnAir.{on_air};
 
 use call_grammar::{
     checks_tell_ends, formats_begin_calls, fronts_differ, lists_are_characters, lists_are_short,
@@ -30,7 +31,7 @@ use slot_evidence::{ends_are_kept, one_seen};
 use ten_unit::{one_way_errors_are_seen, words_tell_symbols_apart};
 use time_diversity::both_slots_show_the_character;
 
-/// The law that a set of facts has one answer. It does nothing.
+/// The law that a set of facts has one answer.
 pub fn one_answer()
     ensures { (F : Facts) (a b : Joined) → IsAnswer F a → IsAnswer F b → a ≡ b }
 {
@@ -41,7 +42,7 @@ pub fn one_answer()
 }
 
 /// The law that the ends that a sheet keeps of facts give the answer that the facts give, whatever other facts are known
-/// beside them. It does nothing.
+/// beside them.
 pub fn ends_give_the_answer()
     ensures { (F G : Facts) (sheet : List Seen) (answer : Joined) → IsEnds F sheet
         → (IsAnswer (union F G) answer ↔ IsAnswer (union (facts_in sheet) G) answer) }
@@ -49,20 +50,24 @@ pub fn ends_give_the_answer()
     ends_are_kept();
 }
 
-/// The law that facts which are alike at each place have the same answers. It does nothing.
+/// The law that facts which are alike at each place have the same answers.
 pub fn alike_facts_have_one_answer()
-    ensures { (F G : Facts) (answer : Joined) → ((p : ℕ) → AreAlike (F p) (G p)) → IsAnswer F answer → IsAnswer G answer }
+    ensures { (F G : Facts) (answer : Joined) → ((p : ℕ) → AreAlike (F p) (G p)) → IsAnswer F answer
+        → IsAnswer G answer }
 {
     ends_are_kept();
 }
 
 /// The law that a call whose slots all arrive intact at the origin is reported: alone, where the reception ends with its transmission,
-/// and with its expansion, where one was sent behind it. No other answer comes. It does nothing.
+/// and with its expansion, where one was sent behind it. No other answer comes.
 pub fn intact_call_is_reported()
-    ensures alone { (call : Call) (reception : List Element) (answer : Joined) → IsCall call → ArrivesIntact reception (spell call)
+    ensures alone { (call : Call) (reception : List Element) (answer : Joined) → IsCall call
+        → ArrivesIntact reception (spell call)
         → EndsWithin reception (spell call) → IsAnswer (facts_of reception) answer → answer ≡ Reported call Absent }
-    ensures expanded { (call : Call) (tail : List ℕ) (x : Sets) (reception : List Element) (answer : Joined) → IsCall call → IsExpandedBy call tail x
-        → ArrivesIntact reception (spell call ++ tail) → IsAnswer (facts_of reception) answer → answer ≡ Reported call (Whole x) }
+    ensures expanded { (call : Call) (tail : List ℕ) (x : Sets) (reception : List Element) (answer : Joined)
+        → IsCall call → IsExpandedBy call tail x
+        → ArrivesIntact reception (spell call ++ tail) → IsAnswer (facts_of reception) answer
+        → answer ≡ Reported call (Whole x) }
 {
     one_seen();
     fronts_differ();
@@ -77,11 +82,12 @@ pub fn intact_call_is_reported()
 }
 
 /// The law that what is sent of a call, behind either dot pattern, has this call as its one answer: alone, and with the expansion that
-/// is sent behind it. It does nothing.
+/// is sent behind it.
 pub fn transmissions_are_answered()
     ensures alone { (call : Call) (long : Bool) (answer : Joined) → IsCall call
         → IsAnswer (facts_of (sent (on_air (spell call)) long)) answer → answer ≡ Reported call Absent }
-    ensures expanded { (call : Call) (tail : List ℕ) (x : Sets) (long : Bool) (answer : Joined) → IsCall call → IsExpandedBy call tail x
+    ensures expanded { (call : Call) (tail : List ℕ) (x : Sets) (long : Bool) (answer : Joined) → IsCall call
+        → IsExpandedBy call tail x
         → IsAnswer (facts_of (sent (on_air (spell call ++ tail)) long)) answer → answer ≡ Reported call (Whole x) }
 {
     intact_call_is_reported();
@@ -89,36 +95,42 @@ pub fn transmissions_are_answered()
 }
 
 /// The law that a call is found at its origin where its start is intact but for lost elements, however late the reception
-/// begins and whatever follows the call: the origin, which is what `origin` answers, is 150 below the lead. It does nothing.
+/// begins and whatever follows the call: the origin, which is what `origin` answers, is 150 below the lead.
 pub fn late_calls_are_found()
     ensures lead { (call : Call) (tail : List ℕ) (reception : List Element) (long : Bool) (lead : ℕ)
         → IsIntactStart reception (on_air (spell call ++ tail)) long lead → lead_of reception ≡ Some lead }
     ensures origin { (call : Call) (tail : List ℕ) (reception : List Element) (long : Bool) (lead : ℕ)
-        → IsIntactStart reception (on_air (spell call ++ tail)) long lead → origin_of reception ≡ Some (pos lead -ℤ pos 150) }
+        → IsIntactStart reception (on_air (spell call ++ tail)) long lead
+        → origin_of reception ≡ Some (pos lead -ℤ pos 150) }
 {
     late_starts_are_found();
 }
 
 /// The law that a true origin can be named for every reception in which none is found: at one past the reception's end no slot is
 /// inside of it. So where each reception has an origin at which it is one-way, and which is the one that is found or none is
-/// found, each is heard. It does nothing.
+/// found, each is heard.
 pub fn unphased_receptions_are_heard()
     ensures named { (reception : List Element) (list : List ℕ) → (lead : ℕ) × IsOneWayAt reception list lead }
-    ensures heard { (reception : List Element) (list : List ℕ) (lead : ℕ) → IsOneWayAt reception list lead → IsTrulyPhased reception lead → IsHeard reception list }
+    ensures heard { (reception : List Element) (list : List ℕ) (lead : ℕ) → IsOneWayAt reception list lead
+        → IsTrulyPhased reception lead → IsHeard reception list }
 {}
 
 /// The law that the truly phased receptions of a call that went wrong in one sense alone, character by character, show of
 /// its places up to the error check character no other symbols than the call's; and those of any list's transmission no other
 /// symbols than the list's at the places of which both copies are sent, the last two excepted. Where the reception ends with the
-/// transmission, it shows no other there either, and nothing past them. It does nothing.
+/// transmission, it shows no other there either, and nothing past them.
 pub fn heard_calls_show_no_other()
-    ensures call { (call : Call) (tail : List ℕ) (reception : List Element) → IsCall call → IsHeard reception (spell call ++ tail)
+    ensures call { (call : Call) (tail : List ℕ) (reception : List Element) → IsCall call
+        → IsHeard reception (spell call ++ tail)
         → ShowsNoOther (facts_of reception) (through_check call) }
-    ensures list { (list : List ℕ) (reception : List Element) (p v : ℕ) → All (λ symbol. symbol < 128) list → IsHeard reception list
+    ensures list { (list : List ℕ) (reception : List Element) (p v : ℕ) → All (λ symbol. symbol < 128) list
+        → IsHeard reception list
         → p + 2 < length list → facts_of reception p v ≡ true → v ≡ slice_index list p }
-    ensures within { (list : List ℕ) (reception : List Element) (p v : ℕ) → IsHeard reception list → EndsWithin reception list
+    ensures within { (list : List ℕ) (reception : List Element) (p v : ℕ) → IsHeard reception list
+        → EndsWithin reception list
         → p < length list → slice_index list p < 128 → facts_of reception p v ≡ true → v ≡ slice_index list p }
-    ensures past { (list : List ℕ) (reception : List Element) (p v : ℕ) → EndsWithin reception list → length list ≤ p → facts_of reception p v ≡ false }
+    ensures past { (list : List ℕ) (reception : List Element) (p v : ℕ) → EndsWithin reception list → length list ≤ p
+        → facts_of reception p v ≡ false }
 {
     words_tell_symbols_apart();
     one_way_errors_are_seen();
@@ -128,9 +140,10 @@ pub fn heard_calls_show_no_other()
 
 /// The law that where the places of a call, up to its error check character, showed no other symbols than the call's, the answer is the
 /// call, or names as missing a place of it that showed nothing. Its first end of sequence is missing only where those of the second and
-/// the third showed nothing either, or another symbol. It does nothing.
+/// the third showed nothing either, or another symbol.
 pub fn call_or_missing_place()
-    ensures { (F : Facts) (call : Call) (answer : Joined) → IsCall call → ShowsNoOther F (through_check call) → IsAnswer F answer
+    ensures { (F : Facts) (call : Call) (answer : Joined) → IsCall call → ShowsNoOther F (through_check call)
+        → IsAnswer F answer
         → IsCallOrMissing F call answer }
 {
     one_check_place();
@@ -140,12 +153,16 @@ pub fn call_or_missing_place()
 }
 
 /// The law of a board on which one call's facts alone may be posted: whatever a look at it shows, the answer is the call, or names as missing a
-/// place of it that showed nothing; and the sheet of every truly phased reception of the call with one-way errors may be posted there. It does nothing.
+/// place of it that showed nothing; and the sheet of every truly phased reception of the call with one-way errors may be posted there.
 pub fn looks_report_the_call()
-    ensures looked { (facts : List (ℕ × ℕ)) (call : Call) (tail : List ℕ) (sheet : List Seen) (answer : Joined) → IsCall call → AreOneCalls facts call tail
+    ensures looked { (facts : List (ℕ × ℕ)) (call : Call) (tail : List ℕ) (sheet : List Seen) (answer : Joined)
+        → IsCall call → AreOneCalls facts call tail
         → OnlyAllowed facts sheet → IsAnswer (facts_in sheet) answer → IsCallOrMissing (facts_in sheet) call answer }
-    ensures admitted { (facts : List (ℕ × ℕ)) (call : Call) (tail : List ℕ) (reception : List Element) (sheet : List Seen) → IsCall call → All (λ symbol. symbol < 128) tail
-        → AreOneCalls facts call tail → IsHeard reception (spell call ++ tail) → IsEnds (facts_of reception) sheet → OnlyAllowed facts sheet }
+    ensures admitted { (facts : List (ℕ
+        × ℕ)) (call : Call) (tail : List ℕ) (reception : List Element) (sheet : List Seen) → IsCall call
+        → All (λ symbol. symbol < 128) tail
+        → AreOneCalls facts call tail → IsHeard reception (spell call ++ tail) → IsEnds (facts_of reception) sheet
+        → OnlyAllowed facts sheet }
 {
     call_or_missing_place();
     heard_calls_show_no_other();

@@ -106,7 +106,8 @@ fn late_end(sheet: &Sheet, walk: &Walk, n: u8) -> Option<u8>
     ensures at_end { IfSome result (λ end. IsAtEnd walk.now) }
     ensures symbol { IfSome result (λ end. end < 128) }
     ensures copies { IfSome result (λ end. (F : Facts) → IsEnds F sheet.now → ShowsOne (late_of F n) end) }
-    ensures none { IsNone result → (F : Facts) → IsEnds F sheet.now → IsAtEnd walk.now → (end : ℕ) → ShowsOne (late_of F n) end → ⊥ }
+    ensures none { IsNone result → (F : Facts) → IsEnds F sheet.now → IsAtEnd walk.now → (end : ℕ)
+        → ShowsOne (late_of F n) end → ⊥ }
 {
     if !walk.wants_end() {
         return None;
@@ -122,7 +123,8 @@ fn late_end(sheet: &Sheet, walk: &Walk, n: u8) -> Option<u8>
 fn behind_blank(sheet: &Sheet, mut walk: Walk, n: u8) -> Joined
     requires taken { length walk ≡ n }
     requires open { IsOpen walk }
-    ensures { (F : Facts) → IsEnds F sheet.now → ShowsNone (F n) → IsShown F walk → (IsShownLate F walk → ⊥) → IsReported F result ⊎ IsStopped F result }
+    ensures { (F : Facts) → IsEnds F sheet.now → ShowsNone (F n) → IsShown F walk → (IsShownLate F walk → ⊥)
+        → IsReported F result ⊎ IsStopped F result }
 {
     fronts_differ();
     lists_are_short();
@@ -144,7 +146,8 @@ fn behind_late_end(sheet: &Sheet, mut walk: Walk, n: u8) -> Joined
     requires taken { length walk ≡ n }
     requires open { IsOpen walk }
     requires check { IsAtCheck walk }
-    ensures { (F : Facts) → IsEnds F sheet.now → IsShown F walk → IsShownLate F walk → IsReported F result ⊎ IsStopped F result }
+    ensures { (F : Facts) → IsEnds F sheet.now → IsShown F walk → IsShownLate F walk
+        → IsReported F result ⊎ IsStopped F result }
 {
     fronts_differ();
     lists_are_short();

@@ -9,7 +9,7 @@ ghost use Rattle.station_exchange.specs.inside.Gives.{gives_text};
 
 use crate::stages::{Stage, behind_base, behind_coast, behind_ship};
 use call_values::{Band, Mmsi};
-use dsc_files::{Status, exchange_columns, one_exchange_line, says_nothing};
+use dsc_lines::{Status, exchange_columns, one_exchange_line, says_nothing};
 use line_engine::{Command, Refusal};
 use std::alloc::{AllocError, Global};
 use traffic_rules::Acts;
@@ -82,7 +82,8 @@ impl Exchanging {
         requires ready { IsReady self.old.stage }
         ensures ok { OnOk result ((said : Said) (text : List ℕ) → Keeps self.old.stage said (text ++ out.old.items)
             → Takes self.new.stage said line.now (text ++ out.new.items)) }
-        ensures err { IfErr result (λ refusal. (said : Said) (text : List ℕ) → Keeps self.old.stage said text → Refuses said line.now refusal) }
+        ensures err { IfErr result (λ refusal. (said : Said) (text : List ℕ) → Keeps self.old.stage said text
+            → Refuses said line.now refusal) }
         ensures unsaid { IfErr result (λ refusal. KeepsText refusal out.old.items out.new.items) }
     {
         match &mut self.stage {
@@ -104,7 +105,8 @@ impl Exchanging {
         requires { IsReady self.old.stage }
         ensures ok { OnOk result ((said : Said) (text : List ℕ) → Keeps self.old.stage said (text ++ out.old.items)
             → Takes self.new.stage said line.now (text ++ out.new.items)) }
-        ensures err { IfErr result (λ refusal. (said : Said) (text : List ℕ) → Keeps self.old.stage said text → Refuses said line.now refusal) }
+        ensures err { IfErr result (λ refusal. (said : Said) (text : List ℕ) → Keeps self.old.stage said text
+            → Refuses said line.now refusal) }
         ensures unsaid { IfErr result (λ refusal. KeepsText refusal out.old.items out.new.items) }
     {
         if says_nothing(line) {

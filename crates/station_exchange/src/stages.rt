@@ -109,7 +109,8 @@ impl Events {
     ) -> Result<(), Refusal>
         requires own { IsOwnLine line.now }
         requires within { self.old.base ≤ LAST_BASE }
-        ensures ok { OnOk result ((said : Said) (text : List ℕ) → Keeps (stage.Events self.old) said (text ++ out.old.items)
+        ensures ok { OnOk result ((said : Said) (text : List ℕ)
+            → Keeps (stage.Events self.old) said (text ++ out.old.items)
             → Takes (stage.Events self.new) said line.now (text ++ out.new.items)) }
         ensures err { IfErr result (λ refusal. IsRefusedAt (stage.Events self.old) line.now refusal) }
         ensures unsaid { IfErr result (λ refusal. KeepsText refusal out.old.items out.new.items) }

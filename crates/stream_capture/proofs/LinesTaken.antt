@@ -4,8 +4,8 @@ use Rattle.std.proofs.lemmas.List.{length-map}
 use Rattle.ten_unit.specs.declared.character.Element.{Element}
 use Rattle.line_engine.specs.declared.bounds.TheConstants.{LONGEST_LINE, MOST_LINES}
 use Rattle.line_engine.specs.Lines.{Lines}
-use Rattle.dsc_files.specs.JoinLine.{sign_of, body_text}
-use Rattle.dsc_files.specs.StreamLine.{IsStreamLine}
+use Rattle.dsc_lines.specs.JoinLine.{sign_of, body_text}
+use Rattle.dsc_lines.specs.StreamLine.{IsStreamLine}
 use Rattle.long_capture.specs.Captures.{Ending, decided}
 use Rattle.stream_capture.specs.declared.command.Capturing.{Capturing}
 use Rattle.stream_capture.specs.Telling.{AreStreamLines, stream_of, AreTold, EndsStarts}

@@ -8,7 +8,7 @@ use Rattle.slot_join.specs.Answer.{IsAnswer}
 use Rattle.line_grammar.specs.Columns.{IsColumn}
 use Rattle.line_engine.specs.Lines.{Lines}
 use Rattle.line_engine.specs.Meaning.{Meaning}
-use Rattle.dsc_files.specs.StreamLine.{IsStreamLine}
+use Rattle.dsc_lines.specs.StreamLine.{IsStreamLine}
 use Rattle.join_groups.specs.Output.{is_reported, answer_line}
 use Rattle.long_capture.specs.Starts.{starts_below, facts_from}
 use Rattle.long_capture.specs.Captures.{decided}

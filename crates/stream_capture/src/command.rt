@@ -1,7 +1,7 @@
 ghost use Rattle.std.specs.Prelude.{◌≡◌, ◌+◌, ◌-◌, ◌<◌, ◌≤◌, ◌^◌, ◌∷◌, ◌++◌, List, ℕ, [], map, length, take, IfOk, OnOk};
 ghost use Rattle.ten_unit.specs.declared.character.Element.{Element as Taken};
 ghost use Rattle.line_engine.specs.Commands.{StandsBelow};
-ghost use Rattle.dsc_files.specs.inside.Reading.{element_of as element_at};
+ghost use Rattle.dsc_lines.specs.inside.Reading.{element_of as element_at};
 ghost use Rattle.long_capture.specs.Captures.{taken, IsOpen};
 ghost use Rattle.stream_capture.specs.Telling.{capture_meaning};
 ghost use Rattle.stream_capture.specs.inside.Progress.{HasTold, EndsTold, HasToldAll, TellsOne, HasRoom, StandsFor};
@@ -9,7 +9,7 @@ ghost use Rattle.stream_capture.specs.inside.Gives.{gives_text};
 
 use crate::elements::elements_of;
 use crate::lines::append_start;
-use dsc_files::{one_stream_line, stream_line};
+use dsc_lines::{one_stream_line, stream_line};
 use dsc_streams::Status;
 use line_engine::{Command, LONGEST_LINE, Refusal};
 use long_capture::{Capture, Start, starts_go_on, taking_ends};
@@ -57,7 +57,8 @@ impl Capturing {
         requires going { IsOpen self.old.capture }
         ensures front { IfOk result (λ count. count ≤ length elements.now) }
         ensures some { IfOk result (λ count. 0 < length elements.now → 0 < count) }
-        ensures told { IfOk result (λ count. (e : List Taken) (text : List ℕ) → HasTold self.old e (text ++ out.old.items)
+        ensures told { IfOk result (λ count. (e : List Taken) (text : List ℕ)
+            → HasTold self.old e (text ++ out.old.items)
             → HasTold self.new (e ++ take count elements.now) (text ++ out.new.items)) }
     {
         starts_go_on();
@@ -100,7 +101,8 @@ impl Capturing {
     /// Tells of the starts that the stream's end decides.
     fn take_end(&mut self, out: &mut Vec<u8>) -> Result<(), AllocError>
         requires { self.old.count < 2 ^ 31 }
-        ensures { OnOk result ((e : List Taken) (text : List ℕ) → EndsTold self.old e (text ++ out.old.items) → HasToldAll self.new e (text ++ out.new.items)) }
+        ensures { OnOk result ((e : List Taken) (text : List ℕ) → EndsTold self.old e (text ++ out.old.items)
+            → HasToldAll self.new e (text ++ out.new.items)) }
     {
         starts_go_on();
         while let Some(start) = self.capture.finish() {

@@ -1,7 +1,7 @@
 ghost use Rattle.std.specs.Prelude.{◌≡◌, ◌≤◌, length, map, take};
-ghost use Rattle.dsc_files.specs.inside.Reading.{element_of as element_at};
+ghost use Rattle.dsc_lines.specs.inside.Reading.{element_of as element_at};
 
-use dsc_files::element_of;
+use dsc_lines::element_of;
 use line_engine::LONGEST_LINE;
 use ten_unit::Element;
 

@@ -1,14 +1,15 @@
+//! Laws: each function here does nothing, and its contract is a theorem over definitions.
 ghost use Rattle.std.specs.Prelude.{◌≡◌, ℕ, List};
 ghost use Rattle.line_engine.specs.Lines.{Lines};
 ghost use Rattle.line_engine.specs.Determined.{IsDetermined};
 ghost use Rattle.ten_unit.specs.declared.character.Element.{Element};
 ghost use Rattle.stream_capture.specs.Telling.{AreStreamLines, stream_of, EndsStarts, capture_meaning};
 
-use dsc_files::one_stream_line;
+use dsc_lines::one_stream_line;
 use long_capture::decided_starts_stay;
 use slot_join::one_answer;
 
-/// The law that lines of a stream determine what `capture` writes. It does nothing.
+/// The law that lines of a stream determine what `capture` writes.
 pub fn lines_determine_output()
     ensures { IsDetermined capture_meaning }
 {
@@ -17,9 +18,10 @@ pub fn lines_determine_output()
     decided_starts_stay();
 }
 
-/// The law that the stream alone determines the text and the status, however it is cut into lines. It does nothing.
+/// The law that the stream alone determines the text and the status, however it is cut into lines.
 pub fn streams_determine_output()
-    ensures { (a b : Lines) (x y : List (List Element)) → AreStreamLines x a → AreStreamLines y b → stream_of x ≡ stream_of y
+    ensures { (a b : Lines) (x y : List (List Element)) → AreStreamLines x a → AreStreamLines y b
+        → stream_of x ≡ stream_of y
         → (text other : List ℕ) (s t : ℕ) → EndsStarts a text s → EndsStarts b other t → (text ≡ other) × (s ≡ t) }
 {
     one_stream_line();

@@ -5,9 +5,11 @@ use Rattle.std.proofs.lemmas.Nat.{xor_lt}
 use Rattle.symbol_reader.specs.Digits.{ten_digits, eight_digits, six_digits, four_digits}
 use Rattle.symbol_reader.specs.Checks.{check_of}
 
+-- each of these is a character, below 128
 abbrev pub AreCharacters : List ℕ → Type 0
 AreCharacters l = AllByRecursion (λ symbol. symbol < 128) l
 
+-- characters behind characters are characters
 pub both : (l m : List ℕ) → AreCharacters l → AreCharacters m → AreCharacters (l ++ m)
 both [] m a b = b
 both (x ∷ l) m a b = (a.0, both l m a.1 b)
@@ -22,6 +24,7 @@ pub of_six : (n : ℕ) → n < 1000000 → AreCharacters (six_digits n)
 unfolding six_digits
 of_six n below = (omega arith, (omega arith, (omega arith, tt)))
 
+-- eight digits are characters
 pub of_eight : (n : ℕ) → n < 100000000 → AreCharacters (eight_digits n)
 unfolding eight_digits
 of_eight n below = (omega arith, (omega arith, (omega arith, (omega arith, tt))))

@@ -1,5 +1,5 @@
 -- Digits two to a character.
-use Rattle.std.proofs.Common.{◌≡◌, ℕ, ◌+◌, ◌*◌, ◌≤◌, [], ◌∷◌, arith}
+use Rattle.std.proofs.Common.{◌≡◌, ℕ, ◌+◌, ◌*◌, ◌≤◌, [], ◌∷◌, length, refl, arith}
 use Rattle.symbol_reader.specs.Digits.{ten_digits, eight_digits, six_digits, four_digits}
 
 five : {a b c d e a' b' c' d' e' : ℕ} → a ≡ a' → b ≡ b' → c ≡ c' → d ≡ d' → e ≡ e'
@@ -12,7 +12,8 @@ pub ten_digits-of : (n a b c d e : ℕ) → b ≤ 99 → c ≤ 99 → d ≤ 99 �
 unfolding ten_digits
 ten_digits-of n a b c d e hb hc hd he h = five (omega arith) (omega arith) (omega arith) (omega arith) (omega arith)
 
-three : {a b c a' b' c' : ℕ} → a ≡ a' → b ≡ b' → c ≡ c' → a ∷ b ∷ c ∷ [] ≡ a' ∷ b' ∷ c' ∷ []
+-- lists of three, one by one
+pub three : {a b c a' b' c' : ℕ} → a ≡ a' → b ≡ b' → c ≡ c' → a ∷ b ∷ c ∷ [] ≡ a' ∷ b' ∷ c' ∷ []
 three p q r = cc
 
 four : {a b c d a' b' c' d' : ℕ} → a ≡ a' → b ≡ b' → c ≡ c' → d ≡ d' → a ∷ b ∷ c ∷ d ∷ [] ≡ a' ∷ b' ∷ c' ∷ d' ∷ []
@@ -35,3 +36,8 @@ two p q = cc
 pub four-of : (n a b : ℕ) → b ≤ 99 → n ≡ 100 * a + b → four_digits n ≡ a ∷ b ∷ []
 unfolding four_digits
 four-of n a b hb h = two (omega arith) (omega arith)
+
+-- eight digits are four characters
+pub length-eight : (n : ℕ) → length (eight_digits n) ≡ 4
+unfolding eight_digits
+length-eight n = refl

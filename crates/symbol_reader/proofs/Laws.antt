@@ -14,6 +14,7 @@ pub record Alike {V : Type 0} (first second : V → List ℕ → Type 0) : Type 
   pub to : (v : V) (word : List ℕ) → first v word → second v word
   pub back : (v : V) (word : List ℕ) → second v word → first v word
 
+-- one symbol of a set that has one
 pub one_good : (allows : ℕ → Type 0) (example : ℕ) → allows example → Good (One allows)
 one_good allows example h = record {
   value = example;
@@ -28,6 +29,7 @@ one_good allows example h = record {
       (k, pe ∙ ap (λ x. x ∷ []) k ∙ sym qe, m);
 }
 
+-- a value that takes no symbol
 pub only_good : {V : Type 0} (it : V) → Good (Only it)
 only_good it = record {
   value = it;
@@ -39,6 +41,7 @@ only_good it = record {
       (p.value ∙ sym q.value, pe ∙ sym qe, ap (λ l. l ++ r) (sym pe) ∙ e ∙ ap (λ l. l ++ s) qe);
 }
 
+-- one of two good languages, by a test
 pub choice_good : {V : Type 0} (test : Bool) (first second : V → List ℕ → Type 0)
     → (test ≡ true → Good first) → (test ≡ false → Good second) → Good (Choice test first second)
 choice_good true first second g h = let good = g refl in record {
@@ -54,6 +57,7 @@ choice_good false first second g h = let good = h refl in record {
   one = λ v u a b r s p q e. good.one v u a b r s (p.no refl) (q.no refl) e;
 }
 
+-- a good language, and behind each of its words another
 pub then_good : {U V : Type 0} (first : U → List ℕ → Type 0) (second : U → V → List ℕ → Type 0)
     → Good first → ((u : U) (front : List ℕ) → first u front → Good (second u)) → Good (Then first second)
 then_good first second g h =

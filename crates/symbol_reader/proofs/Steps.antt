@@ -1,6 +1,7 @@
 -- How the reading of a language follows from the reading of its parts.
-use Rattle.std.proofs.Common.{◌≡◌, ℕ, IsErrAnd, ◌⊎◌, inl, inr, Bool, true, false, List, [], ◌∷◌, ◌++◌, length, Result, Ok, Err, refl, sym, ◌∙◌, ap, subst, append_assoc, append-nil, length-append, arith}
+use Rattle.std.proofs.Common.{◌≡◌, ℕ, IsErrAnd, ◌⊎◌, inl, inr, Bool, true, false, List, [], ◌∷◌, ◌++◌, length, Result, Ok, Err, refl, sym, ◌∙◌, ap, subst, append_assoc, append-nil, length-append, arith, ◌-◌}
 use Rattle.std.proofs.lemmas.Result.{err_from_is_err_and}
+use Rattle.plain_laws.proofs.Lists.{split}
 use Rattle.symbol_reader.specs.declared.letters.Letter.{Letter}
 use Rattle.symbol_reader.specs.declared.reading.Stop.{Stop}
 use Rattle.symbol_reader.specs.declared.reading.Stop.TheVariants.{Short, Outside}
@@ -14,6 +15,7 @@ use Rattle.symbol_reader.proofs.Laws.{Good, Alike, no_word_goes_on, one_good, on
 pub letter_good : (letter : Letter) → Good (One (Allows letter))
 letter_good letter = one_good (Allows letter) (example_of letter) (Allows-example letter)
 
+-- at the end of the list a symbol is wanted
 pub symbol_short : (letter : Letter) (l : List ℕ) → length l ≡ 0 → Reads (One (Allows letter)) l (Err Short) l
 symbol_short letter [] h = record {
   outcome = record {
@@ -23,6 +25,7 @@ symbol_short letter [] h = record {
 }
 symbol_short letter (x ∷ l) h = absurd (omega arith)
 
+-- a symbol that isn't of the set stands where one is wanted
 pub symbol_outside : (letter : Letter) (l : List ℕ) (x : ℕ) (rest : List ℕ) → l ≡ x ∷ rest → (Allows letter x → ⊥)
     → Reads (One (Allows letter)) l (Err Outside) l
 symbol_outside letter l x rest e h = record {
@@ -40,6 +43,7 @@ symbol_outside letter l x rest e h = record {
   };
 }
 
+-- nothing is read of a value that takes no symbol
 pub only_read : {V : Type 0} (it : V) (l : List ℕ) → Reads (Only it) l (Ok it) l
 only_read it l = record { outcome = record { front = []; word = record { value = refl; list = refl }; list = refl } }
 
@@ -61,6 +65,7 @@ Outcome-alike first second same old new (Err Outside) o = record {
   never = λ b. o.never (record { value = b.value; rest = b.rest; word = same.back b.value ((o.front ++ (o.next ∷ [])) ++ b.rest) b.word });
 }
 
+-- what is read of one language is read of one alike
 pub alike : {V : Type 0} {first second : V → List ℕ → Type 0} {old new : List ℕ} {r : Result V Stop}
     → Alike first second → Reads first old r new → Reads second old r new
 alike {first = first} {second = second} {old = old} {new = new} {r = r} same h = record { outcome = Outcome-alike first second same old new r h.outcome }
@@ -111,19 +116,6 @@ Begins-next first second u front l g p b =
     let k2 : w.back ≡ l ++ b.rest = k.2 in
     let step = subst (λ x. second x b.value w.back) k.0 w.after in
     record { value = b.value; rest = b.rest; word = subst (λ x. second u b.value x) k2 step }
-
--- of two beginnings of one list, one begins the other
-pub split : (a r b s : List ℕ) → a ++ r ≡ b ++ s
-    → ((t : List ℕ) × (a ≡ b ++ t) × (s ≡ t ++ r)) ⊎ ((y : ℕ) × (t : List ℕ) × (b ≡ a ++ (y ∷ t)) × (r ≡ y ∷ (t ++ s)))
-split a r [] s e = inl (a, refl, sym e)
-split [] r (y ∷ b) s e = inr (y, b, refl, e)
-split (x ∷ a) r (y ∷ b) s e =
-    let k : x ≡ y = cc in
-    let m : a ++ r ≡ b ++ s = cc in
-    elim (split a r b s m) [
-      | inl h ↦ (let h1 : a ≡ b ++ h.0 = h.1 in inl (h.0, (cc), h.2))
-      | inr h ↦ (let h2 : b ≡ a ++ (h.0 ∷ h.1) = h.2 in inr (h.0, h.1, (cc), h.3))
-    ]
 
 nothing_fits : (x y : ℕ) (s t : List ℕ) → x ∷ [] ≡ s ++ (y ∷ t) → s ≡ []
 nothing_fits x y [] t e = refl
@@ -183,6 +175,7 @@ Outcome-next first second u old mid new (Err Outside) g took o = record {
       (subst (Begins (Then first second)) (append_assoc took.front o.front (o.next ∷ [])) b));
 }
 
+-- the first part was read: the sequence is read as its second part is
 pub next : {U V : Type 0} {first : U → List ℕ → Type 0} {second : U → V → List ℕ → Type 0} {u : U} {old mid new : List ℕ} {r : Result V Stop}
     → Good first → Reads first old (Ok u) mid → Reads (second u) mid r new → Reads (Then first second) old r new
 next {first = first} {second = second} {u = u} {old = old} {mid = mid} {new = new} {r = r} g p q =
@@ -203,6 +196,7 @@ Outcome-stop first second old new Outside g h o = record {
   never = Begins-first first second o.front o.next g o.wants o.never;
 }
 
+-- the first part was refused: so is the sequence
 pub stop : {U V : Type 0} {first : U → List ℕ → Type 0} {second : U → V → List ℕ → Type 0} {old new : List ℕ} {why : Stop}
     → Good first → ((u : U) (front : List ℕ) → first u front → Good (second u))
     → Reads first old (Err why) new → Reads (Then first second) old (Err why) new
@@ -224,10 +218,12 @@ Choice-no false first second e = record {
   back = λ v word p. p.no refl;
 }
 
+-- where the test is true, the first language is read
 pub chosen : {V : Type 0} {test : Bool} {first second : V → List ℕ → Type 0} {old new : List ℕ} {r : Result V Stop}
     → test ≡ true → Reads first old r new → Reads (Choice test first second) old r new
 chosen {test = test} {first = first} {second = second} e p = alike (Choice-yes test first second e) p
 
+-- and else the second
 pub not_chosen : {V : Type 0} {test : Bool} {first second : V → List ℕ → Type 0} {old new : List ℕ} {r : Result V Stop}
     → test ≡ false → Reads second old r new → Reads (Choice test first second) old r new
 not_chosen {test = test} {first = first} {second = second} e p = alike (Choice-no test first second e) p
@@ -277,16 +273,19 @@ Coded-alike allows lawful code k = record {
       (one_then (code v) (k.allowed v p.is_lawful) (record { value = sym (k.back v p.is_lawful); list = refl }));
 }
 
+-- values of one symbol each are a good language
 pub coded_good : {V : Type 0} {allows : ℕ → Type 0} {lawful : V → Type 0} {code : V → ℕ} → Good (One allows) → Coded allows lawful code
     → Good (Spelled lawful (λ v. code v ∷ []))
 coded_good {allows = allows} {lawful = lawful} {code = code} g k =
     alike_good _ _ (Coded-alike allows lawful code k) (then_good _ _ g (λ x _ _. only_good (k.told x)))
 
+-- its symbol was refused: so is the value
 pub coded_stop : {V : Type 0} {allows : ℕ → Type 0} {lawful : V → Type 0} {code : V → ℕ} {old new : List ℕ} {why : Stop}
     → Good (One allows) → Coded allows lawful code → Reads (One allows) old (Err why) new → Reads (Spelled lawful (λ v. code v ∷ [])) old (Err why) new
 coded_stop {allows = allows} {lawful = lawful} {code = code} g k p =
     alike (Coded-alike allows lawful code k) (stop g (λ x _ _. only_good (k.told x)) p)
 
+-- its symbol was read: so is the value
 pub coded_read : {V : Type 0} {allows : ℕ → Type 0} {lawful : V → Type 0} {code : V → ℕ} {old new : List ℕ} {x : ℕ} {v : V}
     → lawful v → code v ≡ x → Reads (One allows) old (Ok x) new → Reads (Spelled lawful (λ v. code v ∷ [])) old (Ok v) new
 coded_read {old = old} {new = new} {x = x} {v = v} h e p =
@@ -307,3 +306,7 @@ spelt {spelling = spelling} {word = word} p e =
     let k : word ≡ p.front ++ p.back = p.list in
     let m : p.front ≡ spelling p.chosen = p.before.list in
     k ∙ ap (λ a. a ++ p.back) m ∙ ap (λ a. spelling p.chosen ++ a) e
+
+-- how much of a list stands in front of what is left of it
+pub length_left : (m rest : List ℕ) (n : ℕ) → length (m ++ (n ∷ rest)) - length (n ∷ rest) ≡ length m
+length_left m rest n = omega (arith, length-append m (n ∷ rest))

@@ -1,13 +1,9 @@
 ghost use Rattle.std.specs.Prelude.{◌↔◌, IsTrue};
 ghost use Rattle.symbol_reader.specs.Letters.{Allows};
 
-use dsc_symbols::categories::is_category;
-use dsc_symbols::ends::is_end;
-use dsc_symbols::formats::is_format;
 use dsc_symbols::messages::{NO_INFORMATION, POSITION_FOLLOWS, VHF_CHANNEL};
-use dsc_symbols::natures::is_nature;
-use dsc_symbols::notices::is_second;
-use dsc_symbols::telecommands::{SHIP_POSITION, TEST, is_comm, is_first};
+use dsc_symbols::sets::{is_category, is_comm, is_end, is_first, is_format, is_nature, is_second};
+use dsc_symbols::telecommands::{SHIP_POSITION, TEST};
 
 /// The symbols that may stand at a place (ITU-R M.493, composition of calls).
 #[derive(Clone, Copy, Debug, PartialEq, Eq)]

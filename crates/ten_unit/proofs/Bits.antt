@@ -47,16 +47,16 @@ number_bits (suc n) y lost p e each =
     omega (arith, halves y n, halves lost n)
 
 -- a bit of a shifted word
-bit_shifted : (word shift k : ℕ) → bit_at (word / 2 ^ shift) k ≡ bit_at word (shift + k)
-bit_shifted word shift k = ap (λ (n : ℕ). n % 2) (div-div-eq-div-mul word (2 ^ shift) (2 ^ k) ∙ ap (λ (n : ℕ). word / n) (sym (pow-add 2 shift k)))
+pub bit_at-shr : (word shift k : ℕ) → bit_at (word / 2 ^ shift) k ≡ bit_at word (shift + k)
+bit_at-shr word shift k = ap (λ (n : ℕ). n % 2) (div-div-eq-div-mul word (2 ^ shift) (2 ^ k) ∙ ap (λ (n : ℕ). word / n) (sym (pow-add 2 shift k)))
 
 shifted_count : (y lost base first k : ℕ) (e : ℕ → Element) → weight (e (base + (first + k))) ≡ bit_at y (first + k) + 1024 * bit_at lost (first + k)
     → weight (e (base + first + k)) ≡ bit_at (y / 2 ^ first) k + 1024 * bit_at (lost / 2 ^ first) k
 shifted_count y lost base first k e at =
     let place : base + first + k ≡ base + (first + k) = omega arith in
     ap (λ (q : ℕ). weight (e q)) place ∙ at
-    ∙ ap (λ (n : ℕ). n + 1024 * bit_at lost (first + k)) (sym (bit_shifted y first k))
-    ∙ ap (λ (n : ℕ). bit_at (y / 2 ^ first) k + 1024 * n) (sym (bit_shifted lost first k))
+    ∙ ap (λ (n : ℕ). n + 1024 * bit_at lost (first + k)) (sym (bit_at-shr y first k))
+    ∙ ap (λ (n : ℕ). bit_at (y / 2 ^ first) k + 1024 * n) (sym (bit_at-shr lost first k))
 
 counts : (x : Element) (y b : ℕ) → y ≡ cond (element_eq x Y) 1 0 → b ≡ cond (element_eq x B) 1 0 → weight x ≡ y + 1024 * (1 - max y b)
 counts Y y b is_y is_b = omega arith

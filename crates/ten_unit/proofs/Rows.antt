@@ -8,7 +8,7 @@ use Rattle.ten_unit.specs.declared.table.TheConstants.{SYMBOLS}
 use Rattle.ten_unit.specs.Word.{word_of, is_word, elements_eq}
 use Rattle.ten_unit.specs.inside.Number.{number_of}
 use Rattle.ten_unit.specs.inside.Symbol.{IsSymbol}
-use Rattle.ten_unit.proofs.Reading.{elements_same, elements_own}
+use Rattle.ten_unit.proofs.Reading.{elements_same, elements_own, length-word}
 use Rattle.ten_unit.proofs.Numbers.{same_number}
 
 -- a row holds 128, or the symbol whose word has the row's number
@@ -54,10 +54,6 @@ found v below =
     (ltb-true _ _ both.0, eqb-true _ _ both.1)
 
 -- a word is told by its elements
-ten_long : (v : ℕ) → length (word_of v) ≡ 10
-unfolding word_of
-ten_long v = refl
-
 Decides-is_word : (w : List Element) (v : ℕ) → Decides (is_word w v) (w ≡ word_of v)
 unfolding is_word
 Decides-is_word w v = (elements_same w (word_of v), λ e. subst (λ (l : List Element). elements_eq l (word_of v) ≡ true) (sym e) (elements_own (word_of v)))
@@ -78,7 +74,7 @@ row_symbol w s long small right others =
       | inr one ↦
           let both = and_parts (ltb s 128) (eqb (number_of (word_of s)) (number_of w)) one in
           let below_s : s < 128 = ltb-true _ _ both.0 in
-          let same : word_of s ≡ w = same_number (word_of s) w (ten_long s ∙ sym long) (eqb-true _ _ both.1) small in
+          let same : word_of s ≡ w = same_number (word_of s) w (length-word s ∙ sym long) (eqb-true _ _ both.1) small in
           record {
             within = omega arith;
             shown =

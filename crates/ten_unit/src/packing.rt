@@ -37,8 +37,9 @@ fn equal_to(codes: &[u8; 64], code: u8) -> u64
 }
 
 /// The elements as bits. It compares 64 codes at once, twice.
-pub fn packed(block: &[Element; 64]) -> Planes
-    ensures { (base : ℕ) (e : ℕ → Element) → ((i : ℕ) → i < 64 → e (base + i) ≡ slice_index_or block.now i Element.Lost) → IsPlanes result.y result.b base e }
+pub fn pack_elements(block: &[Element; 64]) -> Planes
+    ensures { (base : ℕ) (e : ℕ → Element) → ((i : ℕ) → i < 64 → e (base + i) ≡ slice_index_or block.now i Element.Lost)
+        → IsPlanes result.y result.b base e }
 {
     let codes = codes(block);
     Planes {
@@ -51,7 +52,8 @@ pub fn packed(block: &[Element; 64]) -> Planes
 /// ten-unit code). The place counts from the first of the 64 elements. It looks into a table by the ten bits.
 pub fn symbol_at(planes: &Planes, first: u32) -> u8
     requires { first + 10 ≤ 64 }
-    ensures { (base : ℕ) (e : ℕ → Element) → IsPlanes planes.now.y planes.now.b base e → IsSymbol (stretch e 10 (base + first)) result }
+    ensures { (base : ℕ) (e : ℕ → Element) → IsPlanes planes.now.y planes.now.b base e
+        → IsSymbol (stretch e 10 (base + first)) result }
 {
     let y = planes.y >> first & 1023;
     let lost = !(planes.y | planes.b) >> first & 1023;

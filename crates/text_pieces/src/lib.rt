@@ -3,4 +3,4 @@
 
 mod pieces;
 
-pub use pieces::{append, append_number};
+pub use pieces::{append, append_digits, append_number};

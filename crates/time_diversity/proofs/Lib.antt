@@ -1,1 +1,2 @@
+pub mod PublicLaws
 mod Shows

@@ -1,5 +1,5 @@
 -- what the slots of a transmission show
-use Rattle.std.proofs.Common.{◌≡◌, ℕ, ◌+◌, ◌-◌, ◌*◌, ◌/◌, ◌<◌, ◌≤◌, ◌⊎◌, List, length, slice_index, inl, inr, arith, All}
+use Rattle.std.proofs.Common.{◌≡◌, ℕ, ◌+◌, ◌-◌, ◌*◌, ◌/◌, ◌<◌, ◌≤◌, ◌⊎◌, List, length, slice_index, inl, inr, arith, All, get_or}
 use Rattle.std.proofs.lemmas.List.FromFn.{length-map-range_with_len, get_or-map-range_with_len}
 use Rattle.std.proofs.lemmas.List.{get_or_past}
 use Rattle.std.proofs.lemmas.Bool.Decides.{nat_tests}
@@ -33,9 +33,15 @@ pub shows_phasing : (list : List ℕ) (slot : ℕ) → (slot ≤ 11) ⊎ (slot �
 unfolding sent_symbol
 shows_phasing list slot h = grind (arith, nat_tests)
 
+-- each place is sent twice, among twelve more
 pub length-on_air : (list : List ℕ) → length (on_air list) ≡ 2 * length list + 12
 unfolding on_air
 length-on_air list = length-map-range_with_len (sent_symbol list) 0 (2 * length list + 12)
+
+-- what is sent in a slot
+pub sent_at : (list : List ℕ) (s : ℕ) → s < 2 * length list + 12 → get_or (on_air list) s 0 ≡ sent_symbol list s
+unfolding on_air
+sent_at list s below = get_or-map-range_with_len (sent_symbol list) 0 (2 * length list + 12) s s 0 below (omega arith)
 
 character_below : (list : List ℕ) (k : ℕ) → All (λ v. v < 128) list → slice_index list k < 128
 character_below list k h = grind (arith, h k 0, get_or_past list k 0)

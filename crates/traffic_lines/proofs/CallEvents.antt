@@ -89,5 +89,6 @@ no_send bytes left h = missed (codes "send ") IsBareCallText IsSend send_behind 
 pub send_fault : (bytes rest : List ℕ) (left : ℕ) → after (codes "send ") bytes ≡ Ok rest → IsColumn IsBareCallText rest (length rest + 1 - left) → IsColumn IsSend bytes (length bytes + 1 - left)
 send_fault bytes rest left h k = fault_behind (codes "send ") IsBareCallText IsSend send_behind some_bare_text bytes rest left h k
 
+-- there is a line by which a call is sent
 pub some_send : HasLine IsSend
 some_send = record { value = some_bare_text.value; text = codes "send " ++ some_bare_text.text; line = (some_bare_text.text, some_bare_text.line, refl) }

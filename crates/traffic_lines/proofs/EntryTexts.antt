@@ -21,22 +21,24 @@ use Rattle.traffic_lines.specs.Worlds.{IsShipOwnText, IsCoastOwnText, IsGetText,
 use Rattle.traffic_lines.specs.inside.Grammars.{get}
 use Rattle.traffic_lines.specs.inside.Reading.{IsShipAt, IsCoastAt, IsAtShip, IsAtCoast}
 use Rattle.traffic_lines.proofs.CallEvents.{IsWord, one_word, missed, fault_behind}
-use Rattle.traffic_lines.proofs.EventTexts.{only_of, only_is, group_told}
+use Rattle.traffic_lines.proofs.EventTexts.{to_end_of, to_end_is, group_told}
 use Rattle.traffic_lines.proofs.Languages.{HasLine, IsBehind}
 use Rattle.traffic_lines.proofs.LineTexts.{HasEvents}
 
 -- the number of a call that comes
 get_of : (parts : Parts) (bytes : List ℕ) → Spells get parts bytes → (number : ℕ) × IsGetText number bytes
 get_of parts bytes h =
-    let v = only_of (codes "get ") (free_number 0 4294967295) (λ (n : ℕ). (0 ≤ n) × (n ≤ 4294967295)) decimal group_told parts bytes h in
+    let v = to_end_of (codes "get ") (free_number 0 4294967295) (λ (n : ℕ). (0 ≤ n) × (n ≤ 4294967295)) decimal group_told parts bytes h in
     (v.0, (omega (arith, v.1), v.2))
 
 get_is : (number : ℕ) (bytes : List ℕ) → IsGetText number bytes → (parts : Parts) × Spells get parts bytes
-get_is number bytes h = only_is (codes "get ") (free_number 0 4294967295) (λ (n : ℕ). (0 ≤ n) × (n ≤ 4294967295)) decimal group_told number bytes (omega arith, omega (arith, h.0)) h.1
+get_is number bytes h = to_end_is (codes "get ") (free_number 0 4294967295) (λ (n : ℕ). (0 ≤ n) × (n ≤ 4294967295)) decimal group_told number bytes (omega arith, omega (arith, h.0)) h.1
 
+-- the grammar of a delivery is sound
 pub get_sound : is_sound get ≡ true
 get_sound = refl
 
+-- there is a line of a delivery
 pub some_get : HasLine (Spells get)
 some_get = let k = get_is 0 (codes "get " ++ decimal 0) (omega arith, refl) in record { value = k.0; text = codes "get " ++ decimal 0; line = k.1 }
 

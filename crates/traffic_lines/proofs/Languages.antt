@@ -1,5 +1,5 @@
 -- languages of lines: where one stops, and where one stops that stands behind a front
-use Rattle.std.proofs.Common.{◌≡◌, ℕ, zero, suc, ◌+◌, ◌-◌, ◌<◌, ◌≤◌, min, true, List, ◌∷◌, ◌++◌, length, take, drop, Result, Ok, Err, IfOk, IfErr, IsErrAnd, inl, inr, refl, sym, ◌∙◌, ap, subst, append_assoc, length-append, length-drop, arith}
+use Rattle.std.proofs.Common.{◌≡◌, ℕ, zero, suc, ◌+◌, ◌-◌, ◌<◌, ◌≤◌, min, true, List, ◌∷◌, ◌++◌, length, take, drop, Result, Ok, Err, IsErrAnd, inl, inr, refl, sym, ◌∙◌, ap, subst, append_assoc, length-append, length-drop, arith}
 use Rattle.std.proofs.lemmas.List.{take-append-drop, take-append-le}
 use Rattle.line_grammar.specs.Columns.{Begins, IsColumn}
 use Rattle.line_grammar.specs.Grammar.{Grammar, either, Parts, Spells}
@@ -22,6 +22,7 @@ pub counted : {W : Type 0} (L : W → List ℕ → Type 0) (bytes : List ℕ) (n
 counted L bytes zero some h = absurd (h.at (omega arith) (record { value = some.value; rest = some.text; whole = some.line }))
 counted L bytes (suc n) some h = omega arith
 
+-- where the reading stops is the column of the fault
 pub stops_column : {W : Type 0} (L : W → List ℕ → Type 0) (bytes : List ℕ) (left : ℕ) → Stops L bytes left → IsColumn L bytes (length bytes + 1 - left)
 stops_column L bytes left s = IsColumn-stops L bytes left (length bytes + 1 - left) s (omega (arith, left_le L bytes left s))
 
@@ -52,6 +53,7 @@ column_stops L bytes left few h =
 pub left_few : {W : Type 0} (L : W → List ℕ → Type 0) (bytes : List ℕ) (left : ℕ) → HasLine L → IsColumn L bytes (length bytes + 1 - left) → left ≤ length bytes
 left_few L bytes left some h = omega (arith, counted L bytes (length bytes + 1 - left) some h)
 
+-- the column of a fault is where the reading stops
 pub found_stops : {W : Type 0} (L : W → List ℕ → Type 0) (bytes : List ℕ) (left : ℕ) → HasLine L → IsColumn L bytes (length bytes + 1 - left) → Stops L bytes left
 found_stops L bytes left some h = column_stops L bytes left (left_few L bytes left some h) h
 
@@ -60,6 +62,7 @@ pub read_found : {W : Type 0} (G : Grammar) (L : W → List ℕ → Type 0) (byt
 read_found G L bytes (Ok w) sound h = h
 read_found G L bytes (Err left) sound h = stops_column (Spells G) bytes left (read_stops G bytes left sound h)
 
+-- a grammar's reader finds the column of a language that is alike
 pub column_by : {V : Type 0} (G : Grammar) (M : V → List ℕ → Type 0) (bytes : List ℕ) (left : ℕ) → is_sound G ≡ true → IsAlike (Spells G) M → read G bytes ≡ Err left
     → IsColumn M bytes (length bytes + 1 - left)
 column_by G M bytes left sound same h = stops_column M bytes left (Stops-alike (Spells G) M bytes left same (read_stops G bytes left sound h))
@@ -69,6 +72,7 @@ pub exit_read : {W : Type 0} (G : Grammar) (L : W → List ℕ → Type 0) (byte
 exit_read G L bytes left (Ok w) h e = absurd h
 exit_read G L bytes left (Err n) h e = e ∙ ap (λ (m : ℕ). Err m) (sym h)
 
+-- a reader that ends there has found the column
 pub exit_found : {V W : Type 0} (M : V → List ℕ → Type 0) (L : W → List ℕ → Type 0) (bytes : List ℕ) (left : ℕ) (r : Result W ℕ) → IsErrAnd r (λ y. y ≡ left) → IsColumn M bytes (length bytes + 1 - left)
     → Finds M L bytes r
 exit_found M L bytes left (Ok w) h k = absurd h
@@ -80,6 +84,7 @@ further_read G H L bytes (Ok w) s h k = h
 further_read G H L bytes (Err m) (Ok w) h k = k
 further_read G H L bytes (Err m) (Err n) h k = both_miss G H bytes m n (min m n) h k refl
 
+-- of two grammars' readers the one that comes further answers for both
 pub further_by : {W : Type 0} (G H : Grammar) (L : W → List ℕ → Type 0) (bytes : List ℕ) (r s t : Result W ℕ) → t ≡ further r s → ReadsBy G L bytes r → ReadsBy H L bytes s → ReadsBy (either G H) L bytes t
 further_by G H L bytes r s t e h k = subst (ReadsBy (either G H) L bytes) (sym e) (further_read G H L bytes r s h k)
 
@@ -90,6 +95,7 @@ further_find M N K L bytes (Err m) (Ok w) one two both h k = k
 further_find M N K L bytes (Err m) (Err n) one two both h k =
     stops_column K bytes (min m n) (Stops-choice M N K bytes m n both (found_stops M bytes m one h) (found_stops N bytes n two k))
 
+-- of two readers the one that comes further answers for both languages
 pub further_found : {U V X W : Type 0} (M : U → List ℕ → Type 0) (N : V → List ℕ → Type 0) (K : X → List ℕ → Type 0) (L : W → List ℕ → Type 0) (bytes : List ℕ) (r s t : Result W ℕ)
     → t ≡ further r s → HasLine M → HasLine N → IsChoice M N K → Finds M L bytes r → Finds N L bytes s → Finds K L bytes t
 further_found M N K L bytes r s t e one two both h k = subst (Finds K L bytes) (sym e) (further_find M N K L bytes r s one two both h k)
@@ -118,6 +124,7 @@ behind_past IsFront M L front back left h is s p q e short b =
       | inr k ↦ omega (arith, short, ap length k.3, length-append k.1 back, left_le M back left s)
     ]
 
+-- behind a front a language stops where its rest does
 pub Stops-behind : {V W : Type 0} (IsFront : List ℕ → Type 0) (M : V → List ℕ → Type 0) (L : W → List ℕ → Type 0) (bytes front back : List ℕ) (left : ℕ) → IsBehind IsFront M L → IsFront front
     → bytes ≡ front ++ back → Stops M back left → Stops L bytes left
 Stops-behind IsFront M L bytes front back left h is e s =
@@ -159,6 +166,7 @@ line_of_front IsFront G M L w bytes fronts h line =
     let m = fronts.to k.0 k.1 k.3 in
     (m.0, subst (Spells G m.0) (sym k.5) m.1)
 
+-- a language stops where its front does
 pub Stops-front : {V W : Type 0} (IsFront : List ℕ → Type 0) (G : Grammar) (M : V → List ℕ → Type 0) (L : W → List ℕ → Type 0) (bytes : List ℕ) (left : ℕ) → IsFronts IsFront G → IsBehind IsFront M L
     → HasLine M → Stops (Spells G) bytes left → Stops L bytes left
 Stops-front IsFront G M L bytes left fronts h some s = record {
@@ -172,9 +180,3 @@ Stops-front IsFront G M L bytes left fronts h some s = record {
       s.past p q e short (record { value = k.0; rest = b.rest; whole = k.1 });
   none = λ w k. let m = line_of_front IsFront G M L w bytes fronts h k in s.none m.0 m.1;
 }
-
--- what was read was lawful and stood there, or it was missed
-pub value_read : {W : Type 0} (G : Grammar) (L : W → List ℕ → Type 0) (P Q : W → Type 0) (bytes : List ℕ) (r : Result W ℕ) → ((w : W) → P w → Q w → L w bytes) → IfOk r P → IfOk r Q
-    → IfErr r (λ left. read G bytes ≡ Err left) → ReadsBy G L bytes r
-value_read G L P Q bytes (Ok w) is h k e = is w h k
-value_read G L P Q bytes (Err left) is h k e = e

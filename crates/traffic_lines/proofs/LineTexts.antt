@@ -26,30 +26,30 @@ use Rattle.traffic_lines.specs.declared.lines.Point.TheVariants as point
 use Rattle.traffic_lines.specs.declared.lines.TrafficLine.{TrafficLine}
 use Rattle.traffic_lines.specs.declared.lines.TrafficLine.TheVariants.{Ship, Coast, Base, Group, Event}
 use Rattle.traffic_lines.specs.Lines.{band_text, IsLineText, IsTrafficLine}
-use Rattle.traffic_lines.specs.inside.Grammars.{lone, ship, band, coast, station, base, group, moment}
+use Rattle.traffic_lines.specs.inside.Grammars.{word_to_end, ship, band, coast, station, base, group, moment}
 use Rattle.traffic_lines.specs.declared.lines.StationLine.{StationLine}
 use Rattle.traffic_lines.specs.declared.lines.ShipBodyLine.{ShipBodyLine}
 use Rattle.traffic_lines.specs.Anywhere.{line_of_ship}
 use Rattle.traffic_lines.specs.inside.Reading.{NamesStation, SaysGroup, SaysInShip, ReadsBy, Finds, IsShipText, IsCoastText, IsBandText, IsGroupLine}
-use Rattle.traffic_lines.proofs.EventTexts.{labelled_of, labelled_is, lone_of, lone_is, only_of, only_is}
+use Rattle.traffic_lines.proofs.EventTexts.{labelled_of, labelled_is, word_of, word_is, to_end_of, to_end_is}
 use Rattle.traffic_lines.proofs.Languages.{HasLine, IsBehind, IsFronts, Stops-behind, Stops-front, stops_column, found_stops, column_by, left_few}
 use Rattle.traffic_lines.proofs.Tokens.{number_told}
 
 -- a band
 pub band_of : (parts : Parts) (bytes : List ℕ) → Spells band parts bytes → (b : Band) × IsBandText b bytes
 band_of parts bytes h =
-    elim (choice_back (lone (codes " mf")) (either (lone (codes " hf")) (lone (codes " vhf"))) parts bytes h) [
-      | inl k ↦ (Mf, lone_of (codes " mf") k.0 bytes k.1)
-      | inr a ↦ (elim (choice_back (lone (codes " hf")) (lone (codes " vhf")) a.0 bytes a.1) [
-        | inl k ↦ (Hf, lone_of (codes " hf") k.0 bytes k.1)
-        | inr k ↦ (Vhf, lone_of (codes " vhf") k.0 bytes k.1)
+    elim (choice_back (word_to_end (codes " mf")) (either (word_to_end (codes " hf")) (word_to_end (codes " vhf"))) parts bytes h) [
+      | inl k ↦ (Mf, word_of (codes " mf") k.0 bytes k.1)
+      | inr a ↦ (elim (choice_back (word_to_end (codes " hf")) (word_to_end (codes " vhf")) a.0 bytes a.1) [
+        | inl k ↦ (Hf, word_of (codes " hf") k.0 bytes k.1)
+        | inr k ↦ (Vhf, word_of (codes " vhf") k.0 bytes k.1)
       ])
     ]
 
 pub band_is : (b : Band) (bytes : List ℕ) → IsBandText b bytes → (parts : Parts) × Spells band parts bytes
-band_is Mf bytes e = let k = lone_is (codes " mf") bytes e in (first k.0, k.1)
-band_is Hf bytes e = let k = lone_is (codes " hf") bytes e in (second (first k.0), k.1)
-band_is Vhf bytes e = let k = lone_is (codes " vhf") bytes e in (second (second k.0), k.1)
+band_is Mf bytes e = let k = word_is (codes " mf") bytes e in (first k.0, k.1)
+band_is Hf bytes e = let k = word_is (codes " hf") bytes e in (second (first k.0), k.1)
+band_is Vhf bytes e = let k = word_is (codes " vhf") bytes e in (second (second k.0), k.1)
 
 -- a station
 pub coast_text : (m : ℕ) (b : Band) (bytes back : List ℕ) → IsMmsi m → bytes ≡ codes "station coast " ++ (digits 9 m ++ back) → IsBandText b back → IsTrafficLine point.Station (Coast m b) bytes
@@ -58,7 +58,7 @@ coast_text m b bytes back h e k = (tt, (h, e ∙ ap (λ (l : List ℕ). codes "s
 station_to : (parts : Parts) (bytes : List ℕ) → Spells station parts bytes → (line : TrafficLine) × IsTrafficLine point.Station line bytes
 station_to parts bytes h =
     elim (choice_back ship coast parts bytes h) [
-      | inl k ↦ (let v = only_of (codes "station ship ") identity IsMmsi (digits 9) identity_told k.0 bytes k.1 in (Ship v.0, (tt, (v.1, v.2))))
+      | inl k ↦ (let v = to_end_of (codes "station ship ") identity IsMmsi (digits 9) identity_told k.0 bytes k.1 in (Ship v.0, (tt, (v.1, v.2))))
       | inr k ↦
           (let f = labelled_of (codes "station coast ") identity band IsMmsi (digits 9) identity_told k.0 bytes k.1 in
           let b = band_of f.1 f.2 f.4 in
@@ -66,7 +66,7 @@ station_to parts bytes h =
     ]
 
 station_back : (line : TrafficLine) (bytes : List ℕ) → IsTrafficLine point.Station line bytes → (parts : Parts) × Spells station parts bytes
-station_back (Ship m) bytes h = let k = only_is (codes "station ship ") identity IsMmsi (digits 9) identity_told m bytes h.1.0 h.1.1 in (first k.0, k.1)
+station_back (Ship m) bytes h = let k = to_end_is (codes "station ship ") identity IsMmsi (digits 9) identity_told m bytes h.1.0 h.1.1 in (first k.0, k.1)
 station_back (Coast m b) bytes h =
     let back = codes " " ++ band_text b in
     let k = band_is b back refl in
@@ -91,14 +91,14 @@ station_found bytes (Err left) h = column_by station (IsTrafficLine point.Statio
 base_back : (line : TrafficLine) (bytes : List ℕ) → IsTrafficLine point.Base line bytes → (parts : Parts) × Spells base parts bytes
 base_back (Ship m) bytes h = absurd h.0
 base_back (Coast m b) bytes h = absurd h.0
-base_back (Base s) bytes h = only_is (codes "base ") (free_number 0 9999999999) (λ (n : ℕ). (0 ≤ n) × (n ≤ 9999999999)) decimal (number_told 0 9999999999 (omega arith)) s bytes (omega arith, h.1.0) h.1.1
+base_back (Base s) bytes h = to_end_is (codes "base ") (free_number 0 9999999999) (λ (n : ℕ). (0 ≤ n) × (n ≤ 9999999999)) decimal (number_told 0 9999999999 (omega arith)) s bytes (omega arith, h.1.0) h.1.1
 base_back (Group m) bytes h = absurd h.0
 base_back (Event at what) bytes h = absurd h.0
 
 base_alike : IsAlike (Spells base) (IsTrafficLine point.Base)
 base_alike = record {
   to = λ parts bytes h.
-      let v = only_of (codes "base ") (free_number 0 9999999999) (λ (n : ℕ). (0 ≤ n) × (n ≤ 9999999999)) decimal (number_told 0 9999999999 (omega arith)) parts bytes h in
+      let v = to_end_of (codes "base ") (free_number 0 9999999999) (λ (n : ℕ). (0 ≤ n) × (n ≤ 9999999999)) decimal (number_told 0 9999999999 (omega arith)) parts bytes h in
       (Base v.0, (tt, (v.1.1, v.2)));
   back = base_back;
 }
@@ -113,11 +113,11 @@ base_fault bytes left h = column_by base (IsTrafficLine point.Base) bytes left b
 group_back : (line : TrafficLine) (bytes : List ℕ) → IsGroupLine line bytes → (parts : Parts) × Spells group parts bytes
 group_back line bytes h =
     let is = subst (λ (l : TrafficLine). IsLineText l bytes) h.1 h.2 in
-    only_is (codes "group ") identity IsMmsi (digits 9) identity_told h.0 bytes is.0 is.1
+    to_end_is (codes "group ") identity IsMmsi (digits 9) identity_told h.0 bytes is.0 is.1
 
 group_alike : IsAlike (Spells group) IsGroupLine
 group_alike = record {
-  to = λ parts bytes h. let v = only_of (codes "group ") identity IsMmsi (digits 9) identity_told parts bytes h in (Group v.0, (v.0, refl, (v.1, v.2)));
+  to = λ parts bytes h. let v = to_end_of (codes "group ") identity IsMmsi (digits 9) identity_told parts bytes h in (Group v.0, (v.0, refl, (v.1, v.2)));
   back = group_back;
 }
 
@@ -142,6 +142,7 @@ moment_spelled front back h = (
   ),
 )
 
+-- a moment in front is one moment
 pub same_moment : (a b r s : List ℕ) → IsMoment a → IsMoment b → a ++ r ≡ b ++ s → (a ≡ b) × (r ≡ s)
 same_moment a b r s h k e =
     let one = moment_spelled a r h in
@@ -195,11 +196,13 @@ moment_behind event M L has = record {
   one = same_moment;
 }
 
+-- without a moment the column is the moment's
 pub no_moment : {V W : Type 0} (event : ℕ → V → W) (M : V → List ℕ → Type 0) (L : W → List ℕ → Type 0) → HasEvents event M L → HasLine M → (bytes : List ℕ) (left : ℕ) → read moment bytes ≡ Err left
     → IsColumn L bytes (length bytes + 1 - left)
 no_moment event M L has some bytes left h =
     stops_column L bytes left (Stops-front IsMoment moment M L bytes left moment_fronts (moment_behind event M L has) some (read_stops moment bytes left refl h))
 
+-- behind a moment the column is the event's
 pub no_event : {V W : Type 0} (event : ℕ → V → W) (M : V → List ℕ → Type 0) (L : W → List ℕ → Type 0) → HasEvents event M L → HasLine M → (bytes back : List ℕ) (at left : ℕ) → at < 2 ^ 32
     → bytes ≡ decimal at ++ (codes " " ++ back) → IsColumn M back (length back + 1 - left) → IsColumn L bytes (length bytes + 1 - left)
 no_event event M L has some bytes back at left small e k =

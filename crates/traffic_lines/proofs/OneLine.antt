@@ -257,6 +257,7 @@ one_coast m n a b text h k =
 other_station : (m n : ℕ) (b : Band) (text : List ℕ) → IsLineText (Ship m) text → IsLineText (Coast n b) text → ⊥
 other_station m n b text h k = absurd (omega (arith, ap (λ (l : List ℕ). get_or l 8 0) (sym h.1 ∙ k.1)))
 
+-- a line of a traffic file says one thing
 pub one_line : TellsApart → (a b : TrafficLine) (text : List ℕ) → IsLineText a text → IsLineText b text → a ≡ b
 one_line apart (Ship m) (Ship n) text h k = ap Ship (one_number 9 m n (omega (arith, h.0)) (omega (arith, k.0)) (append_cancel_left (codes "station ship ") (digits 9 m) (digits 9 n) (sym h.1 ∙ k.1)))
 one_line apart (Coast m a) (Coast n b) text h k = one_coast m n a b text h k

@@ -1,10 +1,8 @@
 -- tokens of lines: what they were read of, and whose texts they are
-use Rattle.std.proofs.Common.{◌≡◌, ℕ, ◌<◌, ◌≤◌, ◌^◌, true, List, ◌++◌, Result, Ok, decimal, sym, ◌∙◌, ap, subst, refl, arith}
-use Rattle.std.proofs.lemmas.Bool.{le-leb}
-use Rattle.dsc_texts.specs.CallGrammar.{address, identity, nature, comm, position}
+use Rattle.std.proofs.Common.{◌≡◌, ℕ, ◌<◌, ◌≤◌, ◌^◌, true, List, ◌++◌, Result, Ok, decimal, sym, ◌∙◌, ap, subst, arith}
 use Rattle.dsc_texts.proofs.PublicLaws.{Told}
 use Rattle.line_grammar.specs.Tokens.{Token, free_number, value_after}
-use Rattle.line_grammar.specs.inside.Reading.{fits, read_token}
+use Rattle.line_grammar.specs.inside.Reading.{read_token}
 use Rattle.line_grammar.specs.inside.Soundness.{is_some_token}
 use Rattle.line_grammar.proofs.Tokens.{TokenReads}
 use Rattle.line_grammar.proofs.Munching.{token_reads}
@@ -14,6 +12,7 @@ use Rattle.line_grammar.proofs.Decimals.{number_text, decimal_number, decimal_va
 list_of : (token : Token) (bytes front back : List ℕ) (r : Result (List ℕ × List ℕ) ℕ) → TokenReads token bytes r → r ≡ Ok (front, back) → bytes ≡ front ++ back
 list_of token bytes front back r h e = (subst (λ (q : Result (List ℕ × List ℕ) ℕ). TokenReads token bytes q) e h).list
 
+-- a token and what follows it are the whole
 pub token_list : (token : Token) (bytes front back : List ℕ) → is_some_token token ≡ true → read_token token bytes ≡ Ok (front, back) → bytes ≡ front ++ back
 token_list token bytes front back some e = list_of token bytes front back (read_token token bytes) (token_reads token bytes some) e
 
@@ -21,33 +20,10 @@ token_list token bytes front back some e = list_of token bytes front back (read_
 pub one_decimal : (m n : ℕ) → m < 2 ^ 64 → n < 2 ^ 64 → decimal m ≡ decimal n → m ≡ n
 one_decimal m n h k e = sym (decimal_value m h) ∙ ap (value_after 0) e ∙ decimal_value n k
 
+-- a number is told by its decimal digits
 pub number_told : (least most : ℕ) → most < 2 ^ 64 → Told (free_number least most) (λ (n : ℕ). (least ≤ n) × (n ≤ most)) decimal
 number_told least most small = record {
   is = λ n h. decimal_number least most n h.0 h.1 small;
   of = λ bytes h. (value_after 0 bytes, (h.low, h.high), sym (number_text least most bytes small h));
   one = λ m n h k e. one_decimal m n (omega (arith, small, h.1)) (omega (arith, small, k.1)) e;
 }
-
--- there are such tokens
-pub some_identity : is_some_token identity ≡ true
-unfolding fits
-some_identity = refl
-
-pub some_nature : is_some_token nature ≡ true
-unfolding fits
-some_nature = refl
-
-pub some_comm : is_some_token comm ≡ true
-unfolding fits
-some_comm = refl
-
-pub some_position : is_some_token position ≡ true
-unfolding fits
-some_position = refl
-
-pub some_address : is_some_token address ≡ true
-unfolding fits
-some_address = refl
-
-pub some_number : (least most : ℕ) → least ≤ most → is_some_token (free_number least most) ≡ true
-some_number least most order = le-leb least most order

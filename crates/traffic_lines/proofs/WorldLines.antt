@@ -21,7 +21,7 @@ use Rattle.traffic_lines.specs.Lines.{IsTrafficLine}
 use Rattle.traffic_lines.specs.Worlds.{IsEntryText, IsWorldLine}
 use Rattle.traffic_lines.specs.inside.Grammars.{ship, other_coast}
 use Rattle.traffic_lines.proofs.EntryTexts.{some_entry}
-use Rattle.traffic_lines.proofs.EventTexts.{only_of, only_is}
+use Rattle.traffic_lines.proofs.EventTexts.{to_end_of, to_end_is}
 use Rattle.traffic_lines.proofs.Languages.{column_by, left_few}
 use Rattle.traffic_lines.proofs.OtherIdentities.{other_alike, other_sound}
 
@@ -46,14 +46,14 @@ counted_by G L bytes left n sound same e h = counted L bytes left n (fault_withi
 
 -- the ship
 ship_back : (w : WorldLine) (bytes : List ℕ) → IsWorldLine point.Ship w bytes → (parts : Parts) × Spells ship parts bytes
-ship_back (Ship m) bytes h = only_is (codes "station ship ") identity IsMmsi (digits 9) identity_told m bytes h.1.0 h.1.1
+ship_back (Ship m) bytes h = to_end_is (codes "station ship ") identity IsMmsi (digits 9) identity_told m bytes h.1.0 h.1.1
 ship_back (Coast m b) bytes h = absurd h.0
 ship_back (Base s) bytes h = absurd h.0
 ship_back (Entry entry) bytes h = absurd h.0
 
 ship_alike : IsAlike (Spells ship) (IsWorldLine point.Ship)
 ship_alike = record {
-  to = λ parts bytes h. (let v = only_of (codes "station ship ") identity IsMmsi (digits 9) identity_told parts bytes h in (Ship v.0, (tt, (v.1, v.2))));
+  to = λ parts bytes h. (let v = to_end_of (codes "station ship ") identity IsMmsi (digits 9) identity_told parts bytes h in (Ship v.0, (tt, (v.1, v.2))));
   back = ship_back;
 }
 

@@ -3,22 +3,22 @@ ghost use Rattle.traffic_lines.specs.Worlds.{IsCoastEntryText, IsCoastOwnText, I
 ghost use Rattle.traffic_lines.specs.inside.Grammars as grammar;
 ghost use Rattle.traffic_lines.specs.inside.Reading.{Finds, IsAtCoast, IsAtShip, IsCoastAt, IsShipAt, ReadsBy};
 
-use crate::choices::further;
 use crate::events::{own_coast_event, own_ship_event};
-use crate::fields::only;
+use crate::fields::number_to_end;
 use crate::moments::moment;
 use crate::worlds::{CoastEntry, Entry, ShipEntry};
-use line_grammar::word;
+use line_grammar::{Left, further, word};
 
-/// Reads the number of a call that comes. An error is how many bytes are left at the fault.
-fn get(bytes: &[u8]) -> Result<u32, usize>
+/// Reads the number of a call that comes.
+fn get(bytes: &[u8]) -> Result<u32, Left>
     ensures { ReadsBy grammar.get IsGetText bytes.now result }
 {
-    only(b"get ", bytes)
+    let number = number_to_end(b"get ", 0, 4_294_967_295, bytes)?;
+    Ok(number as u32)
 }
 
-/// Reads an event of the ship's own. An error is how many bytes are left at the fault.
-fn own_of_ship(bytes: &[u8]) -> Result<ShipEntry, usize>
+/// Reads an event of the ship's own.
+fn own_of_ship(bytes: &[u8]) -> Result<ShipEntry, Left>
     ensures { Finds IsShipOwnText IsShipEntryText bytes.now result }
 {
     match own_ship_event(bytes) {
@@ -27,8 +27,8 @@ fn own_of_ship(bytes: &[u8]) -> Result<ShipEntry, usize>
     }
 }
 
-/// Reads the number of a call that comes to the ship. An error is how many bytes are left at the fault.
-fn ship_gets(bytes: &[u8]) -> Result<ShipEntry, usize>
+/// Reads the number of a call that comes to the ship.
+fn ship_gets(bytes: &[u8]) -> Result<ShipEntry, Left>
     ensures { ReadsBy grammar.get IsShipEntryText bytes.now result }
 {
     match get(bytes) {
@@ -37,15 +37,15 @@ fn ship_gets(bytes: &[u8]) -> Result<ShipEntry, usize>
     }
 }
 
-/// Reads what happens at the ship. An error is how many bytes are left at the fault.
-fn ship_entry(bytes: &[u8]) -> Result<ShipEntry, usize>
+/// Reads what happens at the ship.
+fn ship_entry(bytes: &[u8]) -> Result<ShipEntry, Left>
     ensures { Finds IsShipEntryText IsShipEntryText bytes.now result }
 {
     further(&own_of_ship(bytes), &ship_gets(bytes))
 }
 
-/// Reads an event of the coast station's own. An error is how many bytes are left at the fault.
-fn own_of_coast(bytes: &[u8]) -> Result<CoastEntry, usize>
+/// Reads an event of the coast station's own.
+fn own_of_coast(bytes: &[u8]) -> Result<CoastEntry, Left>
     ensures { Finds IsCoastOwnText IsCoastEntryText bytes.now result }
 {
     match own_coast_event(bytes) {
@@ -54,8 +54,8 @@ fn own_of_coast(bytes: &[u8]) -> Result<CoastEntry, usize>
     }
 }
 
-/// Reads the number of a call that comes to the coast station. An error is how many bytes are left at the fault.
-fn coast_gets(bytes: &[u8]) -> Result<CoastEntry, usize>
+/// Reads the number of a call that comes to the coast station.
+fn coast_gets(bytes: &[u8]) -> Result<CoastEntry, Left>
     ensures { ReadsBy grammar.get IsCoastEntryText bytes.now result }
 {
     match get(bytes) {
@@ -64,15 +64,15 @@ fn coast_gets(bytes: &[u8]) -> Result<CoastEntry, usize>
     }
 }
 
-/// Reads what happens at the coast station. An error is how many bytes are left at the fault.
-fn coast_entry(bytes: &[u8]) -> Result<CoastEntry, usize>
+/// Reads what happens at the coast station.
+fn coast_entry(bytes: &[u8]) -> Result<CoastEntry, Left>
     ensures { Finds IsCoastEntryText IsCoastEntryText bytes.now result }
 {
     further(&own_of_coast(bytes), &coast_gets(bytes))
 }
 
-/// Reads what happens at the ship behind its moment. An error is how many bytes are left at the fault.
-fn ship_at(bytes: &[u8]) -> Result<(u32, ShipEntry), usize>
+/// Reads what happens at the ship behind its moment.
+fn ship_at(bytes: &[u8]) -> Result<(u32, ShipEntry), Left>
     ensures { Finds IsShipAt IsShipAt bytes.now result }
 {
     let (at, rest) = moment(bytes)?;
@@ -80,8 +80,8 @@ fn ship_at(bytes: &[u8]) -> Result<(u32, ShipEntry), usize>
     Ok((at, what))
 }
 
-/// Reads what happens at the coast station behind its moment. An error is how many bytes are left at the fault.
-fn coast_at(bytes: &[u8]) -> Result<(u32, CoastEntry), usize>
+/// Reads what happens at the coast station behind its moment.
+fn coast_at(bytes: &[u8]) -> Result<(u32, CoastEntry), Left>
     ensures { Finds IsCoastAt IsCoastAt bytes.now result }
 {
     let (at, rest) = moment(bytes)?;
@@ -89,8 +89,8 @@ fn coast_at(bytes: &[u8]) -> Result<(u32, CoastEntry), usize>
     Ok((at, what))
 }
 
-/// Reads an event line of the ship. An error is how many bytes are left at the fault.
-fn at_ship(bytes: &[u8]) -> Result<Entry, usize>
+/// Reads an event line of the ship.
+fn at_ship(bytes: &[u8]) -> Result<Entry, Left>
     ensures { Finds IsAtShip IsEntryText bytes.now result }
 {
     let rest = word(b"s ", bytes)?;
@@ -100,8 +100,8 @@ fn at_ship(bytes: &[u8]) -> Result<Entry, usize>
     }
 }
 
-/// Reads an event line of the coast station. An error is how many bytes are left at the fault.
-fn at_coast(bytes: &[u8]) -> Result<Entry, usize>
+/// Reads an event line of the coast station.
+fn at_coast(bytes: &[u8]) -> Result<Entry, Left>
     ensures { Finds IsAtCoast IsEntryText bytes.now result }
 {
     let rest = word(b"c ", bytes)?;
@@ -111,8 +111,8 @@ fn at_coast(bytes: &[u8]) -> Result<Entry, usize>
     }
 }
 
-/// Reads an event line. An error is how many bytes are left at the fault.
-pub fn entry(bytes: &[u8]) -> Result<Entry, usize>
+/// Reads an event line.
+pub fn entry(bytes: &[u8]) -> Result<Entry, Left>
     ensures { Finds IsEntryText IsEntryText bytes.now result }
 {
     further(&at_ship(bytes), &at_coast(bytes))

@@ -5,86 +5,94 @@ ghost use Rattle.traffic_lines.specs.inside.Reading.{Finds, ReadsBy, IsCoastText
 
 use crate::calls::{hear, send};
 use crate::casualties::{accept, relay};
-use crate::choices::further;
-use crate::fields::{HeldNumber, Token, only};
+use crate::fields::{labelled, labelled_to_end, number_to_end};
 use crate::lines::{CoastLine, CoastOwn, ShipLine, ShipOwn};
 use crate::shared::{Hearing, Shared};
-use crate::words::lone;
+use crate::words::word_to_end;
+use call_values::bounds::{LONGEST_ALERT_DELAY, SHORTEST_ALERT_DELAY};
 use call_values::{AlertDelay, Comm, Nature, Position};
-use line_grammar::word;
+use line_grammar::{Left, further};
 
-/// Reads a position of the ship. An error is how many bytes are left at the fault.
-fn position(bytes: &[u8]) -> Result<ShipOwn, usize>
+/// Reads a position of the ship.
+#[tactic(auto, unfolding(line_grammar::specs::inside::Reading::fits))]
+fn position(bytes: &[u8]) -> Result<ShipOwn, Left>
     ensures { ReadsBy grammar.position IsShipOwnText bytes.now result }
 {
-    let position: Position = only(b"position ", bytes)?;
+    let position: Position = labelled_to_end(b"position ", bytes)?;
+    let _ = position.known();
     Ok(ShipOwn::Position(position))
 }
 
-/// Reads a delay. An error is how many bytes are left at the fault.
-fn delay(bytes: &[u8]) -> Result<ShipOwn, usize>
+/// Reads a delay.
+fn delay(bytes: &[u8]) -> Result<ShipOwn, Left>
     ensures { ReadsBy grammar.delay IsShipOwnText bytes.now result }
 {
-    let delay: AlertDelay = only(b"delay ", bytes)?;
-    Ok(ShipOwn::Delay(delay))
+    let number = number_to_end(
+        b"delay ",
+        SHORTEST_ALERT_DELAY as u64,
+        LONGEST_ALERT_DELAY as u64,
+        bytes,
+    )?;
+    Ok(ShipOwn::Delay(AlertDelay::new(number as u32).unwrap()))
 }
 
-/// Reads an alert. An error is how many bytes are left at the fault.
-fn alert(bytes: &[u8]) -> Result<ShipOwn, usize>
+/// Reads an alert.
+fn alert(bytes: &[u8]) -> Result<ShipOwn, Left>
     ensures { ReadsBy grammar.alert IsShipOwnText bytes.now result }
 {
-    let rest = word(b"alert nature=", bytes)?;
     // No `?`: the borrow checker has no rule for it at a value with an invariant beside the bytes that follow it.
-    let (nature, rest) = match Nature::read(rest) {
+    let (nature, rest) = match labelled::<Nature>(b"alert nature=", bytes) {
         Ok(parts) => parts,
         Err(left) => return Err(left),
     };
-    let comm: Comm = only(b" then=", rest)?;
+    let comm: Comm = labelled_to_end(b" then=", rest)?;
+    let _ = nature.number();
+    let _ = comm.number();
     Ok(ShipOwn::Alert(nature, comm))
 }
 
-/// Reads that the alert is cancelled. An error is how many bytes are left at the fault.
-fn cancel(bytes: &[u8]) -> Result<ShipOwn, usize>
+/// Reads that the alert is cancelled.
+fn cancel(bytes: &[u8]) -> Result<ShipOwn, Left>
     ensures { ReadsBy grammar.cancel IsShipOwnText bytes.now result }
 {
-    lone(b"cancel", bytes)?;
+    word_to_end(b"cancel", bytes)?;
     Ok(ShipOwn::Cancel)
 }
 
-/// Reads that time passes. An error is how many bytes are left at the fault.
-fn tick(bytes: &[u8]) -> Result<Shared, usize>
+/// Reads that time passes.
+fn tick(bytes: &[u8]) -> Result<Shared, Left>
     ensures { ReadsBy grammar.tick SaysAtBoth bytes.now result }
 {
-    lone(b"tick", bytes)?;
+    word_to_end(b"tick", bytes)?;
     Ok(Shared::Tick)
 }
 
-/// Reads a held call that is answered. An error is how many bytes are left at the fault.
-fn answer(bytes: &[u8]) -> Result<Shared, usize>
+/// Reads a held call that is answered.
+fn answer(bytes: &[u8]) -> Result<Shared, Left>
     ensures { ReadsBy grammar.answer SaysAtBoth bytes.now result }
 {
-    let held: HeldNumber = only(b"answer ", bytes)?;
-    Ok(Shared::Answer(held.number, true))
+    let held = number_to_end(b"answer ", 1, 16, bytes)?;
+    Ok(Shared::Answer(held as u8, true))
 }
 
-/// Reads a held call that is declined. An error is how many bytes are left at the fault.
-fn decline(bytes: &[u8]) -> Result<Shared, usize>
+/// Reads a held call that is declined.
+fn decline(bytes: &[u8]) -> Result<Shared, Left>
     ensures { ReadsBy grammar.decline SaysAtBoth bytes.now result }
 {
-    let held: HeldNumber = only(b"decline ", bytes)?;
-    Ok(Shared::Answer(held.number, false))
+    let held = number_to_end(b"decline ", 1, 16, bytes)?;
+    Ok(Shared::Answer(held as u8, false))
 }
 
-/// Reads an event that both kinds of stations have and that names no call. An error is how many bytes are left at the fault.
-fn shared_event(bytes: &[u8]) -> Result<Shared, usize>
+/// Reads an event that both kinds of stations have and that names no call.
+fn shared_event(bytes: &[u8]) -> Result<Shared, Left>
     ensures { ReadsBy grammar.shared_events SaysAtBoth bytes.now result }
 {
     let others = further(&answer(bytes), &decline(bytes));
     further(&tick(bytes), &others)
 }
 
-/// Reads such an event as a ship's. An error is how many bytes are left at the fault.
-fn shared_at_ship(bytes: &[u8]) -> Result<ShipOwn, usize>
+/// Reads such an event as a ship's.
+fn shared_at_ship(bytes: &[u8]) -> Result<ShipOwn, Left>
     ensures { ReadsBy grammar.shared_events IsShipOwnText bytes.now result }
 {
     match shared_event(bytes) {
@@ -93,8 +101,8 @@ fn shared_at_ship(bytes: &[u8]) -> Result<ShipOwn, usize>
     }
 }
 
-/// Reads such an event as a coast station's. An error is how many bytes are left at the fault.
-fn shared_at_coast(bytes: &[u8]) -> Result<CoastOwn, usize>
+/// Reads such an event as a coast station's.
+fn shared_at_coast(bytes: &[u8]) -> Result<CoastOwn, Left>
     ensures { ReadsBy grammar.shared_events IsCoastOwnText bytes.now result }
 {
     match shared_event(bytes) {
@@ -103,8 +111,8 @@ fn shared_at_coast(bytes: &[u8]) -> Result<CoastOwn, usize>
     }
 }
 
-/// Reads a call that a ship is to send. An error is how many bytes are left at the fault.
-fn send_at_ship(bytes: &[u8]) -> Result<ShipOwn, usize>
+/// Reads a call that a ship is to send.
+fn send_at_ship(bytes: &[u8]) -> Result<ShipOwn, Left>
     ensures { Finds IsSend IsShipOwnText bytes.now result }
 {
     match send(bytes) {
@@ -113,8 +121,8 @@ fn send_at_ship(bytes: &[u8]) -> Result<ShipOwn, usize>
     }
 }
 
-/// Reads a call that a coast station is to send. An error is how many bytes are left at the fault.
-fn send_at_coast(bytes: &[u8]) -> Result<CoastOwn, usize>
+/// Reads a call that a coast station is to send.
+fn send_at_coast(bytes: &[u8]) -> Result<CoastOwn, Left>
     ensures { Finds IsSend IsCoastOwnText bytes.now result }
 {
     match send(bytes) {
@@ -123,8 +131,8 @@ fn send_at_coast(bytes: &[u8]) -> Result<CoastOwn, usize>
     }
 }
 
-/// Reads an event of a ship's own that names no call. An error is how many bytes are left at the fault.
-fn plain_ship_event(bytes: &[u8]) -> Result<ShipOwn, usize>
+/// Reads an event of a ship's own that names no call.
+fn plain_ship_event(bytes: &[u8]) -> Result<ShipOwn, Left>
     ensures { ReadsBy grammar.ship_events IsShipOwnText bytes.now result }
 {
     let others = further(&cancel(bytes), &shared_at_ship(bytes));
@@ -133,45 +141,45 @@ fn plain_ship_event(bytes: &[u8]) -> Result<ShipOwn, usize>
     further(&position(bytes), &others)
 }
 
-/// Reads an event of a coast station's own that names no call. An error is how many bytes are left at the fault.
-fn plain_coast_event(bytes: &[u8]) -> Result<CoastOwn, usize>
+/// Reads an event of a coast station's own that names no call.
+fn plain_coast_event(bytes: &[u8]) -> Result<CoastOwn, Left>
     ensures { ReadsBy grammar.coast_events IsCoastOwnText bytes.now result }
 {
     let others = further(&relay(bytes), &shared_at_coast(bytes));
     further(&accept(bytes), &others)
 }
 
-/// Reads an event of a ship's own. An error is how many bytes are left at the fault.
-pub fn own_ship_event(bytes: &[u8]) -> Result<ShipOwn, usize>
+/// Reads an event of a ship's own.
+pub fn own_ship_event(bytes: &[u8]) -> Result<ShipOwn, Left>
     ensures { Finds IsShipOwnText IsShipOwnText bytes.now result }
 {
     further(&plain_ship_event(bytes), &send_at_ship(bytes))
 }
 
-/// Reads an event of a coast station's own. An error is how many bytes are left at the fault.
-pub fn own_coast_event(bytes: &[u8]) -> Result<CoastOwn, usize>
+/// Reads an event of a coast station's own.
+pub fn own_coast_event(bytes: &[u8]) -> Result<CoastOwn, Left>
     ensures { Finds IsCoastOwnText IsCoastOwnText bytes.now result }
 {
     further(&plain_coast_event(bytes), &send_at_coast(bytes))
 }
 
-/// Reads a group that is joined. An error is how many bytes are left at the fault.
-fn heard(bytes: &[u8]) -> Result<Hearing, usize>
+/// Reads a group that is joined.
+fn heard(bytes: &[u8]) -> Result<Hearing, Left>
     ensures { ReadsBy grammar.heard SaysHearing bytes.now result }
 {
-    let group: u32 = only(b"heard g", bytes)?;
-    Ok(Hearing::Heard(group))
+    let group = number_to_end(b"heard g", 0, 4_294_967_295, bytes)?;
+    Ok(Hearing::Heard(group as u32))
 }
 
-/// Reads what a station hears. An error is how many bytes are left at the fault.
-fn hearing(bytes: &[u8]) -> Result<Hearing, usize>
+/// Reads what a station hears.
+fn hearing(bytes: &[u8]) -> Result<Hearing, Left>
     ensures { Finds SaysHearing SaysHearing bytes.now result }
 {
     further(&hear(bytes), &heard(bytes))
 }
 
-/// Reads an event of a ship's own as one of its file. An error is how many bytes are left at the fault.
-fn own_at_ship(bytes: &[u8]) -> Result<ShipLine, usize>
+/// Reads an event of a ship's own as one of its file.
+fn own_at_ship(bytes: &[u8]) -> Result<ShipLine, Left>
     ensures { Finds IsShipOwnText SaysAtShip bytes.now result }
 {
     match own_ship_event(bytes) {
@@ -180,8 +188,8 @@ fn own_at_ship(bytes: &[u8]) -> Result<ShipLine, usize>
     }
 }
 
-/// Reads what a ship hears. An error is how many bytes are left at the fault.
-fn hearing_at_ship(bytes: &[u8]) -> Result<ShipLine, usize>
+/// Reads what a ship hears.
+fn hearing_at_ship(bytes: &[u8]) -> Result<ShipLine, Left>
     ensures { Finds SaysHearing SaysAtShip bytes.now result }
 {
     match hearing(bytes) {
@@ -190,8 +198,8 @@ fn hearing_at_ship(bytes: &[u8]) -> Result<ShipLine, usize>
     }
 }
 
-/// Reads an event of a coast station's own as one of its file. An error is how many bytes are left at the fault.
-fn own_at_coast(bytes: &[u8]) -> Result<CoastLine, usize>
+/// Reads an event of a coast station's own as one of its file.
+fn own_at_coast(bytes: &[u8]) -> Result<CoastLine, Left>
     ensures { Finds IsCoastOwnText SaysAtCoast bytes.now result }
 {
     match own_coast_event(bytes) {
@@ -200,8 +208,8 @@ fn own_at_coast(bytes: &[u8]) -> Result<CoastLine, usize>
     }
 }
 
-/// Reads what a coast station hears. An error is how many bytes are left at the fault.
-fn hearing_at_coast(bytes: &[u8]) -> Result<CoastLine, usize>
+/// Reads what a coast station hears.
+fn hearing_at_coast(bytes: &[u8]) -> Result<CoastLine, Left>
     ensures { Finds SaysHearing SaysAtCoast bytes.now result }
 {
     match hearing(bytes) {
@@ -210,15 +218,15 @@ fn hearing_at_coast(bytes: &[u8]) -> Result<CoastLine, usize>
     }
 }
 
-/// Reads an event of a ship. An error is how many bytes are left at the fault.
-pub fn ship_event(bytes: &[u8]) -> Result<ShipLine, usize>
+/// Reads an event of a ship.
+pub fn ship_event(bytes: &[u8]) -> Result<ShipLine, Left>
     ensures { Finds IsShipText SaysAtShip bytes.now result }
 {
     further(&own_at_ship(bytes), &hearing_at_ship(bytes))
 }
 
-/// Reads an event of a coast station. An error is how many bytes are left at the fault.
-pub fn coast_event(bytes: &[u8]) -> Result<CoastLine, usize>
+/// Reads an event of a coast station.
+pub fn coast_event(bytes: &[u8]) -> Result<CoastLine, Left>
     ensures { Finds IsCoastText SaysAtCoast bytes.now result }
 {
     further(&own_at_coast(bytes), &hearing_at_coast(bytes))

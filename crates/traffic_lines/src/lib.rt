@@ -4,7 +4,6 @@
 mod anywhere;
 mod calls;
 mod casualties;
-mod choices;
 mod entries;
 mod events;
 mod exchanges;

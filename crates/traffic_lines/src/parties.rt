@@ -10,7 +10,7 @@ ghost use Rattle.traffic_lines.specs.inside.Reading.{NamesOther, ReadsBy};
 use crate::points::band;
 use call_values::bounds::LAST_IDENTITY;
 use call_values::{Band, Mmsi};
-use line_grammar::{fixed_number, word};
+use line_grammar::{Left, fixed_number, word};
 
 /// The identities below this one; of the first, those above it.
 fn below(mmsi: u32) -> (u64, u64)
@@ -45,12 +45,13 @@ fn others(mmsi: u32) -> [(u64, u64); 2]
     [below(mmsi), above(mmsi)]
 }
 
-/// Reads the number of an identity but this one, and what follows it. An error is how many bytes are left at the fault.
-fn other_number(mmsi: u32, bytes: &[u8]) -> Result<(u64, &[u8]), usize>
+/// Reads the number of an identity but this one, and what follows it.
+fn other_number(mmsi: u32, bytes: &[u8]) -> Result<(u64, &[u8]), Left>
     requires { IsMmsi mmsi }
     ensures lawful { IfOk result (λ parts. IsMmsi parts.0) }
     ensures other { IfOk result (λ parts. parts.0 ≢ mmsi) }
-    ensures value { IfOk result (λ parts. read_token (grammar.other_identity mmsi) bytes.now ≡ Ok (digits 9 parts.0, parts.1.now)) }
+    ensures value { IfOk result (λ parts. read_token (grammar.other_identity mmsi) bytes.now
+        ≡ Ok (digits 9 parts.0, parts.1.now)) }
     ensures left { IfErr result (λ left. read_token (grammar.other_identity mmsi) bytes.now ≡ Err left) }
 {
     let ranges = others(mmsi);
@@ -58,8 +59,8 @@ fn other_number(mmsi: u32, bytes: &[u8]) -> Result<(u64, &[u8]), usize>
     Ok((number, rest))
 }
 
-/// Reads a coast station's identity but this one, and its band. An error is how many bytes are left at the fault.
-pub fn other_coast(mmsi: Mmsi, bytes: &[u8]) -> Result<(Mmsi, Band), usize>
+/// Reads a coast station's identity but this one, and its band.
+pub fn other_coast(mmsi: Mmsi, bytes: &[u8]) -> Result<(Mmsi, Band), Left>
     ensures { ReadsBy (grammar.other_coast mmsi) (NamesOther mmsi) bytes.now result }
 {
     let rest = word(b"station coast ", bytes)?;

@@ -11,7 +11,7 @@ use crate::laws::one_traffic_line;
 use crate::lines::{CoastLine, EventLine, Point, ShipBodyLine, StationLine, TrafficLine};
 use crate::moments::{coast_line, ship_line};
 use crate::points::{base_line, line_behind_groups, station_line};
-use line_grammar::column;
+use line_grammar::{Left, column};
 
 /// The station that the first line of a traffic file names. An error is the column, as in `read_traffic`.
 pub fn read_station(bytes: &[u8]) -> Result<StationLine, usize>
@@ -34,8 +34,8 @@ pub fn read_base(bytes: &[u8]) -> Result<u64, usize>
     }
 }
 
-/// Reads a line behind so many groups of a ship, or an event. An error is how many bytes are left at the fault.
-fn ship_body_line(groups: Option<u8>, bytes: &[u8]) -> Result<ShipBodyLine, usize>
+/// Reads a line behind so many groups of a ship, or an event.
+fn ship_body_line(groups: Option<u8>, bytes: &[u8]) -> Result<ShipBodyLine, Left>
     ensures { Finds (IsTrafficLine (ship_point groups)) (SaysInShip (ship_point groups)) bytes.now result }
 {
     match groups {

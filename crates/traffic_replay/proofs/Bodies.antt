@@ -8,7 +8,7 @@ use Rattle.traffic_lines.specs.declared.lines.Point.{Point}
 use Rattle.traffic_lines.specs.declared.lines.Point.TheVariants as point
 use Rattle.traffic_lines.specs.Lines.{IsTrafficLine}
 use Rattle.traffic_lines.specs.Anywhere.{ship_point}
-use Rattle.dsc_files.specs.PointLine.{IsBody, IsPointLine}
+use Rattle.dsc_lines.specs.PointLine.{IsBody, IsPointLine}
 use Rattle.traffic_replay.specs.declared.command.Replay.{Replay}
 use Rattle.traffic_replay.specs.declared.stations.Station.{Station}
 use Rattle.traffic_replay.specs.declared.stations.Station.TheVariants as at

@@ -12,8 +12,8 @@ use Rattle.coast_station.specs.CoastRules.{coast_rules}
 use Rattle.traffic_lines.specs.declared.lines.EventLine.{EventLine}
 use Rattle.traffic_lines.specs.declared.lines.EventLine.TheVariants.{Position, Delay, Alert, Cancel, Tick, Send, Answer, Hear, Heard, Accept, Relay}
 use Rattle.traffic_lines.specs.declared.lines.TrafficLine.TheVariants as line
-use Rattle.dsc_files.specs.PointLine.{joined, traffic, IsPointLine}
-use Rattle.dsc_files.proofs.PublicLaws.{one_column}
+use Rattle.dsc_lines.specs.PointLine.{joined, traffic, IsPointLine}
+use Rattle.dsc_lines.proofs.PublicLaws.{one_column}
 use Rattle.traffic_replay.specs.declared.outcomes.Unreported.{Unreported}
 use Rattle.traffic_replay.specs.Said.{Said, Kind, ship, coast, kind_of, identities_of, station_of, point_of}
 use Rattle.traffic_replay.specs.HeardGroups.{facts_since_heard}

@@ -4,9 +4,9 @@ use Rattle.slot_evidence.specs.Facts.{Facts, no_facts}
 use Rattle.traffic_lines.specs.declared.lines.TrafficLine.{TrafficLine}
 use Rattle.traffic_lines.specs.declared.lines.TrafficLine.TheVariants.{Event}
 use Rattle.traffic_lines.specs.declared.lines.EventLine.TheVariants.{Heard}
-use Rattle.dsc_files.specs.JoinLine.{JoinLine, nothing}
-use Rattle.dsc_files.specs.PointLine.{joined, traffic}
-use Rattle.join_groups.specs.declared.groups.Groups.{Groups}
+use Rattle.dsc_lines.specs.JoinLine.{JoinLine, nothing}
+use Rattle.dsc_lines.specs.PointLine.{joined, traffic}
+use Rattle.join_groups.specs.declared.groups.NamedGroups.{NamedGroups}
 use Rattle.join_groups.specs.Groups.{names, is_named, facts_of_line}
 use Rattle.join_groups.specs.Holds.{Holds, number_in, named_with, facts_with, facts_without}
 use Rattle.join_groups.proofs.PublicLaws.{holds_same, line_of_one}
@@ -16,12 +16,12 @@ use Rattle.traffic_replay.specs.inside.Kept.{KeepsGroups}
 use Rattle.traffic_replay.proofs.GroupFacts.{named_push, named_of_others, facts_push, facts_of_others, facts_unheard, facts_heard, facts_of_none}
 
 -- the same groups, by what other lines say
-keeps_same : (groups : Groups) (named other : ℕ → Bool) (F G : ℕ → Facts) → ((k : ℕ) → named k ≡ other k) → ((k : ℕ) → F k ≡ G k) → Holds groups named F → Holds groups other G
+keeps_same : (groups : NamedGroups) (named other : ℕ → Bool) (F G : ℕ → Facts) → ((k : ℕ) → named k ≡ other k) → ((k : ℕ) → F k ≡ G k) → Holds groups named F → Holds groups other G
 keeps_same groups named other F G n f h =
     holds_same (number_in groups) groups.sheets.items groups.batch.items named other F G n (λ k p v. ap (λ (X : Facts). X p v) (f k)) h
 
 -- groups that hold what a line gives of its group keep what is said with it
-pub keeps_line : (groups : Groups) (said : Said) (line : JoinLine) (group : ℕ) (G : Facts) → ((j : ℕ) → names j line ≡ (group == j)) → facts_of_line group line ≡ G
+pub keeps_line : (groups : NamedGroups) (said : Said) (line : JoinLine) (group : ℕ) (G : Facts) → ((j : ℕ) → names j line ≡ (group == j)) → facts_of_line group line ≡ G
     → Holds groups (named_with group (is_named (of_receivers said))) (facts_with group G (λ k. facts_since_heard k said)) → KeepsGroups groups (joined line ∷ said)
 keeps_line groups said line group G named facts h =
     holds_same (number_in groups) groups.sheets.items groups.batch.items (named_with group (is_named (of_receivers said))) (is_named (of_receivers (joined line ∷ said)))
@@ -32,13 +32,13 @@ keeps_line groups said line group G named facts h =
     h
 
 -- a station's line that hears no group
-pub silent : (groups : Groups) (said : Said) (line : TrafficLine) → ((k : ℕ) → hears k (traffic line) ≡ false) → KeepsGroups groups said → KeepsGroups groups (traffic line ∷ said)
+pub silent : (groups : NamedGroups) (said : Said) (line : TrafficLine) → ((k : ℕ) → hears k (traffic line) ≡ false) → KeepsGroups groups said → KeepsGroups groups (traffic line ∷ said)
 silent groups said line quiet keeps =
     keeps_same groups (is_named (of_receivers said)) (is_named (of_receivers said)) (λ k. facts_since_heard k said) (λ k. facts_since_heard k (traffic line ∷ said))
     (λ k. refl) (λ k. sym (facts_unheard said line k (quiet k))) keeps
 
 -- a group that is heard begins anew
-pub keeps_anew : (groups : Groups) (said : Said) (at group : ℕ) → Holds groups (is_named (of_receivers said)) (facts_without group (λ k. facts_since_heard k said))
+pub keeps_anew : (groups : NamedGroups) (said : Said) (at group : ℕ) → Holds groups (is_named (of_receivers said)) (facts_without group (λ k. facts_since_heard k said))
     → KeepsGroups groups (traffic (Event at (Heard group)) ∷ said)
 keeps_anew groups said at group h =
     holds_same (number_in groups) groups.sheets.items groups.batch.items (is_named (of_receivers said)) (is_named (of_receivers said))
@@ -52,13 +52,13 @@ keeps_anew groups said at group h =
         ap (λ (b : Bool). not b && facts_since_heard k said p v) e ∙ sym (ap (λ (F : Facts). F p v) (facts_unheard said (Event at (Heard group)) k e))
 
 -- before the first line
-pub none_kept : (groups : Groups) → Holds groups (λ k. false) (λ k. no_facts) → KeepsGroups groups []
+pub none_kept : (groups : NamedGroups) → Holds groups (λ k. false) (λ k. no_facts) → KeepsGroups groups []
 unfolding is_named
 none_kept groups h =
     keeps_same groups (λ k. false) (is_named (of_receivers [])) (λ k. no_facts) (λ k. facts_since_heard k []) (λ k. refl) facts_of_none h
 
 -- a line that says nothing changes nothing
-pub keeps_nothing : (groups : Groups) (said : Said) → KeepsGroups groups said → KeepsGroups groups (joined nothing ∷ said)
+pub keeps_nothing : (groups : NamedGroups) (said : Said) → KeepsGroups groups said → KeepsGroups groups (joined nothing ∷ said)
 keeps_nothing groups said keeps =
     keeps_same groups (is_named (of_receivers said)) (is_named (of_receivers (joined nothing ∷ said))) (λ k. facts_since_heard k said) (λ k. facts_since_heard k (joined nothing ∷ said))
     (λ k. sym (named_of_others said nothing k refl)) (λ k. sym (facts_of_others said nothing k refl)) keeps

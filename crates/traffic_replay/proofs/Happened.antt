@@ -9,7 +9,7 @@ use Rattle.traffic_rules.specs.Rules.{Rules, answer_to, continued}
 use Rattle.traffic_lines.specs.declared.lines.EventLine.{EventLine}
 use Rattle.traffic_lines.specs.declared.lines.EventLine.TheVariants as line
 use Rattle.traffic_lines.specs.declared.lines.TrafficLine.TheVariants.{Event}
-use Rattle.dsc_files.specs.PointLine.{traffic}
+use Rattle.dsc_lines.specs.PointLine.{traffic}
 use Rattle.traffic_lines.specs.declared.lines.ShipOwn.{ShipOwn}
 use Rattle.traffic_lines.specs.declared.lines.ShipOwn.TheVariants as own_ship
 use Rattle.traffic_lines.specs.declared.lines.ShipLine.TheVariants as at_ship

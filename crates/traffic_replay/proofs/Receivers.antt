@@ -5,13 +5,13 @@ use Rattle.slot_evidence.specs.declared.places.Seen.{Seen}
 use Rattle.slot_evidence.specs.Facts.{facts_of}
 use Rattle.slot_evidence.specs.Sheet.{IsEnds}
 use Rattle.traffic_lines.specs.declared.lines.TrafficLine.{TrafficLine}
-use Rattle.dsc_files.specs.declared.join.JoinLine.{JoinLine as Got}
-use Rattle.dsc_files.specs.declared.join.JoinLine.TheVariants as got
-use Rattle.dsc_files.specs.declared.traffic.PointLine.TheVariants as at
-use Rattle.dsc_files.specs.JoinLine.{JoinLine, nothing, reception, evidence}
+use Rattle.dsc_lines.specs.declared.join.JoinLine.{JoinLine as Got}
+use Rattle.dsc_lines.specs.declared.join.JoinLine.TheVariants as got
+use Rattle.dsc_lines.specs.declared.traffic.PointLine.TheVariants as at
+use Rattle.dsc_lines.specs.JoinLine.{JoinLine, nothing, reception, evidence}
 use Rattle.traffic_lines.specs.declared.lines.Point.{Point}
-use Rattle.dsc_files.specs.PointLine.{PointLine, joined, traffic, IsPointLine}
-use Rattle.dsc_files.specs.Lines.{Says, SaysAtPoint, ReadsJoinedAt}
+use Rattle.dsc_lines.specs.PointLine.{PointLine, joined, traffic, IsPointLine}
+use Rattle.dsc_lines.specs.Lines.{Says, SaysAtPoint, ReadsJoinedAt}
 use Rattle.join_groups.specs.Groups.{facts_of_line}
 use Rattle.join_groups.specs.Meanings.{BringsTooMany}
 use Rattle.join_groups.proofs.PublicLaws.{says_reception, says_evidence}

@@ -16,8 +16,8 @@ use Rattle.traffic_lines.specs.declared.lines.Point.{Point}
 use Rattle.traffic_lines.specs.declared.lines.Point.TheVariants as point
 use Rattle.traffic_lines.specs.declared.lines.TrafficLine.TheVariants as line
 use Rattle.traffic_lines.specs.Lines.{MayStand}
-use Rattle.dsc_files.specs.JoinLine.{JoinLine}
-use Rattle.dsc_files.specs.PointLine.{joined, traffic, IsBody}
+use Rattle.dsc_lines.specs.JoinLine.{JoinLine}
+use Rattle.dsc_lines.specs.PointLine.{joined, traffic, IsBody}
 use Rattle.traffic_lines.specs.Anywhere.{ship_point}
 use Rattle.traffic_replay.specs.declared.stations.Station.{Station}
 use Rattle.traffic_replay.specs.declared.stations.Station.TheVariants as at
@@ -121,10 +121,12 @@ at_base (coast band) (at.Coast s) A said text is_well told = refl
 at_base ship (at.Coast s) A said text is_well told = absurd told
 at_base (coast band) (at.Ship s) A said text is_well told = absurd told
 
+-- among events no line of the beginning may stand
 pub no_more_early : (kind : Kind) → IsBeforeEvents (among_events kind) → ⊥
 no_more_early ship early = early
 no_more_early (coast band) early = early
 
+-- the point among events is that of this kind of station
 pub events_of : (kind : Kind) → IsPointOf (among_events kind) kind
 events_of ship = refl
 events_of (coast band) = tt
@@ -133,6 +135,7 @@ pub base_of_kind : (kind : Kind) → IsPointOf (behind_base kind) kind
 base_of_kind ship = refl
 base_of_kind (coast band) = tt
 
+-- the point among events stands behind the groups
 pub events_behind : (kind : Kind) (groups : List ℕ) → IsBehindGroups (among_events kind) groups
 events_behind ship groups = tt
 events_behind (coast band) groups = tt

@@ -4,8 +4,8 @@ use Rattle.slot_evidence.specs.Facts.{Facts}
 use Rattle.line_engine.specs.Lines.{Lines}
 use Rattle.traffic_lines.specs.declared.lines.EventLine.TheVariants.{Heard}
 use Rattle.traffic_lines.specs.declared.lines.TrafficLine.TheVariants.{Event}
-use Rattle.dsc_files.specs.JoinLine.{JoinLine}
-use Rattle.dsc_files.specs.PointLine.{PointLine, joined, traffic, IsPointLine}
+use Rattle.dsc_lines.specs.JoinLine.{JoinLine}
+use Rattle.dsc_lines.specs.PointLine.{PointLine, joined, traffic, IsPointLine}
 use Rattle.join_groups.specs.Groups.{group_facts}
 use Rattle.join_groups.specs.Meanings.{BringsTooMany}
 use Rattle.traffic_replay.specs.Said.{Said, point_of, AreSaid}

@@ -1,8 +1,8 @@
 ghost use Rattle.std.specs.Prelude.{◌≡◌, ◌⊎◌, ◌∷◌, ◌≤◌, ◌<◌, ℕ, List, [], length, OnOk, IfErr};
 ghost use Rattle.line_engine.specs.Commands.{KeepsText};
-ghost use Rattle.dsc_files.specs.PointLine.{joined, IsBody};
-ghost use Rattle.dsc_files.specs.JoinLine.{JoinLine as ReceiverLine};
-ghost use Rattle.dsc_files.specs.Lines.{Says};
+ghost use Rattle.dsc_lines.specs.PointLine.{joined, IsBody};
+ghost use Rattle.dsc_lines.specs.JoinLine.{JoinLine as ReceiverLine};
+ghost use Rattle.dsc_lines.specs.Lines.{Says};
 ghost use Rattle.traffic_lines.specs.declared.lines.Point.TheVariants as At;
 ghost use Rattle.traffic_lines.specs.declared.lines.TrafficLine.TheVariants as station;
 ghost use Rattle.traffic_lines.specs.Anywhere.{line_of_station};
@@ -22,8 +22,8 @@ use arrayvec::ArrayVec;
 use call_values::bounds::LAST_BASE;
 use call_values::{Band, Mmsi};
 use coast_station::Coast;
-use dsc_files::{JoinLine, LineFault, Point, Status, joined_line, one_point_line};
-use join_groups::Groups;
+use dsc_lines::{JoinLine, LineFault, Point, Status, joined_line, one_point_line};
+use join_groups::NamedGroups;
 use line_engine::{Command, LONGEST_LINE, Refusal};
 use phasing::LONGEST;
 use receiver_pool::Joiner;
@@ -47,7 +47,7 @@ pub struct Replay {
     pub(crate) base: u64,
     pub(crate) groups: Vec<Mmsi>,
     pub(crate) station: Station,
-    pub(crate) heard: Groups,
+    pub(crate) heard: NamedGroups,
     /// No event was refused, and each heard group was reported.
     pub(crate) is_well: bool,
     /// What the station did at the last event; one list serves every event.
@@ -68,7 +68,7 @@ impl Replay {
             base: 0,
             groups: Vec::new(alloc),
             station: Station::Ship(Ship::new(nobody, &[])),
-            heard: Groups::new(alloc),
+            heard: NamedGroups::new(alloc),
             is_well: true,
             acts: ArrayVec::new(),
         }
@@ -104,9 +104,11 @@ impl Replay {
         requires short { IsShort read }
         requires ready { HoldsSome self.old.heard }
         requires joins { W.can_join workers.now }
-        ensures ok { OnOk result ((said : Said) (line : ReceiverLine) (text : List ℕ) → Keeps self.old said text → Says line read
+        ensures ok { OnOk result ((said : Said) (line : ReceiverLine) (text : List ℕ) → Keeps self.old said text
+            → Says line read
             → (BringsTooMany (of_receivers said) line → ⊥) × Keeps self.new (joined line ∷ said) text) }
-        ensures err { IfErr result (λ refusal. (refusal ≡ Refusal.Memory) ⊎ ((said : Said) (line : ReceiverLine) (text : List ℕ) → Keeps self.old said text
+        ensures err { IfErr result (λ refusal. (refusal ≡ Refusal.Memory)
+            ⊎ ((said : Said) (line : ReceiverLine) (text : List ℕ) → Keeps self.old said text
             → Says line read → (refusal ≡ Refusal.TooManyGroups) × BringsTooMany (of_receivers said) line)) }
     {
         match read {
@@ -142,8 +144,10 @@ impl Replay {
         requires first { self.old.point ≡ At.Station }
         requires most { length self.old.groups.items ≤ 16 }
         requires own { IsOwnLine self.old.point line.now }
-        ensures ok { OnOk result ((said : Said) (text : List ℕ) → Keeps self.old said text → Takes self.new said line.now text) }
-        ensures err { IfErr result (λ refusal. (said : Said) (text : List ℕ) → Keeps self.old said text → Refuses said line.now refusal) }
+        ensures ok { OnOk result ((said : Said) (text : List ℕ) → Keeps self.old said text
+            → Takes self.new said line.now text) }
+        ensures err { IfErr result (λ refusal. (said : Said) (text : List ℕ) → Keeps self.old said text
+            → Refuses said line.now refusal) }
         ensures column { IfErr result (λ refusal. (before : List ℕ) → KeepsText refusal before before) }
     {
         match read_station(line) {
@@ -159,8 +163,10 @@ impl Replay {
     fn take_base(&mut self, line: &[u8]) -> Result<(), Refusal>
         requires next { self.old.point ≡ At.Base }
         requires own { IsOwnLine self.old.point line.now }
-        ensures ok { OnOk result ((said : Said) (text : List ℕ) → Keeps self.old said text → Takes self.new said line.now text) }
-        ensures err { IfErr result (λ refusal. (said : Said) (text : List ℕ) → Keeps self.old said text → Refuses said line.now refusal) }
+        ensures ok { OnOk result ((said : Said) (text : List ℕ) → Keeps self.old said text
+            → Takes self.new said line.now text) }
+        ensures err { IfErr result (λ refusal. (said : Said) (text : List ℕ) → Keeps self.old said text
+            → Refuses said line.now refusal) }
         ensures column { IfErr result (λ refusal. (before : List ℕ) → KeepsText refusal before before) }
     {
         match read_base(line) {
@@ -288,7 +294,8 @@ impl Replay {
     /// Takes in what a line showed of its group.
     fn meet(&mut self, group: u32, shown: &Sheet) -> Result<(), Refusal>
         requires { HoldsSome self.old.heard }
-        ensures ok { OnOk result ((said : Said) (line : ReceiverLine) (G : Facts) (text : List ℕ) → Keeps self.old said text → IsShown line group G → IsEnds G shown.now
+        ensures ok { OnOk result ((said : Said) (line : ReceiverLine) (G : Facts) (text : List ℕ)
+            → Keeps self.old said text → IsShown line group G → IsEnds G shown.now
             → (BringsTooMany (of_receivers said) line → ⊥) × Keeps self.new (joined line ∷ said) text) }
         ensures err { IfErr result (RefusesGroup self.old group) }
     {
@@ -306,7 +313,8 @@ impl Replay {
         requires short { length heard ≤ LONGEST }
         requires ready { HoldsSome self.old.heard }
         requires joins { W.can_join workers.now }
-        ensures ok { OnOk result ((said : Said) (line : ReceiverLine) (text : List ℕ) → Keeps self.old said text → IsShown line group (facts_of heard)
+        ensures ok { OnOk result ((said : Said) (line : ReceiverLine) (text : List ℕ) → Keeps self.old said text
+            → IsShown line group (facts_of heard)
             → (BringsTooMany (of_receivers said) line → ⊥) × Keeps self.new (joined line ∷ said) text) }
         ensures err { IfErr result (RefusesGroup self.old group) }
     {

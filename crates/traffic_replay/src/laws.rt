@@ -1,7 +1,7 @@
 ghost use Rattle.line_engine.specs.Determined.{IsDetermined};
 ghost use Rattle.traffic_replay.specs.Meaning.{replay_meaning};
 
-use dsc_files::one_point_line;
+use dsc_lines::one_point_line;
 use slot_join::one_answer;
 
 /// The law that the lines of a traffic file determine what `replay` writes. It does nothing.

@@ -6,7 +6,7 @@ ghost use Rattle.traffic_replay.specs.Meaning.{replay_meaning};
 use crate::command::Replaying;
 use dsc_streams::{Sink, Source, Status};
 use line_engine::drive;
-use receiver_pool::{Gate, Heard, Shown, Workers, pool_groups};
+use receiver_pool::{Gate, GroupReception, GroupSheet, Workers, pool_groups};
 use std::alloc::{AllocError, Global};
 use std::thread::Threads;
 
@@ -34,7 +34,7 @@ pub fn replay<R: Threads + Sync, S: Source, K: Sink, G: Gate>(
     requires { (1 ≤ workers) × (workers ≤ 64) }
     ensures { IsRun replay_meaning S.Source K.Sink source.old source.new sink.old sink.new result }
 {
-    let join = |batch: &[Heard]| -> Result<Vec<Shown>, AllocError>
+    let join = |batch: &[GroupReception]| -> Result<Vec<GroupSheet>, AllocError>
         requires { (1 ≤ workers) × (workers ≤ 64) × All IsShort batch.now }
         ensures { IfOk result (λ v. Shows (facts_of_group batch.now) batch.now v.items) }
     { pool_groups(rt, alloc, batch, workers, gate) };

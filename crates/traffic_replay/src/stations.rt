@@ -3,7 +3,7 @@ ghost use Rattle.traffic_replay.specs.inside.Progress.{point_at, point_behind_ba
 ghost use Rattle.traffic_replay.specs.inside.Progress as progress;
 
 use coast_station::Coast;
-use dsc_files::Point;
+use dsc_lines::Point;
 use ship_station::Ship;
 
 /// The station that the lines of a traffic file name.

@@ -9,7 +9,7 @@ ghost use Rattle.coast_station.specs.CoastRules.{Station, coast_rules};
 ghost use Rattle.coast_station.specs.Stands.{Stands as CoastStands};
 ghost use Rattle.traffic_lines.specs.declared.lines.TrafficLine.TheVariants as line;
 ghost use Rattle.traffic_lines.specs.Anywhere.{event_of_ship, event_of_coast};
-ghost use Rattle.dsc_files.specs.PointLine.{traffic};
+ghost use Rattle.dsc_lines.specs.PointLine.{traffic};
 ghost use Rattle.join_groups.specs.Holds.{HoldsSome};
 ghost use Rattle.traffic_replay.specs.Said.{Said, base_of};
 ghost use Rattle.traffic_replay.specs.Happenings.{taking_ship, taking_coast};
@@ -24,7 +24,7 @@ use call_values::bounds::LAST_BASE;
 use coast_station::{Coast, CoastEvent, CoastWhat};
 use dsc_texts::put_answer_line;
 use itoa::Buffer;
-use join_groups::{Groups, MOST_IN_BATCH};
+use join_groups::{MOST_IN_BATCH, NamedGroups};
 use receiver_pool::Joiner;
 use ship_station::{Ship, ShipEvent, ShipWhat};
 use station_lines::{append_answer, coast_event, ship_event};
@@ -57,10 +57,12 @@ fn step_ship(
     acts: &mut Acts,
     out: &mut Vec<u8>,
 ) -> Result<bool, AllocError>
-    ensures stands { OnOk result ((who : Identities) (h : History AtShip) → ShipStands ship.old who h → ShipStands ship.new who (continued (ship_rules who) h at what)) }
+    ensures stands { OnOk result ((who : Identities) (h : History AtShip) → ShipStands ship.old who h
+        → ShipStands ship.new who (continued (ship_rules who) h at what)) }
     ensures lines { OnOk result ((who : Identities) (h : History AtShip) → ShipStands ship.old who h
         → out.new.items ≡ out.old.items ++ answer_lines at (answer_to (ship_rules who) h at what)) }
-    ensures accepted { IfOk result (λ accepted. (who : Identities) (h : History AtShip) → ShipStands ship.old who h → accepted ≡ is_ok (answer_to (ship_rules who) h at what)) }
+    ensures accepted { IfOk result (λ accepted. (who : Identities) (h : History AtShip) → ShipStands ship.old who h
+        → accepted ≡ is_ok (answer_to (ship_rules who) h at what)) }
 {
     let event = ShipEvent {
         at: u64::from(at),
@@ -79,10 +81,12 @@ fn step_coast(
     acts: &mut Acts,
     out: &mut Vec<u8>,
 ) -> Result<bool, AllocError>
-    ensures stands { OnOk result ((who : Station) (h : History AtCoast) → CoastStands coast.old who h → CoastStands coast.new who (continued (coast_rules who) h at what)) }
+    ensures stands { OnOk result ((who : Station) (h : History AtCoast) → CoastStands coast.old who h
+        → CoastStands coast.new who (continued (coast_rules who) h at what)) }
     ensures lines { OnOk result ((who : Station) (h : History AtCoast) → CoastStands coast.old who h
         → out.new.items ≡ out.old.items ++ answer_lines at (answer_to (coast_rules who) h at what)) }
-    ensures accepted { IfOk result (λ accepted. (who : Station) (h : History AtCoast) → CoastStands coast.old who h → accepted ≡ is_ok (answer_to (coast_rules who) h at what)) }
+    ensures accepted { IfOk result (λ accepted. (who : Station) (h : History AtCoast) → CoastStands coast.old who h
+        → accepted ≡ is_ok (answer_to (coast_rules who) h at what)) }
 {
     let event = CoastEvent {
         at: u64::from(at),
@@ -97,7 +101,7 @@ fn step_coast(
 /// was accepted.
 pub(crate) fn happen_at_ship<W: Joiner>(
     ship: &mut Ship,
-    groups: &mut Groups,
+    groups: &mut NamedGroups,
     workers: &W,
     base: u64,
     at: u32,
@@ -108,9 +112,12 @@ pub(crate) fn happen_at_ship<W: Joiner>(
     requires within { base ≤ LAST_BASE }
     requires heard { HoldsSome groups.old }
     requires joins { W.can_join workers.now }
-    ensures kept { OnOk result ((said : Said) → KeepsGroups groups.old said → KeepsGroups groups.new (traffic (line.Event at (event_of_ship what.now)) ∷ said)) }
-    ensures few { OnOk result (length groups.old.batch.items < MOST_IN_BATCH → length groups.new.batch.items < MOST_IN_BATCH) }
-    ensures happens { IfOk result (λ accepted. (said : Said) (who : Identities) (h : History AtShip) → KeepsGroups groups.old said → base ≡ base_of said
+    ensures kept { OnOk result ((said : Said) → KeepsGroups groups.old said
+        → KeepsGroups groups.new (traffic (line.Event at (event_of_ship what.now)) ∷ said)) }
+    ensures few { OnOk result (length groups.old.batch.items < MOST_IN_BATCH
+        → length groups.new.batch.items < MOST_IN_BATCH) }
+    ensures happens { IfOk result (λ accepted. (said : Said) (who : Identities) (h : History AtShip)
+        → KeepsGroups groups.old said → base ≡ base_of said
         → ShipStands ship.old who h
         → Happens (ship_rules who) taking_ship (ShipStands ship.new who) h said at (event_of_ship what.now) out.old.items out.new.items accepted) }
 {
@@ -130,7 +137,7 @@ pub(crate) fn happen_at_ship<W: Joiner>(
 /// The same at an event line of a coast station's file.
 pub(crate) fn happen_at_coast<W: Joiner>(
     coast: &mut Coast,
-    groups: &mut Groups,
+    groups: &mut NamedGroups,
     workers: &W,
     at: u32,
     what: &CoastLine,
@@ -139,9 +146,12 @@ pub(crate) fn happen_at_coast<W: Joiner>(
 ) -> Result<bool, AllocError>
     requires heard { HoldsSome groups.old }
     requires joins { W.can_join workers.now }
-    ensures kept { OnOk result ((said : Said) → KeepsGroups groups.old said → KeepsGroups groups.new (traffic (line.Event at (event_of_coast what.now)) ∷ said)) }
-    ensures few { OnOk result (length groups.old.batch.items < MOST_IN_BATCH → length groups.new.batch.items < MOST_IN_BATCH) }
-    ensures happens { IfOk result (λ accepted. (said : Said) (who : Station) (h : History AtCoast) → KeepsGroups groups.old said
+    ensures kept { OnOk result ((said : Said) → KeepsGroups groups.old said
+        → KeepsGroups groups.new (traffic (line.Event at (event_of_coast what.now)) ∷ said)) }
+    ensures few { OnOk result (length groups.old.batch.items < MOST_IN_BATCH
+        → length groups.new.batch.items < MOST_IN_BATCH) }
+    ensures happens { IfOk result (λ accepted. (said : Said) (who : Station) (h : History AtCoast)
+        → KeepsGroups groups.old said
         → CoastStands coast.old who h
         → Happens (coast_rules who) taking_coast (CoastStands coast.new who) h said at (event_of_coast what.now) out.old.items out.new.items accepted) }
 {

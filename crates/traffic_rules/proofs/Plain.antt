@@ -112,6 +112,7 @@ sent_by : (s : Bool) (r : Option StationRefusal) → (if s then r else Some NotS
 sent_by true r none = refl
 sent_by false r none = absurd (some_is_none NotSendable none)
 
+-- a call that isn't refused may be sent
 pub may_be_sent : (own : ℕ) (places : Places) (call : Call) → send_refusal own places call ≡ None → is_sendable own call ≡ true
 may_be_sent own places call none = sent_by (is_sendable own call) _ none
 

@@ -30,7 +30,7 @@ pub enum Act {
 pub type Acts = ArrayVec<Act, 32>;
 
 /// Puts an act last, for which there is room.
-pub fn put(acts: &mut Acts, act: Act)
+pub fn add_act(acts: &mut Acts, act: Act)
     requires { length acts.old.items < 32 }
     ensures { acts.new.items ≡ acts.old.items ++ act ∷ [] }
 {
@@ -45,6 +45,6 @@ pub fn single(act: Act) -> Acts
     ensures { result.items ≡ act ∷ [] }
 {
     let mut acts = ArrayVec::new();
-    put(&mut acts, act);
+    add_act(&mut acts, act);
     acts
 }

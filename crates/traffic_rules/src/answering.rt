@@ -24,7 +24,8 @@ pub fn answer(
     acts: &mut Acts,
 ) -> Result<(), StationRefusal>
     requires { acts.old.items ≡ [] }
-    ensures answer { answer_with result acts.new.items ≡ refusal_or (answering.answer_refusal held.old number) (answering.answer_due own held.old number accepts) }
+    ensures answer { answer_with result acts.new.items
+        ≡ refusal_or (answering.answer_refusal held.old number) (answering.answer_due own held.old number accepts) }
     ensures none { OnErr result (acts.new.items ≡ []) }
     ensures held { OnOk result (held.new ≡ after_answering held.old number) }
     ensures unchanged { OnErr result (held.new ≡ held.old) }

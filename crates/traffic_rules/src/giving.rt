@@ -1,11 +1,11 @@
 ghost use Rattle.std.specs.Prelude.{◌≡◌, [], ◌∷◌};
 
-use crate::acts::{Act, Acts, put};
+use crate::acts::{Act, Acts, add_act};
 
 /// Gives one act alone, into a list that is empty.
 pub fn give(acts: &mut Acts, act: Act)
     requires { acts.old.items ≡ [] }
     ensures { acts.new.items ≡ act ∷ [] }
 {
-    put(acts, act);
+    add_act(acts, act);
 }

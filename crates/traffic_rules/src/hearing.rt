@@ -6,7 +6,7 @@ ghost use Rattle.traffic_rules.specs.Hearing as hearing;
 ghost use Rattle.traffic_rules.specs.After.{after_question, freed_at, after_hearing};
 ghost use Rattle.traffic_rules.specs.Giving.{answer_with};
 
-use crate::acts::{Act, Acts, put};
+use crate::acts::{Act, Acts, add_act};
 use crate::equality::are_equal;
 use crate::giving::give;
 use crate::held::{HeldCalls, Holding, Side};
@@ -28,7 +28,8 @@ pub fn hear(
     acts: &mut Acts,
 ) -> Result<(), StationRefusal>
     requires { acts.old.items ≡ [] }
-    ensures answer { answer_with result acts.new.items ≡ refusal_or (hearing.heard_refusal held.old call.now) (hearing.heard_due own place held.old call.now) }
+    ensures answer { answer_with result acts.new.items
+        ≡ refusal_or (hearing.heard_refusal held.old call.now) (hearing.heard_due own place held.old call.now) }
     ensures none { OnErr result (acts.new.items ≡ []) }
     ensures held { OnOk result (held.new ≡ after_hearing held.old call.now at) }
     ensures unchanged { OnErr result (held.new ≡ held.old) }
@@ -53,7 +54,8 @@ fn hear_question(
 ) -> Result<(), StationRefusal>
     requires question { IsTrue (hearing.is_question call.now) }
     requires empty { acts.old.items ≡ [] }
-    ensures answer { answer_with result acts.new.items ≡ refusal_or (hearing.heard_refusal held.old call.now) (hearing.question_due held.old call.now) }
+    ensures answer { answer_with result acts.new.items
+        ≡ refusal_or (hearing.heard_refusal held.old call.now) (hearing.question_due held.old call.now) }
     ensures none { OnErr result (acts.new.items ≡ []) }
     ensures held { OnOk result (held.new ≡ after_question held.old call.now at) }
     ensures unchanged { OnErr result (held.new ≡ held.old) }
@@ -66,7 +68,7 @@ fn hear_question(
         return Err(StationRefusal::Full);
     };
     tell_distress(call, acts);
-    put(acts, Act::Held(number));
+    add_act(acts, Act::Held(number));
     Ok(())
 }
 

@@ -82,7 +82,8 @@ impl HeldCalls {
     /// Holds a call under the least free number, and tells it; `None` exactly where 16 are held. A sent call was sent once.
     pub fn hold(&mut self, call: Call, side: Side, at: u64) -> Option<u8>
         ensures number { result ≡ holding.first_free self.old }
-        ensures held { IfSome result (λ number. self.new ≡ holding.with_place self.old number (Some (holding.newly_held call side at))) }
+        ensures held { IfSome result (λ number. self.new
+            ≡ holding.with_place self.old number (Some (holding.newly_held call side at))) }
         ensures full { IfNone result (self.new ≡ self.old) }
     {
         let times = match side {

@@ -1,3 +1,4 @@
+//! Laws: each function here does nothing, and its contract is a theorem over definitions.
 ghost use Rattle.std.specs.Prelude.{◌≡◌, ℕ, false, Bool, Option, None, List, IsTrue};
 ghost use Rattle.std.specs.List.{list_any};
 ghost use Rattle.call_values.specs.declared.calls.Call.{Call};
@@ -12,19 +13,24 @@ ghost use Rattle.traffic_rules.specs.TrafficActs.{is_of_traffic, AreTrafficActs,
 
 use crate::held::MOST_HELD;
 
-/// The law that a station holds sixteen calls at most. It does nothing.
+/// The law that a station holds sixteen calls at most.
 pub fn sixteen_held_calls()
     ensures { MOST_HELD ≡ 16 }
 {}
 
 /// The law that the rules of traffic send no call but one that an operator of the station may send, or a reply, and each
 /// once: where an operator's call isn't refused, where a call is answered or heard, and where held calls are repeated, if
-/// those that were sent may be sent. Whatever is true of no such call is true of no call that they send. It does nothing.
+/// those that were sent may be sent. Whatever is true of no such call is true of no call that they send.
 pub fn traffic_is_sendable_or_a_reply()
-    ensures sent { (own : ℕ) (places : Places) (call : Call) → send_refusal own places call ≡ None → AreTrafficActs (is_of_traffic own) (send_due places call) }
-    ensures answered { (own number : ℕ) (places : Places) (accepts : Bool) → AreTrafficActs (is_of_traffic own) (answer_due own places number accepts) }
-    ensures heard { (own : ℕ) (place : Option Whereabouts) (places : Places) (call : Call) → AreTrafficActs (is_of_traffic own) (heard_due own place places call) }
-    ensures repeated { (own at : ℕ) (places : Places) → AreSentSuch (is_sendable own) places → AreTrafficActs (is_of_traffic own) (repeats at 1 places) }
+    ensures sent { (own : ℕ) (places : Places) (call : Call) → send_refusal own places call ≡ None
+        → AreTrafficActs (is_of_traffic own) (send_due places call) }
+    ensures answered { (own number : ℕ) (places : Places) (accepts : Bool)
+        → AreTrafficActs (is_of_traffic own) (answer_due own places number accepts) }
+    ensures heard { (own : ℕ) (place : Option Whereabouts) (places : Places) (call : Call)
+        → AreTrafficActs (is_of_traffic own) (heard_due own place places call) }
+    ensures repeated { (own at : ℕ) (places : Places) → AreSentSuch (is_sendable own) places
+        → AreTrafficActs (is_of_traffic own) (repeats at 1 places) }
     ensures others { (own : ℕ) (acts : List Act) (is_such : Call → Bool) → AreTrafficActs (is_of_traffic own) acts
-        → ((call : Call) → IsTrue (is_of_traffic own call) → is_such call ≡ false) → list_any (sends is_such) acts ≡ false }
+        → ((call : Call) → IsTrue (is_of_traffic own call) → is_such call ≡ false)
+        → list_any (sends is_such) acts ≡ false }
 {}

@@ -16,7 +16,7 @@ mod replies;
 mod sending;
 mod waits;
 
-pub use acts::{Act, Acts, put, single};
+pub use acts::{Act, Acts, add_act, single};
 pub use answering::answer;
 pub use equality::are_equal;
 pub use giving::give;

@@ -3,7 +3,7 @@ ghost use Rattle.traffic_rules.specs.Holding.{place_of, with_place};
 ghost use Rattle.traffic_rules.specs.Repeating as repeating;
 ghost use Rattle.traffic_rules.specs.After.{after_tick};
 
-use crate::acts::{Act, Acts, put};
+use crate::acts::{Act, Acts, add_act};
 use crate::held::{Held, HeldCalls, Side};
 use crate::moments::has_passed;
 use crate::waits::ANSWER_WAIT;
@@ -47,7 +47,7 @@ fn repeat_one(held: &mut HeldCalls, number: u8, at: u64, acts: &mut Acts)
     }
     if waiting.times == 1 {
         held.sent_again(number, at);
-        put(
+        add_act(
             acts,
             Act::Send {
                 call: waiting.call,
@@ -56,6 +56,6 @@ fn repeat_one(held: &mut HeldCalls, number: u8, at: u64, acts: &mut Acts)
         );
     } else {
         let _ = held.release(number);
-        put(acts, Act::GaveUp(number));
+        add_act(acts, Act::GaveUp(number));
     }
 }

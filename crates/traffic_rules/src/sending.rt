@@ -5,7 +5,7 @@ ghost use Rattle.traffic_rules.specs.Giving.{answer_with};
 ghost use Rattle.traffic_rules.specs.Sending as sending;
 ghost use Rattle.traffic_rules.specs.After.{after_sending};
 
-use crate::acts::{Act, Acts, put};
+use crate::acts::{Act, Acts, add_act};
 use crate::giving::give;
 use crate::held::{HeldCalls, Side};
 use crate::refusals::StationRefusal;
@@ -25,7 +25,8 @@ pub fn send(
     acts: &mut Acts,
 ) -> Result<(), StationRefusal>
     requires { acts.old.items ≡ [] }
-    ensures answer { answer_with result acts.new.items ≡ refusal_or (sending.send_refusal own held.old call.now) (sending.send_due held.old call.now) }
+    ensures answer { answer_with result acts.new.items
+        ≡ refusal_or (sending.send_refusal own held.old call.now) (sending.send_due held.old call.now) }
     ensures none { OnErr result (acts.new.items ≡ []) }
     ensures held { OnOk result (held.new ≡ after_sending held.old call.now at) }
     ensures unchanged { OnErr result (held.new ≡ held.old) }
@@ -41,7 +42,7 @@ pub fn send(
         return Err(StationRefusal::Full);
     };
     give_call(call, acts);
-    put(acts, Act::Held(number));
+    add_act(acts, Act::Held(number));
     Ok(())
 }
 

@@ -5,8 +5,8 @@ use Rattle.line_engine.specs.Lines.{Lines}
 use Rattle.line_engine.specs.declared.command.Refusal.{Refusal}
 use Rattle.line_engine.specs.declared.command.Refusal.TheVariants.{Memory, TooManyGroups}
 use Rattle.line_engine.specs.Commands.{IsTakenBehind, IsRefusedBehind}
-use Rattle.dsc_files.specs.JoinLine.{JoinLine, IsLine}
-use Rattle.join_groups.specs.declared.groups.Groups.{Groups}
+use Rattle.dsc_lines.specs.JoinLine.{JoinLine, IsLine}
+use Rattle.join_groups.specs.declared.groups.NamedGroups.{NamedGroups}
 use Rattle.join_groups.specs.Output.{TellsAnswer, IsGroupsText}
 use Rattle.join_groups.specs.Meanings.{BringsTooMany}
 use Rattle.join_groups.proofs.PublicLaws.{lines_push, same_said}
@@ -34,8 +34,8 @@ both_ok (Err e) f p q = tt
 abbrev pub OneLine : Type 0
 OneLine = (a b : JoinLine) (text : List ℕ) → IsLine a text → IsLine b text → a ≡ b
 
-module _ {groups : Groups} {named : List ℕ} {told : List Told} {heard : ℕ} {lines : Lines} {text : List ℕ} (stands : StandsFor groups named told heard lines text) where
-  pub stands_after : (line : JoinLine) (bytes : List ℕ) (new : Groups) (more : List ℕ) (now : List Told) (count : ℕ) (after : List ℕ) → IsLine line bytes → Watches new more now count (stands.said ++ line ∷ []) → after ≡ told_text now
+module _ {groups : NamedGroups} {named : List ℕ} {told : List Told} {heard : ℕ} {lines : Lines} {text : List ℕ} (stands : StandsFor groups named told heard lines text) where
+  pub stands_after : (line : JoinLine) (bytes : List ℕ) (new : NamedGroups) (more : List ℕ) (now : List Told) (count : ℕ) (after : List ℕ) → IsLine line bytes → Watches new more now count (stands.said ++ line ∷ []) → after ≡ told_text now
       → StandsFor new more now count (lines ++ bytes ∷ []) after
   stands_after line bytes new more now count after is watches text_is = record {
     said = stands.said ++ line ∷ [];
@@ -58,7 +58,7 @@ module _ {groups : Groups} {named : List ℕ} {told : List Told} {heard : ℕ} {
   refused_behind line bytes refusal is (inr full) = subst (λ (r : Refusal). IsRefusedBehind watch_meaning lines bytes r) (sym full.0)
       (λ n column. column.is_none line is, record { said = stands.said; are_lines = stands.are_lines; line = line; is_line = is; brings = full.1 })
 
-module _ {groups : Groups} {named : List ℕ} {told : List Told} {heard : ℕ} {lines : Lines} (written out : List ℕ) (stands : StandsFor groups named told heard lines (written ++ out)) where
+module _ {groups : NamedGroups} {named : List ℕ} {told : List Told} {heard : ℕ} {lines : Lines} (written out : List ℕ) (stands : StandsFor groups named told heard lines (written ++ out)) where
   pub ends_watch : (now : List Told) (mid after answers : List ℕ) (is_well : Bool) (status : ℕ) → LooksThrough stands.said named [] told out now mid → after ≡ mid ++ answers
       → IsGroupsText TellsAnswer stands.said answers (cond is_well 0 1) → status ≡ cond is_well 0 1 → EndsWatch lines (written ++ after) status
   ends_watch now mid after answers is_well status looks is join same = record {
@@ -77,7 +77,7 @@ module _ {groups : Groups} {named : List ℕ} {told : List Told} {heard : ℕ} {
 never_named : {P : Type 0} (k : ℕ) → is_among [] k ≡ true → P
 never_named k is = absurd cc
 
-stands_empty : ((F : Facts) (call : Call) (extra : Extra) → IsAnswer F (Reported call extra) → IsTold F call) → (groups : Groups) → Keeps groups [] → StandsFor groups [] [] 0 [] []
+stands_empty : ((F : Facts) (call : Call) (extra : Extra) → IsAnswer F (Reported call extra) → IsTold F call) → (groups : NamedGroups) → Keeps groups [] → StandsFor groups [] [] 0 [] []
 stands_empty answered groups keeps = record {
   said = [];
   are_lines = tt;
@@ -94,7 +94,7 @@ stands_empty answered groups keeps = record {
   text_is = refl;
 }
 
-pub stands_first : ((F : Facts) (call : Call) (extra : Extra) → IsAnswer F (Reported call extra) → IsTold F call) → (groups : Groups) (named : List ℕ) (told : List Told) → named ≡ [] → told ≡ [] → Keeps groups []
+pub stands_first : ((F : Facts) (call : Call) (extra : Extra) → IsAnswer F (Reported call extra) → IsTold F call) → (groups : NamedGroups) (named : List ℕ) (told : List Told) → named ≡ [] → told ≡ [] → Keeps groups []
     → StandsFor groups named told 0 [] []
 stands_first answered groups named told no_names no_calls keeps =
     subst (λ (t : List Told). StandsFor groups named t 0 [] []) (sym no_calls) (subst (λ (n : List ℕ). StandsFor groups n [] 0 [] []) (sym no_names) (stands_empty answered groups keeps))

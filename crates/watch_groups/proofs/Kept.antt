@@ -5,8 +5,8 @@ use Rattle.ten_unit.specs.declared.character.Element.{Element}
 use Rattle.slot_evidence.specs.Facts.{Facts}
 use Rattle.slot_join.specs.declared.joined.Joined.TheVariants.{Reported}
 use Rattle.slot_join.specs.Answer.{IsAnswer}
-use Rattle.dsc_files.specs.JoinLine.{JoinLine, nothing, reception, evidence}
-use Rattle.join_groups.specs.declared.groups.Groups.{Groups}
+use Rattle.dsc_lines.specs.JoinLine.{JoinLine, nothing, reception, evidence}
+use Rattle.join_groups.specs.declared.groups.NamedGroups.{NamedGroups}
 use Rattle.join_groups.specs.declared.groups.TheConstants.{MOST_IN_BATCH}
 use Rattle.join_groups.specs.Groups.{names, is_named, is_among}
 use Rattle.join_groups.specs.inside.Kept.{Keeps}
@@ -35,7 +35,7 @@ others_more said line named more told notes done = record {
 stay : (told : List Told) (S : List JoinLine) → TellsReported S told → TellsReported S told
 stay told S tells = tells
 
-module _ (law : More) (groups new : Groups) (named more : List ℕ) (told : List Told) (heard : ℕ) (said : List JoinLine) (was : Watches groups named told heard said) where
+module _ (law : More) (groups new : NamedGroups) (named more : List ℕ) (told : List Told) (heard : ℕ) (said : List JoinLine) (was : Watches groups named told heard said) where
   -- no batch ends behind the line
   goes_on : (line : JoinLine) (now : ℕ) → Notes named line more → Keeps new (said ++ line ∷ []) → IsOpen (said ++ line ∷ []) now → (EndsBatch (said ++ line ∷ []) → ⊥) → Watches new more told now (said ++ line ∷ [])
   goes_on line now notes keeps open_ never = record {
@@ -66,7 +66,7 @@ all_done said named told out now after done looks k call extra answer = by_named
     by_named false is = looks.tells.stays k (done.others k is call extra answer)
 
 -- a batch ended
-module _ (law : More) (groups new : Groups) (named more : List ℕ) (told now : List Told) (heard : ℕ) (said : List JoinLine) (out after : List ℕ) (was : Watches groups named told heard said) where
+module _ (law : More) (groups new : NamedGroups) (named more : List ℕ) (told now : List Told) (heard : ℕ) (said : List JoinLine) (out after : List ℕ) (was : Watches groups named told heard said) where
   pub after_batch : (group : ℕ) (e : List Element) → heard + 1 ≡ MOST_IN_BATCH → Notes named (reception group e) more → Keeps new (said ++ reception group e ∷ [])
       → LooksThrough (said ++ reception group e ∷ []) more [] told out now after → Watches new [] now 0 (said ++ reception group e ∷ [])
   after_batch group e full notes keeps looks =
@@ -85,26 +85,26 @@ module _ (law : More) (groups new : Groups) (named more : List ℕ) (told now : 
 nothing_more : (named : List ℕ) → Notes named nothing named
 nothing_more named k = sym (or_nothing (is_among named k))
 
-pub stands_nothing : More → (groups new : Groups) (named : List ℕ) (told : List Told) (heard : ℕ) (said : List JoinLine) (line : JoinLine) → line ≡ nothing → Watches groups named told heard said
+pub stands_nothing : More → (groups new : NamedGroups) (named : List ℕ) (told : List Told) (heard : ℕ) (said : List JoinLine) (line : JoinLine) → line ≡ nothing → Watches groups named told heard said
     → Keeps new (said ++ line ∷ []) → Watches new named told heard (said ++ line ∷ [])
 stands_nothing law groups new named told heard said line is was =
     subst (λ (l : JoinLine). Keeps new (said ++ l ∷ []) → Watches new named told heard (said ++ l ∷ [])) (sym is)
     (after_nothing law groups new named named told heard said was (nothing_more named))
 
-pub stands_evidence : More → (groups new : Groups) (named more : List ℕ) (told : List Told) (heard : ℕ) (said : List JoinLine) (line : JoinLine) (group : ℕ) (pairs : List (ℕ × ℕ)) → line ≡ evidence group pairs
+pub stands_evidence : More → (groups new : NamedGroups) (named more : List ℕ) (told : List Told) (heard : ℕ) (said : List JoinLine) (line : JoinLine) (group : ℕ) (pairs : List (ℕ × ℕ)) → line ≡ evidence group pairs
     → ((k : ℕ) → is_among more k ≡ (is_among named k || group == k)) → Watches groups named told heard said → Keeps new (said ++ line ∷ []) → Watches new more told heard (said ++ line ∷ [])
 stands_evidence law groups new named more told heard said line group pairs is notes was =
     subst (λ (l : JoinLine). Keeps new (said ++ l ∷ []) → Watches new more told heard (said ++ l ∷ [])) (sym is)
     (after_evidence law groups new named more told heard said was group pairs notes)
 
-pub stands_open : More → (groups new : Groups) (named more : List ℕ) (told : List Told) (heard now : ℕ) (said : List JoinLine) (line : JoinLine) (group : ℕ) (e : List Element) → line ≡ reception group e
+pub stands_open : More → (groups new : NamedGroups) (named more : List ℕ) (told : List Told) (heard now : ℕ) (said : List JoinLine) (line : JoinLine) (group : ℕ) (e : List Element) → line ≡ reception group e
     → now ≡ heard + 1 → now < MOST_IN_BATCH
     → ((k : ℕ) → is_among more k ≡ (is_among named k || group == k)) → Watches groups named told heard said → Keeps new (said ++ line ∷ []) → Watches new more told now (said ++ line ∷ [])
 stands_open law groups new named more told heard now said line group e is next few notes was =
     subst (λ (l : JoinLine). Keeps new (said ++ l ∷ []) → Watches new more told now (said ++ l ∷ [])) (sym is)
     (after_reception law groups new named more told heard said was group e now next few notes)
 
-pub stands_anew : More → (groups new : Groups) (named more : List ℕ) (told now : List Told) (heard : ℕ) (said : List JoinLine) (line : JoinLine) (group : ℕ) (e : List Element) (out after : List ℕ) → line ≡ reception group e
+pub stands_anew : More → (groups new : NamedGroups) (named more : List ℕ) (told now : List Told) (heard : ℕ) (said : List JoinLine) (line : JoinLine) (group : ℕ) (e : List Element) (out after : List ℕ) → line ≡ reception group e
     → heard + 1 ≡ MOST_IN_BATCH → ((k : ℕ) → is_among more k ≡ (is_among named k || group == k)) → Watches groups named told heard said → Keeps new (said ++ line ∷ [])
     → LooksThrough (said ++ line ∷ []) more [] told out now after → Watches new [] now 0 (said ++ line ∷ [])
 stands_anew law groups new named more told now heard said line group e out after is full notes was =

@@ -7,7 +7,7 @@ use Rattle.slot_join.specs.declared.joined.Joined.TheVariants.{Reported}
 use Rattle.slot_join.specs.declared.joined.Extra.{Extra}
 use Rattle.slot_join.specs.Answer.{IsAnswer}
 use Rattle.live_watch.specs.Told.{IsTold}
-use Rattle.dsc_files.specs.JoinLine.{JoinLine, nothing, reception, evidence}
+use Rattle.dsc_lines.specs.JoinLine.{JoinLine, nothing, reception, evidence}
 use Rattle.join_groups.specs.declared.groups.TheConstants.{MOST_IN_BATCH}
 use Rattle.join_groups.specs.Groups.{is_named, group_facts}
 use Rattle.dsc_texts.specs.CallParts.{call_text}

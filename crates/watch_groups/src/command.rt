@@ -2,12 +2,12 @@ ghost use Rattle.std.specs.Prelude.{◌≡◌, ◌≢◌, ◌⊎◌, ℕ, ◌+�
 ghost use Rattle.line_engine.specs.Lines.{Lines};
 ghost use Rattle.line_engine.specs.Commands.{IsTakenBehind, IsRefusedBehind, KeepsText, StandsBelow};
 ghost use Rattle.line_engine.specs.Endings.{IsFinished};
-ghost use Rattle.dsc_files.specs.JoinLine.{JoinLine as Line};
-ghost use Rattle.dsc_files.specs.Lines.{Says};
+ghost use Rattle.dsc_lines.specs.JoinLine.{JoinLine as Line};
+ghost use Rattle.dsc_lines.specs.Lines.{Says};
 ghost use Rattle.join_groups.specs.Meanings.{BringsTooMany};
 ghost use Rattle.join_groups.specs.Holds.{HoldsSome};
 ghost use Rattle.join_groups.specs.Groups.{is_among, is_named};
-ghost use Rattle.join_groups.specs.declared.groups.Groups.{Groups as Held};
+ghost use Rattle.join_groups.specs.declared.groups.NamedGroups.{NamedGroups as Held};
 ghost use Rattle.join_groups.specs.inside.Kept.{Keeps, IsShort};
 ghost use Rattle.watch_groups.specs.Meaning.{watch_meaning};
 ghost use Rattle.watch_groups.specs.Telling.{told_text};
@@ -16,9 +16,9 @@ ghost use Rattle.watch_groups.specs.inside.Kept.{Watches, StandsFor, LooksThroug
 ghost use Rattle.watch_groups.specs.inside.Gives.{gives_told};
 
 use crate::telling::{Told, look_through, note, watcher_of};
-use dsc_files::{JoinLine, LineFault, join_line, one_line};
+use dsc_lines::{JoinLine, LineFault, join_line, one_line};
 use dsc_streams::Status;
-use join_groups::{Answers, Groups, MOST_IN_BATCH, take_waiting, tell_all};
+use join_groups::{Answers, MOST_IN_BATCH, NamedGroups, take_waiting, tell_all};
 use line_engine::{Command, Refusal};
 use live_watch::{WatchedJoiner, told_calls};
 use std::alloc::{AllocError, Global};
@@ -29,7 +29,7 @@ use std::alloc::{AllocError, Global};
 pub struct WatchGroups<W: WatchedJoiner> {
     alloc: Global,
     workers: W,
-    groups: Groups,
+    groups: NamedGroups,
     /// How many receptions the open batch has.
     heard: usize,
     /// The groups that its lines named.
@@ -68,7 +68,7 @@ impl<W: WatchedJoiner> WatchGroups<W> {
         WatchGroups {
             alloc,
             workers,
-            groups: Groups::new(alloc),
+            groups: NamedGroups::new(alloc),
             heard: 0,
             named: Vec::new(alloc),
             told: Vec::new(alloc),
@@ -80,9 +80,11 @@ impl<W: WatchedJoiner> WatchGroups<W> {
         requires joins { W.can_join self.old.workers }
         requires ready { HoldsSome self.old.groups }
         ensures workers { OnOk result (self.new.workers ≡ self.old.workers) }
-        ensures ended { OnOk result ((self.new.groups.batch.items ≡ []) × (self.new.named.items ≡ []) × (self.new.heard ≡ 0)) }
+        ensures ended { OnOk result ((self.new.groups.batch.items ≡ []) × (self.new.named.items ≡ [])
+            × (self.new.heard ≡ 0)) }
         ensures keeps { OnOk result ((said : List Line) → Keeps self.old.groups said → Keeps self.new.groups said) }
-        ensures told { OnOk result ((said : List Line) → Keeps self.old.groups said → ((k : ℕ) → is_among self.old.named.items k ≡ true → is_named said k ≡ true)
+        ensures told { OnOk result ((said : List Line) → Keeps self.old.groups said
+            → ((k : ℕ) → is_among self.old.named.items k ≡ true → is_named said k ≡ true)
             → LooksThrough said self.old.named.items [] self.old.told.items out.old.items self.new.told.items out.new.items) }
     {
         let begun = watcher_of(self.alloc, &self.groups, &self.named, &self.told)?;
@@ -98,9 +100,12 @@ impl<W: WatchedJoiner> WatchGroups<W> {
         requires ready { HoldsSome self.old.groups }
         requires few { self.old.heard < MOST_IN_BATCH }
         ensures workers { OnOk result (self.new.workers ≡ self.old.workers) }
-        ensures stands { OnOk result ((before : Held) (said : List Line) (line : Line) (written : List ℕ) → Watches before self.old.named.items self.old.told.items self.old.heard said
-            → Keeps self.old.groups (said ++ line ∷ []) → Names line named → written ++ out.old.items ≡ told_text self.old.told.items
-            → Watches self.new.groups self.new.named.items self.new.told.items self.new.heard (said ++ line ∷ []) × (written ++ out.new.items ≡ told_text self.new.told.items)) }
+        ensures stands { OnOk result ((before : Held) (said : List Line) (line : Line) (written : List ℕ)
+            → Watches before self.old.named.items self.old.told.items self.old.heard said
+            → Keeps self.old.groups (said ++ line ∷ []) → Names line named
+            → written ++ out.old.items ≡ told_text self.old.told.items
+            → Watches self.new.groups self.new.named.items self.new.told.items self.new.heard (said ++ line ∷ [])
+            × (written ++ out.new.items ≡ told_text self.new.told.items)) }
     {
         told_calls();
         match named {
@@ -128,10 +133,14 @@ impl<W: WatchedJoiner> WatchGroups<W> {
         requires says { (line : Line) × Says line read }
         requires few { self.old.heard < MOST_IN_BATCH }
         ensures workers { OnOk result (self.new.workers ≡ self.old.workers) }
-        ensures stands { OnOk result ((said : List Line) (line : Line) (written : List ℕ) → Watches self.old.groups self.old.named.items self.old.told.items self.old.heard said
+        ensures stands { OnOk result ((said : List Line) (line : Line) (written : List ℕ)
+            → Watches self.old.groups self.old.named.items self.old.told.items self.old.heard said
             → Says line read → written ++ out.old.items ≡ told_text self.old.told.items
-            → (BringsTooMany said line → ⊥) × Watches self.new.groups self.new.named.items self.new.told.items self.new.heard (said ++ line ∷ []) × (written ++ out.new.items ≡ told_text self.new.told.items)) }
-        ensures refused { IfErr result (λ refusal. (refusal ≡ Refusal.Memory) ⊎ ((said : List Line) (line : Line) → Keeps self.old.groups said
+            → (BringsTooMany said line → ⊥)
+            × Watches self.new.groups self.new.named.items self.new.told.items self.new.heard (said ++ line ∷ [])
+            × (written ++ out.new.items ≡ told_text self.new.told.items)) }
+        ensures refused { IfErr result (λ refusal. (refusal ≡ Refusal.Memory)
+            ⊎ ((said : List Line) (line : Line) → Keeps self.old.groups said
             → Says line read → (refusal ≡ Refusal.TooManyGroups) × BringsTooMany said line)) }
         ensures unsaid { IfErr result (λ refusal. refusal ≢ Refusal.Memory → out.new.items ≡ out.old.items) }
     {

@@ -7,7 +7,7 @@ use crate::command::WatchGroups;
 use dsc_streams::{Sink, Source, Status};
 use line_engine::drive;
 use live_watch::{BatchWatcher, WatchedWorkers, watch_batch};
-use receiver_pool::{Gate, Heard, Shown};
+use receiver_pool::{Gate, GroupReception, GroupSheet};
 use slot_evidence::Sheet;
 use std::alloc::{AllocError, Global};
 use std::thread::Threads;
@@ -38,8 +38,8 @@ pub fn watch_groups<R: Threads + Sync, S: Source, K: Sink, G: Gate>(
     requires { (1 ≤ workers) × (workers ≤ 64) }
     ensures { IsRun watch_meaning S.Source K.Sink source.old source.new sink.old sink.new result }
 {
-    let join = |known: &[Sheet], batch: &[Heard], watcher: BatchWatcher| -> Result<
-        (Vec<Shown>, BatchWatcher),
+    let join = |known: &[Sheet], batch: &[GroupReception], watcher: BatchWatcher| -> Result<
+        (Vec<GroupSheet>, BatchWatcher),
         AllocError,
     >
         requires { (1 ≤ workers) × (workers ≤ 64) × All IsShort batch.now }

@@ -1,6 +1,6 @@
 //! The calls that a watch told, and their lines.
 ghost use Rattle.std.specs.Prelude.{◌≡◌, ℕ, ◌||◌, ◌==◌, ◌++◌, true, List, [], OnOk};
-ghost use Rattle.dsc_files.specs.JoinLine.{JoinLine};
+ghost use Rattle.dsc_lines.specs.JoinLine.{JoinLine};
 ghost use Rattle.join_groups.specs.Groups.{is_among, is_named};
 ghost use Rattle.join_groups.specs.Holds.{HoldsSome};
 ghost use Rattle.join_groups.specs.inside.Kept.{Keeps};
@@ -11,7 +11,7 @@ ghost use Rattle.watch_groups.specs.inside.Kept.{LooksAt, LooksThrough};
 use arrayvec::ArrayVec;
 use call_values::Call;
 use dsc_texts::append_call;
-use join_groups::Groups;
+use join_groups::NamedGroups;
 use live_watch::{BatchWatcher, call_to_tell};
 use std::alloc::{AllocError, Global};
 use text_pieces::{append, append_number};
@@ -41,7 +41,7 @@ fn is_told(told: &[Told], group: u32) -> bool
 }
 
 /// Appends the line of a told call.
-fn put_told(told: &Told, out: &mut Vec<u8>) -> Result<(), AllocError>
+fn append_told(told: &Told, out: &mut Vec<u8>) -> Result<(), AllocError>
     ensures { OnOk result (out.new.items ≡ out.old.items ++ told_line told.now) }
 {
     let mut line: ArrayVec<u8, 160> = ArrayVec::new();
@@ -55,7 +55,7 @@ fn put_told(told: &Told, out: &mut Vec<u8>) -> Result<(), AllocError>
 }
 
 /// The number of a group of which no call was told.
-fn untold_number(groups: &Groups, told: &[Told], group: u32) -> Option<usize> {
+fn untold_number(groups: &NamedGroups, told: &[Told], group: u32) -> Option<usize> {
     if is_told(told, group) {
         return None;
     }
@@ -65,7 +65,7 @@ fn untold_number(groups: &Groups, told: &[Told], group: u32) -> Option<usize> {
 /// A watcher of a batch for those of these groups of which no call was told.
 pub(crate) fn watcher_of(
     alloc: Global,
-    groups: &Groups,
+    groups: &NamedGroups,
     named: &[u32],
     told: &[Told],
 ) -> Result<BatchWatcher, AllocError> {
@@ -79,7 +79,7 @@ pub(crate) fn watcher_of(
 }
 
 /// The call of a group that a watcher saw, if any.
-fn seen_of(groups: &Groups, watcher: &BatchWatcher, group: u32) -> Option<Call> {
+fn seen_of(groups: &NamedGroups, watcher: &BatchWatcher, group: u32) -> Option<Call> {
     let number = groups.number(group)?;
     watcher.seen_of(number)
 }
@@ -87,7 +87,7 @@ fn seen_of(groups: &Groups, watcher: &BatchWatcher, group: u32) -> Option<Call> 
 /// Tells a call of a group, where none was told: that which the watcher saw, where the group's sheet shows it, and else the one that its
 /// facts report. No reception waits.
 fn look_at(
-    groups: &Groups,
+    groups: &NamedGroups,
     watcher: &BatchWatcher,
     group: u32,
     told: &mut Vec<Told>,
@@ -104,7 +104,7 @@ fn look_at(
     let seen = seen_of(groups, watcher, group);
     if let Some(call) = call_to_tell(&groups.sheet_of(group), seen) {
         let one = Told { group, call };
-        put_told(&one, out)?;
+        append_told(&one, out)?;
         told.push(one)?;
     }
     Ok(())
@@ -112,7 +112,7 @@ fn look_at(
 
 /// Tells the calls of these groups, which lines named. No reception waits.
 pub(crate) fn look_through(
-    groups: &Groups,
+    groups: &NamedGroups,
     watcher: &BatchWatcher,
     named: &mut Vec<u32>,
     told: &mut Vec<Told>,
@@ -121,7 +121,8 @@ pub(crate) fn look_through(
     requires ready { HoldsSome groups.now }
     requires ended { groups.now.batch.items ≡ [] }
     ensures none_left { OnOk result (named.new.items ≡ []) }
-    ensures told { OnOk result ((said : List JoinLine) → Keeps groups.now said → ((k : ℕ) → is_among named.old.items k ≡ true → is_named said k ≡ true)
+    ensures told { OnOk result ((said : List JoinLine) → Keeps groups.now said
+        → ((k : ℕ) → is_among named.old.items k ≡ true → is_named said k ≡ true)
         → LooksThrough said named.old.items [] told.old.items out.old.items told.new.items out.new.items) }
 {
     while let Some(group) = named.pop() {

@@ -4,19 +4,19 @@ use Rattle.ten_unit.specs.declared.character.Element.{Element}
 use Rattle.line_grammar.specs.Columns.{IsColumn}
 use Rattle.line_engine.specs.declared.command.Refusal.{Refusal}
 use Rattle.line_engine.specs.declared.command.Refusal.TheVariants.{Column, TooManyGroups, Memory}
-use Rattle.dsc_files.specs.JoinLine.{JoinLine, IsLine}
-use Rattle.dsc_files.specs.declared.join.JoinLine.{JoinLine as Got}
-use Rattle.dsc_files.specs.declared.join.JoinLine.TheVariants as got
+use Rattle.dsc_lines.specs.JoinLine.{JoinLine, IsLine}
+use Rattle.dsc_lines.specs.declared.join.JoinLine.{JoinLine as Got}
+use Rattle.dsc_lines.specs.declared.join.JoinLine.TheVariants as got
 use Rattle.phasing.specs.declared.reception.TheConstants.{LONGEST}
 use Rattle.line_engine.specs.Lines.{Lines}
-use Rattle.join_groups.specs.declared.groups.Groups.{Groups}
+use Rattle.join_groups.specs.declared.groups.NamedGroups.{NamedGroups}
 use Rattle.join_groups.specs.declared.groups.TheConstants.{MOST_IN_BATCH}
 use Rattle.join_groups.specs.Groups.{AreLines, is_named, group_facts}
 use Rattle.join_groups.specs.Holds.{Holds}
 use Rattle.join_groups.specs.Meanings.{BringsTooMany}
 
 -- of each group that lines named all its facts are held
-abbrev pub Keeps : Groups → List JoinLine → Type 0
+abbrev pub Keeps : NamedGroups → List JoinLine → Type 0
 Keeps groups said = Holds groups (is_named said) (group_facts said)
 
 -- why a line isn't taken behind what was said
@@ -26,7 +26,7 @@ IsRefused said text TooManyGroups = (line : JoinLine) × (IsLine line text × Br
 IsRefused said text Memory = Unit {0}
 
 -- what a command over groups stands for: these lines, and no text before their end; its batch isn't full
-pub record StandsFor (groups : Groups) (lines : Lines) (text : List ℕ) : Type 0 where
+pub record StandsFor (groups : NamedGroups) (lines : Lines) (text : List ℕ) : Type 0 where
   pub text_is : text ≡ []
   pub said : List JoinLine
   pub are_lines : AreLines said lines

@@ -4,7 +4,7 @@ use Rattle.atomic_table.specs.Seated.{TableId}
 use Rattle.slot_evidence.specs.Facts.{Facts, facts_of, union}
 use Rattle.evidence_board.specs.Seats.{Held}
 use Rattle.receiver_pool.specs.declared.batch_groups.Turns.{Turns}
-use Rattle.receiver_pool.specs.declared.heard.Heard.{Heard}
+use Rattle.receiver_pool.specs.declared.group_entries.GroupReception.{GroupReception}
 use Rattle.receiver_pool.specs.Groups.{Belongs, IsShort}
 use Rattle.receiver_pool.specs.Rows.{AreSeats}
 use Rattle.receiver_pool.specs.inside.Turns.{is_turn, taken, nobody}
@@ -14,7 +14,7 @@ abbrev pub IsBelow : ℕ → ℕ → Type 0
 IsBelow n group = group < n
 
 -- each of the first n receptions has a place, where its group stands, and no group stands there that the batch doesn't name
-pub record AreNumbered (batch : List Heard) (n : ℕ) (groups places : List ℕ) : Type 0 where
+pub record AreNumbered (batch : List GroupReception) (n : ℕ) (groups places : List ℕ) : Type 0 where
   pub count : length places ≡ n
   pub inside : (i : ℕ) → i < n → slice_index places i < length groups
   pub same : (i : ℕ) → i < n → slice_index groups (slice_index places i) ≡ (slice_index_or batch i nobody).group
@@ -34,11 +34,11 @@ pub record ArePlaces (n count : ℕ) (places : List ℕ) : Type 0 where
   pub inside : (i : ℕ) → i < n → slice_index places i < count
 
 -- what the reception with this index shows of the group at place k
-abbrev pub nth_at : List Heard → List ℕ → ℕ → ℕ → Facts
+abbrev pub nth_at : List GroupReception → List ℕ → ℕ → ℕ → Facts
 nth_at batch places k index p v = slice_index places index == k && facts_of (slice_index_or batch index nobody).reception p v
 
 -- the facts of those of the first n receptions that are taken, of the group at place k
-abbrev pub place_part : (ℕ → Bool) → List Heard → List ℕ → ℕ → ℕ → Facts
+abbrev pub place_part : (ℕ → Bool) → List GroupReception → List ℕ → ℕ → ℕ → Facts
 place_part takes batch places n k = taken takes (nth_at batch places k) n
 
 -- what the groups at the first m places show of group k
@@ -47,11 +47,11 @@ gathered groups F zero k p v = false
 gathered groups F (suc m) k p v = gathered groups F m k p v || (slice_index groups m == k && F m p v)
 
 -- no reception of a batch is too long, and each has a place below count
-abbrev pub AreTurns : ℕ → List Heard → Turns → Type 0
+abbrev pub AreTurns : ℕ → List GroupReception → Turns → Type 0
 AreTurns count batch turns = All IsShort batch × ArePlaces (length batch) count turns.places.items
 
 -- what the workers from low on and below high read of the group at each place
-abbrev pub read_by : List Heard → Turns → ℕ → ℕ → ℕ → Facts
+abbrev pub read_by : List GroupReception → Turns → ℕ → ℕ → ℕ → Facts
 read_by batch turns low high = place_part (is_turn turns.workers low high) batch turns.places.items (length batch)
 
 -- through a seat of each board the facts of its group were posted besides

@@ -14,7 +14,7 @@ fn symbols_of_64_elements(rt: HostRuntime) {
             _ => Element::Lost,
         };
     }
-    let planes = packed(&block);
+    let planes = pack_elements(&block);
     assert_eq!(rt; symbol_at(&planes, 2), 112);
     assert_eq!(rt; symbol_at(&planes, 22), 128);
     for (first, ten) in block.windows(10).enumerate() {

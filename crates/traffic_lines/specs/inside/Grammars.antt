@@ -7,40 +7,40 @@ use Rattle.line_grammar.specs.Tokens.{Token, free_number, shaped}
 use Rattle.line_grammar.specs.Grammar.{Grammar, finish, anything, word, field, either}
 
 -- a value behind a word, to the end of the line
-abbrev pub only : List ℕ → Token → Grammar
-only label token = labelled label token finish
+abbrev pub labelled_to_end : List ℕ → Token → Grammar
+labelled_to_end label token = labelled label token finish
 
 -- a word, to the end of the line
-abbrev pub lone : List ℕ → Grammar
-lone text = word text finish
+abbrev pub word_to_end : List ℕ → Grammar
+word_to_end text = word text finish
 
 abbrev pub position : Grammar
-position = only (codes "position ") position_token
+position = labelled_to_end (codes "position ") position_token
 
 abbrev pub delay : Grammar
-delay = only (codes "delay ") (free_number bounds.SHORTEST_ALERT_DELAY bounds.LONGEST_ALERT_DELAY)
+delay = labelled_to_end (codes "delay ") (free_number bounds.SHORTEST_ALERT_DELAY bounds.LONGEST_ALERT_DELAY)
 
 abbrev pub alert : Grammar
-alert = labelled (codes "alert nature=") nature (only (codes " then=") comm)
+alert = labelled (codes "alert nature=") nature (labelled_to_end (codes " then=") comm)
 
 abbrev pub cancel : Grammar
-cancel = lone (codes "cancel")
+cancel = word_to_end (codes "cancel")
 
 abbrev pub tick : Grammar
-tick = lone (codes "tick")
+tick = word_to_end (codes "tick")
 
 abbrev pub heard : Grammar
-heard = only (codes "heard g") (free_number 0 4294967295)
+heard = labelled_to_end (codes "heard g") (free_number 0 4294967295)
 
 abbrev pub answer : Grammar
-answer = only (codes "answer ") (free_number 1 16)
+answer = labelled_to_end (codes "answer ") (free_number 1 16)
 
 abbrev pub decline : Grammar
-decline = only (codes "decline ") (free_number 1 16)
+decline = labelled_to_end (codes "decline ") (free_number 1 16)
 
 -- a coast station's delay, and the same or the end of the line
 abbrev pub coast_delay : Grammar
-coast_delay = only (codes " ") (free_number bounds.SHORTEST_COAST_DELAY bounds.LONGEST_COAST_DELAY)
+coast_delay = labelled_to_end (codes " ") (free_number bounds.SHORTEST_COAST_DELAY bounds.LONGEST_COAST_DELAY)
 
 abbrev pub perhaps_delay : Grammar
 perhaps_delay = either finish coast_delay
@@ -50,7 +50,7 @@ accept = labelled (codes "accept ") identity perhaps_delay
 
 -- whether a relay asks for an acknowledgement
 abbrev pub ask_or_tell : Grammar
-ask_or_tell = either (lone (codes " ask")) (lone (codes " tell"))
+ask_or_tell = either (word_to_end (codes " ask")) (word_to_end (codes " tell"))
 
 abbrev pub relay : Grammar
 relay = labelled (codes "relay ") identity (labelled (codes " to=") address ask_or_tell)
@@ -66,11 +66,11 @@ abbrev pub coast_events : Grammar
 coast_events = either accept (either relay shared_events)
 
 abbrev pub ship : Grammar
-ship = only (codes "station ship ") identity
+ship = labelled_to_end (codes "station ship ") identity
 
 -- a coast station's band, to the end of the line
 abbrev pub band : Grammar
-band = either (lone (codes " mf")) (either (lone (codes " hf")) (lone (codes " vhf")))
+band = either (word_to_end (codes " mf")) (either (word_to_end (codes " hf")) (word_to_end (codes " vhf")))
 
 abbrev pub coast : Grammar
 coast = labelled (codes "station coast ") identity band
@@ -79,10 +79,10 @@ abbrev pub station : Grammar
 station = either ship coast
 
 abbrev pub base : Grammar
-base = only (codes "base ") (free_number 0 bounds.LAST_BASE)
+base = labelled_to_end (codes "base ") (free_number 0 bounds.LAST_BASE)
 
 abbrev pub group : Grammar
-group = only (codes "group ") identity
+group = labelled_to_end (codes "group ") identity
 
 -- a moment and a blank, with anything behind them
 abbrev pub moment : Grammar
@@ -90,7 +90,7 @@ moment = field (free_number 0 4294967295) (word (codes " ") anything)
 
 -- a call that comes from the other end of an exchange
 abbrev pub get : Grammar
-get = only (codes "get ") (free_number 0 4294967295)
+get = labelled_to_end (codes "get ") (free_number 0 4294967295)
 
 -- the identities below this one and above it, and of the first and of the last those on the other side
 abbrev pub below : ℕ → ℕ × ℕ

@@ -5,8 +5,8 @@ use Rattle.slot_join.specs.declared.joined.Joined.TheVariants.{Reported}
 use Rattle.slot_join.specs.declared.joined.Extra.{Extra}
 use Rattle.slot_join.specs.Answer.{IsAnswer}
 use Rattle.line_engine.specs.Lines.{Lines}
-use Rattle.dsc_files.specs.JoinLine.{JoinLine}
-use Rattle.join_groups.specs.declared.groups.Groups.{Groups}
+use Rattle.dsc_lines.specs.JoinLine.{JoinLine}
+use Rattle.join_groups.specs.declared.groups.NamedGroups.{NamedGroups}
 use Rattle.join_groups.specs.declared.groups.TheConstants.{MOST_IN_BATCH}
 use Rattle.join_groups.specs.Groups.{AreLines, is_named, is_among, group_facts}
 use Rattle.join_groups.specs.inside.Kept.{Keeps}
@@ -29,7 +29,7 @@ pub record AreOthersDone (said : List JoinLine) (named : List ℕ) (told : List 
   pub others : (k : ℕ) → is_among named k ≡ false → IsDone said told k
 
 -- what is kept of these lines
-pub record Watches (groups : Groups) (named : List ℕ) (told : List Told) (heard : ℕ) (said : List JoinLine) : Type 0 where
+pub record Watches (groups : NamedGroups) (named : List ℕ) (told : List Told) (heard : ℕ) (said : List JoinLine) : Type 0 where
   pub keeps : Keeps groups said
   pub open_batch : IsOpen said heard
   pub are_told : AreTold said told
@@ -37,7 +37,7 @@ pub record Watches (groups : Groups) (named : List ℕ) (told : List Told) (hear
   pub done : AreOthersDone said named told
 
 -- a watch stands for these lines and the calls that it told
-pub record StandsFor (groups : Groups) (named : List ℕ) (told : List Told) (heard : ℕ) (lines : Lines) (text : List ℕ) : Type 0 where
+pub record StandsFor (groups : NamedGroups) (named : List ℕ) (told : List Told) (heard : ℕ) (lines : Lines) (text : List ℕ) : Type 0 where
   pub said : List JoinLine
   pub are_lines : AreLines said lines
   pub watches : Watches groups named told heard said

@@ -4,9 +4,9 @@ use Rattle.std.proofs.lemmas.Grind.{common_steps}
 use Rattle.symbol_reader.specs.inside.Reading.{Took, Outcome}
 use Rattle.call_grammar.specs.inside.Grammar.{CheckedCharacters}
 use Rattle.call_grammar.proofs.Ends.{read_covered, none_left, not_refused}
-use Rattle.call_grammar.proofs.CodedParts.{is_same}
 use Rattle.call_grammar.proofs.judging.is_covered.Goals as goal
 use Rattle.std.proofs.Common.{Err}
+use Rattle.std.proofs.lemmas.Bool.{eq-eqb}
 
 pub returns-in-Ok : goal.returns-in-Ok
 returns-in-Ok c =
@@ -15,7 +15,7 @@ returns-in-Ok c =
     let took = subst (λ a. Took CheckedCharacters c.in-Ok.field-0 a c.checked_characters.new.list) once (c.in-Ok.ensures).outcome in
     let read = subst (λ a. Took CheckedCharacters c.in-Ok.field-0 (drop 1 c.args.list.now) a) (sym c.rest.ensures) took in (
       (λ yes. (let empty : length c.rest.result.now ≡ 0 = grind (arith, nat_tests) in read_covered _ _ _ read empty)),
-      (λ w. c.is_empty.ensures ∙ is_same _ 0 (none_left _ _ _ w read)),
+      (λ w. c.is_empty.ensures ∙ eq-eqb _ 0 (none_left _ _ _ w read)),
     )
 
 pub returns-in-Err : goal.returns-in-Err

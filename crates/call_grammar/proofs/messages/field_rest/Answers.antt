@@ -1,8 +1,8 @@
+use Rattle.std.proofs.lemmas.Bool.{ne_eqb, eq-eqb}
 use Rattle.symbol_reader.specs.declared.letters.Letter.TheVariants.{UpTo}
 use Rattle.symbol_reader.proofs.Laws.{only_good}
 use Rattle.symbol_reader.proofs.Steps.{letter_good, next, stop, fail, chosen, not_chosen, only_read}
 use Rattle.call_grammar.specs.inside.Grammar.{field_letter, long_field}
-use Rattle.call_grammar.proofs.CodedParts.{is_same, is_other}
 use Rattle.call_grammar.proofs.FieldParts.{field_third_good, field_end_good}
 use Rattle.call_grammar.proofs.messages.field_rest.Goals as goal
 
@@ -26,7 +26,7 @@ returns-in_err-d c =
     fail c.from_residual-in_err-d.ensures.1
     (next (letter_good (field_letter c.args.initial)) b
     (next (letter_good (field_letter c.args.initial)) d
-    (chosen (is_same _ 4 c.if-initial-eq4.true)
+    (chosen (eq-eqb _ 4 c.if-initial-eq4.true)
     (stop (letter_good (UpTo 99)) (λ x _ _. only_good (long_field c.args.initial c.in_ok-b.b c.in_ok-c.c x)) c.in_err-d.ensures.reads))))
 
 pub returns-then-initial-eq4 : goal.returns-then-initial-eq4
@@ -35,7 +35,7 @@ returns-then-initial-eq4 c =
     let d = rw c.field_letter-2.ensures at c.in_ok-c.ensures.reads in
     next (letter_good (field_letter c.args.initial)) b
     (next (letter_good (field_letter c.args.initial)) d
-    (chosen (is_same _ 4 c.if-initial-eq4.true)
+    (chosen (eq-eqb _ 4 c.if-initial-eq4.true)
     (next (letter_good (UpTo 99)) c.in_ok-d.ensures.reads
     (rw c.long_field.ensures (only_read _ _)))))
 
@@ -45,5 +45,5 @@ returns c =
     let d = rw c.field_letter-2.ensures at c.in_ok-c.ensures.reads in
     next (letter_good (field_letter c.args.initial)) b
     (next (letter_good (field_letter c.args.initial)) d
-    (not_chosen (is_other _ 4 c.if-initial-eq4.false)
+    (not_chosen (ne_eqb _ 4 c.if-initial-eq4.false)
     (rw c.short_field.ensures (only_read _ _))))

@@ -10,16 +10,16 @@ pub returns : goal.returns
 unfolding texts sentence
 returns c =
     let s = c.args.s.now in
-    let g0 = grown_none (codes "$CDDSC") c.begun-out.result.items c.begun-out.ensures in
-    let g1 = grown_more _ _ _ (text.digits 2 s.format) c.put_number.new.out.items g0 (cc) in
-    let g2 = grown_more _ _ _ (digit_text s.address) c.put_digits.new.out.items g1 (cc) in
-    let g3 = grown_more _ _ _ (perhaps_text (text.digits 2) s.category) c.put_two_digits.new.out.items g2 (cc) in
-    let g4 = grown_more _ _ _ (perhaps_text (text.digits 2) s.first) c.put_two_digits-2.new.out.items g3 (cc) in
-    let g5 = grown_more _ _ _ (perhaps_text (text.digits 2) s.second) c.put_two_digits-3.new.out.items g4 (cc) in
-    let g6 = grown_more _ _ _ (digit_text s.place.items) c.put_digits-2.new.out.items g5 (cc) in
-    let g7 = grown_more _ _ _ (perhaps_text (text.digits 4) s.time) c.put_four_digits.new.out.items g6 (cc) in
-    let g8 = grown_more _ _ _ (perhaps_text digit_text s.distress) c.put_perhaps_digits.new.out.items g7 (cc) in
-    let g9 = grown_more _ _ _ (perhaps_text (text.digits 2) s.nature) c.put_two_digits-4.new.out.items g8 (cc) in
-    let g10 = grown_more _ _ _ (end_text s.end) c.put.new.out.items g9 (cc) in
-    let g11 = grown_more _ _ _ (expanded_text s.expanded) c.put-2.new.out.items g10 (cc) in
+    let g0 = grown_none (codes "$CDDSC") c.begin_sentence-out.result.items c.begin_sentence-out.ensures in
+    let g1 = grown_more _ _ _ (text.digits 2 s.format) c.append_number_field.new.out.items g0 (cc) in
+    let g2 = grown_more _ _ _ (digit_text s.address) c.append_digits_field.new.out.items g1 (cc) in
+    let g3 = grown_more _ _ _ (perhaps_text (text.digits 2) s.category) c.append_two_digits_field.new.out.items g2 (cc) in
+    let g4 = grown_more _ _ _ (perhaps_text (text.digits 2) s.first) c.append_two_digits_field-2.new.out.items g3 (cc) in
+    let g5 = grown_more _ _ _ (perhaps_text (text.digits 2) s.second) c.append_two_digits_field-3.new.out.items g4 (cc) in
+    let g6 = grown_more _ _ _ (digit_text s.place.items) c.append_digits_field-2.new.out.items g5 (cc) in
+    let g7 = grown_more _ _ _ (perhaps_text (text.digits 4) s.time) c.append_four_digits_field.new.out.items g6 (cc) in
+    let g8 = grown_more _ _ _ (perhaps_text digit_text s.distress) c.append_perhaps_digits_field.new.out.items g7 (cc) in
+    let g9 = grown_more _ _ _ (perhaps_text (text.digits 2) s.nature) c.append_two_digits_field-4.new.out.items g8 (cc) in
+    let g10 = grown_more _ _ _ (end_text s.end) c.append_field.new.out.items g9 (cc) in
+    let g11 = grown_more _ _ _ (expanded_text s.expanded) c.append_field-2.new.out.items g10 (cc) in
     c.close.ensures ∙ ap closed g11.is

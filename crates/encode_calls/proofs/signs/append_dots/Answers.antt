@@ -1,6 +1,6 @@
 use Rattle.std.proofs.Common.{ℕ, List, ◌∷◌, [], ◌++◌, map, sym, ap, ◌∙◌, append-nil, append_assoc}
 use Rattle.phasing.specs.Sent.{dots}
-use Rattle.dsc_files.specs.JoinLine.{sign_of}
+use Rattle.dsc_lines.specs.JoinLine.{sign_of}
 use Rattle.encode_calls.proofs.SignTable.{no_dots, dots_more}
 use Rattle.encode_calls.proofs.signs.append_dots.Goals as goal
 

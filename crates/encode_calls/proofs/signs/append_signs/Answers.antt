@@ -2,7 +2,7 @@ use Rattle.std.proofs.Common.{◌≡◌, ℕ, List, ◌++◌, map, flat_map, tak
 use Rattle.std.proofs.Math.Seq.{take-length}
 use Rattle.ten_unit.specs.Word.{word_of}
 use Rattle.phasing.specs.Sent.{dots, dot_count}
-use Rattle.dsc_files.specs.JoinLine.{sign_of}
+use Rattle.dsc_lines.specs.JoinLine.{sign_of}
 use Rattle.encode_calls.proofs.SignTable.{signs_of_sent}
 use Rattle.encode_calls.proofs.signs.append_signs.Goals as goal
 

@@ -1,6 +1,6 @@
 use Rattle.std.proofs.Common.{◌≡◌, ◌++◌, take, flat_map, map}
 use Rattle.ten_unit.specs.Word.{word_of}
-use Rattle.dsc_files.specs.JoinLine.{sign_of}
+use Rattle.dsc_lines.specs.JoinLine.{sign_of}
 use Rattle.encode_calls.proofs.signs.append_signs.Given as goal
 
 abbrev pub invariant-loop-symbol : goal.invariant-loop-symbol

@@ -1,7 +1,7 @@
 use Rattle.std.proofs.Common.{◌≡◌, ◌+◌, ◌*◌, ◌≤◌, ◌++◌, codes, decimal}
 use Rattle.std.specs.List.{flat_map}
 use Rattle.arrayvec.specs.ArrayVec.{array_vec_len}
-use Rattle.dsc_files.specs.JoinLine.{pair_text}
+use Rattle.dsc_lines.specs.JoinLine.{pair_text}
 use Rattle.evidence_texts.specs.Evidence.{pairs_below}
 use Rattle.evidence_texts.proofs.evidence.append_evidence.Given as goal
 

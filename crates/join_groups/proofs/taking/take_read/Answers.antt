@@ -1,7 +1,7 @@
 use Rattle.std.proofs.Common.{refl, subst, inl, inr}
 use Rattle.slot_evidence.specs.Facts.{facts_of}
-use Rattle.dsc_files.specs.declared.join.JoinLine.{JoinLine as Got}
-use Rattle.dsc_files.specs.Lines.{Says}
+use Rattle.dsc_lines.specs.declared.join.JoinLine.{JoinLine as Got}
+use Rattle.dsc_lines.specs.Lines.{Says}
 use Rattle.join_groups.specs.Groups.{is_named, facts_of_line, group_facts}
 use Rattle.join_groups.proofs.Keeping.{says_nothing, says_reception, says_evidence, keeps_line, full_brings, brings_full, map_ok, map_err}
 use Rattle.join_groups.proofs.taking.take_read.Goals as goal

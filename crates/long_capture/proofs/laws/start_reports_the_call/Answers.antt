@@ -9,9 +9,11 @@ returns c = λ e lead call tail answer lawful heard answers.
     let laws : Laws =
     record {
       near = near_laws;
-      equal = c.words_tell_symbols_apart.ensures.equal;
-      one_way = c.one_way_errors_are_seen.ensures.elements;
-      slots = c.both_slots_show_the_character.ensures;
-      characters = c.lists_are_characters.ensures;
+      heard = record {
+        equal = c.words_tell_symbols_apart.ensures.equal;
+        one_way = c.one_way_errors_are_seen.ensures.elements;
+        slots = c.both_slots_show_the_character.ensures;
+        characters = c.lists_are_characters.ensures;
+      };
     } in
     c.call_or_missing_place.ensures (facts_from e lead) call answer lawful (start_shows laws call tail e lead lawful heard) answers

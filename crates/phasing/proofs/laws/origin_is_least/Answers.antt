@@ -1,6 +1,7 @@
 use Rattle.std.proofs.Common.{◌+◌, length, arith}
+use Rattle.plain_laws.proofs.Searches.{find_least}
 use Rattle.phasing.specs.Origin.{is_phased}
-use Rattle.phasing.proofs.Leads.{find_least, none_anywhere}
+use Rattle.phasing.proofs.Leads.{none_anywhere}
 use Rattle.phasing.proofs.laws.origin_is_least.Goals as goal
 
 pub returns-clause-phased : goal.returns-clause-phased

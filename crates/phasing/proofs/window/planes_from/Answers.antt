@@ -28,7 +28,7 @@ at_rest e begin from i is =
 pub returns-in-Some : goal.returns-in-Some
 returns-in-Some c =
     let e = c.args.e.now in
-    c.packed.ensures (c.args.begin + 150) (element_at e)
+    c.pack_elements.ensures (c.args.begin + 150) (element_at e)
     (λ i below.
     at_rest e c.args.begin c.min.result i c.min.ensures
     ∙ sym (get_or-take 64 (take (length e - c.min.result) (drop c.min.result e)) i Lost below)
@@ -37,5 +37,5 @@ returns-in-Some c =
 pub returns-in-None : goal.returns-in-None
 returns-in-None c =
     let e = c.args.e.now in
-    c.packed-in-None.ensures (c.args.begin + 150) (element_at e)
+    c.pack_elements-in-None.ensures (c.args.begin + 150) (element_at e)
     (λ i below. at_rest e c.args.begin c.min.result i c.min.ensures ∙ sym (c.padded.ensures i below))

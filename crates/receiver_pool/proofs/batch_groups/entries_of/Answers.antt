@@ -3,7 +3,7 @@ use Rattle.std.proofs.lemmas.List.{get_or_read}
 use Rattle.std.proofs.lemmas.List.Elements.{All-get_or, All-push}
 use Rattle.slot_evidence.specs.declared.places.Seen.{Seen}
 use Rattle.slot_evidence.specs.Sheet.{IsEnds}
-use Rattle.receiver_pool.specs.declared.heard.Shown.{Shown}
+use Rattle.receiver_pool.specs.declared.group_entries.GroupSheet.{GroupSheet}
 use Rattle.receiver_pool.specs.Groups.{AreShown, IsOneOf}
 use Rattle.receiver_pool.specs.inside.Numbers.{IsBelow, gathered}
 use Rattle.receiver_pool.proofs.Gathered.{next_entry}
@@ -17,10 +17,10 @@ loop-k-preserved c =
     let sheet = get_or_read c.args.sheets.now k c.index-sheets-k.result (omega (arith, c.requires)) c.index-sheets-k.is [] in
     record {
       facts = λ F are.
-          subst (λ (s : List Shown). AreShown (gathered groups F (k + 1)) s) (sym c.in_ok-push.ensures.items)
+          subst (λ (s : List GroupSheet). AreShown (gathered groups F (k + 1)) s) (sym c.in_ok-push.ensures.items)
           (next_entry groups F k _ c.loop-k.entries.items refl (subst (λ (s : List Seen). IsEnds (F k) s) (sym sheet) (are.each k (omega arith))) (was.facts F are));
       groups = λ n below.
-          subst (λ (s : List Shown). All (IsOneOf n) s) (sym c.in_ok-push.ensures.items)
+          subst (λ (s : List GroupSheet). All (IsOneOf n) s) (sym c.in_ok-push.ensures.items)
           (All-push (IsOneOf n) c.loop-k.entries.items _ (was.groups n below) (All-get_or (IsBelow n) groups k 0 (omega arith) below));
     }
 

@@ -1,6 +1,6 @@
 use Rattle.std.proofs.Common.{arith, ap, sym, subst}
 use Rattle.std.proofs.lemmas.List.{get_or_read}
-use Rattle.receiver_pool.specs.declared.heard.Heard.{Heard}
+use Rattle.receiver_pool.specs.declared.group_entries.GroupReception.{GroupReception}
 use Rattle.receiver_pool.specs.inside.Turns.{nobody}
 use Rattle.receiver_pool.specs.inside.Numbers.{AreNumbered}
 use Rattle.receiver_pool.proofs.Gathered.{next_numbered}
@@ -12,4 +12,4 @@ loop-heard-preserved c =
     let heard = c.heard-item.result in
     let is = get_or_read c.args.batch.now i heard (omega arith) c.heard-item.is nobody in
     subst (AreNumbered c.args.batch.now _ _) (sym c.in_ok-push.ensures.items)
-    (next_numbered c.args.batch.now i c.in_ok-place_of.field-0 heard.group _ _ c.loop-heard.places.items (omega arith) (ap (λ (h : Heard). h.group) is) c.in_ok-place_of.ensures c.loop-heard.invariant)
+    (next_numbered c.args.batch.now i c.in_ok-place_of.field-0 heard.group _ _ c.loop-heard.places.items (omega arith) (ap (λ (h : GroupReception). h.group) is) c.in_ok-place_of.ensures c.loop-heard.invariant)

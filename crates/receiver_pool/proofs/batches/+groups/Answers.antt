@@ -1,11 +1,11 @@
 use Rattle.std.proofs.Common.{rules, ◌≡◌, ℕ, ◌+◌, ◌-◌, ◌/◌, ◌≤◌, Bool, ◌||◌, List, IfOk, length, arith, ap, sym, ◌∙◌, subst}
 use Rattle.std.proofs.lemmas.Result.{IfOk-at_ok}
+use Rattle.plain_laws.proofs.Lists.{lent_whole}
 use Rattle.slot_evidence.specs.Facts.{Facts, union}
 use Rattle.evidence_board.specs.Seats.{Held}
 use Rattle.receiver_pool.specs.inside.Numbers.{HavePosted, nth_at, read_by}
 use Rattle.receiver_pool.specs.Rows.{AreSeats}
 use Rattle.receiver_pool.proofs.Parts.{part_halves, fold_twice}
-use Rattle.receiver_pool.proofs.Turning.{lent_whole}
 use Rattle.receiver_pool.proofs.SeatRows.{same_seats}
 use Rattle.receiver_pool.proofs.batches.+groups.Goals as goal
 

@@ -1,11 +1,11 @@
 use Rattle.std.proofs.Common.{◌+◌, List, length, sym, ◌∙◌, subst}
+use Rattle.plain_laws.proofs.Lists.{lent_whole}
 use Rattle.slot_evidence.specs.declared.places.Seen.{Seen}
 use Rattle.slot_evidence.specs.Facts.{union}
 use Rattle.receiver_pool.specs.Groups.{AreSheets}
 use Rattle.evidence_board.specs.Seats.{Held}
 use Rattle.receiver_pool.specs.inside.Numbers.{read_by}
 use Rattle.receiver_pool.specs.Rows.{AreSeats}
-use Rattle.receiver_pool.proofs.Turning.{lent_whole}
 use Rattle.receiver_pool.proofs.batches.work.Goals as goal
 
 pub returns : goal.returns

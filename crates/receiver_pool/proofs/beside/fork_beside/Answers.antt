@@ -1,10 +1,10 @@
 use Rattle.std.proofs.Common.{ℕ, ◌+◌, List, arith, sym, ◌∙◌, subst}
 use Rattle.std.proofs.lemmas.Result.{IfOk-at_ok}
+use Rattle.plain_laws.proofs.Lists.{lent_whole}
 use Rattle.slot_evidence.specs.Facts.{Facts, union}
 use Rattle.evidence_board.specs.Seats.{Held}
 use Rattle.receiver_pool.specs.inside.Numbers.{read_by}
 use Rattle.receiver_pool.specs.Rows.{AreSeats}
-use Rattle.receiver_pool.proofs.Turning.{lent_whole}
 use Rattle.receiver_pool.proofs.beside.fork_beside.Goals as goal
 
 pub join_each-requires-clause-seats : goal.join_each-requires-clause-seats

@@ -1,7 +1,7 @@
 use Rattle.std.proofs.Common.{List, sym, ◌∙◌, subst}
+use Rattle.plain_laws.proofs.Lists.{lent_whole}
 use Rattle.evidence_board.specs.Seats.{Held}
 use Rattle.receiver_pool.specs.Rows.{AreSeats}
-use Rattle.receiver_pool.proofs.Turning.{lent_whole}
 use Rattle.receiver_pool.proofs.beside.go_beside.Goals as goal
 
 pub returns : goal.returns

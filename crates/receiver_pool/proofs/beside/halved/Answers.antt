@@ -1,9 +1,9 @@
 use Rattle.std.proofs.Common.{◌≡◌, ℕ, ◌-◌, ◌/◌, List, refl, sym, ◌∙◌, subst}
+use Rattle.plain_laws.proofs.Lists.{lent_whole}
 use Rattle.slot_evidence.specs.Facts.{no_facts}
 use Rattle.evidence_board.specs.declared.seats.TheConstants.{WHOLE}
 use Rattle.evidence_board.specs.Seats.{Held}
 use Rattle.receiver_pool.specs.Rows.{AreSeats}
-use Rattle.receiver_pool.proofs.Turning.{lent_whole}
 use Rattle.receiver_pool.proofs.beside.halved.Goals as goal
 
 pub returns : goal.returns

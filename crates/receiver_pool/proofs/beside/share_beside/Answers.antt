@@ -1,4 +1,5 @@
-use Rattle.std.proofs.Common.{◌≡◌, ℕ, ◌+◌, ◌/◌, Bool, true, false, ◌||◌, List, refl, sym, ◌∙◌, subst}
+use Rattle.std.proofs.Common.{ℕ, ◌+◌, ◌/◌, List, refl, sym, ◌∙◌, subst}
+use Rattle.std.proofs.Math.Bool.{or-false}
 use Rattle.atomic_table.specs.Seated.{TableId}
 use Rattle.slot_evidence.specs.Facts.{no_facts}
 use Rattle.evidence_board.specs.declared.seats.TheConstants.{WHOLE}
@@ -8,10 +9,6 @@ use Rattle.receiver_pool.specs.Rows.{AreSeats}
 use Rattle.receiver_pool.proofs.SeatRows.{same_seats}
 use Rattle.receiver_pool.proofs.beside.share_beside.Goals as goal
 
-or_false : (a : Bool) → (a || false) ≡ a
-or_false true = refl
-or_false false = refl
-
 pub close_each-requires : goal.close_each-requires
 close_each-requires g c =
     let part = read_by c.args.batch.now c.args.turns.now 0 c.args.turns.now.workers in
@@ -20,7 +17,7 @@ close_each-requires g c =
     (subst (λ (bs : List TableId). AreSeats (WHOLE / 2) (λ k. no_facts) bs c.in_ok-seats.seats.items) (c.deref.ensures.value ∙ sym c.deref-2.ensures.value) two.0)
     (subst (λ (bs : List TableId). AreSeats (WHOLE / 2) (λ k. no_facts) bs c.in_ok-seats.others.items) (c.deref.ensures.value ∙ sym c.deref-2.ensures.value) two.1) in
     let whole = subst (λ (bs : List TableId). AreSeats WHOLE part bs c.in_ok-beside.joined.items) c.deref-2.ensures.value
-    (same_seats (WHOLE / 2 + WHOLE / 2) WHOLE _ part c.deref-2.result.now c.in_ok-beside.joined.items refl (λ k p v. or_false (part k p v)) joined) in
+    (same_seats (WHOLE / 2 + WHOLE / 2) WHOLE _ part c.deref-2.result.now c.in_ok-beside.joined.items refl (λ k p v. or-false (part k p v)) joined) in
     (part, whole)
 
 pub returns : goal.returns
@@ -31,5 +28,5 @@ returns g c =
     (subst (λ (bs : List TableId). AreSeats (WHOLE / 2) (λ k. no_facts) bs c.in_ok-seats.seats.items) (c.deref.ensures.value ∙ sym c.deref-2.ensures.value) two.0)
     (subst (λ (bs : List TableId). AreSeats (WHOLE / 2) (λ k. no_facts) bs c.in_ok-seats.others.items) (c.deref.ensures.value ∙ sym c.deref-2.ensures.value) two.1) in
     let whole = subst (λ (bs : List TableId). AreSeats WHOLE part bs c.in_ok-beside.joined.items) c.deref-2.ensures.value
-    (same_seats (WHOLE / 2 + WHOLE / 2) WHOLE _ part c.deref-2.result.now c.in_ok-beside.joined.items refl (λ k p v. or_false (part k p v)) joined) in
+    (same_seats (WHOLE / 2 + WHOLE / 2) WHOLE _ part c.deref-2.result.now c.in_ok-beside.joined.items refl (λ k p v. or-false (part k p v)) joined) in
     subst (λ (n : ℕ). AreSheets part c.in_ok-sheets.sheets.items n) c.in_ok-boards.ensures.count (c.in_ok-sheets.ensures part whole)

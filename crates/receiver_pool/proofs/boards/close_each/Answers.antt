@@ -1,7 +1,7 @@
 use Rattle.std.proofs.Common.{List, length, arith, sym, subst}
+use Rattle.plain_laws.proofs.Lists.{lent_whole}
 use Rattle.slot_evidence.specs.declared.places.Seen.{Seen}
 use Rattle.receiver_pool.specs.Groups.{AreSheets}
-use Rattle.receiver_pool.proofs.Turning.{lent_whole}
 use Rattle.receiver_pool.proofs.boards.close_each.Goals as goal
 
 pub returns : goal.returns

@@ -2,8 +2,8 @@ use Rattle.std.proofs.Common.{ℕ, ◌<◌, length, Some, arith, ◌∙◌}
 use Rattle.slot_evidence.specs.declared.places.Seen.{Seen}
 use Rattle.slot_evidence.specs.Facts.{facts_at}
 use Rattle.slot_evidence.specs.Seen.{IsSeen, IsLawful}
-use Rattle.slot_evidence.proofs.Ends.{fill_more, everywhere, no_place}
-use Rattle.std.proofs.lemmas.Bool.{le-ltb}
+use Rattle.slot_evidence.proofs.Ends.{fill_more, everywhere}
+use Rattle.std.proofs.lemmas.Bool.{le-ltb, and_left}
 use Rattle.std.proofs.lemmas.List.{length-set}
 use Rattle.slot_evidence.proofs.plain.places_of.Goals as goal
 
@@ -22,7 +22,7 @@ returns-clause-seen c =
     let kept = c.loop-p.invariant in
     everywhere (λ (k : ℕ) (x : Seen). IsSeen (facts_at c.args.e.now (Some c.args.lead) k) x) c.loop-p.places 64 (omega (arith, kept.long))
     (λ k below. kept.seen k (omega arith))
-    (λ k past v. no_place _ _ (le-ltb k 64 past))
+    (λ k past v. and_left _ _ (le-ltb k 64 past))
 
 pub returns-clause-lawful : goal.returns-clause-lawful
 returns-clause-lawful c =

@@ -1,6 +1,4 @@
-use Rattle.std.proofs.Common.{◌≡◌, ◌+◌, ◌-◌, length, subst, arith}
 use Rattle.dsc_texts.specs.Texts.{IsCallText}
-use Rattle.line_grammar.specs.Columns.{IsColumn}
 use Rattle.line_grammar.proofs.Chains.{after_list}
 use Rattle.traffic_lines.specs.Lines.{IsHear}
 use Rattle.traffic_lines.specs.inside.Reading.{SaysHearing}
@@ -17,7 +15,4 @@ returns-in-Ok c =
     (c.in-Ok.field-0-1, c.in_ok-text.text.now, said, after_list _ _ _ c.in_ok-text.ensures.rest)
 
 pub returns-in-Err : goal.returns-in-Err
-returns-in-Err c =
-    let fault : IsColumn IsCallText c.in_ok-text.text.now c.in-Err.column = assumption c.in-Err.ensures in
-    let same : c.in-Err.column ≡ length c.in_ok-text.text.now + 1 - c.left_at.result = omega (arith, fault.within, c.left_at.ensures) in
-    hear_fault _ _ _ c.in_ok-text.ensures.rest (subst (IsColumn IsCallText c.in_ok-text.text.now) same fault)
+returns-in-Err c = hear_fault _ _ _ c.in_ok-text.ensures.rest c.in-Err.ensures.read

@@ -1,3 +1,5 @@
+use Rattle.std.proofs.Common.{subst}
+use Rattle.call_values.specs.Identity.{IsMmsi}
 use Rattle.traffic_lines.specs.inside.Grammars.{perhaps_delay, accept}
 use Rattle.traffic_lines.specs.Worlds.{IsCoastOwnText}
 use Rattle.traffic_lines.proofs.EventTexts.{accept_text}
@@ -11,4 +13,4 @@ pub returns-in_err-delay : goal.returns-in_err-delay
 returns-in_err-delay c = exit_read accept IsCoastOwnText _ _ _ c.from_residual.ensures.1 (c.in-Ok.ensures.value perhaps_delay _ c.in_err-delay.ensures)
 
 pub returns : goal.returns
-returns c = accept_text _ _ _ _ c.in-Ok.ensures.lawful c.in-Ok.ensures.text c.in_ok-delay.ensures
+returns c = accept_text _ _ _ _ (subst IsMmsi c.number.ensures.value c.number.ensures.range) c.in-Ok.ensures.text c.in_ok-delay.ensures

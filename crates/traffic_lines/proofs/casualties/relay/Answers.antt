@@ -1,4 +1,5 @@
-use Rattle.std.proofs.Common.{codes}
+use Rattle.std.proofs.Common.{codes, subst}
+use Rattle.call_values.specs.Identity.{IsMmsi}
 use Rattle.dsc_texts.specs.CallGrammar.{address, labelled}
 use Rattle.traffic_lines.specs.inside.Grammars.{ask_or_tell, relay}
 use Rattle.traffic_lines.specs.Worlds.{IsCoastOwnText}
@@ -19,4 +20,4 @@ returns-in_err-ask c =
 
 pub returns : goal.returns
 returns c =
-    relay_text _ _ _ _ _ _ c.in-Ok.ensures.lawful c.in-Ok-labelled.ensures.lawful c.in-Ok.ensures.text c.in-Ok-labelled.ensures.text c.in_ok-ask.ensures
+    relay_text _ _ _ _ _ _ (subst IsMmsi c.number.ensures.value c.number.ensures.range) c.lawful.ensures c.in-Ok.ensures.text c.in-Ok-labelled.ensures.text c.in_ok-ask.ensures

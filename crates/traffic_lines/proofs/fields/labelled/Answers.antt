@@ -3,6 +3,7 @@ use Rattle.dsc_texts.specs.CallGrammar as calls
 use Rattle.line_grammar.specs.Grammar.{Grammar, field}
 use Rattle.line_grammar.specs.inside.Reading.{read}
 use Rattle.line_grammar.proofs.Chains.{after_list, passed, word_missed, word_on, token_missed, token_on}
+use Rattle.traffic_lines.proofs.Tokens.{token_list}
 use Rattle.traffic_lines.proofs.fields.labelled.Goals as goal
 
 pub returns-in_err-rest-clause-left : goal.returns-in_err-rest-clause-left
@@ -16,7 +17,7 @@ returns-in_err-value-clause-left g c =
     (λ rest. word_on _ (field g.T.Token.token rest) _ _ _ c.in_ok-rest.ensures.rest (token_missed g.T.Token.token rest _ _ c.in_err-value.ensures.left))
 
 pub returns-clause-text : goal.returns-clause-text
-returns-clause-text g c = after_list _ _ _ c.in_ok-rest.ensures.rest ∙ ap (λ (l : List ℕ). c.args.label.now ++ l) c.in_ok-value.ensures.list
+returns-clause-text g c = after_list _ _ _ c.in_ok-rest.ensures.rest ∙ ap (λ (l : List ℕ). c.args.label.now ++ l) (token_list g.T.Token.token _ _ _ c.requires.some c.in_ok-value.ensures.value)
 
 pub returns-clause-value : goal.returns-clause-value
 returns-clause-value g c =

@@ -1,7 +1,7 @@
 use Rattle.traffic_lines.specs.inside.Grammars.{ship}
 use Rattle.traffic_lines.specs.inside.Reading.{NamesShip}
-use Rattle.traffic_lines.proofs.Languages.{value_read}
+use Rattle.traffic_lines.proofs.Languages.{exit_read}
 use Rattle.traffic_lines.proofs.points.ship_identity.Goals as goal
 
-pub returns : goal.returns
-returns c = value_read ship NamesShip _ _ c.args.bytes.now c.only.result (λ mmsi h k. (h, k)) c.only.ensures.lawful c.only.ensures.text c.only.ensures.left
+pub returns-in_err-mmsi : goal.returns-in_err-mmsi
+returns-in_err-mmsi c = exit_read ship NamesShip _ _ _ c.from_residual.ensures.1 c.in_err-mmsi.ensures.left

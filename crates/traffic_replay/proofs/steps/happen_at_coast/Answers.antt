@@ -7,7 +7,7 @@ use Rattle.traffic_lines.specs.declared.lines.CoastLine.{CoastLine}
 use Rattle.traffic_lines.specs.declared.lines.CoastLine.TheVariants as at_coast
 use Rattle.traffic_lines.specs.declared.lines.TrafficLine.TheVariants.{Event}
 use Rattle.traffic_lines.specs.Anywhere.{event_of_coast}
-use Rattle.dsc_files.specs.PointLine.{traffic}
+use Rattle.dsc_lines.specs.PointLine.{traffic}
 use Rattle.station_lines.specs.Events.{own_coast_event}
 use Rattle.join_groups.proofs.PublicLaws.{map_ok}
 use Rattle.traffic_replay.specs.Happenings.{taking_coast, ComesOf}

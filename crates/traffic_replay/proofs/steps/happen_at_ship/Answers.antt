@@ -7,7 +7,7 @@ use Rattle.traffic_lines.specs.declared.lines.ShipLine.{ShipLine}
 use Rattle.traffic_lines.specs.declared.lines.ShipLine.TheVariants as at_ship
 use Rattle.traffic_lines.specs.declared.lines.TrafficLine.TheVariants.{Event}
 use Rattle.traffic_lines.specs.Anywhere.{event_of_ship}
-use Rattle.dsc_files.specs.PointLine.{traffic}
+use Rattle.dsc_lines.specs.PointLine.{traffic}
 use Rattle.station_lines.specs.Events.{own_ship_event}
 use Rattle.join_groups.proofs.PublicLaws.{map_ok}
 use Rattle.traffic_replay.specs.Said.{base_of}

@@ -16,9 +16,9 @@ returns-in_ok-push c = λ said keeps named.
     let watched = c.call_to_tell.ensures (group_facts said group) (c.sheet_of.ensures (is_named said) (group_facts said) keeps) in
     let shown = subst (λ (o : Option Call). IsWatched (group_facts said group) o) c.in-Some.is watched in
     let new : is_told told group ≡ false = ap (λ (l : List Told). is_told l group) (sym c.deref.ensures.value) ∙ sym c.if-is_told.ensures in
-    subst (λ (l : List Told). LooksAt said group told c.args.out.now.items l c.put_told.new.out.items) (sym c.in_ok-push.ensures.items)
+    subst (λ (l : List Told). LooksAt said group told c.args.out.now.items l c.append_told.new.out.items) (sym c.in_ok-push.ensures.items)
     record {
-      tells = tells_one said told one c.args.out.now.items c.put_told.new.out.items (record { named = named; call = shown }) new c.in_ok-put_told.ensures;
+      tells = tells_one said told one c.args.out.now.items c.append_told.new.out.items (record { named = named; call = shown }) new c.in_ok-append_told.ensures;
       done = λ call extra is. one_is_told told one;
     }
 

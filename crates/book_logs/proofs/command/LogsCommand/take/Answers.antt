@@ -1,7 +1,7 @@
 use Rattle.std.proofs.Common.{◌≡◌, true, subst}
-use Rattle.dsc_files.specs.declared.books.BookLine.{BookLine}
-use Rattle.dsc_files.specs.declared.books.BookLine.TheVariants.{Nothing, Sentence}
-use Rattle.dsc_files.specs.BookLine.{is_sentence, IsBookLine}
+use Rattle.dsc_lines.specs.declared.books.BookLine.{BookLine}
+use Rattle.dsc_lines.specs.declared.books.BookLine.TheVariants.{Nothing, Sentence}
+use Rattle.dsc_lines.specs.BookLine.{is_sentence, IsBookLine}
 use Rattle.book_logs.proofs.Taken.{stands_on, takes_nothing}
 use Rattle.book_logs.proofs.command.LogsCommand.take.Goals as goal
 

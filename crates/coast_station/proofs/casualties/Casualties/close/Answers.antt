@@ -7,8 +7,8 @@ use Rattle.coast_station.proofs.casualties.Casualties.close.Goals as goal
 pub returns-in-Some : goal.returns-in-Some
 returns-in-Some c =
     let x = c.remove.result in
-    let taken = (at_place c.args.mmsi c.args.self.now c.in-Some.place x x (sym c.in-Some.ensures.value)).taken in
-    c.remove.ensures.items ∙ ap (λ (xs : List OpenCasualty). remove xs c.in-Some.place) c.self.view_is ∙ taken
+    let taken = (at_place c.args.mmsi c.args.self.now c.in-Some.index x x (sym c.in-Some.ensures.value)).taken in
+    c.remove.ensures.items ∙ ap (λ (xs : List OpenCasualty). remove xs c.in-Some.index) c.self.view_is ∙ taken
 
 pub returns-in-None : goal.returns-in-None
 returns-in-None c = sym (nowhere c.args.mmsi c.args.self.now (sym c.in-None.ensures.value)).taken

@@ -5,7 +5,7 @@ use Rattle.coast_station.proofs.casualties.Casualties.replace.Goals as goal
 pub returns-in-Some : goal.returns-in-Some
 returns-in-Some c =
     let x = c.args.casualty.now in
-    let put = (at_place x.alert.mmsi c.args.self.now c.in-Some.place x x (sym c.in-Some.ensures.value)).put in
+    let put = (at_place x.alert.mmsi c.args.self.now c.in-Some.index x x (sym c.in-Some.ensures.value)).put in
     cc
 
 pub returns-in-None : goal.returns-in-None

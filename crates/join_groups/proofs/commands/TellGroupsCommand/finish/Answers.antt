@@ -3,11 +3,11 @@ use Rattle.line_engine.specs.Lines.{Lines}
 use Rattle.join_groups.specs.Groups.{is_named, group_facts}
 use Rattle.join_groups.specs.Output.{Telling, IsGroupsText}
 use Rattle.join_groups.specs.Meanings.{EndsTelling}
-use Rattle.join_groups.specs.declared.groups.Groups.{Groups}
+use Rattle.join_groups.specs.declared.groups.NamedGroups.{NamedGroups}
 use Rattle.join_groups.specs.inside.Kept.{StandsFor}
 use Rattle.join_groups.proofs.commands.TellGroupsCommand.finish.Goals as goal
 
-ends_so : (tells : Telling) (groups : Groups) (lines : Lines) (written out new text : List ℕ) (is_well : Bool) (status : ℕ) → (stands : StandsFor groups lines (written ++ out)) → new ≡ out ++ text
+ends_so : (tells : Telling) (groups : NamedGroups) (lines : Lines) (written out new text : List ℕ) (is_well : Bool) (status : ℕ) → (stands : StandsFor groups lines (written ++ out)) → new ≡ out ++ text
     → IsGroupsText tells stands.said text (cond is_well 0 1) → status ≡ cond is_well 0 1 → EndsTelling tells lines (written ++ new) status
 ends_so tells groups lines written out new text is_well status stands is told same =
     let whole : written ++ new ≡ text = ap (λ (l : List ℕ). written ++ l) is ∙ sym (append_assoc written out text) ∙ ap (λ (l : List ℕ). l ++ text) stands.text_is in

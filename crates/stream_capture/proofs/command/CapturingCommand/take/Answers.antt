@@ -1,5 +1,5 @@
 use Rattle.std.proofs.Common.{◌++◌, map}
-use Rattle.dsc_files.specs.inside.Reading.{element_of}
+use Rattle.dsc_lines.specs.inside.Reading.{element_of}
 use Rattle.stream_capture.specs.Telling.{stream_of}
 use Rattle.stream_capture.proofs.LinesTaken.{line_taken}
 use Rattle.stream_capture.proofs.command.CapturingCommand.take.Goals as goal

@@ -2,7 +2,7 @@ use Rattle.std.proofs.Common.{◌≡◌, ◌+◌, ◌∙◌, ℕ, List, [], ◌�
 use Rattle.traffic_lines.specs.declared.lines.Point.TheVariants as point
 use Rattle.traffic_lines.specs.declared.lines.TrafficLine.TheVariants.{Group}
 use Rattle.ship_station.specs.Stands.{Stands}
-use Rattle.dsc_files.specs.PointLine.{traffic}
+use Rattle.dsc_lines.specs.PointLine.{traffic}
 use Rattle.traffic_replay.specs.declared.stations.Station.TheVariants as at
 use Rattle.ship_station.specs.declared.events.ShipWhat.{ShipWhat}
 use Rattle.traffic_replay.specs.Happenings.{taking_ship}

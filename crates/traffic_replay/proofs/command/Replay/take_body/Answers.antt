@@ -5,7 +5,7 @@ use Rattle.traffic_lines.specs.declared.lines.ShipBodyLine.{ShipBodyLine}
 use Rattle.traffic_lines.specs.declared.lines.TrafficLine.TheVariants.{Event}
 use Rattle.traffic_lines.specs.Anywhere.{event_of_ship, event_of_coast, line_of_ship, line_of_coast, ship_point}
 use Rattle.traffic_lines.specs.Lines.{IsTrafficLine}
-use Rattle.dsc_files.specs.PointLine.{traffic}
+use Rattle.dsc_lines.specs.PointLine.{traffic}
 use Rattle.traffic_replay.specs.declared.stations.Station.TheVariants as at
 use Rattle.traffic_replay.specs.Said.{kind_of, among_events}
 use Rattle.traffic_replay.specs.inside.Progress.{IsBeforeEvents, IsPointOf}

@@ -1,7 +1,7 @@
 use Rattle.std.proofs.Common.{subst, inl, inr}
 use Rattle.slot_evidence.specs.Facts.{facts_of}
-use Rattle.dsc_files.specs.declared.join.JoinLine.{JoinLine as Got}
-use Rattle.dsc_files.specs.Lines.{Says}
+use Rattle.dsc_lines.specs.declared.join.JoinLine.{JoinLine as Got}
+use Rattle.dsc_lines.specs.Lines.{Says}
 use Rattle.join_groups.specs.Groups.{facts_of_line}
 use Rattle.join_groups.proofs.PublicLaws.{map_ok, map_err}
 use Rattle.traffic_replay.specs.inside.Progress.{IsShown}

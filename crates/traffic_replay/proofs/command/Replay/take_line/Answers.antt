@@ -1,6 +1,6 @@
 use Rattle.std.proofs.Common.{◌++◌, refl, sym, subst, inl, inr}
 use Rattle.traffic_lines.specs.declared.lines.Point.{Point}
-use Rattle.dsc_files.specs.PointLine.{joined, IsPointLine}
+use Rattle.dsc_lines.specs.PointLine.{joined, IsPointLine}
 use Rattle.join_groups.proofs.PublicLaws.{map_ok, map_err, short_read}
 use Rattle.line_engine.specs.declared.command.Refusal.{Refusal}
 use Rattle.traffic_replay.specs.inside.Progress.{Refuses}

@@ -1,0 +1,7 @@
+mod board;
+mod engine;
+mod made;
+mod replays;
+mod streams;
+mod watching;
+mod words;

@@ -1,4 +1,0 @@
--- Laws that proofs of other crates may cite. The other files here are this crate's own.
-
--- bytes that are no line have one column
-pub use Rattle.dsc_files.proofs.Columns.{one_column}

@@ -1,0 +1,107 @@
+-- reading bodies of signs
+use Rattle.std.proofs.Common.{◌≡◌, ◌≢◌, ℕ, suc, ◌≤◌, ◌==◌, ◌||◌, true, false, List, [], ◌∷◌, ◌++◌, length, map, codes, Result, Ok, Err, IfOk, IfErr, inl, inr, refl, sym, ◌∙◌, ap, subst, append-nil, arith}
+use Rattle.std.specs.List.{list_all}
+use Rattle.std.proofs.lemmas.Bool.{or_cases, eqb-true, and_parts, and_from}
+use Rattle.ten_unit.specs.declared.character.Element.{Element}
+use Rattle.ten_unit.specs.declared.character.Element.TheVariants.{Y, B, Lost}
+use Rattle.line_grammar.specs.Tokens.{run, is_one_of, IsToken}
+use Rattle.line_grammar.specs.Grammar.{Grammar, finish, word, none}
+use Rattle.line_grammar.specs.inside.Reading.{after, ended, read_token, read}
+use Rattle.line_grammar.specs.inside.Soundness.{is_sound}
+use Rattle.line_grammar.proofs.Chains.{after_list, run_list, word_missed, word_on, token_missed, token_on, end_missed, fault_within, both_miss, no_end}
+use Rattle.dsc_lines.specs.JoinLine.{sign_of, body_text}
+use Rattle.dsc_lines.specs.inside.Reading.{behind_blank, blank_and_signs, signs, element_of, IsBehindBlank}
+
+-- signs and elements
+sign_again : (b : ℕ) → is_one_of (codes "YB-") b ≡ true → sign_of (element_of b) ≡ b
+sign_again b h =
+    elim (or_cases (89 == b) ((66 == b) || ((45 == b) || false)) h) [
+      | inl y ↦ subst (λ (x : ℕ). sign_of (element_of x) ≡ x) (eqb-true 89 b y) refl
+      | inr other ↦ (elim (or_cases (66 == b) ((45 == b) || false) other) [
+        | inl n ↦ subst (λ (x : ℕ). sign_of (element_of x) ≡ x) (eqb-true 66 b n) refl
+        | inr lost ↦ (elim (or_cases (45 == b) false lost) [
+          | inl l ↦ subst (λ (x : ℕ). sign_of (element_of x) ≡ x) (eqb-true 45 b l) refl
+          | inr never ↦ absurd (cc)
+        ])
+      ])
+    ]
+
+pub signs_again : (bytes : List ℕ) → list_all (is_one_of (codes "YB-")) bytes ≡ true → map sign_of (map element_of bytes) ≡ bytes
+signs_again [] h = refl
+signs_again (b ∷ bytes) h =
+    let k = and_parts (is_one_of (codes "YB-") b) (list_all (is_one_of (codes "YB-")) bytes) h in
+    ap (λ (x : ℕ). x ∷ map sign_of (map element_of bytes)) (sign_again b k.0) ∙ ap (λ (l : List ℕ). b ∷ l) (signs_again bytes k.1)
+
+element_again : (e : Element) → element_of (sign_of e) ≡ e
+element_again Y = refl
+element_again B = refl
+element_again Lost = refl
+
+-- elements are read back from their signs
+pub elements_again : (e : List Element) → map element_of (map sign_of e) ≡ e
+elements_again [] = refl
+elements_again (x ∷ e) = ap (λ (y : Element). y ∷ map element_of (map sign_of e)) (element_again x) ∙ ap (λ (l : List Element). x ∷ l) (elements_again e)
+
+is_sign : (e : Element) → is_one_of (codes "YB-") (sign_of e) ≡ true
+is_sign Y = refl
+is_sign B = refl
+is_sign Lost = refl
+
+-- elements are written by signs alone
+pub are_signs : (e : List Element) → list_all (is_one_of (codes "YB-")) (map sign_of e) ≡ true
+are_signs [] = refl
+are_signs (x ∷ e) = and_from (is_one_of (codes "YB-") (sign_of x)) (list_all (is_one_of (codes "YB-")) (map sign_of e)) (is_sign x) (are_signs e)
+
+-- a body
+pub body_of : (bytes front : List ℕ) → front ≢ [] → list_all (is_one_of (codes "YB-")) front ≡ true → bytes ≡ codes " " ++ front → bytes ≡ body_text (map element_of front)
+body_of bytes [] some all e = absurd (some refl)
+body_of bytes (b ∷ front) some all e = e ∙ ap (λ (l : List ℕ). codes " " ++ l) (sym (signs_again (b ∷ front) all))
+
+pub no_body : (bytes : List ℕ) → length bytes ≡ 0 → bytes ≡ body_text (map element_of bytes)
+no_body [] e = refl
+no_body (b ∷ bytes) e = absurd (omega (arith, e))
+
+pub checked_signs : (bytes front : List ℕ) → after (codes " ") bytes ≡ Ok front → (length front ≡ 0 → ⊥) → list_all (is_one_of (codes "YB-")) front ≡ true
+    → (bytes ≡ codes " " ++ front) × IsToken (run (codes "YB-")) front
+checked_signs bytes front h some all = (after_list (codes " ") bytes front h, ((λ (e : front ≡ []). some (ap length e)), all))
+
+nothing_left : (back : List ℕ) → ended back ≡ Ok none → back ≡ []
+unfolding ended
+nothing_left [] e = refl
+nothing_left (b ∷ back) e = absurd (cc)
+
+pub run_signs : (bytes rest front back : List ℕ) → after (codes " ") bytes ≡ Ok rest → read_token (run (codes "YB-")) rest ≡ Ok (front, back) → ended back ≡ Ok none
+    → (bytes ≡ codes " " ++ front) × IsToken (run (codes "YB-")) front
+run_signs bytes rest front back h k m =
+    let r = run_list (codes "YB-") rest front back refl k in
+    (after_list (codes " ") bytes rest h ∙ ap (λ (l : List ℕ). codes " " ++ l) (r.0 ∙ ap (λ (l : List ℕ). front ++ l) (nothing_left back m) ∙ append-nil front), (r.1, r.2))
+
+-- where no body stands
+pub blank_missed : (rest : Grammar) (bytes : List ℕ) (left : ℕ) → is_sound rest ≡ true → (length bytes ≡ 0 → ⊥) → read (word (codes " ") rest) bytes ≡ Err left → read (behind_blank rest) bytes ≡ Err left
+blank_missed rest [] left sound some h = absurd (some refl)
+blank_missed rest (b ∷ bytes) left sound some h =
+    let few : left ≤ suc (length bytes) = fault_within (word (codes " ") rest) (b ∷ bytes) left sound h in
+    both_miss finish (word (codes " ") rest) (b ∷ bytes) (suc (length bytes)) left left (no_end b bytes) h (omega (arith, few))
+
+pub no_blank : (bytes : List ℕ) (left : ℕ) → after (codes " ") bytes ≡ Err left → read blank_and_signs bytes ≡ Err left
+no_blank bytes left h = word_missed (codes " ") signs bytes left h
+
+pub no_sign : (bytes rest : List ℕ) (left : ℕ) → after (codes " ") bytes ≡ Ok rest → read_token (run (codes "YB-")) rest ≡ Err left → read blank_and_signs bytes ≡ Err left
+no_sign bytes rest left h k = word_on (codes " ") signs bytes rest left h (token_missed (run (codes "YB-")) finish rest left k)
+
+pub no_line_end : (bytes rest front back : List ℕ) (left : ℕ) → after (codes " ") bytes ≡ Ok rest → read_token (run (codes "YB-")) rest ≡ Ok (front, back) → ended back ≡ Err left
+    → read blank_and_signs bytes ≡ Err left
+no_line_end bytes rest front back left h k m = word_on (codes " ") signs bytes rest left h (token_on (run (codes "YB-")) finish rest front back left k (end_missed back left m))
+
+-- an answer that says more
+pub ok_more : {A B : Type 0} {P Q : A → Type 0} → ((a : A) → P a → Q a) → (r : Result A B) → IfOk r P → IfOk r Q
+ok_more f (Ok a) h = f a h
+ok_more f (Err b) h = h
+
+pub err_more : {A B : Type 0} {P Q : B → Type 0} → ((b : B) → P b → Q b) → (r : Result A B) → IfErr r P → IfErr r Q
+err_more f (Ok a) h = h
+err_more f (Err b) h = f b h
+
+pub signs_behind_blank : IsBehindBlank signs
+unfolding read read_token
+signs_behind_blank = record { sound = refl; no_group = λ bytes. refl }

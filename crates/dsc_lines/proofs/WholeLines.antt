@@ -1,0 +1,271 @@
+-- whole lines: the grammars have the lines of join's input
+use Rattle.std.proofs.Common.{◌≡◌, ℕ, zero, suc, ◌+◌, ◌≤◌, ◌<◌, true, List, [], ◌∷◌, ◌++◌, length, map, codes, decimal, inl, inr, refl, sym, ◌∙◌, ap, subst, append_assoc, append-nil, arith}
+use Rattle.std.specs.List.{flat_map, All}
+use Rattle.std.proofs.lemmas.Bool.{and_from}
+use Rattle.std.proofs.lemmas.List.Elements.{All-append}
+use Rattle.ten_unit.specs.declared.character.Element.{Element}
+use Rattle.line_grammar.specs.Tokens.{run, free_number, value_after, IsNumber}
+use Rattle.line_grammar.specs.Grammar.{Grammar, finish, anything, word, field, either, Parts, none, part, first, second, Spells}
+use Rattle.line_grammar.specs.Repeats.{repeated}
+use Rattle.line_grammar.specs.inside.Soundness.{is_sound, is_unambiguous}
+use Rattle.line_grammar.proofs.Fields.{field_of}
+use Rattle.line_grammar.proofs.Grammars.{choice_back}
+use Rattle.line_grammar.proofs.Apart.{one_reading}
+use Rattle.line_grammar.proofs.Repeats.{IsLimit}
+use Rattle.line_grammar.proofs.Decimals.{number_text, decimal_number, decimal_value}
+use Rattle.dsc_lines.specs.JoinLine.{JoinLine, nothing, reception, evidence, sign_of, NamesGroup, body_text, IsPair, pair_text, IsLine}
+use Rattle.dsc_lines.specs.inside.Reading.{behind_blank, signs, grouped, pair, reception_line, evidence_line, join_lines, element_of}
+use Rattle.dsc_lines.proofs.Bodies.{body_of, are_signs, elements_again}
+use Rattle.dsc_lines.proofs.Pairs.{pairs_sound, one_pair, pair_text_is}
+
+-- what the parts of a line say
+pub group_in : Parts → ℕ
+group_in (second (part digits rest)) = value_after 0 digits
+group_in _ = 0
+
+pub rest_in : Parts → Parts
+rest_in (first rest) = rest
+rest_in (second (part digits rest)) = rest
+rest_in _ = none
+
+pub elements_in : Parts → List Element
+elements_in (second (part front rest)) = map element_of front
+elements_in _ = []
+
+pub pairs_in : Parts → List (ℕ × ℕ)
+pairs_in (second (part place (part symbol rest))) = (value_after 0 place, value_after 0 symbol) ∷ pairs_in rest
+pairs_in _ = []
+
+pub line_in : Parts → JoinLine
+line_in (second (second (first parts))) = reception (group_in parts) (elements_in (rest_in parts))
+line_in (second (second (second parts))) = evidence (group_in parts) (pairs_in (rest_in parts))
+line_in _ = nothing
+
+-- a line is spelled by the grammars that allow as many pairs
+pub record IsSpelled (G : Grammar) (text : List ℕ) {A : Type 0} (says : Parts → A) (value : A) : Type 0 where
+  pub parts : Parts
+  pub spelled : Spells G parts text
+  pub is : says parts ≡ value
+
+body_spelled : (e : List Element) → IsSpelled (behind_blank signs) (body_text e) elements_in e
+unfolding elements_in
+body_spelled [] = record { parts = first none; spelled = refl; is = refl }
+body_spelled (x ∷ e) =
+    let all = map sign_of (x ∷ e) in
+    let some : all ≡ [] → ⊥ = λ (k : all ≡ []). absurd (cc) in
+    record {
+      parts = second (part all none);
+      spelled = (all, refl, ((some, are_signs (x ∷ e)), ([], sym (append-nil all), refl)));
+      is = elements_again (x ∷ e);
+    }
+
+pairs_spelled : (n : ℕ) (pairs : List (ℕ × ℕ)) → length pairs < n → All IsPair pairs → IsSpelled (repeated pair n) (flat_map pair_text pairs) pairs_in pairs
+unfolding pairs_in
+pairs_spelled zero pairs few all = absurd (omega (arith, few))
+pairs_spelled (suc n) [] few all = record { parts = first none; spelled = refl; is = refl }
+pairs_spelled (suc n) (x ∷ pairs) few all =
+    let is = all 0 x (omega arith) in
+    let more = pairs_spelled n pairs (omega (arith, few)) (λ k d below. all (suc k) d (omega (arith, below))) in
+    let text = flat_map pair_text pairs in
+    let symbol = decimal x.1 ++ text in
+    let place = decimal x.0 ++ (codes ":" ++ symbol) in
+    record {
+      parts = second (part (decimal x.0) (part (decimal x.1) more.parts));
+      spelled = (
+        place,
+        pair_text_is x text ∙ ap (λ (l : List ℕ). codes " " ++ l) (append_assoc (decimal x.0) (codes ":" ++ decimal x.1) text),
+        (
+          decimal_number 0 63 x.0 (omega arith) (omega (arith, is.0)) (omega arith),
+          (
+            codes ":" ++ symbol,
+            refl,
+            (symbol, refl, (decimal_number 0 127 x.1 (omega arith) (omega (arith, is.1)) (omega arith), (text, refl, more.spelled))),
+          ),
+        ),
+      );
+      is = ap (λ (p : ℕ). (p, value_after 0 (decimal x.1)) ∷ pairs_in more.parts) (decimal_value x.0 (omega (arith, is.0)))
+          ∙ ap (λ (v : ℕ). (x.0, v) ∷ pairs_in more.parts) (decimal_value x.1 (omega (arith, is.1)))
+          ∙ ap (λ (l : List (ℕ × ℕ)). x ∷ l) more.is;
+    }
+
+-- the parts of a group and of what follows it
+pub record IsGrouped (G : Grammar) (text : List ℕ) (group : ℕ) (rest : Parts) : Type 0 where
+  pub parts : Parts
+  pub spelled : Spells (grouped G) parts text
+  pub group_is : group_in parts ≡ group
+  pub rest_is : rest_in parts ≡ rest
+
+group_spelled : (G : Grammar) (group : ℕ) (name body : List ℕ) (rest : Parts) → NamesGroup group name → Spells G rest body → IsGrouped G (name ++ body) group rest
+unfolding group_in rest_in
+group_spelled G group name body rest (inl h) spelled = record {
+  parts = first rest;
+  spelled = subst (λ (l : List ℕ). Spells G rest (l ++ body)) (sym h.1) spelled;
+  group_is = sym h.0;
+  rest_is = refl;
+}
+group_spelled G group name body rest (inr h) spelled = record {
+  parts = second (part (decimal group) rest);
+  spelled = (
+    decimal group ++ body,
+    ap (λ (l : List ℕ). l ++ body) h.1 ∙ append_assoc (codes " g") (decimal group) body,
+    (decimal_number 0 4294967295 group (omega arith) (omega (arith, h.0)) (omega arith), (body, refl, spelled)),
+  );
+  group_is = decimal_value group (omega (arith, h.0));
+  rest_is = refl;
+}
+
+-- how many pairs a line has
+pub pairs_of : JoinLine → List (ℕ × ℕ)
+pairs_of (evidence group pairs) = pairs
+pairs_of _ = []
+
+pub line_spelled : (w : JoinLine) (text : List ℕ) (n : ℕ) → IsLine w text → length (pairs_of w) < n → IsSpelled (join_lines n) text line_in w
+unfolding line_in pairs_of
+line_spelled nothing text n (inl e) few = record { parts = first none; spelled = e; is = refl }
+line_spelled nothing text n (inr h) few = record { parts = second (first none); spelled = (h.0, h.1, tt); is = refl }
+line_spelled (reception group e) text n h few =
+    let body = body_spelled e in
+    let g = group_spelled (behind_blank signs) group h.0 (body_text e) body.parts h.1.0 body.spelled in
+    record {
+      parts = second (second (first g.parts));
+      spelled = (h.0 ++ body_text e, h.1.1 ∙ append_assoc (codes "r") h.0 (body_text e), g.spelled);
+      is = ap (λ (k : ℕ). reception k (elements_in (rest_in g.parts))) g.group_is ∙ ap (λ (p : Parts). reception group (elements_in p)) g.rest_is ∙ ap (reception group) body.is;
+    }
+line_spelled (evidence group pairs) text n h few =
+    let all = pairs_spelled n pairs few h.1.1.0 in
+    let g = group_spelled (repeated pair n) group h.0 (flat_map pair_text pairs) all.parts h.1.0 all.spelled in
+    record {
+      parts = second (second (second g.parts));
+      spelled = (h.0 ++ flat_map pair_text pairs, h.1.1.1 ∙ append_assoc (codes "e") h.0 (flat_map pair_text pairs), g.spelled);
+      is = ap (λ (k : ℕ). evidence k (pairs_in (rest_in g.parts))) g.group_is ∙ ap (λ (p : Parts). evidence group (pairs_in p)) g.rest_is ∙ ap (evidence group) all.is;
+    }
+
+-- and what they spell is a line
+nothing_left : (parts : Parts) (bytes : List ℕ) → Spells finish parts bytes → bytes ≡ []
+nothing_left none bytes h = h
+nothing_left (part a b) bytes h = absurd h
+nothing_left (first a) bytes h = absurd h
+nothing_left (second a) bytes h = absurd h
+
+body_back : (parts : Parts) (bytes : List ℕ) → Spells (behind_blank signs) parts bytes → (e : List Element) × (bytes ≡ body_text e)
+body_back parts bytes h =
+    elim (choice_back finish (word (codes " ") signs) parts bytes h) [
+      | inl k ↦ ([], nothing_left k.0 bytes k.1)
+      | inr k ↦
+          let f = field_of (run (codes "YB-")) finish k.0 k.1.0 k.1.2 in
+          let all = f.list ∙ ap (λ (l : List ℕ). f.front ++ l) (nothing_left f.parts f.back f.spelled) ∙ append-nil f.front in
+          (map element_of f.front, body_of bytes f.front f.is_token.0 f.is_token.1 (k.1.1 ∙ ap (λ (l : List ℕ). codes " " ++ l) all))
+    ]
+
+-- pairs, and that each is one
+AreAll : List ℕ → Type 0
+AreAll text = (pairs : List (ℕ × ℕ)) × (All IsPair pairs × (text ≡ flat_map pair_text pairs))
+
+pair_more : (bytes a place b d symbol back : List ℕ) → bytes ≡ codes " " ++ a → IsNumber 0 63 place → a ≡ place ++ b → b ≡ codes ":" ++ d → IsNumber 0 127 symbol → d ≡ symbol ++ back → AreAll back → AreAll bytes
+unfolding AreAll
+pair_more bytes a place b d symbol back e is_place f g is_symbol h more =
+    let p = value_after 0 place in
+    let v = value_after 0 symbol in
+    let x : ℕ × ℕ = (p, v) in
+    let text = flat_map pair_text more.0 in
+    let is : IsPair x = (omega (arith, is_place.high), omega (arith, is_symbol.high)) in
+    let symbol_on : d ≡ decimal v ++ text = h ∙ ap (λ (l : List ℕ). l ++ back) (sym (number_text 0 127 symbol (omega arith) is_symbol)) ∙ ap (λ (l : List ℕ). decimal v ++ l) more.1.1 in
+    let colon_on : b ≡ (codes ":" ++ decimal v) ++ text = g ∙ ap (λ (l : List ℕ). codes ":" ++ l) symbol_on in
+    let place_on : a ≡ (decimal p ++ (codes ":" ++ decimal v)) ++ text =
+    f ∙ ap (λ (l : List ℕ). l ++ b) (sym (number_text 0 63 place (omega arith) is_place)) ∙ ap (λ (l : List ℕ). decimal p ++ l) colon_on ∙ sym (append_assoc (decimal p) (codes ":" ++ decimal v) text) in
+    (x ∷ more.0, (All-append IsPair (x ∷ []) more.0 (one_pair x is) more.1.0, e ∙ ap (λ (l : List ℕ). codes " " ++ l) place_on ∙ sym (pair_text_is x text)))
+
+no_more_pairs : (bytes : List ℕ) → bytes ≡ [] → AreAll bytes
+unfolding AreAll
+no_more_pairs bytes e = ([], ((λ k d below. absurd (omega (arith, below))), e))
+
+pairs_back : (n : ℕ) (parts : Parts) (bytes : List ℕ) → Spells (repeated pair n) parts bytes → AreAll bytes
+pairs_back zero parts bytes h = no_more_pairs bytes (nothing_left parts bytes h)
+pairs_back (suc n) parts bytes h =
+    elim (choice_back finish (word (codes " ") (pair (repeated pair n))) parts bytes h) [
+      | inl k ↦ no_more_pairs bytes (nothing_left k.0 bytes k.1)
+      | inr k ↦
+          let f = field_of (free_number 0 63) (word (codes ":") (field (free_number 0 127) (repeated pair n))) k.0 k.1.0 k.1.2 in
+          let s = field_of (free_number 0 127) (repeated pair n) f.parts f.spelled.0 f.spelled.2 in
+          pair_more bytes k.1.0 f.front f.back f.spelled.0 s.front s.back k.1.1 f.is_token f.list f.spelled.1 s.is_token s.list (pairs_back n s.parts s.back s.spelled)
+    ]
+
+pub record HasGroup (G : Grammar) (bytes : List ℕ) : Type 0 where
+  pub group : ℕ
+  pub name : List ℕ
+  pub body : List ℕ
+  pub parts : Parts
+  pub names : NamesGroup group name
+  pub list : bytes ≡ name ++ body
+  pub spelled : Spells G parts body
+
+group_back : (G : Grammar) (parts : Parts) (bytes : List ℕ) → Spells (grouped G) parts bytes → HasGroup G bytes
+group_back G parts bytes h =
+    elim (choice_back G (word (codes " g") (field (free_number 0 4294967295) G)) parts bytes h) [
+      | inl k ↦ record { group = 0; name = []; body = bytes; parts = k.0; names = inl (refl, refl); list = refl; spelled = k.1 }
+      | inr k ↦
+          let f = field_of (free_number 0 4294967295) G k.0 k.1.0 k.1.2 in
+          let n = value_after 0 f.front in
+          record {
+            group = n;
+            name = codes " g" ++ decimal n;
+            body = f.back;
+            parts = f.parts;
+            names = inr (omega (arith, f.is_token.high), refl);
+            list = k.1.1 ∙ ap (λ (l : List ℕ). codes " g" ++ l) (f.list ∙ ap (λ (l : List ℕ). l ++ f.back) (sym (number_text 0 4294967295 f.front (omega arith) f.is_token)));
+            spelled = f.spelled;
+          }
+    ]
+
+reception_back : (parts : Parts) (bytes : List ℕ) → Spells reception_line parts bytes → (w : JoinLine) × IsLine w bytes
+reception_back parts bytes h =
+    let g = group_back (behind_blank signs) parts h.0 h.2 in
+    let body = body_back g.parts g.body g.spelled in
+    (reception g.group body.0, (g.name, (g.names, h.1 ∙ ap (λ (l : List ℕ). codes "r" ++ l) (g.list ∙ ap (λ (l : List ℕ). g.name ++ l) body.1))))
+
+evidence_back : (n : ℕ) (parts : Parts) (bytes : List ℕ) → Spells (evidence_line n) parts bytes → (w : JoinLine) × IsLine w bytes
+unfolding AreAll
+evidence_back n parts bytes h =
+    let g = group_back (repeated pair n) parts h.0 h.2 in
+    let all = pairs_back n g.parts g.body g.spelled in
+    (evidence g.group all.0, (g.name, (g.names, (all.1.0, h.1 ∙ ap (λ (l : List ℕ). codes "e" ++ l) (g.list ∙ ap (λ (l : List ℕ). g.name ++ l) all.1.1)))))
+
+line_back : (n : ℕ) (parts : Parts) (bytes : List ℕ) → Spells (join_lines n) parts bytes → (w : JoinLine) × IsLine w bytes
+line_back n parts bytes h =
+    elim (choice_back finish (either (word (codes "#") anything) (either reception_line (evidence_line n))) parts bytes h) [
+      | inl k ↦ (nothing, inl (nothing_left k.0 bytes k.1))
+      | inr k ↦ (elim (choice_back (word (codes "#") anything) (either reception_line (evidence_line n)) k.0 bytes k.1) [
+        | inl c ↦ (nothing, inr (c.1.0, c.1.1))
+        | inr c ↦ (elim (choice_back reception_line (evidence_line n) c.0 bytes c.1) [
+          | inl r ↦ reception_back r.0 bytes r.1
+          | inr e ↦ evidence_back n e.0 bytes e.1
+        ])
+      ])
+    ]
+
+enough : (w : JoinLine) (text : List ℕ) → IsLine w text → (m : ℕ) × ((n : ℕ) → m ≤ n → (parts : Parts) × Spells (join_lines n) parts text)
+enough w text is = (suc (length (pairs_of w)), λ n large. let s = line_spelled w text n is (omega (arith, large)) in (s.parts, s.spelled))
+
+pub lines_limit : IsLimit join_lines IsLine
+lines_limit = record { to = line_back; back = enough }
+
+-- the grammars are sound, and no line has two readings
+pub lines_sound : (n : ℕ) → is_sound (join_lines n) ≡ true
+lines_sound zero = refl
+lines_sound (suc n) = and_from (is_sound (repeated pair (suc n))) (is_sound (repeated pair (suc n))) (pairs_sound (suc n)) (pairs_sound (suc n))
+
+pairs_plain : (n : ℕ) → is_unambiguous (repeated pair n) ≡ true
+pairs_plain zero = refl
+pairs_plain (suc n) = pairs_plain n
+
+lines_plain : (n : ℕ) → is_unambiguous (join_lines (suc n)) ≡ true
+lines_plain n = and_from (is_unambiguous (repeated pair (suc n))) (is_unambiguous (repeated pair (suc n))) (pairs_plain (suc n)) (pairs_plain (suc n))
+
+-- a line of join's input says one thing
+pub one_line : (v w : JoinLine) (text : List ℕ) → IsLine v text → IsLine w text → v ≡ w
+one_line v w text is_v is_w =
+    let m = length (pairs_of v) + length (pairs_of w) in
+    let a = line_spelled v text (suc m) is_v (omega arith) in
+    let b = line_spelled w text (suc m) is_w (omega arith) in
+    let same = one_reading (join_lines (suc m)) a.parts b.parts text (lines_sound (suc m)) (lines_plain m) a.spelled b.spelled in
+    sym a.is ∙ ap line_in same ∙ b.is

@@ -1,0 +1,16 @@
+use Rattle.std.proofs.Common.{ap}
+use Rattle.dsc_lines.specs.declared.join.JoinLine.TheVariants as got
+use Rattle.dsc_lines.specs.JoinLine.{reception}
+use Rattle.dsc_lines.proofs.Faults.{reception_fault, within_line, column_of, reception_read}
+use Rattle.dsc_lines.proofs.receptions.reception_line.Goals as goal
+
+pub column-requires-clause-left : goal.column-requires-clause-left
+column-requires-clause-left c = within_line _ _ (reception_fault _ _ _ c.requires c.in-Err.ensures.left)
+
+pub returns-in_ok-elements-in-Ok : goal.returns-in_ok-elements-in-Ok
+returns-in_ok-elements-in-Ok c =
+    let line = c.in-Ok.ensures.line in
+    (reception _ _, (reception_read _ _ line.0 _ _ c.requires line.1.0 line.1.1, ap (λ e. got.Reception c.in-Ok.group e) c.in_ok-elements-in-Ok.ensures))
+
+pub returns-in-Err : goal.returns-in-Err
+returns-in-Err c = column_of _ _ _ (reception_fault _ _ _ c.requires c.in-Err.ensures.left) c.column.ensures

@@ -1,0 +1,60 @@
+//! The lines of files of calls.
+ghost use Rattle.std.specs.Prelude.{◌≡◌, ◌≢◌, ◌∷◌, ℕ, List};
+ghost use Rattle.dsc_texts.specs.Texts.{IsWholeOrAbsent};
+ghost use Rattle.dsc_lines.specs.CallLine.{extra_of, IsCallLine};
+ghost use Rattle.dsc_lines.specs.Readings.{Reads};
+
+use call_values::Call;
+use dsc_texts::read_call;
+use expansion::Expansion;
+use slot_join::Extra;
+
+/// What a line of a file of calls says.
+#[derive(Clone, Copy, Debug, PartialEq, Eq)]
+pub enum CallLine {
+    /// The line is empty or a comment.
+    Nothing,
+    /// A call, and the expansion behind it, if one is there.
+    Call {
+        call: Call,
+        expansion: Option<Expansion>,
+    },
+}
+
+/// The expansion of what a text says behind a call.
+fn expansion_in(extra: &Extra) -> Option<Expansion>
+    requires { IsWholeOrAbsent extra.now }
+    ensures { extra_of result ≡ extra.now }
+{
+    match extra {
+        Extra::Whole(expansion) => Some(*expansion),
+        Extra::Absent | Extra::Broken(_) => None,
+    }
+}
+
+/// Reads a line that isn't empty and doesn't begin with `#`.
+fn whole_call(line: &[u8]) -> Result<CallLine, usize>
+    requires { (b : ℕ) × (rest : List ℕ) × (line.now ≡ b ∷ rest) × (b ≢ 35) }
+    ensures { Reads IsCallLine line.now result }
+{
+    match read_call(line) {
+        Ok((call, extra)) => Ok(CallLine::Call {
+            call,
+            expansion: expansion_in(&extra),
+        }),
+        Err(n) => Err(n),
+    }
+}
+
+/// Reads one line of a file of calls. An error is the column of bytes that are no such line.
+pub fn call_line(line: &[u8]) -> Result<CallLine, usize>
+    ensures { Reads IsCallLine line.now result }
+{
+    let Some((first, _)) = line.split_first() else {
+        return Ok(CallLine::Nothing);
+    };
+    match *first {
+        b'#' => Ok(CallLine::Nothing),
+        _ => whole_call(line),
+    }
+}

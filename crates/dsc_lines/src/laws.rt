@@ -1,0 +1,90 @@
+//! Laws: each function here does nothing, and its contract is a theorem over definitions.
+ghost use Rattle.std.specs.Prelude.{◌≡◌, ◌≤◌, ℕ, List, Option, Result, Ok};
+ghost use Rattle.call_values.specs.declared.calls.Call.{Call};
+ghost use Rattle.call_values.specs.Calls.{IsCall};
+ghost use Rattle.slot_join.specs.declared.joined.Extra.{Extra};
+ghost use Rattle.dsc_texts.specs.Texts.{IsWholeOrAbsent, reported_text};
+ghost use Rattle.dsc_lines.specs.declared.lines.Line.{Line};
+ghost use Rattle.dsc_lines.specs.declared.lines.Line.TheVariants as line;
+ghost use Rattle.dsc_lines.specs.declared.lines.LineFault.{LineFault};
+ghost use Rattle.dsc_lines.specs.JoinLine.{JoinLine, IsLine};
+ghost use Rattle.dsc_lines.specs.declared.lines.FileKind.TheVariants as kind;
+ghost use Rattle.dsc_lines.specs.Lines.{ReadsLine};
+ghost use Rattle.dsc_lines.specs.declared.calls.CallLine.{CallLine};
+ghost use Rattle.dsc_lines.specs.declared.sentences.SentenceLine.{SentenceLine};
+ghost use Rattle.dsc_lines.specs.CallLine.{IsCallLine};
+ghost use Rattle.dsc_lines.specs.SentenceLine.{IsSentenceLine, SayTheSame};
+ghost use Rattle.dsc_lines.specs.declared.books.BookLine.{BookLine};
+ghost use Rattle.dsc_lines.specs.BookLine.{IsBookLine};
+ghost use Rattle.ten_unit.specs.declared.character.Element.{Element};
+ghost use Rattle.dsc_lines.specs.PointLine.{PointLine, IsPointLine};
+ghost use Rattle.traffic_lines.specs.declared.lines.Point.{Point as At};
+ghost use Rattle.line_grammar.specs.Columns.{IsColumn};
+ghost use Rattle.traffic_lines.specs.declared.worlds.ExchangePoint.{ExchangePoint};
+ghost use Rattle.traffic_lines.specs.declared.worlds.WorldLine.{WorldLine};
+ghost use Rattle.traffic_lines.specs.Worlds.{IsWorldLine};
+ghost use Rattle.dsc_lines.specs.StreamLine.{IsNothing, IsStreamLine};
+ghost use Rattle.dsc_lines.specs.WorldLine.{IsWorldFileLine};
+
+use dsc_texts::texts_tell_calls_apart;
+use traffic_lines::{one_traffic_line, one_world_line, traffic_lines_begin};
+
+/// The law that a line of join's input says one thing.
+pub fn one_line()
+    ensures { (a b : JoinLine) (text : List ℕ) → IsLine a text → IsLine b text → a ≡ b }
+{}
+
+/// The law that a line at a point of a traffic file says one thing.
+pub fn one_point_line()
+    ensures { (at : At) (a b : PointLine) (text : List ℕ) → IsPointLine at a text → IsPointLine at b text → a ≡ b }
+{
+    one_traffic_line();
+    traffic_lines_begin();
+}
+
+/// The law that a line of a file of calls says one thing.
+pub fn one_call_line()
+    ensures { (a b : CallLine) (text : List ℕ) → IsCallLine a text → IsCallLine b text → a ≡ b }
+{
+    texts_tell_calls_apart();
+}
+
+/// The law that a line of a file of calls and sentences says one thing.
+pub fn one_sentence_line()
+    ensures { (a b : SentenceLine) (text : List ℕ) → IsSentenceLine a text → IsSentenceLine b text → SayTheSame a b }
+{
+    texts_tell_calls_apart();
+}
+
+/// The law that a line of a stream adds one list of elements.
+pub fn one_stream_line()
+    ensures { (a b : List Element) (text : List ℕ) → IsStreamLine a text → IsStreamLine b text → a ≡ b }
+{}
+
+/// The law that a line of a log of sentences says one thing.
+pub fn one_book_line()
+    ensures { (a b : BookLine) (text : List ℕ) → IsBookLine a text → IsBookLine b text → a ≡ b }
+{}
+
+/// The law that a line at a point of a file of an exchange says one thing.
+pub fn one_exchange_line()
+    ensures { (point : ExchangePoint) (a b : Option WorldLine) (text : List ℕ) → IsWorldFileLine point a text
+        → IsWorldFileLine point b text → a ≡ b }
+{
+    one_world_line();
+}
+
+/// The law that the column of a line that says something is the same whether or not lines that say nothing stand in the file.
+pub fn exchange_columns()
+    ensures { (point : ExchangePoint) (text : List ℕ) (n : ℕ) → (IsNothing text → ⊥) → 1 ≤ n
+        → IsColumn (IsWorldLine point) text n → IsColumn (IsWorldFileLine point) text n }
+{}
+
+/// The law that of the text that `put_call` writes of a call and of the expansion behind it, reading a line of calls can answer
+/// nothing but this call and this expansion.
+pub fn written_calls_are_read()
+    ensures { (call : Call) (extra : Extra) (answer : Result Line LineFault) → IsCall call → IsWholeOrAbsent extra
+        → ReadsLine kind.Call (reported_text call extra) answer → answer ≡ Ok (line.Call call extra) }
+{
+    texts_tell_calls_apart();
+}

@@ -1,0 +1,105 @@
+//! Lines of receptions.
+ghost use Rattle.std.specs.Prelude.{◌≡◌, ◌∷◌, ◌++◌, ℕ, List, map, codes, IfOk, IfErr, Err};
+ghost use Rattle.std.specs.List.{list_all};
+ghost use Rattle.line_grammar.specs.Tokens as tokens;
+ghost use Rattle.line_grammar.specs.Tokens.{is_one_of, IsToken};
+ghost use Rattle.line_grammar.specs.inside.Reading.{read};
+ghost use Rattle.dsc_lines.specs.JoinLine.{NamesGroup, body_text};
+ghost use Rattle.dsc_lines.specs.Lines.{ReadsJoin};
+ghost use Rattle.dsc_lines.specs.inside.Reading as reading;
+ghost use Rattle.dsc_lines.specs.inside.Reading.{behind_blank, blank_and_signs, grouped};
+
+use crate::groups::group;
+use crate::join::JoinLine;
+use crate::lines::LineFault;
+use line_grammar::{Left, column, end, run, word};
+use slot_evidence::Reception;
+use std::alloc::{AllocError, Global};
+use ten_unit::Element;
+
+/// Whether all of these bytes are signs. It looks at each of them, so that the compiler takes many in a step.
+fn are_signs(bytes: &[u8]) -> bool
+    ensures { result ≡ list_all (is_one_of (codes "YB-")) bytes.now }
+{
+    let mut are = true;
+    for b in bytes {
+        are &= (*b == b'Y') | (*b == b'B') | (*b == b'-');
+    }
+    are
+}
+
+/// A blank and signs, at least one, up to the line's end.
+pub(crate) fn signs(bytes: &[u8]) -> Result<&[u8], Left>
+    ensures signs { IfOk result (λ signs. (bytes.now ≡ codes " " ++ signs.now)
+        × IsToken (tokens.run (codes "YB-")) signs.now) }
+    ensures left { IfErr result (λ left. read blank_and_signs bytes.now ≡ Err left) }
+{
+    let signs = word(b" ", bytes)?;
+    if !signs.is_empty() && are_signs(signs) {
+        return Ok(signs);
+    }
+    let (signs, rest) = run(b"YB-", signs)?;
+    end(rest)?;
+    Ok(signs)
+}
+
+/// The signs of a body; none where the line ends.
+fn body(bytes: &[u8]) -> Result<&[u8], Left>
+    ensures signs { IfOk result (λ signs. bytes.now ≡ body_text (map reading.element_of signs.now)) }
+    ensures left { IfErr result (λ left. read (behind_blank reading.signs) bytes.now ≡ Err left) }
+{
+    if bytes.is_empty() {
+        return Ok(bytes);
+    }
+    signs(bytes)
+}
+
+/// The group and the signs of a reception, behind its `r`.
+fn group_and_signs(bytes: &[u8]) -> Result<(u32, &[u8]), Left>
+    ensures line { IfOk result (λ parts. (name : List ℕ)
+        × (NamesGroup parts.0 name × (bytes.now ≡ name ++ body_text (map reading.element_of parts.1.now)))) }
+    ensures left { IfErr result (λ left. read (grouped (behind_blank reading.signs)) bytes.now ≡ Err left) }
+{
+    let (group, rest) = group(bytes)?;
+    let signs = body(rest)?;
+    Ok((group, signs))
+}
+
+/// The element of a sign: `Y`, `B`, and a lost one for any other byte.
+pub fn element_of(sign: u8) -> Element
+    ensures { result ≡ reading.element_of sign }
+{
+    match sign {
+        b'Y' => Element::Y,
+        b'B' => Element::B,
+        _ => Element::Lost,
+    }
+}
+
+/// The list of the elements of signs.
+fn list_of(alloc: Global, signs: &[u8]) -> Result<Vec<Element>, AllocError>
+    ensures { IfOk result (λ elements. elements.items ≡ map reading.element_of signs.now) }
+{
+    signs.iter().map(|sign| element_of(*sign)).collect(alloc)
+}
+
+/// The elements of signs.
+pub(crate) fn elements_of(alloc: Global, signs: &[u8]) -> Result<Reception, AllocError>
+    ensures { IfOk result (λ elements. elements ≡ map reading.element_of signs.now) }
+{
+    Ok(Reception::from(list_of(alloc, signs)?))
+}
+
+/// Reads a reception, which is this line behind its `r`.
+pub(crate) fn reception_line(alloc: Global, line: &[u8], rest: &[u8]) -> Result<JoinLine, LineFault>
+    requires { line.now ≡ 114 ∷ rest.now }
+    ensures { ReadsJoin line.now result }
+{
+    match group_and_signs(rest) {
+        Ok((group, signs)) => {
+            let elements = elements_of(alloc, signs)?;
+            Ok(JoinLine::Reception { group, elements })
+        }
+        Err(left) => Err(LineFault::Column(column(line, left))),
+    }
+}

@@ -1,0 +1,53 @@
+//! The lines of a stream.
+ghost use Rattle.std.specs.Prelude.{◌≡◌, ◌∷◌, map, MatchResult};
+ghost use Rattle.line_grammar.specs.Columns.{IsColumn};
+ghost use Rattle.dsc_lines.specs.Lines.{ReadsStream};
+ghost use Rattle.dsc_lines.specs.StreamLine.{IsStreamLine};
+ghost use Rattle.dsc_lines.specs.inside.Reading as reading;
+
+use crate::lines::{Line, LineFault};
+use crate::receptions::{elements_of, signs};
+use line_grammar::{column, grammars_are_read};
+use std::alloc::Global;
+
+/// Reads a line behind its `s`.
+fn elements_line<'a>(line: &[u8], rest: &'a [u8]) -> Result<&'a [u8], usize>
+    requires { line.now ≡ 115 ∷ rest.now }
+    ensures { MatchResult result (λ signs. IsStreamLine (map reading.element_of signs.now) line.now) (λ n. IsColumn IsStreamLine line.now n) }
+{
+    grammars_are_read();
+    match signs(rest) {
+        Ok(signs) => Ok(signs),
+        Err(left) => Err(column(line, left)),
+    }
+}
+
+/// Reads one line of a stream: the signs of the elements that it adds, `Y`, `B`, and `-` for a lost one. An empty line and a comment add
+/// none. An error is the column of bytes that are no such line.
+pub fn stream_line(line: &[u8]) -> Result<&[u8], usize>
+    ensures { MatchResult result (λ signs. IsStreamLine (map reading.element_of signs.now) line.now) (λ n. IsColumn IsStreamLine line.now n) }
+{
+    let Some((first, rest)) = line.split_first() else {
+        return Ok(&[]);
+    };
+    match *first {
+        b'#' => Ok(&[]),
+        b's' => elements_line(line, rest),
+        _ => Err(1),
+    }
+}
+
+/// Reads one line of a stream, with its elements in a list.
+pub(crate) fn added_line(alloc: Global, bytes: &[u8]) -> Result<Line, LineFault>
+    ensures { ReadsStream bytes.now result }
+{
+    match stream_line(bytes) {
+        Ok(signs) => {
+            if signs.is_empty() {
+                return Ok(Line::Nothing);
+            }
+            Ok(Line::Stream(elements_of(alloc, signs)?))
+        }
+        Err(n) => Err(LineFault::Column(n)),
+    }
+}

@@ -1,0 +1,30 @@
+use Rattle.slot_evidence.specs.Facts.{facts_of}
+use Rattle.join_groups.specs.Holds.{named_with, facts_with}
+use Rattle.join_groups.proofs.Keeping.{map_ok}
+use Rattle.join_groups.proofs.groups.NamedGroups.hear.Goals as goal
+
+pub returns-in-Some-clause-ok : goal.returns-in-Some-clause-ok
+returns-in-Some-clause-ok g c = map_ok c.meet.result (λ ok. λ named F holds. ok named F (facts_of c.args.heard) holds c.in-Some.ensures) c.meet.ensures.ok
+
+pub close_batch-requires-clause-ready : goal.close_batch-requires-clause-ready
+close_batch-requires-clause-ready g c =
+    let ready = c.requires.ready in
+    let known = c.in-Ok.ensures.ok ready.named ready.facts ready.holds in
+    record {
+      named = named_with c.args.group ready.named;
+      facts = facts_with c.args.group (facts_of c.args.heard) ready.facts;
+      holds = c.in_ok-put-in-Ok.ensures.holds (named_with c.args.group ready.named) ready.facts c.args.group known.1 known.2;
+    }
+
+pub returns-in_ok-close_batch-in-Ok-clause-ok : goal.returns-in_ok-close_batch-in-Ok-clause-ok
+returns-in_ok-close_batch-in-Ok-clause-ok g c = λ named F holds.
+    let known = c.in-Ok.ensures.ok named F holds in (
+      known.0,
+      c.in_ok-close_batch-in-Ok.ensures.holds (named_with c.args.group named) (facts_with c.args.group (facts_of c.args.heard) F)
+          (c.in_ok-put-in-Ok.ensures.holds (named_with c.args.group named) F c.args.group known.1 known.2),
+    )
+
+pub returns-else-is_full-clause-ok : goal.returns-else-is_full-clause-ok
+returns-else-is_full-clause-ok g c = λ named F holds.
+    let known = c.in-Ok.ensures.ok named F holds in
+    (known.0, c.in_ok-put-in-Ok.ensures.holds (named_with c.args.group named) F c.args.group known.1 known.2)

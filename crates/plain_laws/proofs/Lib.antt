@@ -1,0 +1,4 @@
+pub mod Lists
+pub mod Results
+pub mod Searches
+pub mod Tests

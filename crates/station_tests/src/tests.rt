@@ -1,0 +1,6 @@
+mod areas;
+mod coasts;
+mod exchanges;
+mod ships;
+mod traffic;
+mod worked;

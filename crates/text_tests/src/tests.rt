@@ -1,0 +1,10 @@
+mod acts;
+mod books;
+mod calls;
+mod evidence;
+mod fields;
+mod files;
+mod numbers;
+mod sentences;
+mod traffic;
+mod worlds;
