@@ -7,6 +7,7 @@ use Rattle.dsc_lines.proofs.PublicLaws.{one_column}
 use Rattle.casualty_book.specs.declared.rows.BookRow.{BookRow}
 use Rattle.casualty_book.specs.Books.{IsBook, HaveSameRows}
 use Rattle.casualty_book.specs.Texts.{book_text}
+use Rattle.line_engine.proofs.PublicLaws.{begins_empty}
 use Rattle.book_logs.specs.Telling.{HasRow, IsBookText, HaveSameSentences, book_meaning}
 
 -- books with the same rows are one list
@@ -26,10 +27,6 @@ one_text one a b same text other g h =
       λ here. (g.rows_are row).1 (carried b a (turned a b same) row ((h.rows_are row).0 here)),
     )) in
     g.text_is ∙ ap book_text rows ∙ sym h.text_is
-
--- every text begins with nothing
-begins_empty : (text whole : List ℕ) → text ≡ [] → BeginsWith whole text
-begins_empty text whole e = (whole, ap (λ (t : List ℕ). t ++ whole) (sym e))
 
 pub book_determined : OneList → IsDetermined book_meaning
 book_determined one = record {

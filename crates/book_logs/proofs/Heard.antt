@@ -1,6 +1,8 @@
 -- what is taken of a sentence that was heard
 use Rattle.std.proofs.Common.{◌≡◌, ◌↔◌, ◌⊎◌, ℕ, Bool, true, false, ◌&&◌, ◌||◌, List, Option, Some, None, Result, Ok, Err, inl, inr, refl, sym, ap, subst, ◌∙◌}
 use Rattle.std.specs.List.{Contains}
+use Rattle.std.proofs.Math.Bool.{or-false, or-true}
+use Rattle.std.proofs.lemmas.Option.{same_Some}
 use Rattle.sentence_frame.specs.declared.refusals.SentenceRefusal.{SentenceRefusal}
 use Rattle.dsc_lines.specs.BookLine.{is_sentence}
 use Rattle.dsc_sentences.specs.declared.dsc.DscFields.{DscFields}
@@ -11,16 +13,12 @@ use Rattle.casualty_book.specs.Books.{HasAlsoOf}
 use Rattle.book_logs.specs.declared.command.Logs.{Logs}
 use Rattle.book_logs.specs.Telling.{GivesRow, is_refusal, is_refused}
 use Rattle.book_logs.specs.inside.Progress.{TakesOne, row_heard}
-use Rattle.book_logs.proofs.Taken.{or_false}
 
 abbrev the_answer : Option DscFields → Result (Option DscFields) SentenceRefusal
 the_answer heard = Ok heard
 
 same_heard : (a b : Option DscFields) → the_answer a ≡ the_answer b → a ≡ b
 same_heard a b e = cc
-
-same_row : (a b : BookRow) → Some a ≡ Some b → a ≡ b
-same_row a b e = cc
 
 -- a sentence gives the row of what is heard of it, and no other one
 heard_gives : (line : List ℕ) (heard : Option DscFields) → is_sentence line ≡ true → IsHeard line (Ok heard) → (row : BookRow) → row_heard heard ≡ Some row → GivesRow line row
@@ -46,7 +44,7 @@ rows_added old new (Some r) G g h row = (
   ],
   λ either. elim either [
     | inl before ↦ (h row).1 (inl before)
-    | inr gives ↦ (h row).1 (inr (same_row r row ((g row).0 gives)))
+    | inr gives ↦ (h row).1 (inr (same_Some r row ((g row).0 gives)))
   ],
 )
 
@@ -56,25 +54,5 @@ heard_taken old new line heard sentence h rows refused = record {
   rows_are = rows_added old.book new.book (row_heard heard) (λ row. GivesRow line row) (λ row. (only_gives line heard h row, heard_gives line heard sentence h row)) rows;
   refused_is =
       let accepted : is_refused line ≡ false = ap (λ (b : Bool). b && is_refusal (verdict_of line)) sentence ∙ ap is_refusal (sym h.verdict) in
-      refused ∙ or_false old.refused ∙ ap (λ (b : Bool). old.refused || b) (sym accepted);
+      refused ∙ sym (or-false old.refused) ∙ ap (λ (b : Bool). old.refused || b) (sym accepted);
 }
-
--- a sentence that is refused gives no row
-pub refused_taken : (old new : Logs) (line : List ℕ) (refusal : SentenceRefusal) → is_sentence line ≡ true → IsHeard line (Err refusal)
-    → new.book ≡ old.book → new.refused ≡ true → TakesOne old new line
-refused_taken old new line refusal sentence h book refused = record {
-  rows_are = λ row. (
-    λ here. inl (subst (λ (l : List BookRow). Contains l row) book here),
-    λ either. elim either [
-      | inl here ↦ subst (λ (l : List BookRow). Contains l row) (sym book) here
-      | inr gives ↦ absurd (let is = h.only gives.told.fields gives.told.accepted in cc)
-    ],
-  );
-  refused_is =
-      let is : is_refused line ≡ true = ap (λ (b : Bool). b && is_refusal (verdict_of line)) sentence ∙ ap is_refusal (sym h.verdict) in
-      refused ∙ sym (ap (λ (b : Bool). old.refused || b) is ∙ or_true old.refused);
-}
-  where
-    or_true : (b : Bool) → (b || true) ≡ true
-    or_true true = refl
-    or_true false = refl

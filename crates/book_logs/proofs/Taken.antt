@@ -2,6 +2,8 @@
 use Rattle.std.proofs.Common.{◌≡◌, ℕ, Bool, true, false, ◌&&◌, ◌||◌, if◌then◌else◌, List, [], ◌∷◌, ◌++◌, inl, inr, refl, sym, ap, subst, ◌∙◌, append_assoc, arith}
 use Rattle.std.specs.List.{Contains, list_any}
 use Rattle.std.proofs.lemmas.List.Elements.{Contains-append_left, Contains-push, Contains-push_cases}
+use Rattle.std.proofs.Math.Bool.{or-false, or_assoc}
+use Rattle.plain_laws.proofs.Lists.{holds_none}
 use Rattle.line_engine.specs.Lines.{Lines}
 use Rattle.dsc_lines.specs.BookLine.{is_sentence}
 use Rattle.dsc_sentences.specs.Verdicts.{verdict_of}
@@ -12,20 +14,13 @@ use Rattle.book_logs.specs.declared.command.Logs.{Logs}
 use Rattle.book_logs.specs.Telling.{GivesRow, EndsBook, is_refusal, is_refused}
 use Rattle.book_logs.specs.inside.Progress.{HasTaken, StandsFor, TakesOne}
 
-nothing : {X : Type 0} (x : X) → Contains [] x → ⊥
-nothing x h = absurd (let small = h.1 in omega (arith, small))
-
-pub or_false : (b : Bool) → b ≡ (b || false)
-or_false true = refl
-or_false false = refl
-
 -- before the first line
 pub none_taken : (command : Logs) → command.book ≡ [] → command.refused ≡ false → StandsFor command [] []
 none_taken command book refused = record {
   taken = record {
     rows_are = λ row. (
-      λ here. absurd (nothing row (subst (λ (l : List BookRow). Contains l row) book here)),
-      λ has. absurd (nothing has.line has.there),
+      λ here. absurd (holds_none row (subst (λ (l : List BookRow). Contains l row) book here)),
+      λ has. absurd (holds_none has.line has.there),
     );
     refused_is = refused;
   };
@@ -33,12 +28,8 @@ none_taken command book refused = record {
 }
 
 any_more : (lines : Lines) (line : List ℕ) → list_any is_refused (lines ++ line ∷ []) ≡ (list_any is_refused lines || is_refused line)
-any_more [] line = sym (or_false (is_refused line))
-any_more (l ∷ lines) line = ap (λ (b : Bool). is_refused l || b) (any_more lines line) ∙ sym (grouped (is_refused l) (list_any is_refused lines) (is_refused line))
-  where
-    grouped : (a b c : Bool) → ((a || b) || c) ≡ (a || (b || c))
-    grouped true b c = refl
-    grouped false b c = refl
+any_more [] line = or-false (is_refused line)
+any_more (l ∷ lines) line = ap (λ (b : Bool). is_refused l || b) (any_more lines line) ∙ sym (or_assoc (is_refused l) (list_any is_refused lines) (is_refused line))
 
 pub more_taken : (old new : Logs) (lines : Lines) (line : List ℕ) → HasTaken old lines → TakesOne old new line → HasTaken new (lines ++ line ∷ [])
 more_taken old new lines line h t = record {
@@ -60,7 +51,7 @@ more_taken old new lines line h t = record {
 pub stands_on : (old new : Logs) (lines : Lines) (line text : List ℕ) → StandsFor old lines text → TakesOne old new line → StandsFor new (lines ++ line ∷ []) text
 stands_on old new lines line text h t = record { taken = more_taken old new lines line h.taken t; unwritten = h.unwritten }
 
--- a line that is no sentence changes nothing
+-- a line that is no sentence changes holds_none
 pub takes_nothing : (command : Logs) (line : List ℕ) → (is_sentence line ≡ true → ⊥) → TakesOne command command line
 takes_nothing command line other = record {
   rows_are = λ row. (
@@ -70,25 +61,9 @@ takes_nothing command line other = record {
       | inr gives ↦ absurd (other gives.told.sentence)
     ],
   );
-  refused_is = or_false command.refused ∙ ap (λ (b : Bool). command.refused || b) (sym (not_refused (is_sentence line) other));
+  refused_is = sym (or-false command.refused) ∙ ap (λ (b : Bool). command.refused || b) (sym (not_refused (is_sentence line) other));
 }
   where
     not_refused : (b : Bool) → (b ≡ true → ⊥) → (b && is_refusal (verdict_of line)) ≡ false
     not_refused true h = absurd (h refl)
     not_refused false h = refl
-
--- the text of the book ends the input
-pub ends_book : (command : Logs) (lines : Lines) (written before after : List ℕ) (status : ℕ) → StandsFor command lines (written ++ before) → IsBook command.book
-    → after ≡ before ++ book_text command.book → status ≡ (if command.refused then 1 else 0) → EndsBook lines (written ++ after) status
-ends_book command lines written before after status h book e is = record {
-  told = record {
-    rows = command.book;
-    book = book;
-    rows_are = h.taken.rows_are;
-    text_is =
-        ap (λ (t : List ℕ). written ++ t) e
-        ∙ sym (append_assoc written before (book_text command.book))
-        ∙ ap (λ (t : List ℕ). t ++ book_text command.book) h.unwritten;
-  };
-  status_is = is ∙ ap (λ (b : Bool). if b then 1 else 0) h.taken.refused_is;
-}

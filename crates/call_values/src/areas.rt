@@ -17,11 +17,29 @@ pub struct Area {
 impl Model for Area {
     ghost Value = { Rectangle };
 
-    ghost view = { λ a. record { quadrant = a.quadrant; latitude = a.latitude; longitude = a.longitude; south = a.south; east = a.east } };
+    ghost view = { λ a. record {
+      quadrant = a.quadrant;
+      latitude = a.latitude;
+      longitude = a.longitude;
+      south = a.south;
+      east = a.east;
+    } };
 
-    ghost invariant = { λ a. IsArea (record { quadrant = a.quadrant; latitude = a.latitude; longitude = a.longitude; south = a.south; east = a.east }) };
+    ghost invariant = { λ a. IsArea (record {
+      quadrant = a.quadrant;
+      latitude = a.latitude;
+      longitude = a.longitude;
+      south = a.south;
+      east = a.east;
+    }) };
 
-    ghost inverse = { λ v. record { quadrant = v.quadrant; latitude = v.latitude; longitude = v.longitude; south = v.south; east = v.east } };
+    ghost inverse = { λ v. record {
+      quadrant = v.quadrant;
+      latitude = v.latitude;
+      longitude = v.longitude;
+      south = v.south;
+      east = v.east;
+    } };
 }
 
 impl Area {
@@ -31,7 +49,13 @@ impl Area {
         ensures value { IfSome result (λ a. a
             ≡ record { quadrant = quadrant; latitude = latitude; longitude = longitude; south = south; east = east }) }
         ensures some { IsSome result
-            ↔ IsArea (record { quadrant = quadrant; latitude = latitude; longitude = longitude; south = south; east = east }) }
+            ↔ IsArea (record {
+              quadrant = quadrant;
+              latitude = latitude;
+              longitude = longitude;
+              south = south;
+              east = east;
+            }) }
     {
         if quadrant <= 3 && latitude <= 90 && longitude <= 180 && south <= 99 && east <= 99 {
             Some(Area {

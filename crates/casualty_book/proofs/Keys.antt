@@ -9,6 +9,7 @@ use Rattle.std.specs.declared.cmp.Ordering.TheVariants.{Less}
 use Rattle.std.proofs.Common.{◌≡◌, ◌+◌, ◌≤◌, ℕ, zero, suc, Option, Some, None, List, [], ◌∷◌, map, length, arith, refl, ap, sym, subst, ◌∙◌, inl, inr, add_comm, add-one, slice_get, option_map}
 use Rattle.std.proofs.lemmas.List.Elements.{All-head, All-tail}
 use Rattle.std.proofs.lemmas.Map.Lookups.{CmpEqualImpliesEq, exact_unsigned}
+use Rattle.plain_laws.proofs.Lists.{holds_none}
 use Rattle.sentence_frame.specs.Texts.{IsDigits}
 use Rattle.casualty_book.specs.declared.rows.BookRow.{BookRow}
 use Rattle.casualty_book.specs.declared.packing.Packed.{Packed}
@@ -18,7 +19,7 @@ use Rattle.casualty_book.specs.Rows.{row_order, rank, IsLawful}
 use Rattle.casualty_book.specs.inside.Packing.{code, told, key_order, pack, unpack, IsPacked}
 use Rattle.casualty_book.proofs.Numbers.{numbers_order, digits_again, is_less, is_greater, shifted}
 use Rattle.casualty_book.proofs.Orders.{both_equal, exact_rank}
-use Rattle.casualty_book.proofs.Sets.{first, later, nothing, one_of}
+use Rattle.casualty_book.proofs.Sets.{first, later, one_of}
 
 -- the order that is derived of keys
 abbrev pub keyed : Packed → Packed → Ordering
@@ -139,7 +140,7 @@ all_rise (x ∷ xs) hs h =
 
 -- which rows are there
 pub row_there : (keys : List Packed) (key : Packed) → Contains keys key → Contains (map unpack keys) (unpack key)
-row_there [] key h = absurd (nothing key h)
+row_there [] key h = absurd (holds_none key h)
 row_there (x ∷ xs) key h =
     elim (one_of x xs key h) [
       | inl same ↦ subst (λ (q : Packed). Contains (map unpack (x ∷ xs)) (unpack q)) same (first (unpack x) (map unpack xs))
@@ -147,14 +148,9 @@ row_there (x ∷ xs) key h =
     ]
 
 pub key_there : (keys : List Packed) (row : BookRow) → Contains (map unpack keys) row → (key : Packed) × Contains keys key × (unpack key ≡ row)
-key_there [] row h = absurd (nothing row h)
+key_there [] row h = absurd (holds_none row h)
 key_there (x ∷ xs) row h =
     elim (one_of (unpack x) (map unpack xs) row h) [
       | inl same ↦ (x, first x xs, same)
       | inr there ↦ let k = key_there xs row there in (k.0, later x xs k.0 k.1, k.2)
     ]
-
-pub row_at : (keys : List Packed) (i : ℕ) → slice_get (map unpack keys) i ≡ option_map unpack (slice_get keys i)
-row_at [] i = refl
-row_at (x ∷ xs) zero = refl
-row_at (x ∷ xs) (suc i) = row_at xs i

@@ -2,7 +2,7 @@
 use Rattle.std.proofs.Common.{◌≡◌, ℕ, zero, suc, ◌+◌, ◌-◌, ◌*◌, ◌/◌, ◌%◌, ◌^◌, ◌<◌, ◌≤◌, ◌==◌, ◌⊎◌, ◌&&◌, Bool, List, [], ◌∷◌, length, arith, refl, sym, ap, subst, ◌∙◌, inl, inr, true, false, cond, Ordering, Less, Equal, Greater, nat_cmp, if◌then◌else◌, mul-div_cancel, pow-suc, mul-le-mul_right, mul-lt-mul_of_pos_right, lt-ltb, le-ltb, ltb-true, ne_eqb, eq-eqb, add-sub_cancel, zero-mul, mul-one, mul_assoc, mul_right_comm, add-mul, get_or, drop, drop-cons}
 use Rattle.std.specs.Cmp.Lexicographic.{slice_cmp}
 use Rattle.std.specs.Ordering.{ordering_then}
-use Rattle.std.proofs.lemmas.Bool.{false≢true}
+use Rattle.std.proofs.lemmas.Bool.{false≢true, and_parts}
 use Rattle.std.proofs.lemmas.Nat.{div-mul-add, mod-mul-add}
 use Rattle.sentence_frame.specs.Texts.{AreDigits}
 use Rattle.casualty_book.specs.inside.Packing.{number_from, number_of, digits_in, digits_of}
@@ -27,15 +27,11 @@ positive : (n : ℕ) → 0 < 16 ^ n
 positive zero = omega arith
 positive (suc n) = let h = positive n in let e = pow-suc 16 n in omega (arith, h, e)
 
-both_true : (a b : Bool) → a && b ≡ true → (a ≡ true) × (b ≡ true)
-both_true true b h = (refl, h)
-both_true false b h = absurd (false≢true h)
-
 first_small : (d : ℕ) (ds : List ℕ) → AreDigits (d ∷ ds) → d < 10
-first_small d ds h = ltb-true d 10 (both_true _ _ h).0
+first_small d ds h = ltb-true d 10 (and_parts _ _ h).0
 
 others_small : (d : ℕ) (ds : List ℕ) → AreDigits (d ∷ ds) → AreDigits ds
-others_small d ds h = (both_true _ _ h).1
+others_small d ds h = (and_parts _ _ h).1
 
 placed_below : (n : ℕ) (ds : List ℕ) → length ds ≤ n → AreDigits ds → placed n ds < 16 ^ n
 placed_below n [] long small = let h = positive n in let e = placed_none n in omega (arith, h, e)

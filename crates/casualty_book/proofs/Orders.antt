@@ -85,6 +85,3 @@ compared_total = laws.total-law
 
 pub rows_total : IsTotalOrder row_order
 rows_total = subst (λ (R : BookRow → BookRow → Ordering). IsTotalOrder R) orders_are compared_total
-
-pub compared_exact : CmpEqualImpliesEq compared
-compared_exact = subst (λ (R : BookRow → BookRow → Ordering). CmpEqualImpliesEq R) (sym orders_are) rows_exact

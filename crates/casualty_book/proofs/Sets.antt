@@ -14,6 +14,7 @@ use Rattle.std.proofs.lemmas.List.Elements.{All-contains, Contains-append_left, 
 use Rattle.std.proofs.lemmas.Map.Keys.{sorted_tail}
 use Rattle.std.proofs.lemmas.Map.Lookups.{CmpEqualImpliesEq}
 use Rattle.std.proofs.lemmas.Map.Views.{All-after_first, btree_set_contains_iff, tells_apart, Contains-from_any, list_any-from_Contains}
+use Rattle.plain_laws.proofs.Lists.{holds_none}
 
 is_not : (a : Bool) → (a ≡ true → ⊥) → IsTrue (not a)
 is_not true none = absurd (none refl)
@@ -24,10 +25,6 @@ isnt true h e = absurd (false≢true h)
 isnt false h e = absurd (false≢true e)
 
 -- where a key of a list stands
-pub nothing : {K : Type 0} (k : K) → Contains [] k → ⊥
-nothing k h = absurd (let small = h.1 in omega (arith, small))
-
--- a list contains its first value
 pub first : {K : Type 0} (x : K) (xs : List K) → Contains (x ∷ xs) x
 first x xs = Contains-append_left (x ∷ []) xs x (Contains-push [] x)
 
@@ -40,7 +37,7 @@ one_of x xs k h =
     elim (Contains-append_cases (x ∷ []) xs k h) [
       | inl here ↦
           elim (Contains-push_cases [] x k here) [
-            | inl none ↦ absurd (nothing k none)
+            | inl none ↦ absurd (holds_none k none)
             | inr same ↦ inl same
           ]
       | inr there ↦ inr there
@@ -87,8 +84,8 @@ module _ {K : Type 0} {R : K → K → Ordering} (o : IsTotalOrder R) (exact : C
   -- two rising lists with the same keys are one
   pub one_rising : (xs ys : List K) → IsStrictlySortedBy R xs → IsStrictlySortedBy R ys → ((k : K) → Contains xs k ↔ Contains ys k) → xs ≡ ys
   one_rising [] [] hx hy same = refl
-  one_rising [] (y ∷ ys) hx hy same = absurd (nothing y ((same y).1 (first y ys)))
-  one_rising (x ∷ xs) [] hx hy same = absurd (nothing x ((same x).0 (first x xs)))
+  one_rising [] (y ∷ ys) hx hy same = absurd (holds_none y ((same y).1 (first y ys)))
+  one_rising (x ∷ xs) [] hx hy same = absurd (holds_none x ((same x).0 (first x xs)))
   one_rising (x ∷ xs) (y ∷ ys) hx hy same =
       let e = first_is x y xs ys hx hy ((same x).0 (first x xs)) ((same y).1 (first y ys)) in
       let tails = one_rising xs ys (sorted_tail R x xs hx) (sorted_tail R y ys hy) (λ k. (

@@ -1,6 +1,7 @@
 -- The text of a row: this project's profile.
 use Rattle.std.specs.Prelude.{ℕ, List, ◌∷◌, [], ◌++◌, Option, Some, None, codes}
 use Rattle.std.specs.List.{flat_map}
+use Rattle.line_grammar.specs.Bytes.{line_feed}
 use Rattle.sentence_frame.specs.Texts.{digits, digit_text}
 use Rattle.casualty_book.specs.declared.rows.BookKind.{BookKind}
 use Rattle.casualty_book.specs.declared.rows.BookKind.TheVariants.{Alert, Ack, Relay, RelayAck}
@@ -36,4 +37,4 @@ row_text row =
 
 -- the text of rows: of each one, with a line feed
 abbrev pub book_text : List BookRow → List ℕ
-book_text rows = flat_map (λ row. row_text row ++ 10 ∷ []) rows
+book_text rows = flat_map (λ row. row_text row ++ line_feed ∷ []) rows

@@ -1,5 +1,6 @@
 ghost use Rattle.std.specs.Prelude.{◌≡◌, ◌↔◌, ◌++◌, ◌∷◌, false, IsTrue, IfOk, IfSome, OnOk, OnErr, Some, List, [], length, slice_get};
 ghost use Rattle.std.specs.List.{Contains};
+ghost use Rattle.line_grammar.specs.Bytes.{line_feed};
 ghost use Rattle.dsc_sentences.specs.declared.dsc.DscFields.{DscFields};
 ghost use Rattle.casualty_book.specs.Rows.{IsLawful};
 ghost use Rattle.casualty_book.specs.Books.{HasAlsoOf, IsBook, IsUnion};
@@ -107,7 +108,7 @@ impl Book {
 /// Appends the text of a row, with LF.
 fn append_row(out: &mut Vec<u8>, row: &BookRow) -> Result<(), AllocError>
     requires { IsLawful row.now }
-    ensures { OnOk result (out.new.items ≡ out.old.items ++ (texts.row_text row.now ++ 10 ∷ [])) }
+    ensures { OnOk result (out.new.items ≡ out.old.items ++ (texts.row_text row.now ++ line_feed ∷ [])) }
 {
     out.extend_from_slice(&put_row(row))?;
     out.push(b'\n')?;

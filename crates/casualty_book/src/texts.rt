@@ -1,4 +1,4 @@
-ghost use Rattle.std.specs.Prelude.{◌≡◌, ◌+◌, ◌≤◌, ◌++◌, IfSome, length};
+ghost use Rattle.std.specs.Prelude.{◌≡◌, ◌+◌, ◌<◌, ◌≤◌, ◌++◌, IfSome, length};
 ghost use Rattle.arrayvec.specs.ArrayVec.{array_vec_len};
 ghost use Rattle.sentence_frame.specs.Texts.{AreDigits};
 ghost use Rattle.casualty_book.specs.Rows.{IsLawful};
@@ -6,8 +6,8 @@ ghost use Rattle.casualty_book.specs.Texts as texts;
 
 use crate::rows::{BookKind, BookRow};
 use arrayvec::ArrayVec;
-use sentence_frame::{append_digit_text, append_fixed_number};
-use text_pieces::append;
+use sentence_frame::{append_digit_text, widened};
+use text_pieces::{append, append_digits};
 
 /// The text of a row, without LF.
 #[tactic(auto, unfolding(crate::specs::Texts::row_text))]
@@ -23,13 +23,13 @@ pub fn put_row(r: &BookRow) -> ArrayVec<u8, 160>
     append(&mut out, b" from=");
     append_digit_text(&mut out, &r.from);
     append(&mut out, b" nature=");
-    append_two_digits(&mut out, r.nature);
+    append_number_or_hyphen(&mut out, 2, widened(r.nature));
     append(&mut out, b" pos=");
     append_digits_or_hyphen(&mut out, r.place.as_slice());
     append(&mut out, b" time=");
-    append_four_digits(&mut out, r.time);
+    append_number_or_hyphen(&mut out, 4, r.time);
     append(&mut out, b" then=");
-    append_two_digits(&mut out, r.second);
+    append_number_or_hyphen(&mut out, 2, widened(r.second));
     out
 }
 
@@ -46,27 +46,16 @@ fn kind_text(kind: BookKind) -> &'static [u8]
     }
 }
 
-/// Appends a number in two digits, or a hyphen where there is none.
-fn append_two_digits(out: &mut ArrayVec<u8, 160>, number: Option<u8>)
-    requires { array_vec_len out.old + 2 ≤ 160 }
-    ensures items { out.new.items ≡ out.old.items ++ texts.number_or_hyphen 2 number }
-    ensures len { array_vec_len out.new ≤ array_vec_len out.old + 2 }
+/// Appends a number in so many digits, or a hyphen where there is none.
+fn append_number_or_hyphen(out: &mut ArrayVec<u8, 160>, width: usize, number: Option<u16>)
+    requires some { 0 < width }
+    requires room { array_vec_len out.old + width ≤ 160 }
+    ensures items { out.new.items ≡ out.old.items ++ texts.number_or_hyphen width number }
+    ensures len { array_vec_len out.new ≤ array_vec_len out.old + width }
 {
     match number {
         None => append(out, b"-"),
-        Some(number) => append_fixed_number(out, 2, u32::from(number)),
-    }
-}
-
-/// Appends a number in four digits, or a hyphen where there is none.
-fn append_four_digits(out: &mut ArrayVec<u8, 160>, number: Option<u16>)
-    requires { array_vec_len out.old + 4 ≤ 160 }
-    ensures items { out.new.items ≡ out.old.items ++ texts.number_or_hyphen 4 number }
-    ensures len { array_vec_len out.new ≤ array_vec_len out.old + 4 }
-{
-    match number {
-        None => append(out, b"-"),
-        Some(number) => append_fixed_number(out, 4, u32::from(number)),
+        Some(number) => append_digits(out, width, u64::from(number)),
     }
 }
 

@@ -2,6 +2,7 @@
 use Rattle.std.proofs.Common.{◌≡◌, ℕ, ◌==◌, Bool, true, if◌then◌else◌, Option, Some, None, is_some, IfSome, [], ◌∷◌, ◌++◌, refl, sym, ◌∙◌, ap, subst}
 use Rattle.std.proofs.lemmas.List.{append_assoc}
 use Rattle.std.specs.List.{list_any}
+use Rattle.std.proofs.lemmas.Option.{same_Some, none-some}
 use Rattle.call_values.specs.Delays.{IsCoastDelay}
 use Rattle.call_values.specs.declared.calls.Call.TheVariants as call
 use Rattle.call_values.specs.declared.calls.Casualty.{Casualty}
@@ -13,8 +14,8 @@ use Rattle.coast_station.specs.Acknowledged.{accepts}
 use Rattle.coast_station.specs.Casualties.{HeardAlert, where_of, ends, open_with, alert_at, is_alert, delay_at, since_end, since_birth, open_casualty}
 use Rattle.coast_station.specs.Events.{IsCoastWhat, alert_in, delay_for}
 use Rattle.coast_station.specs.Firsts.{from_first, first_told, before_first}
-use Rattle.coast_station.proofs.Births.{by_test, none_is_some, before_none}
-use Rattle.coast_station.proofs.Changes.{same_some, mapped_some}
+use Rattle.coast_station.proofs.Births.{by_test, before_none}
+use Rattle.coast_station.proofs.Changes.{mapped_some}
 
 -- entries stand in front of others in a history
 abbrev pub IsFront : History CoastWhat → History CoastWhat → Type 0
@@ -59,7 +60,7 @@ module _ {A : Type 0} (told : Entry CoastWhat → Option A) where
       record { later = []; first = e; order = ap (λ g. e ∷ g) (sym before); tells = is }
 
   pub first_at : (h : History CoastWhat) (x : A) → first_told told h ≡ Some x → FirstAt h x
-  first_at [] x is = absurd (none_is_some is)
+  first_at [] x is = absurd (none-some _ is)
   first_at (e ∷ h) x is = first_by e h x (first_told told h) refl (first_at h) is
 
   -- the entry that last tells of something
@@ -78,20 +79,20 @@ module _ {A : Type 0} (told : Entry CoastWhat → Option A) where
       record { later = e ∷ there.later; last = there.last; before = there.before; order = ap (λ g. e ∷ g) there.order; tells = there.tells }
 
   pub last_at : (h : History CoastWhat) (x : A) → last_told told h ≡ Some x → LastAt h x
-  last_at [] x is = absurd (none_is_some is)
+  last_at [] x is = absurd (none-some _ is)
   last_at (e ∷ h) x is = last_by e h x (told e) refl (last_at h x) is
 
 -- the alert of an entry at which one is heard
 heard_in : (own : ℕ) (what : CoastWhat) (c : Casualty) → alert_in own what ≡ Some c → what ≡ Heard (call.Alert c)
 heard_in own (Heard (call.Alert casualty)) c is =
     by_test (casualty.mmsi == own) (λ b. (if b then None else Some casualty) ≡ Some c → Heard (call.Alert casualty) ≡ Heard (call.Alert c))
-    (λ _ none. absurd (none_is_some none)) (λ _ same. ap (λ (x : Casualty). Heard (call.Alert x)) (same_some same)) is
-heard_in own _ c is = absurd (none_is_some is)
+    (λ _ none. absurd (none-some _ none)) (λ _ same. ap (λ (x : Casualty). Heard (call.Alert x)) (same_Some _ _ same)) is
+heard_in own _ c is = absurd (none-some _ is)
 
 in_where : (m : ℕ) (a : Option Casualty) (c : Casualty) → where_of m a ≡ Some c → a ≡ Some c
-in_where m None c is = absurd (none_is_some is)
+in_where m None c is = absurd (none-some _ is)
 in_where m (Some x) c is =
-    by_test (x.mmsi == m) (λ b. (if b then Some x else None) ≡ Some c → Some x ≡ Some c) (λ _ same. same) (λ _ none. absurd (none_is_some none)) is
+    by_test (x.mmsi == m) (λ b. (if b then Some x else None) ≡ Some c → Some x ≡ Some c) (λ _ same. same) (λ _ none. absurd (none-some _ none)) is
 
 pub heard_at_entry : (own m : ℕ) (e : Entry CoastWhat) (l : HeardAlert) → alert_at own m e ≡ Some l → (e.what ≡ Heard (call.Alert l.alert)) × (e.at ≡ l.at)
 heard_at_entry own m e l is =
@@ -104,8 +105,8 @@ heard_at_entry own m e l is =
 pub accepts_with : (m d : ℕ) (what : CoastWhat) → delay_for m what ≡ Some d → IsCoastWhat what → (accepts m what ≡ true) × IsCoastDelay d
 accepts_with m d (Accept k delay) is event =
     by_test (k == m) (λ b. (if b then delay else None) ≡ Some d → (b ≡ true) × IsCoastDelay d)
-    (λ _ same. (refl, subst (λ (o : Option ℕ). IfSome o IsCoastDelay) same event.1)) (λ _ none. absurd (none_is_some none)) is
-accepts_with m d _ is event = absurd (none_is_some is)
+    (λ _ same. (refl, subst (λ (o : Option ℕ). IfSome o IsCoastDelay) same event.1)) (λ _ none. absurd (none-some _ none)) is
+accepts_with m d _ is event = absurd (none-some _ is)
 
 -- the alert of an open casualty stands in the history, before all that accepted it
 pub record HeardBehind (own m : ℕ) (h : History CoastWhat) (x : OpenCasualty) : Type 0 where
@@ -130,7 +131,7 @@ behind_by own m h x l None first last same =
       order = front.1 ∙ ap (λ g. g ++ front.0) inside ∙ append_assoc last.later (last.last ∷ last.before) front.0;
       what = what.0 ∙ ap (λ (y : OpenCasualty). Heard (call.Alert y.alert)) same;
       at = what.1 ∙ ap (λ (y : OpenCasualty). y.heard_at) same;
-      accepted = λ d is. absurd (none_is_some (ap (λ (y : OpenCasualty). y.delay) same ∙ is));
+      accepted = λ d is. absurd (none-some _ (ap (λ (y : OpenCasualty). y.delay) same ∙ is));
     }
 behind_by own m h x l (Some d) first last same =
     let front = birth_is_front own m h in

@@ -3,6 +3,7 @@ use Rattle.std.proofs.Common.{◌≡◌, ℕ, ◌||◌, Bool, true, false, if◌
 use Rattle.std.proofs.lemmas.Bool.{false≢true, or_parts, cond-true, cond-false}
 use Rattle.std.specs.List.{list_any}
 use Rattle.std.specs.Option.{option_map}
+use Rattle.std.proofs.lemmas.Option.{none-some}
 use Rattle.call_values.specs.declared.calls.Casualty.{Casualty}
 use Rattle.traffic_rules.specs.Histories.{Entry, History, does, last_told}
 use Rattle.coast_station.specs.declared.events.CoastWhat.{CoastWhat}
@@ -16,9 +17,6 @@ use Rattle.coast_station.specs.Firsts.{from_first, first_told, before_first}
 pub chosen : {A B : Type 0} (f : A → B) (b : Bool) (x y : A) → f (if b then x else y) ≡ (if b then f x else f y)
 chosen f true x y = refl
 chosen f false x y = refl
-
-pub none_is_some : {A : Type 0} {x : A} → None ≡ Some x → ⊥
-none_is_some h = cc
 
 -- what holds at either outcome of a test holds of it
 pub by_test : (b : Bool) (P : Bool → Type 0) → (b ≡ true → P true) → (b ≡ false → P false) → P b
@@ -35,7 +33,7 @@ from_none is_such (e ∷ h) none =
 
 both_none : {A : Type 0} (first told : Option A) → (if is_some first then first else told) ≡ None → (first ≡ None) × (told ≡ None)
 both_none None told none = (refl, none)
-both_none (Some x) told none = absurd (none_is_some (sym none))
+both_none (Some x) told none = absurd (none-some _ (sym none))
 
 -- where no entry tells of something, all stand before the first that does
 pub before_none : {A : Type 0} (told : Entry CoastWhat → Option A) (h : History CoastWhat) → first_told told h ≡ None → before_first told h ≡ h

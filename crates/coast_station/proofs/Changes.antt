@@ -4,6 +4,8 @@ use Rattle.std.proofs.lemmas.Bool.{eqb-true, eq-eqb, cond-true, cond-false, not-
 use Rattle.std.proofs.lemmas.List.Folds.{list_any-append}
 use Rattle.std.specs.List.{list_any, filter}
 use Rattle.std.specs.Option.{option_map, option_to_list}
+use Rattle.std.proofs.lemmas.Option.{same_Some, none-some}
+use Rattle.plain_laws.proofs.Tests.{or_false_right, apart_turned}
 use Rattle.call_values.specs.declared.calls.Call.TheVariants as call
 use Rattle.call_values.specs.declared.calls.Casualty.{Casualty}
 use Rattle.traffic_rules.specs.declared.acts.Act.{Act}
@@ -16,23 +18,20 @@ use Rattle.coast_station.specs.Casualties.{HeardAlert, where_of, ends, alert_at,
 use Rattle.coast_station.specs.Events.{alert_in, delay_for}
 use Rattle.coast_station.specs.Firsts.{before_first}
 use Rattle.coast_station.specs.inside.Left.{without, replaced, not_due, newly_open, noted_at, noted}
-use Rattle.coast_station.proofs.Births.{by_test, chosen, none_is_some, after, after_nothing, changed, goes_on}
-use Rattle.coast_station.proofs.Identities.{is_among, among_one_more, born_open, born_apart, other_way}
+use Rattle.coast_station.proofs.Births.{by_test, chosen, after, after_nothing, changed, goes_on}
+use Rattle.coast_station.proofs.Identities.{is_among, among_one_more, born_open, born_apart}
 use Rattle.coast_station.proofs.Listed.{listed_of, AreNamed, find_listed, same_listed, others_listed, one_replaced, one_without, due_left}
 
-pub same_some : {A : Type 0} {x y : A} → Some x ≡ Some y → x ≡ y
-same_some h = cc
-
 pub mapped_some : {A B : Type 0} (f : A → B) (o : Option A) (y : B) → option_map f o ≡ Some y → (x : A) × (o ≡ Some x) × (f x ≡ y)
-mapped_some f None y is = absurd (none_is_some is)
-mapped_some f (Some x) y is = (x, refl, same_some is)
+mapped_some f None y is = absurd (none-some _ is)
+mapped_some f (Some x) y is = (x, refl, same_Some _ _ is)
 
 -- a casualty has the identity under which it is open
 named_where : (mmsi : ℕ) (a : Option Casualty) (c : Casualty) → where_of mmsi a ≡ Some c → c.mmsi ≡ mmsi
-named_where mmsi None c is = absurd (none_is_some is)
+named_where mmsi None c is = absurd (none-some _ is)
 named_where mmsi (Some a) c is =
     by_test (a.mmsi == mmsi) (λ b. (a.mmsi == mmsi) ≡ b → (if b then Some a else None) ≡ Some c → c.mmsi ≡ mmsi)
-    (λ _ same here. ap (λ (x : Casualty). x.mmsi) (sym (same_some here)) ∙ eqb-true a.mmsi mmsi same) (λ _ _ here. absurd (none_is_some here)) refl is
+    (λ _ same here. ap (λ (x : Casualty). x.mmsi) (sym (same_Some _ _ here)) ∙ eqb-true a.mmsi mmsi same) (λ _ _ here. absurd (none-some _ here)) refl is
 
 named_alert : (own mmsi : ℕ) (e : Entry CoastWhat) (l : HeardAlert) → alert_at own mmsi e ≡ Some l → l.alert.mmsi ≡ mmsi
 named_alert own mmsi e l is =
@@ -45,7 +44,7 @@ named_by own mmsi e None rest l was before is = before is
 named_by own mmsi e (Some a) rest l was before is = named_alert own mmsi e l (was ∙ is)
 
 named_told : (own mmsi : ℕ) (h : History CoastWhat) (l : HeardAlert) → last_told (alert_at own mmsi) h ≡ Some l → l.alert.mmsi ≡ mmsi
-named_told own mmsi [] l is = absurd (none_is_some is)
+named_told own mmsi [] l is = absurd (none-some _ is)
 named_told own mmsi (e ∷ h) l is = named_by own mmsi e (alert_at own mmsi e) (last_told (alert_at own mmsi) h) l refl (named_told own mmsi h l) is
 
 -- an identity's open casualty has this identity
@@ -108,7 +107,7 @@ module _ (own : ℕ) (e : Entry CoastWhat) (h : History CoastWhat) where
       → ((m : ℕ) → (m == k) ≡ false → delay_for m e.what ≡ None) → open_casualties own (e ∷ h) ≡ without k (open_casualties own h)
   closed_open k x open_k ended no_alert no_delay =
       let keeps : ℕ → Bool = λ m. not (does (ends m) e) in
-      let lasts : (m : ℕ) → (m == k) ≡ false → does (ends m) e ≡ false = λ m other. ended m ∙ other_way m k other in
+      let lasts : (m : ℕ) → (m == k) ≡ false → does (ends m) e ≡ false = λ m other. ended m ∙ apart_turned m k other in
       ap (λ (a : Option Casualty). listed_of is_now (filter keeps (with_alert a (born own h)))) no_alert
       ∙ one_without was is_now keeps k x (born own h) (born_apart own h) (named own h)
       (λ m other. unchanged m (lasts m other) (ap (where_of m) no_alert) (no_delay m other)) open_k
@@ -151,7 +150,7 @@ module _ (own at : ℕ) (alert : Casualty) (acts : List Act) (h : History CoastW
   others : (alert.mmsi == own) ≡ false → EndsNone acts → (m : ℕ) → (m == alert.mmsi) ≡ false → behind m ≡ before m
   others is silent m other =
       unchanged own heard h m (silent m)
-      (ap (where_of m) (another is) ∙ cond-false (alert.mmsi == m) (Some alert) None (other_way m alert.mmsi other)) refl
+      (ap (where_of m) (another is) ∙ cond-false (alert.mmsi == m) (Some alert) None (apart_turned m alert.mmsi other)) refl
 
   this : (alert.mmsi == own) ≡ false → EndsNone acts → behind alert.mmsi ≡ after (Some (record { alert = alert; at = at })) None (before alert.mmsi)
   this is silent =
@@ -191,7 +190,7 @@ module _ (own at k : ℕ) (h : History CoastWhat) (x : OpenCasualty) where
   accepting delay acts = record { at = at; what = Accept k delay; acts = acts }
 
   no_delay : (delay : Option ℕ) (m : ℕ) → (m == k) ≡ false → delay_for m (Accept k delay) ≡ None
-  no_delay delay m other = cond-false (k == m) delay None (other_way m k other)
+  no_delay delay m other = cond-false (k == m) delay None (apart_turned m k other)
 
   pub accepted_open : (delay : ℕ) → open_casualty own k h ≡ Some x → x.delay ≡ None
       → open_casualties own (accepting (Some delay) [] ∷ h) ≡ replaced k (record x { delay = Some delay }) (open_casualties own h)
@@ -248,14 +247,10 @@ both_due : (at : ℕ) (o : Option OpenCasualty) → (is_some o && is_due_open at
 both_due at None = refl
 both_due at (Some x) = refl
 
-or_nothing : (b c : Bool) → c ≡ false → (b || c) ≡ b
-or_nothing true c is = refl
-or_nothing false c is = is
-
 pub tick_ends : (own at m : ℕ) (h : History CoastWhat) (others : List Act) → list_any (ends m) others ≡ false
     → list_any (ends m) (acknowledgements_due own at (open_casualties own h) ++ others) ≡ is_due_open at (open_casualty own m h)
 tick_ends own at m h others none =
     list_any-append (ends m) (acknowledgements_due own at (open_casualties own h)) others
-    ∙ or_nothing (list_any (ends m) (acknowledgements_due own at (open_casualties own h))) (list_any (ends m) others) none
+    ∙ or_false_right (list_any (ends m) (acknowledgements_due own at (open_casualties own h))) (list_any (ends m) others) none
     ∙ any_due own at m (λ k. open_casualty own k h) (born own h) (named own h)
     ∙ ap (λ b. b && is_due_open at (open_casualty own m h)) (born_open own m h) ∙ both_due at (open_casualty own m h)

@@ -2,6 +2,7 @@
 use Rattle.std.proofs.Common.{◌≡◌, ℕ, ◌&&◌, Bool, true, false, if◌then◌else◌, Option, Some, None, is_some, is_none, List, [], ◌∷◌, map, refl, sym, ◌∙◌, ap}
 use Rattle.std.proofs.lemmas.Bool.{or_from, eq-eqb}
 use Rattle.std.specs.List.{list_any, filter}
+use Rattle.std.proofs.lemmas.Option.{none-some}
 use Rattle.call_values.specs.declared.calls.Call.{Call}
 use Rattle.call_values.specs.declared.calls.Call.TheVariants as call
 use Rattle.call_values.specs.declared.calls.Casualty.{Casualty}
@@ -25,7 +26,7 @@ use Rattle.coast_station.specs.Casualties.{open_casualties}
 use Rattle.coast_station.specs.CoastRules.{Station, held, is_for, at_call, relay_refusal, relay_due_of, refusal_at_call, refusal_at, due_at}
 use Rattle.coast_station.specs.Events.{coast_occurs}
 use Rattle.coast_station.specs.inside.Afterwards.{held_after_relay, held_after_call, held_after}
-use Rattle.coast_station.proofs.Births.{by_test, none_is_some}
+use Rattle.coast_station.proofs.Births.{by_test}
 
 -- the acknowledgements of a tick hold no call and free no number
 acks_none : (p : Act → Bool) (own : ℕ) (xs : List OpenCasualty) → ((c : Call) → p (act.Send c 1) ≡ false) → list_any p (map (λ (x : OpenCasualty). acknowledgement own x.alert) xs) ≡ false
@@ -59,7 +60,7 @@ module _ (who : Station) (h : History CoastWhat) (at : ℕ) where
   relayed_held : (k : ℕ) (to : To) (ask : Bool) (o : Option OpenCasualty) → find_casualty k cs ≡ o → relay_refusal k ask cs (held h) ≡ None
       → held (record { at = at; what = Relay k to ask; acts = relay_due_of who.own to ask (held h) o } ∷ h) ≡ held_after_relay who.own at to ask o (held h)
   relayed_held k to ask None found none =
-      absurd (none_is_some (sym (sym (ap (λ (o : Option OpenCasualty). if is_none o then Some (NoCasualty k) else refused_full ask (held h)) found) ∙ none)))
+      absurd (none-some _ (sym (sym (ap (λ (o : Option OpenCasualty). if is_none o then Some (NoCasualty k) else refused_full ask (held h)) found) ∙ none)))
   relayed_held k to ask (Some x) found none =
       let room : refused_full ask (held h) ≡ None =
       sym (ap (λ (o : Option OpenCasualty). if is_none o then Some (NoCasualty k) else refused_full ask (held h)) found) ∙ none in

@@ -2,24 +2,14 @@
 use Rattle.std.proofs.Common.{◌≡◌, ℕ, ◌==◌, ◌&&◌, ◌||◌, not, Bool, true, false, if◌then◌else◌, Option, Some, None, is_some, List, [], ◌∷◌, ◌++◌, refl, sym, ◌∙◌, ap}
 use Rattle.std.proofs.lemmas.Bool.{false≢true, true≢false, or_parts, or_from, eqb-true, eqb-false, ne_eqb, and_left, and_right}
 use Rattle.std.specs.List.{list_any, filter}
+use Rattle.std.proofs.Math.Bool.{or-false, and-true, or_assoc}
+use Rattle.plain_laws.proofs.Tests.{apart_turned}
 use Rattle.call_values.specs.declared.calls.Casualty.{Casualty}
 use Rattle.traffic_rules.specs.Histories.{History, does}
 use Rattle.coast_station.specs.declared.events.CoastWhat.{CoastWhat}
 use Rattle.coast_station.specs.Casualties.{where_of, ends, alert_at, is_alert, delay_at, since_end, is_born, open_casualty, with_alert, born}
 use Rattle.coast_station.specs.Events.{alert_in}
 use Rattle.coast_station.proofs.Births.{chosen, by_test, after_is_some, some_mapped, goes_on, is_ended, from_none, born_is_open, open_in}
-
-or_false : (b : Bool) → (b || false) ≡ b
-or_false true = refl
-or_false false = refl
-
-or_assoc : (a b c : Bool) → (a || (b || c)) ≡ ((a || b) || c)
-or_assoc true b c = refl
-or_assoc false b c = refl
-
-and_true : (b : Bool) → (b && true) ≡ b
-and_true true = refl
-and_true false = refl
 
 -- an identity is among some
 abbrev pub is_among : (mmsi : ℕ) → List ℕ → Bool
@@ -43,8 +33,8 @@ among_filter keeps mmsi (m ∷ ms) =
     (λ same. ap keeps (eqb-true m mmsi same)) (among_filter keeps mmsi ms)
 
 pub among_append : (mmsi : ℕ) (ms : List ℕ) (k : ℕ) → is_among mmsi (ms ++ k ∷ []) ≡ (is_among mmsi ms || (k == mmsi))
-among_append mmsi [] k = or_false (k == mmsi)
-among_append mmsi (m ∷ ms) k = ap (λ b. (m == mmsi) || b) (among_append mmsi ms k) ∙ or_assoc (m == mmsi) (is_among mmsi ms) (k == mmsi)
+among_append mmsi [] k = or-false (k == mmsi)
+among_append mmsi (m ∷ ms) k = ap (λ b. (m == mmsi) || b) (among_append mmsi ms k) ∙ sym (or_assoc (m == mmsi) (is_among mmsi ms) (k == mmsi))
 
 is_where_of : (mmsi : ℕ) (casualty : Casualty) → is_some (where_of mmsi (Some casualty)) ≡ (casualty.mmsi == mmsi)
 is_where_of mmsi casualty = by_test (casualty.mmsi == mmsi) (λ b. is_some (if b then Some casualty else None) ≡ b) (λ _. refl) (λ _. refl)
@@ -56,7 +46,7 @@ absorbed new false false same is = refl
 
 -- among identities with that of an alert
 pub among_with_alert : (mmsi : ℕ) (alert : Option Casualty) (ms : List ℕ) → is_among mmsi (with_alert alert ms) ≡ (is_among mmsi ms || is_some (where_of mmsi alert))
-among_with_alert mmsi None ms = sym (or_false (is_among mmsi ms))
+among_with_alert mmsi None ms = sym (or-false (is_among mmsi ms))
 among_with_alert mmsi (Some casualty) ms =
     by_test (is_among casualty.mmsi ms)
     (λ b. is_among casualty.mmsi ms ≡ b → is_among mmsi (if b then ms else ms ++ casualty.mmsi ∷ []) ≡ (is_among mmsi ms || (casualty.mmsi == mmsi)))
@@ -75,7 +65,7 @@ born_open own mmsi (e ∷ h) =
     ∙ by_test (does (ends mmsi) e)
     (λ b. does (ends mmsi) e ≡ b → (is_among mmsi (with_alert a (born own h)) && not b) ≡ is_some (open_casualty own mmsi (e ∷ h)))
     (λ _ ended. and_right (is_among mmsi (with_alert a (born own h))) false refl ∙ sym (ap is_some (is_ended own mmsi e h ended)))
-    (λ _ lasts. and_true (is_among mmsi (with_alert a (born own h))) ∙ among_with_alert mmsi a (born own h)
+    (λ _ lasts. and-true (is_among mmsi (with_alert a (born own h))) ∙ among_with_alert mmsi a (born own h)
     ∙ ap (λ b. b || is_some (where_of mmsi a)) (born_open own mmsi h)
     ∙ ap (λ b. is_some (open_casualty own mmsi h) || b) (sym heard)
     ∙ sym (ap is_some (goes_on own mmsi e h lasts) ∙ after_is_some (alert_at own mmsi e) (delay_at mmsi e) (open_casualty own mmsi h)))
@@ -101,14 +91,11 @@ apart_filter keeps (m ∷ ms) apart =
     (λ _. (among_filter keeps m ms ∙ and_left (is_among m ms) (keeps m) apart.0, apart_filter keeps ms apart.1))
     (λ _. apart_filter keeps ms apart.1)
 
-pub other_way : (a b : ℕ) → (a == b) ≡ false → (b == a) ≡ false
-other_way a b different = ne_eqb b a (λ same. eqb-false a b different (sym same))
-
 apart_append : (k : ℕ) (ms : List ℕ) → is_among k ms ≡ false → AreApart ms → AreApart (ms ++ k ∷ [])
 apart_append k [] new apart = (refl, tt)
 apart_append k (m ∷ ms) new apart =
     let parts = or_parts (m == k) (is_among k ms) new in
-    (among_append m ms k ∙ or_from (is_among m ms) (k == m) apart.0 (other_way m k parts.0), apart_append k ms parts.1 apart.1)
+    (among_append m ms k ∙ or_from (is_among m ms) (k == m) apart.0 (apart_turned m k parts.0), apart_append k ms parts.1 apart.1)
 
 apart_with_alert : (alert : Option Casualty) (ms : List ℕ) → AreApart ms → AreApart (with_alert alert ms)
 apart_with_alert None ms apart = apart

@@ -3,6 +3,8 @@ use Rattle.std.proofs.Common.{◌≡◌, ℕ, ◌≤◌, ◌==◌, ◌&&◌, ◌
 use Rattle.std.proofs.Math.Bool.{or-false}
 use Rattle.std.proofs.lemmas.Bool.{false≢true, and_parts, not-true}
 use Rattle.std.specs.Prelude.{OnOk, OnErr}
+use Rattle.std.proofs.lemmas.Result.{on_ok_weaker, on_err_weaker}
+use Rattle.std.proofs.lemmas.Option.{none-some}
 use Rattle.call_values.specs.declared.calls.Call.{Call}
 use Rattle.call_values.specs.declared.calls.Call.TheVariants as call
 use Rattle.call_values.specs.declared.choices.Band.{Band}
@@ -29,12 +31,12 @@ use Rattle.coast_station.specs.Events.{IsCoastWhat, alert_in}
 use Rattle.coast_station.specs.Stands.{Keeps, Stands}
 use Rattle.coast_station.specs.inside.Afterwards.{after_accept_of, after_call, open_after, held_after, answer_by, afterwards}
 use Rattle.coast_station.specs.inside.Left.{without, replaced}
-use Rattle.coast_station.proofs.Births.{by_test, none_is_some}
+use Rattle.coast_station.proofs.Births.{by_test}
 use Rattle.coast_station.proofs.Changes.{find_open, named, silent_open, closed_open, due_open, noted_open, accepted_open, accepted_before, acknowledged_open, tick_ends}
 use Rattle.coast_station.proofs.HeldOn.{held_goes_on}
 use Rattle.coast_station.proofs.Silence.{sent_ends, relayed_ends, answered_ends, heard_ends, repeats_end}
 use Rattle.coast_station.proofs.Origins.{none_from}
-use Rattle.traffic_rules.proofs.PublicLaws.{on_ok, on_err, goes_on}
+use Rattle.traffic_rules.proofs.PublicLaws.{goes_on}
 
 some_from : {A : Type 0} (o : Option A) → is_some o ≡ true → (x : A) × (o ≡ Some x)
 some_from (Some x) is = (x, refl)
@@ -46,7 +48,7 @@ needs_delay : (band : Band) (k at : ℕ) (cs : List OpenCasualty) (x : OpenCasua
 needs_delay band k at cs x found accepted later =
     by_test (waits band)
     (λ b. waits band ≡ b → (not b || false) ≡ false → ⊥)
-    (λ _ wait _. none_is_some (sym (sym (ap (λ (o : Option OpenCasualty). if is_none o then Some (NoCasualty k) else (if waits band && true then Some NeedsDelay else None)) found
+    (λ _ wait _. none-some _ (sym (sym (ap (λ (o : Option OpenCasualty). if is_none o then Some (NoCasualty k) else (if waits band && true then Some NeedsDelay else None)) found
     ∙ ap (λ b. if b && true then Some NeedsDelay else None) wait) ∙ accepted)))
     (λ _ _ at_once. false≢true (sym at_once))
     refl later
@@ -91,7 +93,7 @@ module _ (who : Station) (h : History CoastWhat) (at : ℕ) where
   accept_by : (k : ℕ) (delay : Option ℕ) (o : Option OpenCasualty) → find_casualty k cs ≡ o → accept_refusal who.band k delay cs ≡ None
       → open_casualties who.own (record { at = at; what = Accept k delay; acts = accept_due_of who.own who.band at delay o } ∷ h) ≡ after_accept_of who.band at delay o cs
   accept_by k delay None found none =
-      absurd (none_is_some (sym (sym (ap (λ (o : Option OpenCasualty). if is_none o then Some (NoCasualty k) else (if waits who.band && is_none delay then Some NeedsDelay else None)) found) ∙ none)))
+      absurd (none-some _ (sym (sym (ap (λ (o : Option OpenCasualty). if is_none o then Some (NoCasualty k) else (if waits who.band && is_none delay then Some NeedsDelay else None)) found) ∙ none)))
   accept_by k delay (Some x) found none = accept_now k delay x found none
 
   -- a call that is for the station
@@ -173,7 +175,7 @@ pub goes : (who : Station) (h : History CoastWhat) (at : ℕ) (what : CoastWhat)
     → OnErr result (new ≡ old) → OnOk result (new ≡ record (afterwards old at what) { last = at }) → Stands new who (continued (coast_rules who) h at what)
 goes who h at what old new result acts late event stands answer same after =
     goes_on (coast_rules who) h at what (λ (g : History CoastWhat). Keeps new who g) result acts late event stands.0 (answer ∙ answer_same who h old at what stands.1)
-    (on_err result (λ is. subst (λ (coast : Coast). Keeps coast who h) (sym is) stands.1) same)
-    (λ none. on_ok result
+    (on_err_weaker result (λ is. subst (λ (coast : Coast). Keeps coast who h) (sym is) stands.1) same)
+    (λ none. on_ok_weaker result
     (λ is. subst (λ (coast : Coast). Keeps coast who (record { at = at; what = what; acts = due_at who h at what } ∷ h)) (sym is) (keeps_afterwards who h old at what stands.1 stands.0 none))
     after)

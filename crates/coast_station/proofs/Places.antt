@@ -3,13 +3,13 @@ use Rattle.std.proofs.Common.{◌≡◌, ℕ, zero, suc, ◌+◌, ◌<◌, ◌�
 use Rattle.std.proofs.lemmas.Bool.{cond-true, cond-false, ltb-false, eqb-true}
 use Rattle.std.proofs.lemmas.List.Quantifiers.{position-Some}
 use Rattle.std.specs.List.{position, position_or_len, prefix_len, remove}
+use Rattle.std.proofs.lemmas.Option.{same_Some, none-some}
 use Rattle.coast_station.specs.declared.casualties.OpenCasualty.{OpenCasualty}
 use Rattle.coast_station.specs.Accepting.{is_of, find_casualty, is_due_at_once}
 use Rattle.call_values.specs.declared.choices.Band.{Band}
 use Rattle.coast_station.specs.inside.Afterwards.{after_accept_of}
 use Rattle.coast_station.specs.inside.Left.{without, replaced}
-use Rattle.coast_station.proofs.Births.{by_test, none_is_some}
-use Rattle.coast_station.proofs.Changes.{same_some}
+use Rattle.coast_station.proofs.Births.{by_test}
 
 -- what is at the first place of an identity, and what stands there after a change
 pub record AtPlace (m : ℕ) (xs : List OpenCasualty) (i : ℕ) (d y : OpenCasualty) : Type 0 where
@@ -64,16 +64,16 @@ pub nowhere : (m : ℕ) (xs : List OpenCasualty) → position (is_of m) xs ≡ N
 nowhere m xs is =
     by_test (nat_lt (position_or_len (is_of m) xs) (length xs))
     (λ b. nat_lt (position_or_len (is_of m) xs) (length xs) ≡ b → (if b then Some (position_or_len (is_of m) xs) else None) ≡ None → Nowhere m xs)
-    (λ _ _ some. absurd (none_is_some (sym some)))
+    (λ _ _ some. absurd (none-some _ (sym some)))
     (λ _ past _. nowhere_by m xs (ltb-false (position_or_len (is_of m) xs) (length xs) past))
     refl is
 
 -- what is found has the identity
 pub find_named : (m : ℕ) (xs : List OpenCasualty) (x : OpenCasualty) → find_casualty m xs ≡ Some x → x.alert.mmsi ≡ m
-find_named m [] x is = absurd (none_is_some is)
+find_named m [] x is = absurd (none-some _ is)
 find_named m (y ∷ xs) x is =
     by_test (is_of m y) (λ b. is_of m y ≡ b → (if b then Some y else find_casualty m xs) ≡ Some x → x.alert.mmsi ≡ m)
-    (λ _ here same. ap (λ (z : OpenCasualty). z.alert.mmsi) (sym (same_some same)) ∙ eqb-true y.alert.mmsi m here)
+    (λ _ here same. ap (λ (z : OpenCasualty). z.alert.mmsi) (sym (same_Some _ _ same)) ∙ eqb-true y.alert.mmsi m here)
     (λ _ _ there. find_named m xs x there) refl is
 
 -- a casualty that is acknowledged as it is accepted is taken out

@@ -1,6 +1,7 @@
 -- what each event of a legal history does with the calls that the station sends and holds
 use Rattle.std.proofs.Common.{◌≡◌, ℕ, Bool, true, false, if◌then◌else◌, Option, Some, None, is_some, is_none, List, [], ◌∷◌, map, refl, sym, ◌∙◌, ap, subst}
 use Rattle.std.specs.List.{list_any, filter}
+use Rattle.std.proofs.lemmas.Option.{none-some}
 use Rattle.call_values.specs.declared.calls.Call.{Call}
 use Rattle.call_values.specs.declared.calls.Call.TheVariants as call
 use Rattle.call_values.specs.declared.choices.Band.{Band}
@@ -24,7 +25,7 @@ use Rattle.coast_station.specs.Casualties.{open_casualties}
 use Rattle.coast_station.specs.CoastRules.{Station, held, is_for, at_call, relay_refusal, relay_due_of, refusal_at, due_at, coast_rules}
 use Rattle.coast_station.specs.Events.{coast_occurs}
 use Rattle.coast_station.specs.inside.Afterwards.{held_after_relay, held_after_call, held_after}
-use Rattle.coast_station.proofs.Births.{by_test, none_is_some}
+use Rattle.coast_station.proofs.Births.{by_test}
 use Rattle.coast_station.proofs.HeldOn.{relay_sendable, held_goes_on}
 
 module _ (is_such : Call → Bool) where
@@ -52,7 +53,7 @@ module _ (is_such : Call → Bool) where
     relay_handles : (mmsi : ℕ) (to : To) (ask : Bool) (o : Option OpenCasualty) → find_casualty mmsi cs ≡ o → relay_refusal mmsi ask cs (held h) ≡ None
         → Handles who.own (asking is_such) false (relay_due_of who.own to ask (held h) o) (held h) (held_after_relay who.own at to ask o (held h))
     relay_handles mmsi to ask None found none =
-        absurd (none_is_some (sym (sym (ap (λ (o : Option OpenCasualty). if is_none o then Some (NoCasualty mmsi) else refused_full ask (held h)) found) ∙ none)))
+        absurd (none-some _ (sym (sym (ap (λ (o : Option OpenCasualty). if is_none o then Some (NoCasualty mmsi) else refused_full ask (held h)) found) ∙ none)))
     relay_handles mmsi to ask (Some x) found none =
         let room : refused_full ask (held h) ≡ None =
         sym (ap (λ (o : Option OpenCasualty). if is_none o then Some (NoCasualty mmsi) else refused_full ask (held h)) found) ∙ none in

@@ -27,7 +27,8 @@ pub fn casualties_are_born()
 /// The law that a sent distress acknowledgement carries an alert that was heard before and whose identity was accepted after
 /// that, and that on MF and HF at least 60,000 ms have passed since this alert, in every legal history.
 pub fn acknowledgements_go_back_to_accepted_alerts()
-    ensures { (who : Station) (later earlier : History CoastWhat) (sent : Entry CoastWhat) (from times : ℕ) (casualty : Casualty) (first last : List Act)
+    ensures { (who : Station) (later earlier : History CoastWhat) (sent : Entry CoastWhat) (from times : ℕ)
+        (casualty : Casualty) (first last : List Act)
         → Legal (coast_rules who) (later ++ sent ∷ earlier)
         → sent.acts ≡ first ++ act.Send (call.Ack from casualty) times ∷ last
         → GoesBackToAlert who.band casualty sent earlier }
@@ -43,7 +44,8 @@ pub fn an_alert_is_heard_between_acknowledgements()
 
 /// The law that at one event an identity is acknowledged once at most, in every legal history.
 pub fn an_identity_is_acknowledged_once()
-    ensures { (who : Station) (later earlier : History CoastWhat) (sent : Entry CoastWhat) (mmsi : ℕ) (first last : List Act) (acknowledgement : Act)
+    ensures { (who : Station) (later earlier : History CoastWhat) (sent : Entry CoastWhat) (mmsi : ℕ)
+        (first last : List Act) (acknowledgement : Act)
         → Legal (coast_rules who) (later ++ sent ∷ earlier) → sent.acts ≡ first ++ acknowledgement ∷ last
         → IsTrue (acknowledges mmsi acknowledgement) → list_any (acknowledges mmsi) last ≡ false }
 {}

@@ -2,7 +2,7 @@
 use Rattle.std.proofs.Common.{◌≡◌, ℕ, ◌<◌, ◌^◌, ◌==◌, Bool, true, false, Option, Some, None, IfSome, ◌||◌, List, [], ◌∷◌, ◌++◌, refl, sym, ap, subst, ◌∙◌, inl, inr, arith, append_assoc, append-nil}
 use Rattle.std.specs.Prelude.{codes, decimal}
 use Rattle.std.specs.List.{list_any, AllByRecursion}
-use Rattle.std.proofs.lemmas.Bool.{or_cases, and_parts, and_from}
+use Rattle.std.proofs.lemmas.Bool.{or_cases, and_parts, and_from, or_right, eq-eqb}
 use Rattle.call_values.specs.declared.calls.Call.{Call}
 use Rattle.call_values.specs.declared.calls.Call.TheVariants as form
 use Rattle.call_values.specs.declared.choices.End.TheVariants as end
@@ -21,6 +21,7 @@ use Rattle.slot_join.specs.Answer.{IsAnswer}
 use Rattle.slot_join.specs.Intact.{IsExpandedBy}
 use Rattle.expansion.specs.declared.values.Sets.{Sets}
 use Rattle.expansion.specs.Expansions.{IsExpansion}
+use Rattle.slot_evidence.proofs.PublicLaws.{itself}
 use Rattle.dsc_lines.specs.CallLine.{extra_of}
 use Rattle.dsc_lines.specs.JoinLine.{JoinLine, nothing, reception, evidence, body_text}
 use Rattle.dsc_lines.specs.Lines.{facts_of_pairs}
@@ -44,13 +45,6 @@ heard_whole long k call expansion small =
     }
 
 -- ---- the facts
-
-or_right : (x y : Bool) → y ≡ true → (x || y) ≡ true
-or_right true y h = refl
-or_right false y h = h
-
-same_number : (k : ℕ) → (k == k) ≡ true
-same_number k = grind arith
 
 module _ (k : ℕ) (e : List Element) where
   abbrev IsThis : JoinLine → Type 0
@@ -77,22 +71,19 @@ module _ (k : ℕ) (e : List Element) where
   no_less [] p v each named h = absurd (cc)
   no_less (line ∷ said) p v each named h = elim (or_cases (names k line) (list_any (names k) said) named) [
     | inl here ↦
-        let own : facts_of_line k (reception k e) p v ≡ true = and_from (k == k) (facts_of e p v) (same_number k) h in
+        let own : facts_of_line k (reception k e) p v ≡ true = and_from (k == k) (facts_of e p v) (eq-eqb k k refl) h in
         let fact : facts_of_line k line p v ≡ true = subst (λ (l : JoinLine). facts_of_line k l p v ≡ true) (sym (each.0 here)) own in
         ap (λ (b : Bool). b || list_any (λ line. facts_of_line k line p v) said) fact
     | inr more ↦ or_right (facts_of_line k line p v) (list_any (λ line. facts_of_line k line p v) said) (no_less said p v each.1 more h)
   ]
-
-between : (S : Symbols) (v : ℕ) → S v ≡ true → IsBetween S v
-between S v h = record { low = v; high = v; has_low = h; has_high = h; above = omega arith; below = omega arith }
 
 -- the facts of the group are those of the one reception
 same_facts : (said : List JoinLine) (k : ℕ) (e : List Element) → AllByRecursion (λ line. names k line ≡ true → line ≡ reception k e) said → is_named said k ≡ true
     → (p : ℕ) → AreAlike (group_facts said k p) (facts_of e p)
 unfolding group_facts is_named
 same_facts said k e each named p = record {
-  forth = λ v h. between (facts_of e p) v (no_more k e said p v each h);
-  back = λ v h. between (group_facts said k p) v (no_less k e said p v each named h);
+  forth = λ v h. itself (facts_of e p) v (no_more k e said p v each h);
+  back = λ v h. itself (group_facts said k p) v (no_less k e said p v each named h);
 }
 
 -- ---- the answer

@@ -3,30 +3,24 @@ use Rattle.std.proofs.Common.{◌≡◌, ◌≢◌, ◌⊎◌, inl, inr, ℕ, Bo
 use Rattle.dsc_streams.specs.declared.streams.Source
 use Rattle.dsc_streams.specs.declared.streams.Sink
 use Rattle.dsc_streams.specs.Streams.{Gains, Rises, Told}
+use Rattle.dsc_streams.proofs.PublicLaws.{Gains-none}
 use Rattle.line_engine.specs.Lines.{Lines, lines_of}
 use Rattle.line_engine.specs.Meaning.{Meaning}
 use Rattle.line_engine.specs.Faults.{IsFaultless}
 use Rattle.line_engine.specs.Output.{IsWhole, Asks}
 use Rattle.line_engine.specs.Endings.{IsFinished, IsOfFault, IsBrokenOff, IsRest, TellsWhole, CutsOff, TellsFront}
 use Rattle.line_engine.specs.Runs.{IsRun}
+use Rattle.line_engine.proofs.PublicLaws.{none_yet}
 use Rattle.dsc_words.specs.declared.plans.Plan.TheVariants.{Join, Evidence, Encode, Sentences, Replay, Make, Capture, Watch, Exchange, Book}
 use Rattle.generated_join.specs.Summary.{IsMade}
 use Rattle.dsc_cmd.specs.Plans.{made_meaning, source_of, WritesSummary, CutsOffSummary}
 
--- there is no line in an empty list
-no_line : (earlier : Lines) (line : List ℕ) (later : Lines) → [] ≡ earlier ++ line ∷ later → ⊥
-no_line [] line later e = cc
-no_line (first ∷ earlier) line later e = cc
-
 nothing_left : {rest : List ℕ} → ◌≡◌ {A = Option (List ℕ)} (Some []) (Some rest) → rest ≡ []
 nothing_left e = cc
 
-faultless : (meaning : Meaning) → IsFaultless meaning []
-faultless meaning = record { none = λ earlier line later fault list is. no_line earlier line later list }
-
 whole_of : (n : ℕ) (text : List ℕ) (status : ℕ) → IsMade n text status → IsWhole (made_meaning n) (lines_of []) text status
 unfolding lines_of
-whole_of n text status made = record { faultless = faultless (made_meaning n); ends = made }
+whole_of n text status made = record { faultless = none_yet (made_meaning n); ends = made }
 
 pub made_whole : (n : ℕ) (before after : Option (List ℕ)) (flushed status : ℕ) → WritesSummary n before after flushed status
     → TellsWhole (made_meaning n) (Some []) (Some []) before after flushed status
@@ -58,18 +52,13 @@ made_cut n before after w = record {
   writes = w.writes;
 }
 
--- nothing was written
-gains_none : (written : Option (List ℕ)) → Gains written written []
-gains_none (Some bytes) = sym (append-nil bytes)
-gains_none None = tt
-
 pub made_want : (n : ℕ) (written : Option (List ℕ)) → TellsFront (made_meaning n) (Some []) (Some []) written written
 made_want n written = record {
   taken = [];
   lost = refl;
   text = [];
-  so_far = λ rest is. record { first = []; later = lines_of rest; list = refl; faultless = faultless (made_meaning n); gives = refl };
-  writes = record { front = []; back = []; text_is = refl; appended = gains_none written };
+  so_far = λ rest is. record { first = []; later = lines_of rest; list = refl; faultless = none_yet (made_meaning n); gives = refl };
+  writes = record { front = []; back = []; text_is = refl; appended = Gains-none written };
 }
 
 -- ---- `make` ends with no other status

@@ -1,6 +1,7 @@
 -- the lines of each command's input determine its output
 use Rattle.std.proofs.Common.{◌≡◌, ℕ, Bool, List, [], ◌++◌, sym, ap, ◌∙◌}
 use Rattle.line_engine.specs.Determined.{IsDetermined, HasOneColumn, BeginsWith}
+use Rattle.line_engine.proofs.PublicLaws.{begins_empty}
 use Rattle.dsc_words.specs.declared.plans.Plan.{Plan}
 use Rattle.dsc_words.specs.declared.plans.Plan.TheVariants.{Join, Evidence, Encode, Sentences, Replay, Make, Capture, Watch, Exchange, Book}
 use Rattle.join_groups.specs.Output.{TellsAnswer, TellsEvidence}
@@ -25,10 +26,6 @@ pub record Laws : Type 0 where
   pub exchange : IsDetermined exchange_meaning
   pub book : IsDetermined book_meaning
   pub made : (n : ℕ) (a b : List ℕ) (s t : ℕ) → IsMade n a s → IsMade n b t → (a ≡ b) × (s ≡ t)
-
--- every text begins with nothing
-begins_empty : (text whole : List ℕ) → text ≡ [] → BeginsWith whole text
-begins_empty text whole e = (whole, ap (λ (t : List ℕ). t ++ whole) (sym e))
 
 made_determined : Laws → (n : ℕ) → IsDetermined (made_meaning n)
 made_determined laws n = record {

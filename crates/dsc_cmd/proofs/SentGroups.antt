@@ -2,7 +2,7 @@
 use Rattle.std.proofs.Common.{◌≡◌, ℕ, true, ◌==◌, suc, List, [], ◌∷◌, ◌++◌, All, Option, refl, ap, subst, ◌∙◌, inl, inr, arith}
 use Rattle.std.specs.Prelude.{map, Contains}
 use Rattle.std.specs.List.{AllByRecursion}
-use Rattle.std.proofs.lemmas.Bool.{or_cases}
+use Rattle.std.proofs.lemmas.Bool.{or_cases, eqb-true}
 use Rattle.ten_unit.specs.declared.character.Element.{Element}
 use Rattle.call_values.specs.declared.calls.Call.{Call}
 use Rattle.call_values.specs.Calls.{IsCall}
@@ -39,9 +39,6 @@ pub record Laws : Type 0 where
   pub sent : SentLaw
   pub whole : WholeLaw
 
-is_equal : (a b : ℕ) → (a == b) ≡ true → a ≡ b
-is_equal a b h = grind arith
-
 -- the line of a group that is named
 pub record Found (P : Told → Type 0) (all : List Told) (k : ℕ) : Type 0 where
   pub told : Told
@@ -60,7 +57,7 @@ later P t all k f = record {
 pub found : (P : Told → Type 0) (all : List Told) (k : ℕ) → AllByRecursion P all → is_among (map (λ told. told.group) all) k ≡ true → Found P all k
 found P [] k each among = absurd (cc)
 found P (t ∷ all) k each among = elim (or_cases (t.group == k) (is_among (map (λ told. told.group) all) k) among) [
-  | inl here ↦ record { told = t; is_one = (0, omega arith, refl); group = is_equal t.group k here; holds = each.0 }
+  | inl here ↦ record { told = t; is_one = (0, omega arith, refl); group = eqb-true t.group k here; holds = each.0 }
   | inr more ↦ later P t all k (found P all k each.1 more)
 ]
 

@@ -1,6 +1,7 @@
 -- What `join` writes of a call that `encode` wrote: this project's profile.
 use Rattle.std.specs.Prelude.{◌≡◌, ℕ, Bool, true, Option, List, ◌∷◌, [], ◌++◌, Contains}
 use Rattle.std.specs.List.{AllByRecursion}
+use Rattle.line_grammar.specs.Bytes.{line_feed}
 use Rattle.call_values.specs.declared.calls.Call.{Call}
 use Rattle.expansion.specs.declared.values.Sets.{Sets}
 use Rattle.slot_join.specs.declared.joined.Joined.TheVariants.{Reported}
@@ -15,7 +16,7 @@ use Rattle.dsc_cmd.specs.Sent.{TellsThis}
 -- the line that `encode` writes of a call is the line of a reception of this group, which heard the call's whole transmission
 pub record IsHeardWhole (long : Bool) (k : ℕ) (call : Call) (expansion : Option Sets) : Type 0 where
   pub line : List ℕ
-  pub line_is : encoded_line long k (call, expansion) ≡ line ++ 10 ∷ []
+  pub line_is : encoded_line long k (call, expansion) ≡ line ++ line_feed ∷ []
   pub says : IsLine (reception k (transmitted long call expansion)) line
 
 -- some line names the group, and each that does holds a reception that heard the call's whole transmission, with what follows it

@@ -98,7 +98,8 @@ fn execute<R: Threads + Sync, S: Source, K: Sink, G: Gate>(
     gate: &G,
 ) -> Status
     requires { IsInRange plan }
-    ensures run { IsRun (meaning_of plan) (source_of plan S.Source) K.Sink source.old source.new sink.old sink.new result }
+    ensures run { IsRun (meaning_of plan) (source_of plan S.Source) K.Sink source.old source.new sink.old sink.new
+        result }
     ensures bounded { TakesAtMost (S.left source.old) (S.left source.new) MOST_TAKEN }
     ensures told { Told (S.left source.old) (S.left source.new) }
     ensures unread { (n : ℕ) → plan ≡ makes n
@@ -175,12 +176,14 @@ pub fn run<R: Threads + Sync, S: Source, K: Sink, G: Gate>(
 ) -> Status
     // Exactly what the lines of the whole input ask for, and its status: for `join` the answers that the facts of each group determine.
     ensures answered { (plan : Planned) → IsPlan (map string_bytes words.now) plan → IsFinished result
-        → TellsWhole (meaning_of plan) (input_of plan (S.left source.old)) (input_of plan (S.left source.new)) (K.written sink.old) (K.written sink.new) (K.flushed sink.new) result }
+        → TellsWhole (meaning_of plan) (input_of plan (S.left source.old)) (input_of plan (S.left source.new))
+        (K.written sink.old) (K.written sink.new) (K.flushed sink.new) result }
 
     // Where all receptions of a group heard one call, truly phased and wrong in one sense alone: this call, or a place of it no copy of which
     // came intact; and the call, where each of its places came intact at some receiver.
     ensures sent { (n : ℕ) → IsPlan (map string_bytes words.now) (joins n) → IsFinished result
-        → ReportsSent (S.left source.old) (S.left source.new) (K.written sink.old) (K.written sink.new) (K.flushed sink.new) result }
+        → ReportsSent (S.left source.old) (S.left source.new) (K.written sink.old) (K.written sink.new)
+        (K.flushed sink.new) result }
 
     // Of `watch`, however it ends: of such a group no other call than this one is told, and behind the told calls stands what join tells of it. Only
     // where there was no memory for the words was nothing begun.
@@ -201,17 +204,22 @@ pub fn run<R: Threads + Sync, S: Source, K: Sink, G: Gate>(
     ensures words { result ≡ 2 → Writes (K.written sink.old) (K.written sink.new) (K.flushed sink.new) words_refused }
     ensures unread { result ≡ 2 → source.new ≡ source.old }
     ensures faulty { (plan : Planned) → IsPlan (map string_bytes words.now) plan → IsOfFault result
-        → TellsFault (meaning_of plan) (input_of plan (S.left source.old)) (input_of plan (S.left source.new)) (K.written sink.old) (K.written sink.new) (K.flushed sink.new) result }
+        → TellsFault (meaning_of plan) (input_of plan (S.left source.old)) (input_of plan (S.left source.new))
+        (K.written sink.old) (K.written sink.new) (K.flushed sink.new) result }
     ensures stopped { (plan : Planned) → IsPlan (map string_bytes words.now) plan → result ≡ 4
-        → TellsSoFar (meaning_of plan) (input_of plan (S.left source.old)) (input_of plan (S.left source.new)) (K.written sink.old) (K.written sink.new) }
+        → TellsSoFar (meaning_of plan) (input_of plan (S.left source.old)) (input_of plan (S.left source.new))
+        (K.written sink.old) (K.written sink.new) }
     ensures front { (plan : Planned) → IsPlan (map string_bytes words.now) plan → HasOneOutput plan → IsBrokenOff result
-        → WritesFrontOfOutput (meaning_of plan) (input_of plan (S.left source.old)) (input_of plan (S.left source.new)) (K.written sink.old) (K.written sink.new) }
+        → WritesFrontOfOutput (meaning_of plan) (input_of plan (S.left source.old)) (input_of plan (S.left source.new))
+        (K.written sink.old) (K.written sink.new) }
     ensures read_fault { result ≡ 4 → Rises (S.faults source.old) (S.faults source.new) }
     ensures write_fault { result ≡ 5 → Rises (K.faults sink.old) (K.faults sink.new) }
     ensures cut { result ≡ 5 → CutsOffWords (map string_bytes words.now) (K.written sink.old) (K.written sink.new)
-        ⊎ CutsOffPlan (map string_bytes words.now) (S.left source.old) (S.left source.new) (K.written sink.old) (K.written sink.new) }
+        ⊎ CutsOffPlan (map string_bytes words.now) (S.left source.old) (S.left source.new) (K.written sink.old)
+        (K.written sink.new) }
     ensures memory { result ≡ 6 → (sink.new ≡ sink.old)
-        ⊎ TellsPlanFront (map string_bytes words.now) (S.left source.old) (S.left source.new) (K.written sink.old) (K.written sink.new) }
+        ⊎ TellsPlanFront (map string_bytes words.now) (S.left source.old) (S.left source.new) (K.written sink.old)
+        (K.written sink.new) }
     ensures unwritten { (plan : Planned) → IsPlan (map string_bytes words.now) plan → IsQuietPlan plan
         → (result ≡ 4) ⊎ (result ≡ 6) → sink.new ≡ sink.old }
     ensures unflushed { IsBrokenOff result → K.flushed sink.new ≡ K.flushed sink.old }

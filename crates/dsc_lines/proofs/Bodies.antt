@@ -8,7 +8,7 @@ use Rattle.line_grammar.specs.Tokens.{run, is_one_of, IsToken}
 use Rattle.line_grammar.specs.Grammar.{Grammar, finish, word, none}
 use Rattle.line_grammar.specs.inside.Reading.{after, ended, read_token, read}
 use Rattle.line_grammar.specs.inside.Soundness.{is_sound}
-use Rattle.line_grammar.proofs.Chains.{after_list, run_list, word_missed, word_on, token_missed, token_on, end_missed, fault_within, both_miss, no_end}
+use Rattle.line_grammar.proofs.Chains.{after_list, run_list, word_missed, word_on, token_missed, token_on, end_missed, fault_within, both_miss, no_end, end_nil}
 use Rattle.dsc_lines.specs.JoinLine.{sign_of, body_text}
 use Rattle.dsc_lines.specs.inside.Reading.{behind_blank, blank_and_signs, signs, element_of, IsBehindBlank}
 
@@ -65,16 +65,11 @@ pub checked_signs : (bytes front : List ℕ) → after (codes " ") bytes ≡ Ok 
     → (bytes ≡ codes " " ++ front) × IsToken (run (codes "YB-")) front
 checked_signs bytes front h some all = (after_list (codes " ") bytes front h, ((λ (e : front ≡ []). some (ap length e)), all))
 
-nothing_left : (back : List ℕ) → ended back ≡ Ok none → back ≡ []
-unfolding ended
-nothing_left [] e = refl
-nothing_left (b ∷ back) e = absurd (cc)
-
 pub run_signs : (bytes rest front back : List ℕ) → after (codes " ") bytes ≡ Ok rest → read_token (run (codes "YB-")) rest ≡ Ok (front, back) → ended back ≡ Ok none
     → (bytes ≡ codes " " ++ front) × IsToken (run (codes "YB-")) front
 run_signs bytes rest front back h k m =
     let r = run_list (codes "YB-") rest front back refl k in
-    (after_list (codes " ") bytes rest h ∙ ap (λ (l : List ℕ). codes " " ++ l) (r.0 ∙ ap (λ (l : List ℕ). front ++ l) (nothing_left back m) ∙ append-nil front), (r.1, r.2))
+    (after_list (codes " ") bytes rest h ∙ ap (λ (l : List ℕ). codes " " ++ l) (r.0 ∙ ap (λ (l : List ℕ). front ++ l) (end_nil back m) ∙ append-nil front), (r.1, r.2))
 
 -- where no body stands
 pub blank_missed : (rest : Grammar) (bytes : List ℕ) (left : ℕ) → is_sound rest ≡ true → (length bytes ≡ 0 → ⊥) → read (word (codes " ") rest) bytes ≡ Err left → read (behind_blank rest) bytes ≡ Err left
@@ -92,15 +87,6 @@ no_sign bytes rest left h k = word_on (codes " ") signs bytes rest left h (token
 pub no_line_end : (bytes rest front back : List ℕ) (left : ℕ) → after (codes " ") bytes ≡ Ok rest → read_token (run (codes "YB-")) rest ≡ Ok (front, back) → ended back ≡ Err left
     → read blank_and_signs bytes ≡ Err left
 no_line_end bytes rest front back left h k m = word_on (codes " ") signs bytes rest left h (token_on (run (codes "YB-")) finish rest front back left k (end_missed back left m))
-
--- an answer that says more
-pub ok_more : {A B : Type 0} {P Q : A → Type 0} → ((a : A) → P a → Q a) → (r : Result A B) → IfOk r P → IfOk r Q
-ok_more f (Ok a) h = f a h
-ok_more f (Err b) h = h
-
-pub err_more : {A B : Type 0} {P Q : B → Type 0} → ((b : B) → P b → Q b) → (r : Result A B) → IfErr r P → IfErr r Q
-err_more f (Ok a) h = h
-err_more f (Err b) h = f b h
 
 pub signs_behind_blank : IsBehindBlank signs
 unfolding read read_token

@@ -1,5 +1,6 @@
 -- the lines of files of calls, and of calls and sentences
 use Rattle.std.proofs.Common.{◌≡◌, ℕ, zero, suc, ◌≤◌, Some, None, inl, inr, refl, ap, List, [], ◌∷◌, arith}
+use mathlib.Core.List.{head-eq_of_cons-eq}
 use Rattle.call_values.specs.declared.calls.Call.{Call}
 use Rattle.slot_join.specs.declared.joined.Extra.{Extra}
 use Rattle.slot_join.specs.declared.joined.Extra.TheVariants.{Absent, Whole, Broken}
@@ -13,13 +14,10 @@ use Rattle.dsc_lines.specs.CallLine.{extra_of, IsCallLine}
 use Rattle.dsc_lines.specs.SentenceLine.{IsSentenceLine}
 use Rattle.dsc_lines.proofs.Narrowing.{AreAt, column_of_kind}
 
-head : {xs ys : List ℕ} {x y : ℕ} → x ∷ xs ≡ y ∷ ys → x ≡ y
-head h = cc
-
 -- a line that begins with another byte than # says a call
 says_call : (b : ℕ) → (b ≡ 35 → ⊥) → (v : CallLine) (rest : List ℕ) → IsCallLine v (b ∷ rest) → (w : Call × Extra) × IsCallText w (b ∷ rest)
 says_call b other line.Nothing rest (inl empty) = absurd (cc)
-says_call b other line.Nothing rest (inr comment) = absurd (other (head comment.1))
+says_call b other line.Nothing rest (inr comment) = absurd (other (head-eq_of_cons-eq comment.1))
 says_call b other (line.Call c x) rest is = ((c, extra_of x), is)
 
 -- the line that a call's text is
@@ -44,7 +42,7 @@ calls_in_calls b other = record {
 -- a line that doesn't begin with $ says what a line of calls says
 only_said : (b : ℕ) → (b ≡ 36 → ⊥) → (v : SentenceLine) (rest : List ℕ) → IsSentenceLine v (b ∷ rest) → (w : CallLine) × IsCallLine w (b ∷ rest)
 only_said b other (Said says) rest is = (says, is)
-only_said b other (Sentence bytes) rest is = absurd (other (head is.1.1))
+only_said b other (Sentence bytes) rest is = absurd (other (head-eq_of_cons-eq is.1.1))
 
 said_in_sentences : (b : ℕ) → (b ≡ 36 → ⊥) → AreAt b IsCallLine IsSentenceLine
 said_in_sentences b other = record {

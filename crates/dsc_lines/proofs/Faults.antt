@@ -77,14 +77,6 @@ within_line text left s = left_le IsLine text left s
 pub column_of : (text : List ℕ) (left n : ℕ) → Stops IsLine text left → n + left ≡ length text + 1 → IsColumn IsLine text n
 column_of text left n s e = IsColumn-stops IsLine text left n s e
 
--- lines that were read
-pub empty_line : (text : List ℕ) → length text ≡ 0 → IsLine nothing text
-empty_line [] e = inl refl
-empty_line (b ∷ text) e = absurd (omega (arith, e))
-
-pub comment_line : (text rest : List ℕ) (b : ℕ) → text ≡ b ∷ rest → b ≡ 35 → IsLine nothing text
-comment_line text rest b e h = inr (rest, e ∙ ap (λ (c : ℕ). c ∷ rest) h)
-
 pub reception_read : (text rest name front : List ℕ) (group : ℕ) → text ≡ 114 ∷ rest → NamesGroup group name → rest ≡ name ++ body_text (map element_of front) → IsLine (reception group (map element_of front)) text
 reception_read text rest name front group e names h =
     (name, (names, e ∙ ap (λ (l : List ℕ). 114 ∷ l) h ∙ sym (append_assoc (codes "r") name (body_text (map element_of front)))))

@@ -2,12 +2,14 @@
 use Rattle.std.proofs.Common.{◌≡◌, ℕ, zero, suc, ◌+◌, ◌-◌, ◌≤◌, ◌<◌, ◌==◌, ◌&&◌, ◌||◌, Bool, true, false, List, [], ◌∷◌, ◌++◌, length, codes, decimal, Ok, Err, refl, sym, ◌∙◌, ap, subst, append_assoc, append-nil, length-append, arith}
 use Rattle.std.specs.List.{flat_map, list_any, All}
 use Rattle.std.proofs.lemmas.List.{length_push, nil_from_length}
-use Rattle.std.proofs.lemmas.List.Elements.{All-append}
+use Rattle.std.proofs.lemmas.List.Elements.{All-append, All-cons, All-nil}
 use Rattle.std.proofs.lemmas.List.Folds.{list_any-append}
 use Rattle.std.proofs.lemmas.Grind.{flat_map-append}
+use Rattle.std.proofs.Math.Bool.{or-false}
 use Rattle.slot_evidence.specs.declared.places.Seen.{Seen}
 use Rattle.slot_evidence.specs.Facts.{Facts, no_facts, one_fact, union}
 use Rattle.slot_evidence.specs.Sheet.{IsEnds}
+use Rattle.slot_evidence.proofs.PublicLaws.{IsEnds-same}
 use Rattle.line_grammar.specs.Tokens.{free_number, value_after}
 use Rattle.line_grammar.specs.Grammar.{Grammar, word, field}
 use Rattle.line_grammar.specs.Repeats.{repeated}
@@ -77,32 +79,10 @@ pub record IsTaken (bytes rest : List ℕ) (sheet : List Seen) : Type 0 where
   pub ends : IsEnds (facts_of_pairs pairs) sheet
   pub goes_on : (n left : ℕ) → read (repeated pair n) rest ≡ Err left → read (repeated pair (length pairs + n)) bytes ≡ Err left
 
-IsEnds-same : (F G : Facts) (s : List Seen) → ((p v : ℕ) → F p v ≡ G p v) → IsEnds F s → IsEnds G s
-IsEnds-same F G s same ends =
-    let one : F ≡ G = λ i p v. same p v i in
-    subst (λ (H : Facts). IsEnds H s) one ends
-
-pub taken_none : (bytes : List ℕ) (sheet : List Seen) → IsEnds no_facts sheet → IsTaken bytes bytes sheet
-taken_none bytes sheet ends = record {
-  pairs = [];
-  are = λ k d below. absurd (omega (arith, below));
-  list = refl;
-  ends = ends;
-  goes_on = λ n left h. subst (λ (m : ℕ). read (repeated pair m) bytes ≡ Err left) (omega arith) h;
-}
-
-or_nothing : (a : Bool) → (a || false) ≡ a
-or_nothing true = refl
-or_nothing false = refl
-
 facts_push : (pairs : List (ℕ × ℕ)) (x : ℕ × ℕ) (p v : ℕ) → union (facts_of_pairs pairs) (one_fact x.0 x.1) p v ≡ facts_of_pairs (pairs ++ (x ∷ [])) p v
 facts_push pairs x p v =
     let f : ℕ × ℕ → Bool = λ pair. p == pair.0 && v == pair.1 in
-    sym (list_any-append f pairs (x ∷ []) ∙ ap (λ (b : Bool). list_any f pairs || b) (or_nothing (f x)))
-
-pub one_pair : (x : ℕ × ℕ) → IsPair x → All IsPair (x ∷ [])
-one_pair x h zero d below = h
-one_pair x h (suc k) d below = absurd (omega (arith, below))
+    sym (list_any-append f pairs (x ∷ []) ∙ ap (λ (b : Bool). list_any f pairs || b) (or-false (f x)))
 
 begins : (x : ℕ × ℕ) (rest back : List ℕ) → rest ≡ pair_text x ++ back → (more : List ℕ) × (rest ≡ 32 ∷ more)
 begins x rest back e = ((decimal x.0 ++ (codes ":" ++ decimal x.1)) ++ back, e ∙ pair_text_is x back)
@@ -120,7 +100,7 @@ pub taken_more : (bytes rest back : List ℕ) (old new : List Seen) (x : ℕ × 
     → ((F : Facts) → IsEnds F old → IsEnds (union F (one_fact x.0 x.1)) new) → IsTaken bytes back new
 taken_more bytes rest back old new x t is e goes_on ends = record {
   pairs = t.pairs ++ (x ∷ []);
-  are = All-append IsPair t.pairs (x ∷ []) t.are (one_pair x is);
+  are = All-append IsPair t.pairs (x ∷ []) t.are (All-cons IsPair x [] is (All-nil IsPair));
   list = t.list ∙ ap (λ (l : List ℕ). flat_map pair_text t.pairs ++ l) (e ∙ ap (λ (l : List ℕ). l ++ back) (sym (append-nil (pair_text x))))
       ∙ sym (append_assoc (flat_map pair_text t.pairs) (pair_text x ++ []) back)
       ∙ ap (λ (l : List ℕ). l ++ back) (sym (flat_map-append pair_text t.pairs (x ∷ [])));
@@ -146,11 +126,6 @@ taken_fault bytes rest sheet left t some h n large =
     let next = some_less m left rest some (h (repeated pair m)) in
     let all = t.goes_on (suc m) left next in
     subst (λ (k : ℕ). read (repeated pair k) bytes ≡ Err left) (omega (arith, few, large)) all
-
-pub taken_all : (bytes rest : List ℕ) (sheet : List Seen) → IsTaken bytes rest sheet → length rest ≡ 0
-    → (pairs : List (ℕ × ℕ)) × (All IsPair pairs × ((bytes ≡ flat_map pair_text pairs) × IsEnds (facts_of_pairs pairs) sheet))
-taken_all bytes rest sheet t e =
-    (t.pairs, (t.are, (t.list ∙ ap (λ (l : List ℕ). flat_map pair_text t.pairs ++ l) (nil_from_length rest e) ∙ append-nil (flat_map pair_text t.pairs), t.ends)))
 
 -- evidence behind its group
 pub no_group : (bytes : List ℕ) (left : ℕ) → ((rest : Grammar) → IsBehindBlank rest → read (grouped (behind_blank rest)) bytes ≡ Err left)

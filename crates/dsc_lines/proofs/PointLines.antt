@@ -1,5 +1,6 @@
 -- lines at a point of a traffic file
 use Rattle.std.proofs.Common.{◌≡◌, ℕ, zero, suc, ◌≤◌, ◌⊎◌, inl, inr, true, List, [], ◌∷◌, Ok, Err, refl, sym, ap, subst, arith}
+use mathlib.Core.List.{head-eq_of_cons-eq}
 use Rattle.line_grammar.specs.Columns.{IsColumn}
 use Rattle.line_grammar.specs.Tokens.{is_digit}
 use Rattle.traffic_lines.specs.declared.lines.Point.{Point}
@@ -16,9 +17,6 @@ use Rattle.dsc_lines.specs.Lines.{ReadsJoin, ReadsAtPoint}
 use Rattle.dsc_lines.specs.inside.Points.{IsStationsByte}
 use Rattle.dsc_lines.proofs.Narrowing.{column_of_kind}
 use Rattle.dsc_lines.proofs.WholeLines.{one_line}
-
-head : {xs ys : List ℕ} {x y : ℕ} → x ∷ xs ≡ y ∷ ys → x ≡ y
-head h = cc
 
 -- each of a station's lines has a first byte
 abbrev pub StationsBegin : Type 0
@@ -39,9 +37,9 @@ stations_byte (Event at what) b first = tells (λ n. is_digit n ≡ true) b firs
 
 joined_byte : (line : JoinLine) (b : ℕ) (rest : List ℕ) → IsLine line (b ∷ rest) → (b ≡ 35) ⊎ ((b ≡ 114) ⊎ (b ≡ 101))
 joined_byte nothing b rest (inl empty) = absurd (cc)
-joined_byte nothing b rest (inr comment) = inl (head comment.1)
-joined_byte (reception group e) b rest is = inr (inl (head is.1.1))
-joined_byte (evidence group pairs) b rest is = inr (inr (head is.1.1.1))
+joined_byte nothing b rest (inr comment) = inl (head-eq_of_cons-eq comment.1)
+joined_byte (reception group e) b rest is = inr (inl (head-eq_of_cons-eq is.1.1))
+joined_byte (evidence group pairs) b rest is = inr (inr (head-eq_of_cons-eq is.1.1.1))
 
 apart : StationsBegin → (line : JoinLine) (station : TrafficLine) (text : List ℕ) → IsLine line text → IsLineText station text → ⊥
 apart begin line station text is said =
@@ -65,7 +63,7 @@ only_joined : StationsBegin → (at : Point) (b : ℕ) → (b ≡ 114) ⊎ (b �
 only_joined begin at b which (joined line) rest is = (line, is.1)
 only_joined begin at b which (traffic line) rest is =
     let first = begin line (b ∷ rest) is.1 in
-    let same : b ≡ first.0 = head first.3 in
+    let same : b ≡ first.0 = head-eq_of_cons-eq first.3 in
     absurd (stations_byte line first.0 first.2 (inr (subst (λ (n : ℕ). (n ≡ 114) ⊎ (n ≡ 101)) same which)))
 
 counted : (b : ℕ) (rest : List ℕ) (n : ℕ) → IsColumn IsLine (b ∷ rest) n → 1 ≤ n
@@ -98,10 +96,10 @@ only_station : (at : Point) (b : ℕ) → IsStationsByte at b → (v : PointLine
 only_station at b other (joined nothing) rest is =
     elim is.1 [
       | inl empty ↦ absurd (cc)
-      | inr comment ↦ absurd (other.0 (head comment.1))
+      | inr comment ↦ absurd (other.0 (head-eq_of_cons-eq comment.1))
     ]
-only_station at b other (joined (reception group e)) rest is = absurd (other.1 (inl (head is.1.1.1)) is.0)
-only_station at b other (joined (evidence group pairs)) rest is = absurd (other.1 (inr (head is.1.1.1.1)) is.0)
+only_station at b other (joined (reception group e)) rest is = absurd (other.1 (inl (head-eq_of_cons-eq is.1.1.1)) is.0)
+only_station at b other (joined (evidence group pairs)) rest is = absurd (other.1 (inr (head-eq_of_cons-eq is.1.1.1.1)) is.0)
 only_station at b other (traffic line) rest is = (line, is)
 
 own_column : (at : Point) (b : ℕ) (rest : List ℕ) (n : ℕ) → IsStationsByte at b → 1 ≤ n → IsColumn (IsTrafficLine at) (b ∷ rest) n → IsColumn (IsPointLine at) (b ∷ rest) n

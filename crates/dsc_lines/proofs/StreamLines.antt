@@ -1,6 +1,7 @@
 -- the lines of a stream
 use Rattle.std.proofs.Common.{◌≡◌, ◌≢◌, ℕ, zero, suc, ◌+◌, ◌-◌, ◌≤◌, ◌<◌, true, List, [], ◌∷◌, ◌++◌, map, length, take, drop, codes, Err, inl, inr, refl, sym, ◌∙◌, ap, subst, append-nil, arith}
 use Rattle.std.specs.List.{list_all}
+use mathlib.Core.List.{head-eq_of_cons-eq, nil≢cons}
 use Rattle.ten_unit.specs.declared.character.Element.{Element}
 use Rattle.line_grammar.specs.Columns.{Begins, IsColumn, ReadsAs, with_column}
 use Rattle.line_grammar.specs.Tokens.{is_one_of}
@@ -13,16 +14,10 @@ use Rattle.dsc_lines.specs.inside.Reading.{blank_and_signs, elements_line, eleme
 use Rattle.dsc_lines.proofs.Bodies.{body_of, are_signs, elements_again}
 use Rattle.dsc_lines.proofs.Narrowing.{AreAt, column_of_kind}
 
-nil_cons : (b : ℕ) (l : List ℕ) → [] ≡ b ∷ l → ⊥
-nil_cons b l e = cc
-
-heads : (b c : ℕ) (l m : List ℕ) → b ∷ l ≡ c ∷ m → b ≡ c
-heads b c l m e = cc
-
 -- a line that begins with this byte says something
 not_nothing : (b : ℕ) (rest : List ℕ) → (b ≡ 35 → ⊥) → IsNothing (b ∷ rest) → ⊥
-not_nothing b rest other (inl empty) = nil_cons b rest (sym empty)
-not_nothing b rest other (inr (comment, is)) = other (heads b 35 rest comment is)
+not_nothing b rest other (inl empty) = nil≢cons (sym empty)
+not_nothing b rest other (inr (comment, is)) = other (head-eq_of_cons-eq is)
 
 -- ---- a line says one thing
 
@@ -40,13 +35,6 @@ one_stream a b text (inr h) (inl k) = absurd (no_elements a text k.1 h.1)
 one_stream a b text (inr h) (inr k) = sym (again a h.0) ∙ ap (λ (l : List ℕ). map element_of (drop 2 l)) (sym h.1 ∙ k.1) ∙ again b k.0
 
 -- ---- lines that were read
-
-pub empty_stream : (text : List ℕ) → length text ≡ 0 → IsStreamLine [] text
-empty_stream [] e = inl (refl, inl refl)
-empty_stream (b ∷ text) e = absurd (omega (arith, e))
-
-pub comment_in_stream : (text rest : List ℕ) (b : ℕ) → text ≡ b ∷ rest → b ≡ 35 → IsStreamLine [] text
-comment_in_stream text rest b e h = inl (refl, inr (rest, e ∙ ap (λ (c : ℕ). c ∷ rest) h))
 
 some_elements : (front : List ℕ) → front ≢ [] → map element_of front ≢ []
 some_elements [] some e = some refl
@@ -118,7 +106,7 @@ elements_column reads line rest left n e h at =
 
 no_such : (b : ℕ) (rest : List ℕ) → (b ≡ 35 → ⊥) → (b ≡ 115 → ⊥) → (e : List Element) → IsStreamLine e (b ∷ rest) → ⊥
 no_such b rest no_comment no_s e (inl (none_added, nothing)) = not_nothing b rest no_comment nothing
-no_such b rest no_comment no_s e (inr (some, is)) = no_s (heads b 115 rest (body_text e) is)
+no_such b rest no_comment no_s e (inr (some, is)) = no_s (head-eq_of_cons-eq is)
 
 begins : (b : ℕ) (rest : List ℕ) (k : ℕ) → k < 1 → Begins IsStreamLine (take k (b ∷ rest))
 begins b rest zero below = record { value = []; rest = []; whole = inl (refl, inl refl) }

@@ -2,7 +2,7 @@
 use Rattle.std.proofs.Common.{◌≡◌, ℕ, zero, suc, ◌+◌, ◌≤◌, ◌<◌, true, List, [], ◌∷◌, ◌++◌, length, map, codes, decimal, inl, inr, refl, sym, ◌∙◌, ap, subst, append_assoc, append-nil, arith}
 use Rattle.std.specs.List.{flat_map, All}
 use Rattle.std.proofs.lemmas.Bool.{and_from}
-use Rattle.std.proofs.lemmas.List.Elements.{All-append}
+use Rattle.std.proofs.lemmas.List.Elements.{All-append, All-cons, All-nil}
 use Rattle.ten_unit.specs.declared.character.Element.{Element}
 use Rattle.line_grammar.specs.Tokens.{run, free_number, value_after, IsNumber}
 use Rattle.line_grammar.specs.Grammar.{Grammar, finish, anything, word, field, either, Parts, none, part, first, second, Spells}
@@ -13,10 +13,11 @@ use Rattle.line_grammar.proofs.Grammars.{choice_back}
 use Rattle.line_grammar.proofs.Apart.{one_reading}
 use Rattle.line_grammar.proofs.Repeats.{IsLimit}
 use Rattle.line_grammar.proofs.Decimals.{number_text, decimal_number, decimal_value}
+use Rattle.line_grammar.proofs.Chains.{finished}
 use Rattle.dsc_lines.specs.JoinLine.{JoinLine, nothing, reception, evidence, sign_of, NamesGroup, body_text, IsPair, pair_text, IsLine}
 use Rattle.dsc_lines.specs.inside.Reading.{behind_blank, signs, grouped, pair, reception_line, evidence_line, join_lines, element_of}
 use Rattle.dsc_lines.proofs.Bodies.{body_of, are_signs, elements_again}
-use Rattle.dsc_lines.proofs.Pairs.{pairs_sound, one_pair, pair_text_is}
+use Rattle.dsc_lines.proofs.Pairs.{pairs_sound, pair_text_is}
 
 -- what the parts of a line say
 pub group_in : Parts → ℕ
@@ -141,19 +142,13 @@ line_spelled (evidence group pairs) text n h few =
     }
 
 -- and what they spell is a line
-nothing_left : (parts : Parts) (bytes : List ℕ) → Spells finish parts bytes → bytes ≡ []
-nothing_left none bytes h = h
-nothing_left (part a b) bytes h = absurd h
-nothing_left (first a) bytes h = absurd h
-nothing_left (second a) bytes h = absurd h
-
 body_back : (parts : Parts) (bytes : List ℕ) → Spells (behind_blank signs) parts bytes → (e : List Element) × (bytes ≡ body_text e)
 body_back parts bytes h =
     elim (choice_back finish (word (codes " ") signs) parts bytes h) [
-      | inl k ↦ ([], nothing_left k.0 bytes k.1)
+      | inl k ↦ ([], finished k.0 bytes k.1)
       | inr k ↦
           let f = field_of (run (codes "YB-")) finish k.0 k.1.0 k.1.2 in
-          let all = f.list ∙ ap (λ (l : List ℕ). f.front ++ l) (nothing_left f.parts f.back f.spelled) ∙ append-nil f.front in
+          let all = f.list ∙ ap (λ (l : List ℕ). f.front ++ l) (finished f.parts f.back f.spelled) ∙ append-nil f.front in
           (map element_of f.front, body_of bytes f.front f.is_token.0 f.is_token.1 (k.1.1 ∙ ap (λ (l : List ℕ). codes " " ++ l) all))
     ]
 
@@ -173,17 +168,17 @@ pair_more bytes a place b d symbol back e is_place f g is_symbol h more =
     let colon_on : b ≡ (codes ":" ++ decimal v) ++ text = g ∙ ap (λ (l : List ℕ). codes ":" ++ l) symbol_on in
     let place_on : a ≡ (decimal p ++ (codes ":" ++ decimal v)) ++ text =
     f ∙ ap (λ (l : List ℕ). l ++ b) (sym (number_text 0 63 place (omega arith) is_place)) ∙ ap (λ (l : List ℕ). decimal p ++ l) colon_on ∙ sym (append_assoc (decimal p) (codes ":" ++ decimal v) text) in
-    (x ∷ more.0, (All-append IsPair (x ∷ []) more.0 (one_pair x is) more.1.0, e ∙ ap (λ (l : List ℕ). codes " " ++ l) place_on ∙ sym (pair_text_is x text)))
+    (x ∷ more.0, (All-append IsPair (x ∷ []) more.0 (All-cons IsPair x [] is (All-nil IsPair)) more.1.0, e ∙ ap (λ (l : List ℕ). codes " " ++ l) place_on ∙ sym (pair_text_is x text)))
 
 no_more_pairs : (bytes : List ℕ) → bytes ≡ [] → AreAll bytes
 unfolding AreAll
 no_more_pairs bytes e = ([], ((λ k d below. absurd (omega (arith, below))), e))
 
 pairs_back : (n : ℕ) (parts : Parts) (bytes : List ℕ) → Spells (repeated pair n) parts bytes → AreAll bytes
-pairs_back zero parts bytes h = no_more_pairs bytes (nothing_left parts bytes h)
+pairs_back zero parts bytes h = no_more_pairs bytes (finished parts bytes h)
 pairs_back (suc n) parts bytes h =
     elim (choice_back finish (word (codes " ") (pair (repeated pair n))) parts bytes h) [
-      | inl k ↦ no_more_pairs bytes (nothing_left k.0 bytes k.1)
+      | inl k ↦ no_more_pairs bytes (finished k.0 bytes k.1)
       | inr k ↦
           let f = field_of (free_number 0 63) (word (codes ":") (field (free_number 0 127) (repeated pair n))) k.0 k.1.0 k.1.2 in
           let s = field_of (free_number 0 127) (repeated pair n) f.parts f.spelled.0 f.spelled.2 in
@@ -233,7 +228,7 @@ evidence_back n parts bytes h =
 line_back : (n : ℕ) (parts : Parts) (bytes : List ℕ) → Spells (join_lines n) parts bytes → (w : JoinLine) × IsLine w bytes
 line_back n parts bytes h =
     elim (choice_back finish (either (word (codes "#") anything) (either reception_line (evidence_line n))) parts bytes h) [
-      | inl k ↦ (nothing, inl (nothing_left k.0 bytes k.1))
+      | inl k ↦ (nothing, inl (finished k.0 bytes k.1))
       | inr k ↦ (elim (choice_back (word (codes "#") anything) (either reception_line (evidence_line n)) k.0 bytes k.1) [
         | inl c ↦ (nothing, inr (c.1.0, c.1.1))
         | inr c ↦ (elim (choice_back reception_line (evidence_line n) c.0 bytes c.1) [

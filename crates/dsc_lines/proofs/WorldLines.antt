@@ -1,5 +1,6 @@
 -- lines of files of exchanges
 use Rattle.std.proofs.Common.{◌≡◌, ◌≢◌, ℕ, ◌≤◌, Option, Some, None, inl, inr, List, [], ◌∷◌, get_or, refl, ap, arith}
+use mathlib.Core.List.{head-eq_of_cons-eq}
 use Rattle.line_grammar.specs.Columns.{IsColumn}
 use Rattle.traffic_lines.specs.declared.worlds.Entry as entries
 use Rattle.traffic_lines.specs.declared.worlds.Entry.TheVariants.{AtShip, AtCoast}
@@ -44,12 +45,9 @@ one_exchange one point (Some a) None text h k = absurd (neither a text k h.1)
 one_exchange one point (Some a) (Some b) text h k = ap Some (one a b text h.1 k.1)
 
 -- columns of lines that say something are columns of the file's lines
-head : (b c : ℕ) (xs ys : List ℕ) → b ∷ xs ≡ c ∷ ys → b ≡ c
-head b c xs ys e = cc
-
 comment_head : (b : ℕ) (rest : List ℕ) → IsNothing (b ∷ rest) → b ≡ 35
 comment_head b rest (inl empty) = absurd (cc)
-comment_head b rest (inr (comment, e)) = head b 35 rest comment e
+comment_head b rest (inr (comment, e)) = head-eq_of_cons-eq e
 
 only_said : (point : ExchangePoint) (b : ℕ) → b ≢ 35 → (v : Option WorldLine) (rest : List ℕ) → IsWorldFileLine point v (b ∷ rest) → (w : WorldLine) × IsWorldLine point w (b ∷ rest)
 only_said point b other None rest is = absurd (other (comment_head b rest is))

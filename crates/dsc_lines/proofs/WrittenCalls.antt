@@ -1,5 +1,6 @@
 -- the text of a call is read as this call
 use Rattle.std.proofs.Common.{◌≡◌, ℕ, Some, None, ◌==◌, false, List, [], ◌∷◌, ◌++◌, codes, inl, inr, refl, sym, ap, ◌∙◌, arith, Result, Ok, Err}
+use Rattle.std.proofs.lemmas.Bool.{eqb-false}
 use Rattle.call_values.specs.declared.calls.Call.{Call}
 use Rattle.call_values.specs.declared.calls.Call.TheVariants as form
 use Rattle.call_values.specs.declared.parts.Kind.TheVariants as kind
@@ -60,9 +61,6 @@ begins_so (form.Service to category from (kind.Test reply)) x = refl
 begins_so (form.Service to category from kind.AskPosition) x = refl
 begins_so (form.Service to category from (kind.Position position time)) x = refl
 
-not_equal : (a b : ℕ) → (a == b) ≡ false → a ≡ b → ⊥
-not_equal a b other same = grind arith
-
 is_letter : (c : Call) → (letter_of c == 35) ≡ false
 unfolding letter_of
 is_letter (form.Alert casualty) = refl
@@ -93,7 +91,7 @@ is_no_dollar (form.Service to category from kind.AskPosition) = refl
 is_no_dollar (form.Service to category from (kind.Position position time)) = refl
 
 call_no_dollar : (c : Call) (x : Extra) (text : List ℕ) → text ≡ reported_text c x → first_of text ≡ 36 → ⊥
-call_no_dollar c x text is e = not_equal (letter_of c) 36 (is_no_dollar c) (sym (begins_so c x) ∙ ap first_of (sym is) ∙ e)
+call_no_dollar c x text is e = eqb-false (letter_of c) 36 (is_no_dollar c) (sym (begins_so c x) ∙ ap first_of (sym is) ∙ e)
 
 no_dollar : (a : CallLine) (text : List ℕ) → IsCallLine a text → first_of text ≡ 36 → ⊥
 no_dollar line.Nothing text is e = let same : 35 ≡ 36 = sym (says_nothing text is) ∙ e in omega (arith, same)
@@ -108,7 +106,7 @@ no_sentence a text rest is e = no_dollar a text is (ap first_of e ∙ first_doll
 
 -- a call's text says a call
 pub no_empty : (c : Call) (x : Extra) → IsCallLine line.Nothing (reported_text c x) → ⊥
-no_empty c x is = not_equal (letter_of c) 35 (is_letter c) (sym (begins_so c x) ∙ says_nothing (reported_text c x) is)
+no_empty c x is = eqb-false (letter_of c) 35 (is_letter c) (sym (begins_so c x) ∙ says_nothing (reported_text c x) is)
 
 pub call_is_read : ApartLaw → (c : Call) (x : Extra) (answer : Result Line LineFault) → IsCall c → IsWholeOrAbsent x → ReadsLine file.Call (reported_text c x) answer → answer ≡ Ok (got.Call c x)
 call_is_read apart c Absent (Err (fault.Column n)) is whole h = absurd (h.is_none (line.Call c None) ((is, whole), refl))

@@ -1,5 +1,6 @@
 //! The lines of files of calls.
 ghost use Rattle.std.specs.Prelude.{◌≡◌, ◌≢◌, ◌∷◌, ℕ, List};
+ghost use Rattle.line_grammar.specs.Bytes.{number_sign};
 ghost use Rattle.dsc_texts.specs.Texts.{IsWholeOrAbsent};
 ghost use Rattle.dsc_lines.specs.CallLine.{extra_of, IsCallLine};
 ghost use Rattle.dsc_lines.specs.Readings.{Reads};
@@ -34,7 +35,7 @@ fn expansion_in(extra: &Extra) -> Option<Expansion>
 
 /// Reads a line that isn't empty and doesn't begin with `#`.
 fn whole_call(line: &[u8]) -> Result<CallLine, usize>
-    requires { (b : ℕ) × (rest : List ℕ) × (line.now ≡ b ∷ rest) × (b ≢ 35) }
+    requires { (b : ℕ) × (rest : List ℕ) × (line.now ≡ b ∷ rest) × (b ≢ number_sign) }
     ensures { Reads IsCallLine line.now result }
 {
     match read_call(line) {

@@ -1,6 +1,7 @@
 //! Lines of evidence.
 ghost use Rattle.std.specs.Prelude.{◌≡◌, ◌∷◌, ◌++◌, ◌<◌, ℕ, List, length, codes, All, IfOk, IfErr, Err};
 ghost use Rattle.std.specs.List.{flat_map};
+ghost use Rattle.line_grammar.specs.Bytes.{letter_e};
 ghost use Rattle.slot_evidence.specs.Sheet.{IsEnds};
 ghost use Rattle.line_grammar.specs.Grammar.{Grammar, word as behind};
 ghost use Rattle.line_grammar.specs.Repeats.{repeated};
@@ -50,7 +51,7 @@ fn pairs(bytes: &[u8]) -> Result<Sheet, Left>
 
 /// What a line of evidence says, by the bytes behind its `e`.
 fn evidence(bytes: &[u8]) -> Result<JoinLine, Left>
-    ensures line { IfOk result (λ read. (says : Line) × (IsLine says (101 ∷ bytes.now) × Says says read)) }
+    ensures line { IfOk result (λ read. (says : Line) × (IsLine says (letter_e ∷ bytes.now) × Says says read)) }
     ensures left { IfErr result (λ left. (n : ℕ) → length bytes.now < n
         → read (grouped (repeated reading.pair n)) bytes.now ≡ Err left) }
 {
@@ -61,7 +62,7 @@ fn evidence(bytes: &[u8]) -> Result<JoinLine, Left>
 
 /// Reads evidence, which is this line behind its `e`.
 pub(crate) fn evidence_line(line: &[u8], rest: &[u8]) -> Result<JoinLine, LineFault>
-    requires { line.now ≡ 101 ∷ rest.now }
+    requires { line.now ≡ letter_e ∷ rest.now }
     ensures { ReadsJoin line.now result }
 {
     match evidence(rest) {

@@ -1,6 +1,7 @@
 //! Lines of receptions.
 ghost use Rattle.std.specs.Prelude.{◌≡◌, ◌∷◌, ◌++◌, ℕ, List, map, codes, IfOk, IfErr, Err};
 ghost use Rattle.std.specs.List.{list_all};
+ghost use Rattle.line_grammar.specs.Bytes.{letter_r};
 ghost use Rattle.line_grammar.specs.Tokens as tokens;
 ghost use Rattle.line_grammar.specs.Tokens.{is_one_of, IsToken};
 ghost use Rattle.line_grammar.specs.inside.Reading.{read};
@@ -92,7 +93,7 @@ pub(crate) fn elements_of(alloc: Global, signs: &[u8]) -> Result<Reception, Allo
 
 /// Reads a reception, which is this line behind its `r`.
 pub(crate) fn reception_line(alloc: Global, line: &[u8], rest: &[u8]) -> Result<JoinLine, LineFault>
-    requires { line.now ≡ 114 ∷ rest.now }
+    requires { line.now ≡ letter_r ∷ rest.now }
     ensures { ReadsJoin line.now result }
 {
     match group_and_signs(rest) {

@@ -1,5 +1,6 @@
 //! The lines of files of calls and sentences.
 ghost use Rattle.std.specs.Prelude.{◌≢◌, ◌∷◌, ℕ, List};
+ghost use Rattle.line_grammar.specs.Bytes.{dollar_sign};
 ghost use Rattle.dsc_lines.specs.Readings.{Reads};
 ghost use Rattle.dsc_lines.specs.SentenceLine.{IsSentenceLine};
 
@@ -16,7 +17,7 @@ pub enum SentenceLine<'a> {
 
 /// Reads a line that doesn't begin with `$`.
 fn said_line(line: &[u8]) -> Result<SentenceLine<'_>, usize>
-    requires { (rest : List ℕ) → line.now ≢ 36 ∷ rest }
+    requires { (rest : List ℕ) → line.now ≢ dollar_sign ∷ rest }
     ensures { Reads IsSentenceLine line.now result }
 {
     match call_line(line) {

@@ -13,7 +13,8 @@ use std::alloc::Global;
 /// Reads a line behind its `s`.
 fn elements_line<'a>(line: &[u8], rest: &'a [u8]) -> Result<&'a [u8], usize>
     requires { line.now ≡ 115 ∷ rest.now }
-    ensures { MatchResult result (λ signs. IsStreamLine (map reading.element_of signs.now) line.now) (λ n. IsColumn IsStreamLine line.now n) }
+    ensures { MatchResult result (λ signs. IsStreamLine (map reading.element_of signs.now) line.now)
+        (λ n. IsColumn IsStreamLine line.now n) }
 {
     grammars_are_read();
     match signs(rest) {
@@ -25,7 +26,8 @@ fn elements_line<'a>(line: &[u8], rest: &'a [u8]) -> Result<&'a [u8], usize>
 /// Reads one line of a stream: the signs of the elements that it adds, `Y`, `B`, and `-` for a lost one. An empty line and a comment add
 /// none. An error is the column of bytes that are no such line.
 pub fn stream_line(line: &[u8]) -> Result<&[u8], usize>
-    ensures { MatchResult result (λ signs. IsStreamLine (map reading.element_of signs.now) line.now) (λ n. IsColumn IsStreamLine line.now n) }
+    ensures { MatchResult result (λ signs. IsStreamLine (map reading.element_of signs.now) line.now)
+        (λ n. IsColumn IsStreamLine line.now n) }
 {
     let Some((first, rest)) = line.split_first() else {
         return Ok(&[]);

@@ -1,5 +1,6 @@
 //! The lines of traffic files.
 ghost use Rattle.std.specs.Prelude.{◌≡◌, ◌∷◌, ◌⊎◌, ℕ, List, IsTrue, ◌↔◌};
+ghost use Rattle.line_grammar.specs.Bytes.{letter_e, letter_r};
 ghost use Rattle.dsc_lines.specs.Lines.{ReadsAtPoint, ReadsJoinedAt};
 ghost use Rattle.dsc_lines.specs.PointLine.{IsBody};
 ghost use Rattle.dsc_lines.specs.inside.Points.{IsStationsByte};
@@ -42,7 +43,7 @@ fn line_of_receivers(
     point: Point,
     line: &[u8],
 ) -> Result<Option<JoinLine>, LineFault>
-    requires { (b : ℕ) × (rest : List ℕ) × (line.now ≡ b ∷ rest) × ((b ≡ 114) ⊎ (b ≡ 101)) }
+    requires { (b : ℕ) × (rest : List ℕ) × (line.now ≡ b ∷ rest) × ((b ≡ letter_r) ⊎ (b ≡ letter_e)) }
     ensures { ReadsJoinedAt point line.now result }
 {
     if is_body(point) {

@@ -2,6 +2,7 @@
 use Rattle.std.proofs.Common.{◌≡◌, ℕ, ◌+◌, ◌*◌, ◌≤◌, true, false, ◌&&◌, nat_eq, nat_lt, List, [], ◌∷◌, ◌++◌, length, filter, Option, Some, None, IfSome, ◌⊎◌, inl, inr, refl, sym, ◌∙◌, ap, subst, arith, codes, Result, Ok, Err, length-append}
 use Rattle.std.specs.List.{list_all}
 use Rattle.std.proofs.lemmas.Bool.{and_parts, and_from, cases_Bool, lt-ltb, or_left, eq-eqb}
+use Rattle.std.proofs.lemmas.List.{append-nil}
 use Rattle.line_grammar.proofs.Digits.{value_of_digits}
 use Rattle.sentence_frame.specs.declared.refusals.SentenceRefusal.{SentenceRefusal}
 use Rattle.sentence_frame.specs.Shapes as shape
@@ -23,7 +24,7 @@ use Rattle.dsc_sentences.specs.declared.dse.DseFields.{DseFields}
 use Rattle.dsc_sentences.specs.Dse.{texts, pair_shapes, data_shape, set_texts, expansion_texts, dse, IsDse, IsReading}
 use Rattle.dsc_sentences.specs.inside.DseReading.{FieldsAnswer}
 use Rattle.dsc_sentences.proofs.DseSets.{Rises, ArePairs, data_kind, code_one, code_more, code_other, code_among}
-use Rattle.dsc_sentences.proofs.DseLaws.{flag_kind, one_shown, one_record, BeginsOther, behind_code, append_none}
+use Rattle.dsc_sentences.proofs.DseLaws.{flag_kind, one_shown, one_record, BeginsOther, behind_code}
 use Rattle.dsc_sentences.proofs.DseAnswers.{rises_0, rises_2, rises_3, head_is}
 
 -- pairs before which a code may come, that isn't theirs
@@ -88,7 +89,7 @@ are_sets : (x : Sets) → IsExpansion x → AreSets x
 are_sets x h =
     let last = set_texts 3 4 x.course in
     let later = set_texts 2 4 x.speed ++ last in
-    let none3 : set_texts 3 4 x.course ++ [] ≡ last = append_none last in
+    let none3 : set_texts 3 4 x.course ++ [] ≡ last = append-nil last in
     let pairs3 : ArePairs last = subst ArePairs none3 (set_pairs 3 4 x.course [] tt) in
     let pairs2 : ArePairs later = set_pairs 2 4 x.speed last pairs3 in
     let all3 : accepted (pair_shapes (3 ∷ []) last) last ≡ true =

@@ -2,6 +2,7 @@
 use Rattle.std.proofs.Common.{◌≡◌, ◌≢◌, ℕ, ◌+◌, ◌-◌, ◌<◌, true, false, ◌&&◌, ◌||◌, nat_eq, nat_lt, cond, List, [], ◌∷◌, ◌++◌, length, inl, inr, refl, sym, ◌∙◌, ap, subst, arith, codes, Result, Ok, Err}
 use Rattle.std.specs.List.{list_all}
 use Rattle.std.proofs.lemmas.Bool.{and_parts, and_right, or_cases, eqb-true, le-ltb, false≢true}
+use Rattle.std.proofs.lemmas.List.{append-nil}
 use Rattle.sentence_frame.specs.declared.refusals.SentenceRefusal.{SentenceRefusal}
 use Rattle.sentence_frame.specs.declared.refusals.SentenceRefusal.TheVariants.{Field}
 use Rattle.sentence_frame.specs.Shapes as shape
@@ -21,7 +22,7 @@ use Rattle.dsc_sentences.specs.declared.dse_reading.DseParts.{DseParts}
 use Rattle.dsc_sentences.specs.Dse.{texts, shapes, pair_shapes, set_texts, dse, IsDse}
 use Rattle.dsc_sentences.specs.inside.DseReading.{read_set, read_fields, flag_in, first_byte, fields_of, PartsAnswer}
 use Rattle.dsc_sentences.proofs.DseSets.{Rises, ArePairs, set_step}
-use Rattle.dsc_sentences.proofs.DseLaws.{flag_kind, one_again, some_there, append_none}
+use Rattle.dsc_sentences.proofs.DseLaws.{flag_kind, one_again, some_there}
 
 nothing_eight : accepts (shape.number 8 99999999) [] ≡ false
 unfolding accepts
@@ -91,7 +92,7 @@ sets_agree flag address ts all P pairs free h =
     set_step k1 2 4 9999 (3 ∷ []) ts1 all _ P rises_2 p1 f1 (λ s k2 ts2 eq2 r2 p2 f2.
     set_step k2 3 4 3599 [] ts2 all _ P rises_3 p2 f2 (λ c k3 ts3 eq3 r3 p3 f3.
     last_step k3 (parts_of flag address e s c) ts3 all P p3 (λ none.
-    let three : ts2 ≡ set_texts 3 4 c = eq3 ∙ ap (λ (l : List (List ℕ)). set_texts 3 4 c ++ l) none ∙ append_none (set_texts 3 4 c) in
+    let three : ts2 ≡ set_texts 3 4 c = eq3 ∙ ap (λ (l : List (List ℕ)). set_texts 3 4 c ++ l) none ∙ append-nil (set_texts 3 4 c) in
     let two : ts1 ≡ set_texts 2 4 s ++ set_texts 3 4 c = eq2 ∙ ap (λ (l : List (List ℕ)). set_texts 2 4 s ++ l) three in
     h e s c (eq1 ∙ ap (λ (l : List (List ℕ)). set_texts 0 8 e ++ l) two) r1 r2 r3))))
 

@@ -1,6 +1,7 @@
 -- the fields of a DSE sentence, their texts and their values
 use Rattle.std.proofs.Common.{◌≡◌, ◌≢◌, ℕ, suc, ◌<◌, ◌^◌, true, false, ◌||◌, nat_eq, List, [], ◌∷◌, ◌++◌, length, get_or, ◌⊎◌, inl, inr, refl, sym, ◌∙◌, ap, subst, arith, codes}
 use Rattle.std.proofs.lemmas.Bool.{or_cases, eqb-true, false≢true}
+use Rattle.std.proofs.lemmas.List.{append-nil}
 use Rattle.line_grammar.proofs.Digits.{one_number}
 use Rattle.line_grammar.proofs.ShapesNumerals.{digits_length}
 use Rattle.sentence_frame.specs.Shapes as shape
@@ -121,22 +122,18 @@ same_sets : (x y : Sets) → x.enhanced ≡ y.enhanced → x.speed ≡ y.speed �
 unfolding made
 same_sets x y e s c = made_same x y e s c
 
-pub append_none : (ts : List (List ℕ)) → ts ++ [] ≡ ts
-append_none [] = refl
-append_none (t ∷ ts) = ap (λ (l : List (List ℕ)). t ∷ l) (append_none ts)
-
 one_expansion : (x y : Sets) → IsExpansion x → IsExpansion y → expansion_texts x ≡ expansion_texts y → x ≡ y
 one_expansion x y hx hy e =
     let later = λ (z : Sets). set_texts 2 4 z.speed ++ set_texts 3 4 z.course in
     let last = λ (z : Sets). set_texts 3 4 z.course in
     let end = λ (n : ℕ) (z : Sets) (small : n < 100) (ne : 3 ≢ n). (let k = behind_code n 3 4 z.course [] small (omega arith) ne tt in
-    subst (λ (l : List (List ℕ)). BeginsOther n l) (append_none (last z)) k) in
+    subst (λ (l : List (List ℕ)). BeginsOther n l) (append-nil (last z)) k) in
     let middle = λ (z : Sets). behind_code 0 2 4 z.speed (last z) (omega arith) (omega arith) (λ (q : 2 ≡ 0). omega (arith, q)) (end 0 z (omega arith) (λ (q : 3 ≡ 0). omega (arith, q))) in
     let first = set_apart 0 7 99999999 x.enhanced y.enhanced (later x) (later y) (omega arith) hx.enhanced hy.enhanced (middle x) (middle y) e in
     let second = set_apart 2 3 9999 x.speed y.speed (last x) (last y) (omega arith) hx.speed hy.speed
     (end 2 x (omega arith) (λ (q : 3 ≡ 2). omega (arith, q))) (end 2 y (omega arith) (λ (q : 3 ≡ 2). omega (arith, q))) first.1 in
     let third = set_apart 3 3 3599 x.course y.course [] [] (omega arith) hx.course hy.course tt tt
-    (append_none (last x) ∙ second.1 ∙ sym (append_none (last y))) in
+    (append-nil (last x) ∙ second.1 ∙ sym (append-nil (last y))) in
     same_sets x y first.0 second.0 third.0
 
 unfoldable whole : Flag → List ℕ → Sets → DseFields

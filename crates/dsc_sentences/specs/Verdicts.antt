@@ -1,6 +1,7 @@
 -- What is told of lines that are sentences: this project's profile.
 use Rattle.std.specs.Prelude.{ℕ, ◌-◌, ◌/◌, ◌%◌, ◌==◌, nat_eq, if◌then◌else◌, List, [], ◌∷◌, ◌++◌, length, take, slice_index, Result, Ok, Err, codes, decimal}
 use Rattle.std.specs.List.{starts_with}
+use Rattle.line_grammar.specs.Bytes.{line_feed, carriage_return, space}
 use Rattle.sentence_frame.specs.declared.refusals.SentenceRefusal.{SentenceRefusal}
 use Rattle.sentence_frame.specs.declared.refusals.SentenceRefusal.TheVariants.{TooLong, Start, End, Checksum, FieldCount, Field}
 use Rattle.sentence_frame.specs.Frames.{hexadecimal}
@@ -16,7 +17,7 @@ without_return line = if slice_index line (length line - 1) == 13 then take (len
 
 -- the line as a sentence, with CR and LF
 abbrev pub with_line_end : List ℕ → List ℕ
-with_line_end line = without_return line ++ 13 ∷ 10 ∷ []
+with_line_end line = without_return line ++ carriage_return ∷ line_feed ∷ []
 
 -- a line that begins with `$CDDSE` is read as DSE, every other one as DSC
 abbrev pub form_of : List ℕ → Form
@@ -40,7 +41,7 @@ abbrev pub refusal_text : SentenceRefusal → List ℕ
 refusal_text (TooLong n) = codes "too long " ++ decimal n
 refusal_text Start = codes "start"
 refusal_text End = codes "end"
-refusal_text (Checksum want got) = codes "checksum " ++ (two_hexadecimal want ++ (32 ∷ two_hexadecimal got))
+refusal_text (Checksum want got) = codes "checksum " ++ (two_hexadecimal want ++ (space ∷ two_hexadecimal got))
 refusal_text (FieldCount n) = codes "fields " ++ decimal n
 refusal_text (Field k) = codes "field " ++ decimal k
 

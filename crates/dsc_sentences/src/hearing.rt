@@ -1,4 +1,5 @@
 ghost use Rattle.std.specs.Prelude.{◌≡◌, ◌≤◌, ◌++◌, ◌∷◌, [], length};
+ghost use Rattle.line_grammar.specs.Bytes.{line_feed, carriage_return};
 ghost use Rattle.dsc_sentences.specs.Heard.{IsHeard};
 ghost use Rattle.dsc_sentences.specs.inside.Hearing.{IsHeardAsDsc, IsHeardAsDse};
 ghost use Rattle.dsc_sentences.specs.Verdicts as verdicts;
@@ -40,7 +41,7 @@ fn without_return(line: &[u8]) -> &[u8]
 /// A text with CR and LF.
 fn with_line_end(text: &[u8]) -> ArrayVec<u8, LONGEST_SENTENCE>
     requires { length text.now ≤ 80 }
-    ensures { result.items ≡ text.now ++ 13 ∷ 10 ∷ [] }
+    ensures { result.items ≡ text.now ++ carriage_return ∷ line_feed ∷ [] }
 {
     let mut bytes = ArrayVec::new();
     append(&mut bytes, text);

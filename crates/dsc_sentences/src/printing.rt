@@ -1,5 +1,6 @@
 ghost use Rattle.std.specs.Prelude.{◌≡◌, ◌+◌, ◌<◌, ◌≤◌, ◌++◌, ◌∷◌};
 ghost use Rattle.arrayvec.specs.ArrayVec.{array_vec_len};
+ghost use Rattle.line_grammar.specs.Bytes.{comma};
 ghost use Rattle.sentence_frame.specs.Texts.{digits, perhaps_text};
 ghost use Rattle.dsc_sentences.specs.Dsc.{SentenceText, end_text, expanded_text};
 
@@ -8,7 +9,7 @@ use arrayvec::ArrayVec;
 use call_values::End;
 use sentence_frame::{
     append_digits_field, append_field, append_number_field, append_perhaps_digits_field,
-    begin_sentence, close,
+    begin_sentence, close, widened,
 };
 
 /// The bytes of a DSC sentence, CR and LF included.
@@ -20,13 +21,13 @@ pub fn print(s: &DscSentence) -> ArrayVec<u8, 82>
     let mut out = begin_sentence(b"$CDDSC");
     append_number_field(&mut out, 2, u32::from(fields.format));
     append_digits_field(&mut out, &fields.address);
-    append_two_digits_field(&mut out, fields.category);
-    append_two_digits_field(&mut out, fields.first);
-    append_two_digits_field(&mut out, fields.second);
+    append_perhaps_number_field(&mut out, 2, widened(fields.category));
+    append_perhaps_number_field(&mut out, 2, widened(fields.first));
+    append_perhaps_number_field(&mut out, 2, widened(fields.second));
     append_digits_field(&mut out, fields.place.as_slice());
-    append_four_digits_field(&mut out, fields.time);
+    append_perhaps_number_field(&mut out, 4, fields.time);
     append_perhaps_digits_field(&mut out, &fields.distress);
-    append_two_digits_field(&mut out, fields.nature);
+    append_perhaps_number_field(&mut out, 2, widened(fields.nature));
     append_field(&mut out, end_letter(fields.end));
     append_field(&mut out, expanded_letter(fields.expanded));
     close(&mut out);
@@ -51,26 +52,14 @@ fn expanded_letter(expanded: bool) -> &'static [u8]
     if expanded { b"E" } else { b"" }
 }
 
-/// Appends a comma, and two digits where there is a number.
-fn append_two_digits_field(out: &mut ArrayVec<u8, 82>, number: Option<u8>)
-    requires { array_vec_len out.old + 2 < 82 }
-    ensures items { out.new.items ≡ out.old.items ++ 44 ∷ perhaps_text (digits 2) number }
-    ensures len { array_vec_len out.new ≤ array_vec_len out.old + 3 }
+/// Appends a comma, and so many digits where there is a number.
+fn append_perhaps_number_field(out: &mut ArrayVec<u8, 82>, width: usize, number: Option<u16>)
+    requires { array_vec_len out.old + width < 82 }
+    ensures items { out.new.items ≡ out.old.items ++ comma ∷ perhaps_text (digits width) number }
+    ensures len { array_vec_len out.new ≤ array_vec_len out.old + 1 + width }
 {
     match number {
-        Some(number) => append_number_field(out, 2, u32::from(number)),
-        None => append_field(out, b""),
-    }
-}
-
-/// Appends a comma, and four digits where there is a number.
-fn append_four_digits_field(out: &mut ArrayVec<u8, 82>, number: Option<u16>)
-    requires { array_vec_len out.old + 4 < 82 }
-    ensures items { out.new.items ≡ out.old.items ++ 44 ∷ perhaps_text (digits 4) number }
-    ensures len { array_vec_len out.new ≤ array_vec_len out.old + 5 }
-{
-    match number {
-        Some(number) => append_number_field(out, 4, u32::from(number)),
+        Some(number) => append_number_field(out, width, u32::from(number)),
         None => append_field(out, b""),
     }
 }

@@ -1,5 +1,6 @@
 ghost use Rattle.std.specs.Prelude.{◌≡◌, ◌+◌, ◌≤◌, ◌++◌, ◌∷◌, length, decimal};
 ghost use Rattle.arrayvec.specs.ArrayVec.{array_vec_len};
+ghost use Rattle.line_grammar.specs.Bytes.{space};
 ghost use Rattle.dsc_sentences.specs.Verdicts as verdicts;
 ghost use Rattle.sentence_frame.specs.declared.refusals.SentenceRefusal.TheVariants.{Checksum};
 
@@ -76,7 +77,7 @@ fn append_checksums(out: &mut ArrayVec<u8, 64>, want: u8, got: u8)
 
 /// Two checksums, each in two capital hexadecimal digits.
 fn checksums(want: u8, got: u8) -> [u8; 5]
-    ensures { result ≡ verdicts.two_hexadecimal want ++ (32 ∷ verdicts.two_hexadecimal got) }
+    ensures { result ≡ verdicts.two_hexadecimal want ++ (space ∷ verdicts.two_hexadecimal got) }
 {
     [
         hexadecimal(want / 16),

@@ -37,11 +37,6 @@ Told-from_Gains (Some all) b xs h rest e = (all, refl)
 Told-from_Gains None (Some rest) xs h r e = absurd h
 Told-from_Gains None None xs h r e = cc
 
--- bytes that were taken and then dropped for want of memory
-pub lost_more : {T E : Type 0} (r : Result T E) (a b c : Option (List ℕ)) (xs ys : List ℕ) → Loses a b xs → Loses b c ys → OnErr r ((bytes : List ℕ) × Loses a c bytes)
-lost_more (Ok x) a b c xs ys h k = tt
-lost_more (Err e) a b c xs ys h k = (xs ++ ys, Loses-more a b c xs ys h k)
-
 -- one write more of the front of a text
 pub front_more : (a b c : Option (List ℕ)) (text front rest after : List ℕ) (n : ℕ) → text ≡ front ++ rest → after ≡ drop n rest → Gains a b front → Gains b c (take n rest) → (x : List ℕ) × (text ≡ x ++ after) × Gains a c x
 front_more a b c text front rest after n e d g h =

@@ -66,7 +66,13 @@ impl Model for ByteSource {
 
     ghost Value = { FailingSupply };
 
-    ghost view = { λ a. record { left = a.source.left; piece = a.source.piece; fail = a.calls.fail.items; calls = a.calls.count; faults = a.calls.faults } };
+    ghost view = { λ a. record {
+      left = a.source.left;
+      piece = a.source.piece;
+      fail = a.calls.fail.items;
+      calls = a.calls.count;
+      faults = a.calls.faults;
+    } };
 }
 
 impl ByteSource {
@@ -118,7 +124,15 @@ impl Model for ByteSink {
 
     ghost Value = { FailingStore };
 
-    ghost view = { λ a. record { kept = a.sink.kept; room = a.sink.room; piece = a.sink.piece; flushed = a.sink.flushed; fail = a.calls.fail.items; calls = a.calls.count; faults = a.calls.faults } };
+    ghost view = { λ a. record {
+      kept = a.sink.kept;
+      room = a.sink.room;
+      piece = a.sink.piece;
+      flushed = a.sink.flushed;
+      fail = a.calls.fail.items;
+      calls = a.calls.count;
+      faults = a.calls.faults;
+    } };
 }
 
 impl ByteSink {

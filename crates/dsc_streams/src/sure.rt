@@ -74,7 +74,13 @@ pub struct SureSink {
 impl Model for SureSink {
     ghost Value = { Store };
 
-    ghost view = { λ a. record { kept = a.kept.items; room = a.room; whole = a.whole; piece = a.piece; flushed = a.flushed } };
+    ghost view = { λ a. record {
+      kept = a.kept.items;
+      room = a.room;
+      whole = a.whole;
+      piece = a.piece;
+      flushed = a.flushed;
+    } };
 
     ghost invariant = { λ a. (vec_len a.kept ≤ a.room) × (a.room ≤ vec_capacity a.kept) × (1 ≤ a.piece) };
 }

@@ -81,7 +81,8 @@ enhanced_written e s c h =
     (perhaps_written (codes " speed=") (grammar.set 4 9999) 4 s (perhaps grammar.course finish) (perhaps_parts 4 c none)
     ∙ ap (λ (l : List ℕ). label_and_set (codes " speed=") 4 s ++ l) (course_written c))
 
-last_there : (c : PartKind) → IsThere LeftOut ⊎ IsThere LeftOut ⊎ IsThere c → IsThere c
+-- where no other set is there the last one is
+pub last_there : (c : PartKind) → IsThere LeftOut ⊎ IsThere LeftOut ⊎ IsThere c → IsThere c
 last_there c (inl h) = absurd h
 last_there c (inr (inl h)) = absurd h
 last_there c (inr (inr h)) = h

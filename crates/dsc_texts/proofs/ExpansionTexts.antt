@@ -20,6 +20,7 @@ use Rattle.dsc_texts.specs.inside.Expansions.{IsSet, set_part, extra_parts}
 use Rattle.dsc_texts.proofs.SymbolTexts.{Told}
 use Rattle.dsc_texts.proofs.FieldTexts.{up_to, most_of}
 use Rattle.dsc_texts.proofs.CallSections.{Section, worded, labelled, nothing, followed, LawfulSide, side_parts, sided, renamed}
+use Rattle.dsc_texts.proofs.ExpansionSteps.{last_there}
 
 -- no digits are the letters of none
 four_apart : (n : ℕ) → digits 4 n ≡ codes "none" → ⊥
@@ -136,11 +137,6 @@ abbrev some_back : Some → Sets
 some_back (inl w) = record { enhanced = w.0; speed = w.1.0; course = w.1.1 }
 some_back (inr (inl w)) = record { enhanced = LeftOut; speed = w.0; course = w.1 }
 some_back (inr (inr c)) = record { enhanced = LeftOut; speed = LeftOut; course = c }
-
-last_there : (c : PartKind) → IsThere LeftOut ⊎ IsThere LeftOut ⊎ IsThere c → IsThere c
-last_there c (inl h) = absurd h
-last_there c (inr (inl h)) = absurd h
-last_there c (inr (inr h)) = h
 
 some_lawful : (e s c : PartKind) → IsExpansion (record { enhanced = e; speed = s; course = c }) → AreSome (some_told e s c)
 some_lawful LeftOut LeftOut c h = (last_there c h.some, h.course)

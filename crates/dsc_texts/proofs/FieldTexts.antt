@@ -16,6 +16,7 @@ use Rattle.call_values.specs.Positions.{IsArc, IsFix, IsPosition}
 use Rattle.call_values.specs.Areas.{Rectangle, IsArea}
 use Rattle.call_values.specs.Fields.{IsField}
 use Rattle.call_values.specs.Parts.{IsTo}
+use Rattle.call_values.proofs.PublicLaws.{same_fix, same_area}
 use Rattle.dsc_texts.specs.CallGrammar.{minutes, position, time, area_shape, area, frequency, address}
 use Rattle.dsc_texts.specs.CallParts.{time_text, position_text, area_text, frequency_text, address_text}
 use Rattle.dsc_texts.proofs.SymbolTexts.{Told, identity_told}
@@ -125,9 +126,6 @@ position_unknown f h e =
     let same = one_front 1 f.quadrant 9 _ (codes "999999999") (omega (arith, h.quadrant)) (omega arith) (e ∙ nines) in
     omega (arith, same.0, h.quadrant)
 
-same_fix : (f g : Fix) → f.quadrant ≡ g.quadrant → f.lat_deg ≡ g.lat_deg → f.lat_min ≡ g.lat_min → f.lon_deg ≡ g.lon_deg → f.lon_min ≡ g.lon_min → f ≡ g
-same_fix f g p q r s t = λ i. record { quadrant = p i; lat_deg = q i; lat_min = r i; lon_deg = s i; lon_min = t i }
-
 fix_one : (f g : Fix) → IsFix f → IsFix g → position_text (Some f) ≡ position_text (Some g) → f ≡ g
 fix_one f g h k e =
     let a = arc_minutes f.lat_deg f.lat_min 90 h.latitude in
@@ -188,9 +186,6 @@ area_of bytes h =
     let two : h.1 ≡ digits 2 a.latitude ++ (digits 3 a.longitude ++ (digits 2 a.south ++ digits 2 a.east)) =
     lat.2 ∙ ap (λ (l : List ℕ). l ++ lat.1) lat.3.2 ∙ ap (λ (l : List ℕ). digits 2 a.latitude ++ l) third in
     (a, lawful, h.2 ∙ ap (λ (l : List ℕ). l ++ h.1) h.3.2 ∙ ap (λ (l : List ℕ). digits 1 a.quadrant ++ l) two)
-
-same_area : (f g : Rectangle) → f.quadrant ≡ g.quadrant → f.latitude ≡ g.latitude → f.longitude ≡ g.longitude → f.south ≡ g.south → f.east ≡ g.east → f ≡ g
-same_area f g p q r s t = λ i. record { quadrant = p i; latitude = q i; longitude = r i; south = s i; east = t i }
 
 area_one : (a b : Rectangle) → IsArea a → IsArea b → area_text a ≡ area_text b → a ≡ b
 area_one a b h k e =

@@ -41,11 +41,11 @@ IsRead G f old new = (rest : Grammar) → read (G rest) old ≡ named f (read re
 abbrev pub IsLeft : (G : Grammar → Grammar) (old : List ℕ) (left : ℕ) → Type 0
 IsLeft G old left = (rest : Grammar) → read (G rest) old ≡ Err left
 
--- two sections are read one behind the other
+-- two sections were read
 pub both : (G H : Grammar → Grammar) (f g : Parts → Parts) (old mid new : List ℕ) → IsRead G f old mid → IsRead H g mid new → IsRead (λ rest. G (H rest)) (λ p. f (g p)) old new
 both G H f g old mid new h k rest = h (H rest) ∙ ap (named f) (k rest) ∙ named_twice f g (read rest new)
 
--- two sections stop where the second one does
+-- the first section was read and the second missed
 pub behind : (G H : Grammar → Grammar) (f : Parts → Parts) (old mid : List ℕ) (left : ℕ) → IsRead G f old mid → IsLeft H mid left → IsLeft (λ rest. G (H rest)) old left
 behind G H f old mid left h k rest = h (H rest) ∙ ap (named f) (k rest)
 
@@ -64,7 +64,7 @@ pub word_read : (text old mid : List ℕ) → after text old ≡ Ok mid → IsRe
 unfolding read
 word_read text old mid h rest = ap (λ (r : Result (List ℕ) ℕ). and_then r (read rest)) h ∙ named_same (read rest mid)
 
--- a word stops where its bytes do
+-- and one that was missed
 pub word_left : (text old : List ℕ) (left : ℕ) → after text old ≡ Err left → IsLeft (word text) old left
 unfolding read
 word_left text old left h rest = ap (λ (r : Result (List ℕ) ℕ). and_then r (read rest)) h
@@ -73,7 +73,7 @@ word_left text old left h rest = ap (λ (r : Result (List ℕ) ℕ). and_then r 
 pub whole : (G : Grammar → Grammar) (K : Grammar) (f : Parts → Parts) (old mid at : List ℕ) (own : Parts) → IsRead G f old mid → at ≡ mid → read K at ≡ Ok own → read (G K) old ≡ Ok (f own)
 whole G K f old mid at own h s k = h K ∙ ap (λ (l : List ℕ). named f (read K l)) (sym s) ∙ ap (named f) k
 
--- a form stops where its tail does
+-- and where that is missed
 pub no_tail : (G : Grammar → Grammar) (K : Grammar) (f : Parts → Parts) (old mid at : List ℕ) (left : ℕ) → IsRead G f old mid → at ≡ mid → read K at ≡ Err left → read (G K) old ≡ Err left
 no_tail G K f old mid at left h s k = h K ∙ ap (λ (l : List ℕ). named f (read K l)) (sym s) ∙ ap (named f) k
 

@@ -12,6 +12,7 @@ use Rattle.call_values.specs.declared.choices.Category.{Category}
 use Rattle.call_values.specs.declared.choices.Category.TheVariants.{Routine, Safety, Urgency}
 use Rattle.call_values.specs.declared.choices.End.{End}
 use Rattle.call_values.specs.declared.choices.End.TheVariants.{Ask, Reply, Plain}
+use Rattle.call_values.proofs.PublicLaws.{end_one}
 use Rattle.call_grammar.specs.Spelling.{category_symbol, end_symbol}
 use Rattle.dsc_texts.specs.CallParts.{relay_end, test_end}
 use Rattle.dsc_texts.specs.CallGrammar.{identity, symbol, nature, category, comm, first_command, second_command}
@@ -104,17 +105,6 @@ end_decode n h =
         | inr e ↦ (Plain, tt, e)
       ])
     ]
-
-end_one : (u v : End) → end_symbol u ≡ end_symbol v → u ≡ v
-end_one Ask Ask e = refl
-end_one Reply Reply e = refl
-end_one Plain Plain e = refl
-end_one Ask Reply e = absurd (omega (arith, e))
-end_one Ask Plain e = absurd (omega (arith, e))
-end_one Reply Ask e = absurd (omega (arith, e))
-end_one Reply Plain e = absurd (omega (arith, e))
-end_one Plain Ask e = absurd (omega (arith, e))
-end_one Plain Reply e = absurd (omega (arith, e))
 
 pub end_told : Told (symbol ((117, 117) ∷ (122, 122) ∷ (127, 127) ∷ [])) (λ (x : End). Unit {0}) (λ (x : End). digits 3 (end_symbol x))
 end_told = coded 3 _ (λ (x : End). Unit {0}) end_symbol (λ x h. end_inside x) end_decode (λ u v h k e. end_one u v e)

@@ -1,5 +1,6 @@
 ghost use Rattle.std.specs.Prelude.{◌≡◌, ◌+◌, ◌≤◌, ◌++◌, [], ◌∷◌, codes, decimal};
 ghost use Rattle.arrayvec.specs.ArrayVec.{array_vec_len};
+ghost use Rattle.line_grammar.specs.Bytes.{line_feed};
 ghost use Rattle.dsc_texts.specs.Texts.{report_text, answer_text};
 
 use crate::calls::append_reported;
@@ -19,7 +20,7 @@ pub fn put_answer(group: u32, answer: &Joined) -> ArrayVec<u8, 288>
 
 /// The same with the line feed that ends the line.
 pub fn put_answer_line(group: u32, answer: &Joined) -> ArrayVec<u8, 289>
-    ensures { result.items ≡ answer_text group answer.now ++ 10 ∷ [] }
+    ensures { result.items ≡ answer_text group answer.now ++ line_feed ∷ [] }
 {
     let mut out = ArrayVec::new();
     append_answer(&mut out, group, answer);

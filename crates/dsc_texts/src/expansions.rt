@@ -49,7 +49,8 @@ fn set(line: &mut Cursor, label: &[u8], width: usize, most: u32) -> Result<Part,
     requires width { width ≤ 8 }
     requires most { most < 10 ^ width }
     ensures lawful { IfOk result (λ set. IsSet most set) }
-    ensures reads { ReadsSection (labelled label.now (grammar.set width most)) (inside.set_part width) line.old result line.new }
+    ensures reads { ReadsSection (labelled label.now (grammar.set width most)) (inside.set_part width) line.old result
+        line.new }
 {
     word(line, label)?;
     take(line, &set_value(width, most, line.rest()))
@@ -107,7 +108,8 @@ fn no_speed(bytes: &[u8]) -> Result<(Part, Part), Left>
 /// Reads the speed, perhaps, and what may follow it.
 fn perhaps_speed(bytes: &[u8]) -> Result<(Part, Part), Left>
     ensures lawful { IfOk result (λ sets. IsUpTo LAST_SPEED sets.0 × IsUpTo LAST_COURSE sets.1) }
-    ensures reads { ReadsForm (perhaps grammar.speed (perhaps grammar.course finish)) (λ p. p) inside.perhaps_speed bytes.now result }
+    ensures reads { ReadsForm (perhaps grammar.speed (perhaps grammar.course finish)) (λ p. p) inside.perhaps_speed
+        bytes.now result }
 {
     further(&no_speed(bytes), &speed(bytes))
 }
@@ -122,7 +124,8 @@ fn from_course(bytes: &[u8]) -> Result<Expansion, Left>
 
 /// Reads an expansion that begins with its speed.
 fn from_speed(bytes: &[u8]) -> Result<Expansion, Left>
-    ensures { ReadsForm (grammar.speed (perhaps grammar.course finish)) (λ p. second (first p)) inside.sets bytes.now result }
+    ensures { ReadsForm (grammar.speed (perhaps grammar.course finish)) (λ p. second (first p)) inside.sets bytes.now
+        result }
 {
     let (speed, course) = speed(bytes)?;
     Ok(Expansion::new(Part::left_out(), speed, course).unwrap())
@@ -130,7 +133,8 @@ fn from_speed(bytes: &[u8]) -> Result<Expansion, Left>
 
 /// Reads an expansion that begins with its enhanced position.
 fn from_enhanced(bytes: &[u8]) -> Result<Expansion, Left>
-    ensures { ReadsForm (grammar.enhanced (perhaps grammar.speed (perhaps grammar.course finish))) first inside.sets bytes.now result }
+    ensures { ReadsForm (grammar.enhanced (perhaps grammar.speed (perhaps grammar.course finish))) first inside.sets
+        bytes.now result }
 {
     let mut line = Cursor::new(bytes);
     let enhanced = set(&mut line, b" enh=", 8, LAST_ENHANCEMENT)?;

@@ -200,8 +200,10 @@ impl Token for Field {
 
 /// An area behind its word at the front of these bytes, and what follows it.
 fn to_area(bytes: &[u8]) -> Result<(To, &[u8]), Left>
-    ensures value { IfOk result (λ parts. read_shape (shape.pair (shape.letters (codes "area:")) grammar.area_shape) bytes.now ≡ Ok (texts.address_text parts.0, parts.1.now)) }
-    ensures left { IfErr result (λ left. read_shape (shape.pair (shape.letters (codes "area:")) grammar.area_shape) bytes.now ≡ Err left) }
+    ensures value { IfOk result (λ parts. read_shape (shape.pair (shape.letters (codes "area:")) grammar.area_shape)
+        bytes.now ≡ Ok (texts.address_text parts.0, parts.1.now)) }
+    ensures left { IfErr result (λ left. read_shape (shape.pair (shape.letters (codes "area:")) grammar.area_shape)
+        bytes.now ≡ Err left) }
 {
     let rest = word(b"area:", bytes)?;
     let (area, rest) = match Area::read(rest) {
@@ -213,8 +215,10 @@ fn to_area(bytes: &[u8]) -> Result<(To, &[u8]), Left>
 
 /// A group's identity behind its word at the front of these bytes, and what follows it.
 fn to_group(bytes: &[u8]) -> Result<(To, &[u8]), Left>
-    ensures value { IfOk result (λ parts. read_shape (shape.pair (shape.letters (codes "group:")) grammar.identity_shape) bytes.now ≡ Ok (texts.address_text parts.0, parts.1.now)) }
-    ensures left { IfErr result (λ left. read_shape (shape.pair (shape.letters (codes "group:")) grammar.identity_shape) bytes.now ≡ Err left) }
+    ensures value { IfOk result (λ parts. read_shape (shape.pair (shape.letters (codes "group:"))
+        grammar.identity_shape) bytes.now ≡ Ok (texts.address_text parts.0, parts.1.now)) }
+    ensures left { IfErr result (λ left. read_shape (shape.pair (shape.letters (codes "group:")) grammar.identity_shape)
+        bytes.now ≡ Err left) }
 {
     let rest = word(b"group:", bytes)?;
     let (group, rest) = match Mmsi::read(rest) {
@@ -226,8 +230,10 @@ fn to_group(bytes: &[u8]) -> Result<(To, &[u8]), Left>
 
 /// A station's identity behind its word at the front of these bytes, and what follows it.
 fn to_one(bytes: &[u8]) -> Result<(To, &[u8]), Left>
-    ensures value { IfOk result (λ parts. read_shape (shape.pair (shape.letters (codes "one:")) grammar.identity_shape) bytes.now ≡ Ok (texts.address_text parts.0, parts.1.now)) }
-    ensures left { IfErr result (λ left. read_shape (shape.pair (shape.letters (codes "one:")) grammar.identity_shape) bytes.now ≡ Err left) }
+    ensures value { IfOk result (λ parts. read_shape (shape.pair (shape.letters (codes "one:")) grammar.identity_shape)
+        bytes.now ≡ Ok (texts.address_text parts.0, parts.1.now)) }
+    ensures left { IfErr result (λ left. read_shape (shape.pair (shape.letters (codes "one:")) grammar.identity_shape)
+        bytes.now ≡ Err left) }
 {
     let rest = word(b"one:", bytes)?;
     let (station, rest) = match Mmsi::read(rest) {

@@ -146,7 +146,8 @@ pub struct Ending {
 
 /// Reads two frequencies or channels and the end of a call to one station.
 fn frequencies_and_end<T: Tail>(bytes: &[u8]) -> Result<(Ending, T), Left>
-    ensures { ReadsForm (grammar.frequencies (grammar.end grammar.all_ends T.grammar)) first (ending_with T.parts) bytes.now result }
+    ensures { ReadsForm (grammar.frequencies (grammar.end grammar.all_ends T.grammar)) first (ending_with T.parts)
+        bytes.now result }
 {
     let mut line = Cursor::new(bytes);
     let frequencies = Frequencies::read(&mut line)?;
@@ -161,7 +162,8 @@ fn frequencies_and_end<T: Tail>(bytes: &[u8]) -> Result<(Ending, T), Left>
 
 /// Reads a position in the place of frequencies and the end of a call to one station.
 fn position_and_end<T: Tail>(bytes: &[u8]) -> Result<(Ending, T), Left>
-    ensures { ReadsForm (labelled (codes " at=") grammar.position (grammar.end grammar.all_ends T.grammar)) second (ending_with T.parts) bytes.now result }
+    ensures { ReadsForm (labelled (codes " at=") grammar.position (grammar.end grammar.all_ends T.grammar)) second
+        (ending_with T.parts) bytes.now result }
 {
     let mut line = Cursor::new(bytes);
     let position: Position = field(&mut line, b" at=")?;
@@ -176,7 +178,8 @@ fn position_and_end<T: Tail>(bytes: &[u8]) -> Result<(Ending, T), Left>
 
 /// Reads the message and the end of a call to one station.
 fn message_and_end<T: Tail>(bytes: &[u8]) -> Result<(Ending, T), Left>
-    ensures { ReadsForm (grammar.message (grammar.end grammar.all_ends T.grammar)) (λ p. p) (ending_with T.parts) bytes.now result }
+    ensures { ReadsForm (grammar.message (grammar.end grammar.all_ends T.grammar)) (λ p. p) (ending_with T.parts)
+        bytes.now result }
 {
     further(&frequencies_and_end(bytes), &position_and_end(bytes))
 }

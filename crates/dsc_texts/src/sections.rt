@@ -88,7 +88,8 @@ pub struct Request {
 impl Request {
     /// Reads a category, a sender and two telecommands.
     pub fn read(line: &mut Cursor) -> Result<Request, Left>
-        ensures { ReadsSection grammar.request (λ v. request_parts v.category v.from v.first v.second) line.old result line.new }
+        ensures { ReadsSection grammar.request (λ v. request_parts v.category v.from v.first v.second) line.old result
+            line.new }
     {
         let sender = Sender::read(line)?;
         let first: First = field(line, b" first=")?;

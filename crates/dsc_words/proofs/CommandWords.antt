@@ -11,9 +11,10 @@ use Rattle.clap.specs.Faults.{fault_of, walk_fault, turn_fault, settle_fault, de
 use Rattle.dsc_words.specs.inside.CommandLine.{dsc}
 use Rattle.dsc_words.proofs.Refusals.{some_kind, first_passes, second_passes, both_pass}
 use Rattle.dsc_words.proofs.Turns.{HasNoDashes, bare, stray_word, turn_by}
-use Rattle.dsc_words.proofs.LongWords.{none_is_some, same_text}
+use Rattle.dsc_words.proofs.LongWords.{same_text}
 use Rattle.clap.specs.declared.error.kind.ErrorKind.TheVariants as kind
 use Rattle.std.specs.Prelude.{drop}
+use Rattle.std.proofs.lemmas.Option.{none-some}
 
 -- the program, as `clap` builds it
 abbrev pub app : App
@@ -63,7 +64,7 @@ abbrev plain_names : List Text → Names
 plain_names = map (λ name. (name, []))
 
 met_word : (word : Text) (ns : List Text) (command : Text) → option_map (λ s. s.0) (find (answers_to word) (plain_names ns)) ≡ Some command → command ≡ word
-met_word word [] command e = absurd (none_is_some e)
+met_word word [] command e = absurd (none-some _ e)
 met_word word (n ∷ ns) command e = go (bytes_eq n word) refl e (met_word word ns command)
   where
     go : (t : Bool) → bytes_eq n word ≡ t → option_map (λ s. s.0) (cond (t || false) (Some (n, [])) (find (answers_to word) (plain_names ns))) ≡ Some command

@@ -9,23 +9,21 @@ use Rattle.clap.proofs.CutLemmas.{Lacks}
 use Rattle.clap.proofs.LexerLemmas.{name_and_value-at, name_and_value-without}
 use Rattle.std.proofs.lemmas.Bool.Decides.{nat_tests}
 use Rattle.std.proofs.lemmas.List.{append_assoc}
+use Rattle.std.proofs.lemmas.Option.{none-some}
 
 -- what a long option is, by its name and its value
 abbrev pub spelled : Text → Option Text → Text
 spelled name None = codes "--" ++ name
 spelled name (Some value) = codes "--" ++ name ++ codes "=" ++ value
 
-pub none_is_some : {X : Type 0} {x : X} → ◌≡◌ {A = Option X} None (Some x) → ⊥
-none_is_some e = cc
-
 -- what stands behind a first byte c
 stripped : (c : ℕ) (word rest : Text) → strip_byte c word ≡ Some rest → word ≡ c ∷ rest
-stripped c [] rest e = absurd (none_is_some e)
+stripped c [] rest e = absurd (none-some _ e)
 stripped c (x ∷ xs) rest e = go (x == c) refl e
   where
     go : (t : Bool) → (x == c) ≡ t → cond t (Some xs) None ≡ Some rest → x ∷ xs ≡ c ∷ rest
     go true is h = let x_is : x ≡ c = grind (arith, nat_tests) in cc
-    go false is h = absurd (none_is_some h)
+    go false is h = absurd (none-some _ h)
 
 -- a text has no `=`, or is cut at its first one
 abbrev Cut : Text → Type 0
@@ -56,15 +54,15 @@ pub long_is : (word : Text) (p : Text × Option Text) → long_of word ≡ Some 
 long_is word p e = first (strip_byte 45 word) refl e
   where
     third : (rest : Text) → word ≡ 45 ∷ 45 ∷ rest → long_of_rest rest ≡ Some p → word ≡ spelled p.0 p.1
-    third [] is h = absurd (none_is_some h)
+    third [] is h = absurd (none-some _ h)
     third (x ∷ xs) is h = let same : name_and_value (x ∷ xs) ≡ p = cc in is ∙ cut_is (x ∷ xs) p (cut (x ∷ xs)) same
 
     second : (behind : Text) (o : Option Text) → word ≡ 45 ∷ behind → strip_byte 45 behind ≡ o → option_and_then long_of_rest o ≡ Some p → word ≡ spelled p.0 p.1
-    second behind None is got h = absurd (none_is_some h)
+    second behind None is got h = absurd (none-some _ h)
     second behind (Some rest) is got h = third rest (is ∙ ap (λ t. 45 ∷ t) (stripped 45 behind rest got)) h
 
     first : (o : Option Text) → strip_byte 45 word ≡ o → option_and_then long_of_rest (option_and_then (strip_byte 45) o) ≡ Some p → word ≡ spelled p.0 p.1
-    first None got h = absurd (none_is_some h)
+    first None got h = absurd (none-some _ h)
     first (Some behind) got h = second behind (strip_byte 45 behind) (stripped 45 word behind got) refl h
 
 -- ---- names that `clap` reads back
@@ -95,8 +93,8 @@ no_dashes word differs = go (bytes_eq word (codes "--")) refl
 
 -- a long option isn't two dashes alone
 pub long_has_no_dashes : (word : Text) (p : Text × Option Text) → long_of word ≡ Some p → bytes_eq word (codes "--") ≡ false
-long_has_no_dashes word p e = no_dashes word (λ is. let none : long_of word ≡ None = ap long_of is in none_is_some (sym none ∙ e))
+long_has_no_dashes word p e = no_dashes word (λ is. let none : long_of word ≡ None = ap long_of is in none-some _ (sym none ∙ e))
 
 -- a word without dashes isn't two dashes
 pub bare_has_no_dashes : (word : Text) → IsBare word → bytes_eq word (codes "--") ≡ false
-bare_has_no_dashes word e = no_dashes word (λ is. let some : strip_byte 45 word ≡ Some (45 ∷ []) = ap (strip_byte 45) is in none_is_some (sym e ∙ some))
+bare_has_no_dashes word e = no_dashes word (λ is. let some : strip_byte 45 word ≡ Some (45 ∷ []) = ap (strip_byte 45) is in none-some _ (sym e ∙ some))

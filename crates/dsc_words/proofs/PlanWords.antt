@@ -6,6 +6,7 @@ use Rattle.std.specs.Str.{bytes_eq}
 use Rattle.std.specs.Str.Parse.{digits_value}
 use Rattle.std.proofs.lemmas.Bool.Decides.{nat_tests}
 use Rattle.std.proofs.lemmas.Fmt.{decimal_is_IsNumeral, first_decimal}
+use Rattle.std.proofs.lemmas.Option.{same_Some, none-some}
 use Rattle.clap.specs.Walk.{Row, Text, answers_to, first_of, is_empty, nothing_held, rows_after}
 use Rattle.clap.specs.Simple.{Shape, new_shape, entered, label_of, rows_at, subcommand_of}
 use Rattle.clap.specs.Faults.{entered_fault, fault_of, level_fault}
@@ -15,7 +16,7 @@ use Rattle.dsc_words.specs.Words.{HasWorkers, IsDots, IsGroups, IsCommand, IsInR
 use Rattle.dsc_words.specs.inside.CommandLine.{dsc, with_number, with_option, IsAsked}
 use Rattle.dsc_words.specs.declared.plans.Plan.{Plan}
 use Rattle.dsc_words.specs.declared.plans.Plan.TheVariants.{Join, Evidence, Encode, Sentences, Replay, Make, Capture, Watch, Exchange, Book}
-use Rattle.dsc_words.proofs.LongWords.{IsBare, IsName, none_is_some, same_text}
+use Rattle.dsc_words.proofs.LongWords.{IsBare, IsName, same_text}
 use Rattle.dsc_words.proofs.Turns.{HasNoDashes}
 use Rattle.dsc_words.proofs.OptionTurns.{leaf}
 use Rattle.dsc_words.proofs.LoneWords.{alone_passes, alone_taken}
@@ -115,16 +116,13 @@ record Has (name : Text) (s : Shape) : Type 0 where
   fault : (ws : List Text) → entered_fault app (Some (name, ws)) ≡ level_fault (leaf s) [] nothing_held ws false []
   rows : (ws : List Text) → entered app (Some (name, ws)) ≡ Some (name, rows_after (leaf s).rules [] ws)
 
-pub some_same : {X : Type 0} (x y : X) → Some x ≡ Some y → x ≡ y
-some_same x y e = cc
-
 pub same_pair : {a c : Text} {b d : List Row} → ◌≡◌ {A = Option (Text × List Row)} (Some (a, b)) (Some (c, d)) → (a ≡ c) × (b ≡ d)
-same_pair {a} {c} {b} {d} e = let same = some_same (a, b) (c, d) e in (ap (λ (p : Text × List Row). p.0) same, ap (λ (p : Text × List Row). p.1) same)
+same_pair {a} {c} {b} {d} e = let same = same_Some (a, b) (c, d) e in (ap (λ (p : Text × List Row). p.0) same, ap (λ (p : Text × List Row). p.1) same)
 
 -- the name that is found is the word that was met
 entered_name : (word : Text) (ws : List Text) (subs : List Shape) → list_all (λ s. is_empty s.aliases) subs ≡ true → (name : Text) (rows : List Row)
     → option_map (λ s. rows_at s ws) (find (λ s. answers_to word (label_of s)) subs) ≡ Some (name, rows) → word ≡ name
-entered_name word ws [] plain name rows e = absurd (none_is_some e)
+entered_name word ws [] plain name rows e = absurd (none-some _ e)
 entered_name word ws (s ∷ subs) plain name rows e =
     let parts = both (is_empty s.aliases) _ plain in
     let no_alias : list_any (λ alias. bytes_eq alias word) s.aliases ≡ false = ap (list_any (λ alias. bytes_eq alias word)) (is_nil s.aliases parts.0) in
@@ -338,5 +336,5 @@ plan_is_one words a b left right =
     let s = plan_is_taken words a left in
     let t = plan_is_taken words b right in
     let same = same_pair (sym s.gives ∙ t.gives) in
-    some_same a b (sym (asked_at s.found (first_of (codes "number") s.rows) a s.asked)
+    same_Some a b (sym (asked_at s.found (first_of (codes "number") s.rows) a s.asked)
     ∙ ap₂ (λ c rows. plan_at c (first_of (codes "number") rows)) same.0 same.1 ∙ asked_at t.found (first_of (codes "number") t.rows) b t.asked)

@@ -1,5 +1,6 @@
 -- What `encode` writes: this project's profile.
 use Rattle.std.specs.Prelude.{◌≡◌, ℕ, suc, Bool, Option, List, [], ◌∷◌, ◌++◌, codes, decimal}
+use Rattle.line_grammar.specs.Bytes.{line_feed}
 use Rattle.call_values.specs.declared.calls.Call.{Call}
 use Rattle.expansion.specs.declared.values.Sets.{Sets}
 use Rattle.line_grammar.specs.Columns.{IsColumn}
@@ -26,7 +27,7 @@ calls_of (line.Call c expansion ∷ said) = (c, expansion) ∷ calls_of said
 
 -- the reception line of a call: its group has the call's number
 unfoldable pub encoded_line : Bool → ℕ → Call × Option Sets → List ℕ
-encoded_line long number (c, expansion) = codes "r g" ++ (decimal number ++ (body_text (transmitted long c expansion) ++ 10 ∷ []))
+encoded_line long number (c, expansion) = codes "r g" ++ (decimal number ++ (body_text (transmitted long c expansion) ++ line_feed ∷ []))
 
 -- the lines of calls, numbered from here on
 unfoldable pub encoded : Bool → ℕ → List (Call × Option Sets) → List ℕ

@@ -93,5 +93,9 @@ impl<D: Dots> Command for Encode<D> {
         Ok(Status::new(0))
     }
 
-    ghost gives = { λ command lines text stands. record { said = stands.said; are_lines = stands.are_lines; text_is = stands.text_is } };
+    ghost gives = { λ command lines text stands. record {
+      said = stands.said;
+      are_lines = stands.are_lines;
+      text_is = stands.text_is;
+    } };
 }

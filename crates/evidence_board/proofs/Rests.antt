@@ -52,20 +52,6 @@ lawful_order (seen.Differ a b) lawful = (omega (arith, lawful), lawful.1)
 pub united_rests : (a b : Reach) → IsResting a → IsResting b → IsResting (united a b)
 united_rests a b left right = order_met a.least a.past b.least b.past left right
 
-pub admitted_seated : (sheet : List Seen) (before after : View) → IsSheet sheet → IsSeated before → Through (λ p a b. b ≡ admitted (seen_at sheet p) a) before after 64 → IsSeated after
-admitted_seated sheet before after lawful seated through =
-    let share = through.share in
-    let alive = seated.alive in
-    record {
-      alive = omega arith;
-      size = through.size ∙ seated.size;
-      rest = record {
-        given = λ p below. subst (λ (c : Place). IsResting c.given) (sym (through.below p below)) (united_rests (place_at before p).given (reach_of (seen_at sheet p)) (seated.rest.given p below) (lawful_order _ (lawful.lawful p)));
-        seen = λ p below. subst (λ (c : Place). IsResting c.seen) (sym (through.below p below)) (united_rests (place_at before p).seen (reach_of (seen_at sheet p)) (seated.rest.seen p below) (lawful_order _ (lawful.lawful p)));
-      };
-      within = λ p below. subst Saw (sym (through.below p below)) (both_within (place_at before p).given _ (place_at before p).seen _ (seated.within p below) (no_further (reach_of (seen_at sheet p))));
-    }
-
 pub small_at : (view : View) (p : ℕ) → IsSeated view → p < 64 → ((place_at view p).given.least ≤ 128) × ((place_at view p).seen.least ≤ 128)
 small_at view p seated below = ((order_small _ _ (seated.rest.given p below)).0, (order_small _ _ (seated.rest.seen p below)).0)
 
@@ -83,14 +69,6 @@ looked_seated facts before after seated through =
       within = λ p below. subst (λ (r : Reach). IsWithin r (place_at after p).seen) (sym (through.below p below).looked.given)
           (further_still (place_at before p).given (place_at before p).seen (place_at after p).seen (seated.within p below) (through.below p below).looked.no_less);
     }
-
-pub kept_seated : (v : View) → IsSeated v → 2 ≤ v.share → IsSeated (kept_half v)
-kept_seated v seated enough = record {
-  alive = omega arith;
-  size = seated.size;
-  rest = record { given = λ p below. seated.rest.given p below; seen = λ p below. seated.rest.seen p below };
-  within = λ p below. seated.within p below;
-}
 
 pub new_place : (v : View) (p : ℕ) → length v.places ≡ 64 → p < 64 → place_at (new_half v) p ≡ uncounted (place_at v p)
 new_place v p size below = place_uncounted v p (omega arith)

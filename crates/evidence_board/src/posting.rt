@@ -22,7 +22,8 @@ fn post_ends<A: Allowed>(words: &Words<A>, token: &mut Token, p: u8, least: u8, 
     requires greatest { IsAllowed A.facts p greatest }
     requires order { least ≤ greatest }
     ensures table { token.new.table ≡ token.old.table }
-    ensures place { Changed token.old.view p (posted_past (greatest + 1) (posted_least least (place_at token.old.view p))) token.new.view }
+    ensures place { Changed token.old.view p
+        (posted_past (greatest + 1) (posted_least least (place_at token.old.view p))) token.new.view }
 {
     words.lower(token, p, least);
     words.raise(token, p, greatest);

@@ -144,7 +144,8 @@ fn past_word<A: Allowed>(words: &Shared<A>, token: &mut Stepper, p: u8) -> u64
     requires place { p < 64 }
     requires keeps { MayLoadPast A.facts words.now.table_id.slots token.old.id token.old.me p }
     ensures table { token.new.table_id ≡ token.old.table_id }
-    ensures told { loads_past A.facts (step words.now.table_id.slots (64 + p) 0 0 none) token.old.me result token.new.me }
+    ensures told { loads_past A.facts (step words.now.table_id.slots (64 + p) 0 0 none) token.old.me result
+        token.new.me }
 {
     words.load::<LoadsPast<A>>(token, 64 + p as usize)
 }

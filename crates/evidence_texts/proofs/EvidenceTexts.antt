@@ -3,15 +3,17 @@ use Rattle.std.proofs.Common.{◌≡◌, ℕ, zero, suc, ◌+◌, ◌≤◌, ◌
 use Rattle.std.specs.List.{flat_map, list_any, All}
 use Rattle.std.proofs.lemmas.Bool.{or_cases, or_left, or_right, eq-eqb, eqb-true, ne_eqb, lt-ltb, le-ltb, cases_lt}
 use Rattle.std.proofs.lemmas.List.{get_or_past}
-use Rattle.std.proofs.lemmas.List.Elements.{All-append}
+use Rattle.std.proofs.lemmas.List.Elements.{All-append, All-cons, All-nil}
 use Rattle.std.proofs.lemmas.List.Folds.{list_any-append}
 use Rattle.std.proofs.lemmas.Grind.{flat_map-append}
 use Rattle.std.proofs.lemmas.Fmt.{length-decimal-le}
+use Rattle.std.proofs.Math.Bool.{or-false, and-false}
 use Rattle.slot_evidence.specs.declared.places.Seen.{Seen}
 use Rattle.slot_evidence.specs.declared.places.Seen.TheVariants as seen
 use Rattle.slot_evidence.specs.Facts.{Facts, Symbols}
 use Rattle.slot_evidence.specs.Seen.{IsSeen, IsLawful, symbols_in}
 use Rattle.slot_evidence.specs.Sheet.{IsSheet, IsEnds, seen_at, facts_in}
+use Rattle.slot_evidence.proofs.PublicLaws.{seen_by}
 use Rattle.dsc_lines.specs.JoinLine.{JoinLine, IsPair, pair_text, IsLine, evidence}
 use Rattle.dsc_lines.specs.declared.lines.Line.{Line}
 use Rattle.dsc_lines.specs.declared.lines.Line.TheVariants as line
@@ -46,15 +48,11 @@ text_more old front out new n sheet s e seen h =
     ∙ ap (λ (k : ℕ). old ++ (front ++ flat_map pair_text (pairs_below k sheet))) next
 
 -- the pairs of a sheet are pairs
-one_pair : (x : ℕ × ℕ) → IsPair x → All IsPair (x ∷ [])
-one_pair x h zero d below = h
-one_pair x h (suc k) d below = absurd (omega (arith, below))
-
 are_pairs_at : (place : ℕ) (s : Seen) → place < 64 → IsLawful s → All IsPair (pairs_at place s)
 are_pairs_at place seen.None p h = λ k d below. absurd (omega (arith, below))
-are_pairs_at place (seen.One v) p h = one_pair (place, v) (p, h)
+are_pairs_at place (seen.One v) p h = All-cons IsPair (place, v) [] (p, h) (All-nil IsPair)
 are_pairs_at place (seen.Differ least greatest) p h =
-    All-append IsPair ((place, least) ∷ []) ((place, greatest) ∷ []) (one_pair (place, least) (p, omega (arith, h.0, h.1))) (one_pair (place, greatest) (p, h.1))
+    All-cons IsPair (place, least) ((place, greatest) ∷ []) (p, omega (arith, h.0, h.1)) (All-cons IsPair (place, greatest) [] (p, h.1) (All-nil IsPair))
 
 are_pairs : (n : ℕ) (sheet : List Seen) → n ≤ 64 → IsSheet sheet → All IsPair (pairs_below n sheet)
 unfolding pairs_below
@@ -66,21 +64,13 @@ pub text_is_line : (group : ℕ) (sheet : List Seen) → group < 2 ^ 32 → IsSh
 text_is_line group sheet small h = (codes " g" ++ decimal group, (inr (small, refl), (are_pairs 64 sheet (omega arith) h, refl)))
 
 -- the facts of a sheet's pairs are the sheet's
-or_nothing : (a : Bool) → (a || false) ≡ a
-or_nothing true = refl
-or_nothing false = refl
-
-and_never : (b : Bool) → false ≡ (b && false)
-and_never true = refl
-and_never false = refl
-
 spread : (b x y : Bool) → ((b && x) || ((b && y) || false)) ≡ (b && (x || y))
-spread true x y = ap (λ (c : Bool). x || c) (or_nothing y)
+spread true x y = ap (λ (c : Bool). x || c) (or-false y)
 spread false x y = refl
 
 here : (place p v : ℕ) (s : Seen) → facts_of_pairs (pairs_at place s) p v ≡ ((p == place) && symbols_in s v)
-here place p v seen.None = and_never (p == place)
-here place p v (seen.One w) = or_nothing ((p == place) && (v == w))
+here place p v seen.None = sym (and-false (p == place))
+here place p v (seen.One w) = or-false ((p == place) && (v == w))
 here place p v (seen.Differ least greatest) = spread (p == place) (v == least) (v == greatest)
 
 -- of a place the tests tell whether it is one of those before, this one, or one behind
@@ -90,7 +80,7 @@ IsEarlier before at all = (before ≡ true) × (at ≡ false) × (all ≡ true)
 earlier : (before at all x y : Bool) → IsEarlier before at all → ((before && x) || (at && y)) ≡ (all && x)
 unfolding IsEarlier
 earlier before at all x y h =
-    ap (λ (t : Bool). (t && x) || (at && y)) h.0 ∙ ap (λ (t : Bool). x || (t && y)) h.1 ∙ or_nothing x ∙ ap (λ (t : Bool). t && x) (sym h.2)
+    ap (λ (t : Bool). (t && x) || (at && y)) h.0 ∙ ap (λ (t : Bool). x || (t && y)) h.1 ∙ or-false x ∙ ap (λ (t : Bool). t && x) (sym h.2)
 
 same_place : (before at all x y : Bool) → before ≡ false → at ≡ true → all ≡ true → x ≡ y → ((before && x) || (at && y)) ≡ (all && x)
 same_place before at all x y b a c e =
@@ -136,20 +126,6 @@ facts_same sheet p v h =
       | inr more ↦ facts_below 64 sheet p v ∙ ap (λ (t : Bool). t && symbols_in (seen_at sheet p) v) (le-ltb p 64 more) ∙ sym (past_the_sheet sheet p v (omega (arith, h.places, more)))
     ]
 
-seen_again : (s : Seen) → IsLawful s → IsSeen (symbols_in s) s
-seen_again seen.None h = λ v. refl
-seen_again (seen.One w) h = (eq-eqb w w refl, λ u e. eqb-true u w e)
-seen_again (seen.Differ least greatest) h = record {
-  has_least = or_left (least == least) (least == greatest) (eq-eqb least least refl);
-  has_greatest = or_right (greatest == least) (greatest == greatest) (eq-eqb greatest greatest refl);
-  apart = h.0;
-  between = λ w e.
-      elim (or_cases (w == least) (w == greatest) e) [
-        | inl low ↦ (let same = eqb-true w least low in (omega (arith, same), omega (arith, same, h.0)))
-        | inr high ↦ (let same = eqb-true w greatest high in (omega (arith, same, h.0), omega (arith, same)))
-      ];
-}
-
 seen_same : (S T : Symbols) (s : Seen) → ((v : ℕ) → T v ≡ S v) → IsSeen S s → IsSeen T s
 seen_same S T s same h =
     let one : S ≡ T = λ i v. sym (same v) i in
@@ -159,7 +135,7 @@ pub text_has_ends : (sheet : List Seen) → IsSheet sheet → IsEnds (facts_of_p
 text_has_ends sheet h = record {
   places = h.places;
   each = λ p.
-      seen_same (symbols_in (seen_at sheet p)) (facts_of_pairs (pairs_below 64 sheet) p) (seen_at sheet p) (λ v. facts_same sheet p v h) (seen_again (seen_at sheet p) (h.lawful p));
+      seen_same (symbols_in (seen_at sheet p)) (facts_of_pairs (pairs_below 64 sheet) p) (seen_at sheet p) (λ v. facts_same sheet p v h) (seen_by (seen_at sheet p) (h.lawful p));
 }
 
 -- what is read of the text

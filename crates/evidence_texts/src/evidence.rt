@@ -1,6 +1,7 @@
 ghost use Rattle.std.specs.Prelude.{◌≡◌, ◌+◌, ◌≤◌, ◌<◌, ◌++◌, ◌∷◌, []};
 ghost use Rattle.std.specs.List.{flat_map};
 ghost use Rattle.arrayvec.specs.ArrayVec.{array_vec_len};
+ghost use Rattle.line_grammar.specs.Bytes.{line_feed};
 ghost use Rattle.slot_evidence.specs.Seen.{IsLawful};
 ghost use Rattle.dsc_lines.specs.JoinLine.{pair_text};
 ghost use Rattle.evidence_texts.specs.Evidence.{pairs_at, evidence_text};
@@ -21,7 +22,7 @@ pub fn put_evidence(group: u32, sheet: &Sheet) -> ArrayVec<u8, 1024>
 
 /// The same with the line feed that ends the line.
 pub fn put_evidence_line(group: u32, sheet: &Sheet) -> ArrayVec<u8, 1025>
-    ensures { result.items ≡ evidence_text group sheet.now ++ 10 ∷ [] }
+    ensures { result.items ≡ evidence_text group sheet.now ++ line_feed ∷ [] }
 {
     let mut out = ArrayVec::new();
     append_evidence(&mut out, group, sheet);

@@ -1,5 +1,6 @@
 -- the calls that a station sent are those of its entries' acts
 use Rattle.std.proofs.Common.{◌≡◌, ℕ, zero, suc, ◌⊎◌, inl, inr, Some, None, List, [], ◌∷◌, ◌++◌, slice_get, refl, ap}
+use Rattle.std.proofs.lemmas.Option.{none-some, same_Some}
 use Rattle.call_values.specs.declared.calls.Call.{Call}
 use Rattle.traffic_rules.specs.declared.acts.Act.{Act}
 use Rattle.traffic_rules.specs.declared.acts.Act.TheVariants as act
@@ -10,15 +11,9 @@ abbrev pub IsIn : Call → List Call → Type 0
 IsIn c [] = ⊥
 IsIn c (x ∷ xs) = (x ≡ c) ⊎ IsIn c xs
 
-none_is_some : (c : Call) → None ≡ Some c → ⊥
-none_is_some c h = cc
-
-some_is : (a b : Call) → Some a ≡ Some b → a ≡ b
-some_is a b h = cc
-
 found : (xs : List Call) (n : ℕ) (c : Call) → slice_get xs n ≡ Some c → IsIn c xs
-found [] n c is = absurd (none_is_some c is)
-found (x ∷ xs) zero c is = inl (some_is x c is)
+found [] n c is = absurd (none-some c is)
+found (x ∷ xs) zero c is = inl (same_Some x c is)
 found (x ∷ xs) (suc n) c is = inr (found xs n c is)
 
 in_either : (xs ys : List Call) (c : Call) → IsIn c (xs ++ ys) → IsIn c xs ⊎ IsIn c ys

@@ -1,9 +1,10 @@
 -- at which events the ship's alert ends
 use Rattle.std.proofs.Common.{◌≡◌, ℕ, inl, inr, Bool, Option, Some, None, List, [], ◌∷◌, ◌++◌, slice_get, refl, sym, ◌∙◌, ap, subst}
-use Rattle.std.proofs.lemmas.Bool.{or_left, or_right}
+use Rattle.std.proofs.lemmas.Bool.{or_left, or_right, or_cases}
 use Rattle.std.specs.Prelude.{IsTrue}
 use Rattle.std.specs.List.{list_any}
 use Rattle.std.specs.Option.{option_map}
+use Rattle.std.proofs.lemmas.Option.{none-some, same_Some}
 use Rattle.call_values.specs.declared.calls.Call.{Call}
 use Rattle.call_values.specs.declared.calls.Call.TheVariants as call
 use Rattle.call_values.specs.declared.calls.Casualty.{Casualty}
@@ -28,7 +29,7 @@ use Rattle.exchange.specs.WorldHistories.{Given, did, refuses, nothing, WorldEnt
 use Rattle.exchange.specs.WorldRules.{Parties, IsOwnOfShip, IsOwnOfCoast, IsFromOutside, AreAnswered, IsLegal}
 use Rattle.exchange.proofs.Answered.{answered_before, coast_legal, ship_at, ship_history}
 use Rattle.exchange.proofs.Deliveries.{Sends, sent_at}
-use Rattle.exchange.proofs.Splits.{either_true, none_is, some_same, accepted_there, lift}
+use Rattle.exchange.proofs.Splits.{accepted_there, lift}
 
 heard_same : (a b : Call) → at_coast.Heard a ≡ at_coast.Heard b → a ≡ b
 heard_same a b h = cc
@@ -38,47 +39,47 @@ module _ (c : Call) where
   got_and_sent : (at number : ℕ) (o : Option Call) (g : Given) (y : Entry CoastWhat)
       → entry_of (option_map (λ (call : Call). (at, at_coast.Heard call)) o) g ≡ Some y → Sends c y.acts
       → IsSentByCoast c (record { event = world.CoastGets at number; gave = g })
-  got_and_sent at number None g y is sends = absurd (none_is y is)
+  got_and_sent at number None g y is sends = absurd (none-some y is)
   got_and_sent at number (Some d) (did acts) y is sends =
-      let same = ap (λ (z : Entry CoastWhat). z.acts) (some_same (record { at = at; what = at_coast.Heard d; acts = acts }) y is) in
+      let same = ap (λ (z : Entry CoastWhat). z.acts) (same_Some (record { at = at; what = at_coast.Heard d; acts = acts }) y is) in
       record { there = refl; first = sends.first; times = sends.times; last = sends.last; acts = ap (λ (l : List Act). did l) (same ∙ sends.split) }
-  got_and_sent at number (Some d) (refuses refusal) y is sends = absurd (none_is y is)
-  got_and_sent at number (Some d) (nothing n) y is sends = absurd (none_is y is)
+  got_and_sent at number (Some d) (refuses refusal) y is sends = absurd (none-some y is)
+  got_and_sent at number (Some d) (nothing n) y is sends = absurd (none-some y is)
 
   sent_there : (calls : List Call) (event : WorldEvent) (g : Given) (y : Entry CoastWhat) → entry_of (coast_what calls event) g ≡ Some y → Sends c y.acts
       → IsSentByCoast c (record { event = event; gave = g })
   sent_there calls (world.Coast e) (did acts) y is sends =
-      let same = ap (λ (z : Entry CoastWhat). z.acts) (some_same (record { at = e.at; what = e.what; acts = acts }) y is) in
+      let same = ap (λ (z : Entry CoastWhat). z.acts) (same_Some (record { at = e.at; what = e.what; acts = acts }) y is) in
       record { there = refl; first = sends.first; times = sends.times; last = sends.last; acts = ap (λ (l : List Act). did l) (same ∙ sends.split) }
-  sent_there calls (world.Coast e) (refuses refusal) y is sends = absurd (none_is y is)
-  sent_there calls (world.Coast e) (nothing n) y is sends = absurd (none_is y is)
+  sent_there calls (world.Coast e) (refuses refusal) y is sends = absurd (none-some y is)
+  sent_there calls (world.Coast e) (nothing n) y is sends = absurd (none-some y is)
   sent_there calls (world.CoastGets at number) g y is sends = got_and_sent at number (slice_get calls number) g y is sends
-  sent_there calls (world.Ship e) g y is sends = absurd (none_is y is)
-  sent_there calls (world.ShipGets at number) g y is sends = absurd (none_is y is)
+  sent_there calls (world.Ship e) g y is sends = absurd (none-some y is)
+  sent_there calls (world.ShipGets at number) g y is sends = absurd (none-some y is)
 
 -- an entry of the coast station that hears a call, in the exchange
 module _ (c : Call) (before : WorldHistory) where
   got_by : (at number : ℕ) (o : Option Call) (g : Given) (y : Entry CoastWhat) → slice_get (sent_by (ends_of before).ship) number ≡ o
       → entry_of (option_map (λ (call : Call). (at, at_coast.Heard call)) o) g ≡ Some y → y.what ≡ at_coast.Heard c
       → IsGotByCoast c (record { event = world.CoastGets at number; gave = g }) before
-  got_by at number None g y found is hears = absurd (none_is y is)
+  got_by at number None g y found is hears = absurd (none-some y is)
   got_by at number (Some d) (did acts) y found is hears =
-      let same = ap (λ (z : Entry CoastWhat). z.what) (some_same (record { at = at; what = at_coast.Heard d; acts = acts }) y is) in
+      let same = ap (λ (z : Entry CoastWhat). z.what) (same_Some (record { at = at; what = at_coast.Heard d; acts = acts }) y is) in
       record { at = at; number = number; event = refl; sent = found ∙ ap (λ (x : Call). Some x) (heard_same d c (same ∙ hears)); accepted = refl }
-  got_by at number (Some d) (refuses refusal) y found is hears = absurd (none_is y is)
-  got_by at number (Some d) (nothing n) y found is hears = absurd (none_is y is)
+  got_by at number (Some d) (refuses refusal) y found is hears = absurd (none-some y is)
+  got_by at number (Some d) (nothing n) y found is hears = absurd (none-some y is)
 
   heard_there : (event : WorldEvent) (g : Given) (y : Entry CoastWhat) → IsFromOutside event
       → entry_of (coast_what (sent_by (ends_of before).ship) event) g ≡ Some y → y.what ≡ at_coast.Heard c
       → IsGotByCoast c (record { event = event; gave = g }) before
   heard_there (world.Coast e) (did acts) y outside is hears =
-      let same = ap (λ (z : Entry CoastWhat). z.what) (some_same (record { at = e.at; what = e.what; acts = acts }) y is) in
+      let same = ap (λ (z : Entry CoastWhat). z.what) (same_Some (record { at = e.at; what = e.what; acts = acts }) y is) in
       absurd (subst (λ (what : CoastWhat). IsOwnOfCoast what) (same ∙ hears) outside)
-  heard_there (world.Coast e) (refuses refusal) y outside is hears = absurd (none_is y is)
-  heard_there (world.Coast e) (nothing n) y outside is hears = absurd (none_is y is)
+  heard_there (world.Coast e) (refuses refusal) y outside is hears = absurd (none-some y is)
+  heard_there (world.Coast e) (nothing n) y outside is hears = absurd (none-some y is)
   heard_there (world.CoastGets at number) g y outside is hears = got_by at number (slice_get (sent_by (ends_of before).ship) number) g y refl is hears
-  heard_there (world.Ship e) g y outside is hears = absurd (none_is y is)
-  heard_there (world.ShipGets at number) g y outside is hears = absurd (none_is y is)
+  heard_there (world.Ship e) g y outside is hears = absurd (none-some y is)
+  heard_there (world.ShipGets at number) g y outside is hears = absurd (none-some y is)
 
 -- what the coast station's law says of an acknowledgement
 abbrev pub GoesBack : Type 0
@@ -119,7 +120,7 @@ module _ (goes_back : GoesBack) (who : Parties) (earlier : WorldHistory) (legal 
         order = first.order ∙ ap (λ (w : WorldHistory). first.later ++ first.here ∷ w) second.order;
         acknowledged = sent_there ack (sent_by (ends_of first.earlier).ship) first.here.event first.here.gave s.sent first.entry s.sends;
         heard = heard_there (call.Alert casualty) second.earlier second.here.event second.here.gave g.heard outside second.entry g.alert;
-        accepted = elim (either_true (accepts mmsi s.sent.what) (list_any accepting g.between) g.accepted) [
+        accepted = elim (or_cases (accepts mmsi s.sent.what) (list_any accepting g.between) g.accepted) [
           | inl this ↦ or_left (accepts_casualty mmsi first.here) (list_any (accepts_casualty mmsi) second.later)
               (accepted_there mmsi (sent_by (ends_of first.earlier).ship) first.here.event first.here.gave s.sent first.entry this)
           | inr others ↦ or_right (accepts_casualty mmsi first.here) (list_any (accepts_casualty mmsi) second.later) (second.accepted others)
@@ -134,12 +135,12 @@ module _ (goes_back : GoesBack) (who : Parties) (earlier : WorldHistory) (legal 
 
   got_end : (own at number : ℕ) (o : Option Call) (g : Given) (x : Entry ShipWhat) → slice_get (sent_by (ends_of earlier).coast) number ≡ o
       → entry_of (option_map (λ (call : Call). (at, at_ship.Heard call)) o) g ≡ Some x → MayEndAlert own x.what → IsAcknowledgement own number earlier
-  got_end own at number None g x found is may = absurd (none_is x is)
+  got_end own at number None g x found is may = absurd (none-some x is)
   got_end own at number (Some c) (did acts) x found is may =
-      let same = some_same (record { at = at; what = at_ship.Heard c; acts = acts }) x is in
+      let same = same_Some (record { at = at; what = at_ship.Heard c; acts = acts }) x is in
       acknowledgement_of own number c found (subst (λ (z : Entry ShipWhat). MayEndAlert own z.what) (sym same) may)
-  got_end own at number (Some c) (refuses refusal) x found is may = absurd (none_is x is)
-  got_end own at number (Some c) (nothing n) x found is may = absurd (none_is x is)
+  got_end own at number (Some c) (refuses refusal) x found is may = absurd (none-some x is)
+  got_end own at number (Some c) (nothing n) x found is may = absurd (none-some x is)
 
   cancel_of : (own : ℕ) (what : ShipWhat) → IsOwnOfShip what → MayEndAlert own what → IsCancel what
   cancel_of own at_ship.Cancel outside may = tt
@@ -149,13 +150,13 @@ module _ (goes_back : GoesBack) (who : Parties) (earlier : WorldHistory) (legal 
   ended_by : (own : ℕ) (event : WorldEvent) (g : Given) (x : Entry ShipWhat) → IsFromOutside event
       → entry_of (ship_what (sent_by (ends_of earlier).coast) event) g ≡ Some x → MayEndAlert own x.what → MayEnd own event earlier
   ended_by own (world.Ship e) (did acts) x outside is may =
-      let same = some_same (record { at = e.at; what = e.what; acts = acts }) x is in
+      let same = same_Some (record { at = e.at; what = e.what; acts = acts }) x is in
       cancel_of own e.what outside (subst (λ (z : Entry ShipWhat). MayEndAlert own z.what) (sym same) may)
-  ended_by own (world.Ship e) (refuses refusal) x outside is may = absurd (none_is x is)
-  ended_by own (world.Ship e) (nothing n) x outside is may = absurd (none_is x is)
+  ended_by own (world.Ship e) (refuses refusal) x outside is may = absurd (none-some x is)
+  ended_by own (world.Ship e) (nothing n) x outside is may = absurd (none-some x is)
   ended_by own (world.ShipGets at number) g x outside is may = got_end own at number (slice_get (sent_by (ends_of earlier).coast) number) g x refl is may
-  ended_by own (world.Coast e) g x outside is may = absurd (none_is x is)
-  ended_by own (world.CoastGets at number) g x outside is may = absurd (none_is x is)
+  ended_by own (world.Coast e) g x outside is may = absurd (none-some x is)
+  ended_by own (world.CoastGets at number) g x outside is may = absurd (none-some x is)
 
 pub may_end : Ends → GoesBack → (who : Parties) (later earlier : WorldHistory) (ended : WorldEntry) → IsLegal who (later ++ ended ∷ earlier)
     → IsTrue (ship_does is_end ended) → MayEnd who.ship.own ended.event earlier

@@ -4,6 +4,7 @@ use Rattle.std.proofs.lemmas.Bool.{false≢true, or_from, or_parts}
 use Rattle.std.specs.Prelude.{IsTrue}
 use Rattle.std.specs.List.{list_any}
 use Rattle.std.specs.Option.{option_map}
+use Rattle.std.proofs.lemmas.Option.{none-some, same_Some}
 use Rattle.call_values.specs.declared.calls.Call.{Call}
 use Rattle.traffic_rules.specs.declared.acts.Act.{Act}
 use Rattle.traffic_rules.specs.Histories.{Entry, History, does, NoneIs}
@@ -21,7 +22,7 @@ use Rattle.exchange.specs.Sent.{sent_by}
 use Rattle.exchange.specs.WorldHistories.{Given, did, refuses, nothing, WorldEntry, WorldHistory, entry_of, with_entry, ship_what, ship_entry, ends_of}
 use Rattle.exchange.specs.WorldRules.{Parties, AreAnswered, IsLegal}
 use Rattle.exchange.proofs.Answered.{ship_there, ship_at, ship_history}
-use Rattle.exchange.proofs.Splits.{none_is, some_same, ship_part}
+use Rattle.exchange.proofs.Splits.{ship_part}
 
 not_accepted : (b : Bool) → (b && true) ≡ false → b ≡ false
 not_accepted true h = h
@@ -29,21 +30,21 @@ not_accepted false h = h
 
 begins_none : (at : ℕ) (o : Option Call) (g : Given) (y : Entry ShipWhat)
     → entry_of (option_map (λ (call : Call). (at, at_ship.Heard call)) o) g ≡ Some y → begins_at_ship y ≡ false
-begins_none at None g y is = absurd (none_is y is)
-begins_none at (Some c) (did acts) y is = sym (ap begins_at_ship (some_same (record { at = at; what = at_ship.Heard c; acts = acts }) y is))
-begins_none at (Some c) (refuses refusal) y is = absurd (none_is y is)
-begins_none at (Some c) (nothing n) y is = absurd (none_is y is)
+begins_none at None g y is = absurd (none-some y is)
+begins_none at (Some c) (did acts) y is = sym (ap begins_at_ship (same_Some (record { at = at; what = at_ship.Heard c; acts = acts }) y is))
+begins_none at (Some c) (refuses refusal) y is = absurd (none-some y is)
+begins_none at (Some c) (nothing n) y is = absurd (none-some y is)
 
 -- an entry of the ship begins no alert where that of the exchange begins none
 begins_not : (calls : List Call) (event : WorldEvent) (g : Given) (y : Entry ShipWhat) → entry_of (ship_what calls event) g ≡ Some y
     → (is_alert_event event && is_accepted g) ≡ false → begins_at_ship y ≡ false
 begins_not calls (world.Ship e) (did acts) y is none =
-    sym (ap begins_at_ship (some_same (record { at = e.at; what = e.what; acts = acts }) y is)) ∙ not_accepted (is_alert_event (world.Ship e)) none
-begins_not calls (world.Ship e) (refuses refusal) y is none = absurd (none_is y is)
-begins_not calls (world.Ship e) (nothing n) y is none = absurd (none_is y is)
+    sym (ap begins_at_ship (same_Some (record { at = e.at; what = e.what; acts = acts }) y is)) ∙ not_accepted (is_alert_event (world.Ship e)) none
+begins_not calls (world.Ship e) (refuses refusal) y is none = absurd (none-some y is)
+begins_not calls (world.Ship e) (nothing n) y is none = absurd (none-some y is)
 begins_not calls (world.ShipGets at number) g y is none = begins_none at (slice_get calls number) g y is
-begins_not calls (world.Coast e) g y is none = absurd (none_is y is)
-begins_not calls (world.CoastGets at number) g y is none = absurd (none_is y is)
+begins_not calls (world.Coast e) g y is none = absurd (none-some y is)
+begins_not calls (world.CoastGets at number) g y is none = absurd (none-some y is)
 
 module _ (test : Entry ShipWhat → Bool) where
   none_with : (o : Option (Entry ShipWhat)) (h : History ShipWhat) → ((y : Entry ShipWhat) → o ≡ Some y → test y ≡ false) → NoneIs test h → NoneIs test (with_entry o h)
@@ -55,8 +56,8 @@ module _ (test : Entry ShipWhat → Bool) where
   none_but (Some y) h none = (or_parts (test y) (list_any test h) none).1
 
   not_one : (o : Option (Entry ShipWhat)) (h : History ShipWhat) (y : Entry ShipWhat) → o ≡ Some y → NoneIs test (with_entry o h) → test y ≡ false
-  not_one None h y is none = absurd (none_is y is)
-  not_one (Some z) h y is none = ap test (sym (some_same z y is)) ∙ (or_parts (test z) (list_any test h) none).0
+  not_one None h y is none = absurd (none-some y is)
+  not_one (Some z) h y is none = ap test (sym (same_Some z y is)) ∙ (or_parts (test z) (list_any test h) none).0
 
 none_begins : (later w : WorldHistory) → list_any begins_alert later ≡ false → NoneIs begins_at_ship (ship_part later w)
 none_begins [] w none = refl

@@ -1,8 +1,10 @@
 -- splits of the histories of both ends, in that of the exchange
 use Rattle.std.proofs.Common.{◌≡◌, ℕ, ◌⊎◌, inl, inr, ◌&&◌, ◌||◌, Bool, true, false, Option, Some, None, List, [], ◌∷◌, ◌++◌, slice_get, refl, ◌∙◌, ap}
-use Rattle.std.proofs.lemmas.Bool.{false≢true, or_left, or_right}
+use Rattle.std.proofs.lemmas.Bool.{false≢true, or_left, or_right, or_cases}
 use Rattle.std.specs.List.{list_any}
 use Rattle.std.specs.Option.{option_map}
+use Rattle.std.proofs.lemmas.Option.{none-some, same_Some}
+use mathlib.Core.List.{head-eq_of_cons-eq, tail-eq_of_cons-eq}
 use Rattle.call_values.specs.declared.calls.Call.{Call}
 use Rattle.traffic_rules.specs.Histories.{Entry, History}
 use Rattle.ship_station.specs.declared.events.ShipWhat.{ShipWhat}
@@ -25,45 +27,29 @@ pub record Lifted (w : WorldHistory) (front back : History CoastWhat) (x : Entry
   pub rest : (ends_of earlier).coast ≡ back
   pub accepted : list_any (λ (e : Entry CoastWhat). accepts mmsi e.what) front ≡ true → list_any (accepts_casualty mmsi) later ≡ true
 
-pub either_true : (a b : Bool) → (a || b) ≡ true → (a ≡ true) ⊎ (b ≡ true)
-either_true true b h = inl refl
-either_true false b h = inr h
-
-pub none_is : {What : Type 0} (x : Entry What) → None ≡ Some x → ⊥
-none_is x h = cc
-
-pub some_same : {What : Type 0} (x y : Entry What) → Some x ≡ Some y → x ≡ y
-some_same x y h = cc
-
 nil_is_split : {What : Type 0} (front back : History What) (x : Entry What) → [] ≡ front ++ x ∷ back → ⊥
 nil_is_split [] back x h = cc
 nil_is_split (f ∷ front) back x h = cc
 
-same_head : {What : Type 0} (x y : Entry What) (g h : History What) → x ∷ g ≡ y ∷ h → x ≡ y
-same_head x y g h is = cc
-
-same_tail : {What : Type 0} (x y : Entry What) (g h : History What) → x ∷ g ≡ y ∷ h → g ≡ h
-same_tail x y g h is = cc
-
 -- an accepted event that accepts a casualty does so in the exchange
 heard_accepts : (mmsi at : ℕ) (o : Option Call) (g : Given) (y : Entry CoastWhat)
     → entry_of (option_map (λ (call : Call). (at, at_coast.Heard call)) o) g ≡ Some y → accepts mmsi y.what ≡ true → ⊥
-heard_accepts mmsi at None g y is h = none_is y is
+heard_accepts mmsi at None g y is h = none-some y is
 heard_accepts mmsi at (Some c) (did acts) y is h =
-    false≢true (ap (λ (e : Entry CoastWhat). accepts mmsi e.what) (some_same (record { at = at; what = at_coast.Heard c; acts = acts }) y is) ∙ h)
-heard_accepts mmsi at (Some c) (refuses refusal) y is h = none_is y is
-heard_accepts mmsi at (Some c) (nothing number) y is h = none_is y is
+    false≢true (ap (λ (e : Entry CoastWhat). accepts mmsi e.what) (same_Some (record { at = at; what = at_coast.Heard c; acts = acts }) y is) ∙ h)
+heard_accepts mmsi at (Some c) (refuses refusal) y is h = none-some y is
+heard_accepts mmsi at (Some c) (nothing number) y is h = none-some y is
 
 pub accepted_there : (mmsi : ℕ) (calls : List Call) (event : WorldEvent) (g : Given) (y : Entry CoastWhat) → entry_of (coast_what calls event) g ≡ Some y
     → accepts mmsi y.what ≡ true → (is_accept_event mmsi event && is_accepted g) ≡ true
 accepted_there mmsi calls (world.Coast e) (did acts) y is h =
-    let same = some_same (record { at = e.at; what = e.what; acts = acts }) y is in
+    let same = same_Some (record { at = e.at; what = e.what; acts = acts }) y is in
     ap (λ (b : Bool). b && true) (ap (λ (z : Entry CoastWhat). accepts mmsi z.what) same ∙ h)
-accepted_there mmsi calls (world.Coast e) (refuses refusal) y is h = absurd (none_is y is)
-accepted_there mmsi calls (world.Coast e) (nothing number) y is h = absurd (none_is y is)
+accepted_there mmsi calls (world.Coast e) (refuses refusal) y is h = absurd (none-some y is)
+accepted_there mmsi calls (world.Coast e) (nothing number) y is h = absurd (none-some y is)
 accepted_there mmsi calls (world.CoastGets at number) g y is h = absurd (heard_accepts mmsi at (slice_get calls number) g y is h)
-accepted_there mmsi calls (world.Ship e) g y is h = absurd (none_is y is)
-accepted_there mmsi calls (world.ShipGets at number) g y is h = absurd (none_is y is)
+accepted_there mmsi calls (world.Ship e) g y is h = absurd (none-some y is)
+accepted_there mmsi calls (world.ShipGets at number) g y is h = absurd (none-some y is)
 
 lift_by : (mmsi : ℕ) (e : WorldEntry) (w : WorldHistory) (back : History CoastWhat) (x : Entry CoastWhat) (o : Option (Entry CoastWhat))
     → coast_entry (ends_of w) e ≡ o → (front : History CoastWhat) → with_entry o (ends_of w).coast ≡ front ++ x ∷ back
@@ -85,13 +71,13 @@ lift_by mmsi e w back x (Some y) entry [] is rec =
       here = e;
       earlier = w;
       order = refl;
-      entry = entry ∙ ap (λ (z : Entry CoastWhat). Some z) (same_head y x (ends_of w).coast back is);
-      rest = same_tail y x (ends_of w).coast back is;
+      entry = entry ∙ ap (λ (z : Entry CoastWhat). Some z) (head-eq_of_cons-eq is);
+      rest = tail-eq_of_cons-eq is;
       accepted = λ h. h;
     }
 lift_by mmsi e w back x (Some y) entry (f ∷ front) is rec =
-    let r = rec front (same_tail y f (ends_of w).coast (front ++ x ∷ back) is) in
-    let same = same_head y f (ends_of w).coast (front ++ x ∷ back) is in
+    let r = rec front (tail-eq_of_cons-eq is) in
+    let same = head-eq_of_cons-eq is in
     let accepting : Entry CoastWhat → Bool = λ z. accepts mmsi z.what in
     record {
       later = e ∷ r.later;
@@ -100,7 +86,7 @@ lift_by mmsi e w back x (Some y) entry (f ∷ front) is rec =
       order = ap (λ (l : WorldHistory). e ∷ l) r.order;
       entry = r.entry;
       rest = r.rest;
-      accepted = λ h. elim (either_true (accepts mmsi f.what) (list_any accepting front) h) [
+      accepted = λ h. elim (or_cases (accepts mmsi f.what) (list_any accepting front) h) [
         | inl this ↦ or_left (accepts_casualty mmsi e) (list_any (accepts_casualty mmsi) r.later)
             (accepted_there mmsi (sent_by (ends_of w).ship) e.event e.gave y entry (ap accepting same ∙ this))
         | inr others ↦ or_right (accepts_casualty mmsi e) (list_any (accepts_casualty mmsi) r.later) (r.accepted others)

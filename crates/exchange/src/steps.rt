@@ -47,7 +47,8 @@ pub(crate) fn step_ship(
     ensures answer { (who : Identities) (h : History AtShip) → ShipStands ship.old who h
         → given_with result acts.new.items ≡ given_by (answer_to (ship_rules who) h event.now.at event.now.what) }
     ensures stands { (who : Identities) (h : History AtShip) → ShipStands ship.old who h
-        → ShipStands ship.new who (after_event (Some (event.now.at, event.now.what)) (given_with result acts.new.items) h) }
+        → ShipStands ship.new who (after_event (Some (event.now.at, event.now.what)) (given_with result acts.new.items)
+        h) }
     ensures sent { sent.new.items ≡ sent.old.items ++ calls_given (given_with result acts.new.items) }
     ensures still { IsStillWhere (given_with result acts.new.items) ship.old ship.new sent.old.items sent.new.items }
 {
@@ -66,7 +67,8 @@ pub(crate) fn step_coast(
     ensures answer { (who : Station) (h : History AtCoast) → CoastStands coast.old who h
         → given_with result acts.new.items ≡ given_by (answer_to (coast_rules who) h event.now.at event.now.what) }
     ensures stands { (who : Station) (h : History AtCoast) → CoastStands coast.old who h
-        → CoastStands coast.new who (after_event (Some (event.now.at, event.now.what)) (given_with result acts.new.items) h) }
+        → CoastStands coast.new who (after_event (Some (event.now.at, event.now.what))
+        (given_with result acts.new.items) h) }
     ensures sent { sent.new.items ≡ sent.old.items ++ calls_given (given_with result acts.new.items) }
     ensures still { IsStillWhere (given_with result acts.new.items) coast.old coast.new sent.old.items sent.new.items }
 {
@@ -88,7 +90,8 @@ pub(crate) fn ship_gets(
         → given_with result acts.new.items
         ≡ given_at (ship_rules who) h at number at_ship.Heard (slice_get from_coast.now number) }
     ensures stands { (who : Identities) (h : History AtShip) → ShipStands ship.old who h
-        → ShipStands ship.new who (after_event (delivery at_ship.Heard at number from_coast.now) (given_with result acts.new.items) h) }
+        → ShipStands ship.new who (after_event (delivery at_ship.Heard at number from_coast.now)
+        (given_with result acts.new.items) h) }
     ensures sent { sent.new.items ≡ sent.old.items ++ calls_given (given_with result acts.new.items) }
     ensures still { IsStillWhere (given_with result acts.new.items) ship.old ship.new sent.old.items sent.new.items }
 {
@@ -118,7 +121,8 @@ pub(crate) fn coast_gets(
         → given_with result acts.new.items
         ≡ given_at (coast_rules who) h at number at_coast.Heard (slice_get from_ship.now number) }
     ensures stands { (who : Station) (h : History AtCoast) → CoastStands coast.old who h
-        → CoastStands coast.new who (after_event (delivery at_coast.Heard at number from_ship.now) (given_with result acts.new.items) h) }
+        → CoastStands coast.new who (after_event (delivery at_coast.Heard at number from_ship.now)
+        (given_with result acts.new.items) h) }
     ensures sent { sent.new.items ≡ sent.old.items ++ calls_given (given_with result acts.new.items) }
     ensures still { IsStillWhere (given_with result acts.new.items) coast.old coast.new sent.old.items sent.new.items }
 {

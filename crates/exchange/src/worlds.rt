@@ -29,14 +29,22 @@ impl Model for World {
 
     ghost Value = { WorldParts };
 
-    ghost view = { λ world. record { ship = world.ship; coast = world.coast; from_ship = world.from_ship.items; from_coast = world.from_coast.items } };
+    ghost view = { λ world. record {
+      ship = world.ship;
+      coast = world.coast;
+      from_ship = world.from_ship.items;
+      from_coast = world.from_coast.items;
+    } };
 }
 
 impl World {
     /// A ship without groups and a coast station that works in this band, before their first events. Nothing was sent. The two identities
     /// are to differ: no station hears calls of its own identity. It takes no memory.
     pub fn new(alloc: Global, ship: Mmsi, coast: Mmsi, band: Band) -> World
-        ensures { Stands result (record { ship = record { own = ship; groups = [] }; coast = record { own = coast; band = band } }) [] }
+        ensures { Stands result (record {
+          ship = record { own = ship; groups = [] };
+          coast = record { own = coast; band = band };
+        }) [] }
     {
         World {
             ship: Ship::new(ship, &[]),

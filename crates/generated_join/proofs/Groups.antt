@@ -3,6 +3,8 @@ use Rattle.std.proofs.Common.{◌≡◌, ℕ, ◌+◌, Bool, true, false, ◌&&�
 use Rattle.std.specs.List.{AllByRecursion, list_any, range_with_len}
 use Rattle.std.proofs.lemmas.List.Folds.{list_any-append}
 use Rattle.std.proofs.lemmas.List.FromFn.{map-range_with_len_more}
+use Rattle.std.proofs.lemmas.Bool.{eqb-true, or_right, eq-eqb}
+use Rattle.std.proofs.Math.Bool.{or-false}
 use Rattle.slot_evidence.specs.Facts.{Facts, no_facts, facts_of, facts_of_all, union}
 use Rattle.slot_join.specs.Answer.{IsAnswer}
 use Rattle.ten_unit.specs.declared.character.Element.{Element}
@@ -12,12 +14,6 @@ use Rattle.join_groups.proofs.PublicLaws.{same_facts, unnamed_facts}
 use Rattle.generated_join.specs.Generator.{heard, generated, lines_of_group}
 use Rattle.generated_join.specs.Summary.{Answered}
 use Rattle.generated_join.proofs.Ranges.{rising_range}
-
-is_equal : (a b : ℕ) → (a == b) ≡ true → a ≡ b
-is_equal a b h = grind arith
-
-same_number : (k : ℕ) → (k == k) ≡ true
-same_number k = grind arith
 
 four_or : (b : Bool) → (b || (b || (b || (b || false)))) ≡ b
 four_or true = refl
@@ -58,7 +54,7 @@ facts_all (i ∷ numbers) k p v = facts_split i numbers k p v ∙ by_test (i == 
     by_test : (t : Bool) → (i == k) ≡ t → group_facts (flat_map lines_of_group numbers) k p v ≡ (is_among numbers k && group_facts (lines_of_group k) k p v)
         → (group_facts (lines_of_group i) k p v || group_facts (flat_map lines_of_group numbers) k p v) ≡ ((t || is_among numbers k) && group_facts (lines_of_group k) k p v)
     by_test true is rest =
-        ap₂ (λ (n : ℕ) (b : Bool). group_facts (lines_of_group n) k p v || b) (is_equal i k is) rest ∙ absorbed (group_facts (lines_of_group k) k p v) (is_among numbers k)
+        ap₂ (λ (n : ℕ) (b : Bool). group_facts (lines_of_group n) k p v || b) (eqb-true i k is) rest ∙ absorbed (group_facts (lines_of_group k) k p v) (is_among numbers k)
     by_test false is rest = ap₂ (λ (a b : Bool). a || b) (unnamed_facts (lines_of_group i) k p v (named_group i k ∙ is)) rest
 
 facts_here : (n k : ℕ) → is_among (range_with_len 0 n) k ≡ true → group_facts (lines_of_group k) k ≡ group_facts (generated n) k
@@ -67,17 +63,13 @@ facts_here n k h =
     same_facts (group_facts (lines_of_group k) k) (group_facts (generated n) k) (λ p v.
     sym (facts_all (range_with_len 0 n) k p v ∙ ap (λ (b : Bool). b && group_facts (lines_of_group k) k p v) h))
 
-or_right : (a b : Bool) → b ≡ true → (a || b) ≡ true
-or_right true b h = refl
-or_right false b h = h
-
 -- what answers to the facts of a group's own lines answers to all its facts
 pub each_here : (n : ℕ) (all : List Answered) → ((k : ℕ) → is_among (map (λ one. one.group) all) k ≡ true → is_among (range_with_len 0 n) k ≡ true)
     → AllByRecursion (λ one. IsAnswer (group_facts (lines_of_group one.group) one.group) one.answer) all
     → AllByRecursion (λ one. IsAnswer (group_facts (generated n) one.group) one.answer) all
 each_here n [] within each = tt
 each_here n (one ∷ all) within each =
-    let first = ap (λ (b : Bool). b || is_among (map (λ one. one.group) all) one.group) (same_number one.group) in (
+    let first = ap (λ (b : Bool). b || is_among (map (λ one. one.group) all) one.group) (eq-eqb one.group one.group refl) in (
       subst (λ (F : Facts). IsAnswer F one.answer) (facts_here n one.group (within one.group first)) each.0,
       each_here n all (λ k h. within k (or_right (one.group == k) (is_among (map (λ one. one.group) all) k) h)) each.1,
     )
@@ -97,22 +89,18 @@ shown_by_lines : (k : ℕ) (receivers : List ℕ) (p v : ℕ) → facts_of_all (
 unfolding facts_of_all group_facts
 shown_by_lines k [] p v = refl
 shown_by_lines k (j ∷ receivers) p v =
-    ap₂ (λ (a b : Bool). a || b) (sym (ap (λ (b : Bool). b && facts_of (heard k j) p v) (same_number k))) (shown_by_lines k receivers p v)
+    ap₂ (λ (a b : Bool). a || b) (sym (ap (λ (b : Bool). b && facts_of (heard k j) p v) (eq-eqb k k refl))) (shown_by_lines k receivers p v)
 
 -- nobody heard the group yet
 pub none_heard : (k : ℕ) → no_facts ≡ facts_of_all (first_heard k 0)
 unfolding facts_of_all
 none_heard k = same_facts no_facts (facts_of_all (first_heard k 0)) (λ p v. refl)
 
-or_none : (a : Bool) → (a || false) ≡ a
-or_none true = refl
-or_none false = refl
-
 -- one receiver more
 pub one_more_heard : (k n : ℕ) → union (facts_of_all (first_heard k n)) (facts_of (heard k n)) ≡ facts_of_all (first_heard k (n + 1))
 unfolding facts_of_all
 one_more_heard k n = same_facts (union (facts_of_all (first_heard k n)) (facts_of (heard k n))) (facts_of_all (first_heard k (n + 1)))
-    (λ p v. ap (λ (b : Bool). facts_of_all (first_heard k n) p v || b) (sym (or_none (facts_of (heard k n) p v)))
+    (λ p v. ap (λ (b : Bool). facts_of_all (first_heard k n) p v || b) (sym (or-false (facts_of (heard k n) p v)))
     ∙ sym (list_any-append (λ e. facts_of e p v) (first_heard k n) (heard k n ∷ []))
     ∙ ap (λ (l : List (List Element)). list_any (λ e. facts_of e p v) l) (heard_more k n))
 

@@ -1,6 +1,7 @@
 -- lines have one summary
 use Rattle.std.proofs.Common.{◌≡◌, ℕ, if◌then◌else◌, List, [], ◌∷◌, length, map, count_by, refl, sym, ap, subst, ◌∙◌}
 use Rattle.std.specs.List.{list_all, AllByRecursion}
+use mathlib.Core.List.{nil≢cons, cons-eq-cons}
 use Rattle.slot_evidence.specs.Facts.{Facts}
 use Rattle.slot_join.specs.declared.joined.Joined.{Joined}
 use Rattle.slot_join.specs.Answer.{IsAnswer}
@@ -23,19 +24,13 @@ same_parts : (a b : Answered) → a.group ≡ b.group → a.answer ≡ b.answer 
 unfolding answered
 same_parts a b group answer = ap (λ (k : ℕ). answered k a.answer) group ∙ ap (λ (j : Joined). answered b.group j) answer
 
-same_heads : {x y : ℕ} {xs ys : List ℕ} → x ∷ xs ≡ y ∷ ys → (x ≡ y) × (xs ≡ ys)
-same_heads e = (cc, cc)
-
-no_head : {x : ℕ} {xs : List ℕ} → [] ≡ x ∷ xs → ⊥
-no_head e = cc
-
 same_all : OneAnswer → (said : List JoinLine) (a b : List Answered) → map (λ (one : Answered). one.group) a ≡ map (λ (one : Answered). one.group) b
     → AllByRecursion (λ one. IsAnswer (group_facts said one.group) one.answer) a → AllByRecursion (λ one. IsAnswer (group_facts said one.group) one.answer) b → a ≡ b
 same_all once said [] [] groups x y = refl
-same_all once said [] (t ∷ b) groups x y = absurd (no_head groups)
-same_all once said (s ∷ a) [] groups x y = absurd (no_head (sym groups))
+same_all once said [] (t ∷ b) groups x y = absurd (nil≢cons groups)
+same_all once said (s ∷ a) [] groups x y = absurd (nil≢cons (sym groups))
 same_all once said (s ∷ a) (t ∷ b) groups x y =
-    let heads = same_heads groups in
+    let heads = cons-eq-cons.0 groups in
     let there : IsAnswer (group_facts said s.group) t.answer = subst (λ (k : ℕ). IsAnswer (group_facts said k) t.answer) (sym heads.0) y.0 in
     let same : s ≡ t = same_parts s t heads.0 (once (group_facts said s.group) s.answer t.answer x.0 there) in
     ap (λ (u : Answered). u ∷ a) same ∙ ap (λ (l : List Answered). t ∷ l) (same_all once said a b heads.1 x.1 y.1)

@@ -1,6 +1,7 @@
 -- lines of receptions and evidence determine what is told of their groups
 use Rattle.std.proofs.Common.{◌≡◌, ℕ, Bool, if◌then◌else◌, List, [], ◌∷◌, ◌++◌, flat_map, map, refl, sym, ap, subst, ◌∙◌}
 use Rattle.std.specs.List.{list_all, AllByRecursion}
+use mathlib.Core.List.{nil≢cons, cons-eq-cons}
 use Rattle.slot_evidence.specs.declared.places.Seen.{Seen}
 use Rattle.slot_evidence.specs.Facts.{Facts}
 use Rattle.slot_evidence.specs.Sheet.{IsEnds}
@@ -11,6 +12,7 @@ use Rattle.line_engine.specs.Lines.{Lines}
 use Rattle.line_engine.specs.Determined.{IsDetermined, BeginsWith}
 use Rattle.dsc_lines.specs.JoinLine.{JoinLine, IsLine}
 use Rattle.dsc_lines.proofs.PublicLaws.{one_column}
+use Rattle.line_engine.proofs.PublicLaws.{begins_empty}
 use Rattle.join_groups.specs.Groups.{group_facts}
 use Rattle.join_groups.specs.Output.{Told, Telling, TellsAnswer, TellsEvidence, IsGroupsText, answer_line, is_reported}
 use Rattle.join_groups.specs.Meanings.{EndsTelling, groups_meaning}
@@ -49,19 +51,13 @@ same_parts a b group parts =
     ∙ ap (λ (l : List ℕ). told_of b.group l a.is_well) parts.0
     ∙ ap (λ (w : Bool). told_of b.group b.line w) parts.1
 
-same_heads : {x y : ℕ} {xs ys : List ℕ} → x ∷ xs ≡ y ∷ ys → (x ≡ y) × (xs ≡ ys)
-same_heads e = (cc, cc)
-
-no_head : {x : ℕ} {xs : List ℕ} → [] ≡ x ∷ xs → ⊥
-no_head e = cc
-
 same_all : (tells : Telling) → TellsOnce tells → (said : List JoinLine) (a b : List Told) → map (λ (told : Told). told.group) a ≡ map (λ (told : Told). told.group) b
     → AllByRecursion (λ told. tells (group_facts said told.group) told) a → AllByRecursion (λ told. tells (group_facts said told.group) told) b → a ≡ b
 same_all tells once said [] [] groups x y = refl
-same_all tells once said [] (t ∷ b) groups x y = absurd (no_head groups)
-same_all tells once said (s ∷ a) [] groups x y = absurd (no_head (sym groups))
+same_all tells once said [] (t ∷ b) groups x y = absurd (nil≢cons groups)
+same_all tells once said (s ∷ a) [] groups x y = absurd (nil≢cons (sym groups))
 same_all tells once said (s ∷ a) (t ∷ b) groups x y =
-    let heads = same_heads groups in
+    let heads = cons-eq-cons.0 groups in
     let there : tells (group_facts said s.group) t = subst (λ (k : ℕ). tells (group_facts said k) t) (sym heads.0) y.0 in
     let same : s ≡ t = same_parts s t heads.0 (once (group_facts said s.group) s t heads.0 x.0 there) in
     ap (λ (u : Told). u ∷ a) same ∙ ap (λ (l : List Told). t ∷ l) (same_all tells once said a b heads.1 x.1 y.1)
@@ -79,10 +75,6 @@ same_end : OneLine → (tells : Telling) → TellsOnce tells → (lines : Lines)
 same_end one tells once lines a b s t x y =
     let said : y.said ≡ x.said = same_said one y.said x.said lines y.are_lines x.are_lines in
     same_text tells once x.said a b s t x.is_text (subst (λ (w : List JoinLine). IsGroupsText tells w b t) said y.is_text)
-
--- every text begins with nothing
-begins_empty : (text whole : List ℕ) → text ≡ [] → BeginsWith whole text
-begins_empty text whole e = (whole, ap (λ (t : List ℕ). t ++ whole) (sym e))
 
 pub groups_determined : OneLine → (tells : Telling) → TellsOnce tells → IsDetermined (groups_meaning tells)
 groups_determined one tells once = record {

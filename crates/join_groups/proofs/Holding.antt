@@ -5,10 +5,13 @@ use Rattle.std.specs.List.{list_any}
 use Rattle.std.specs.Map.{keys_of}
 use Rattle.std.specs.Ordering.{nat_cmp, is_eq}
 use Rattle.std.specs.List.Sorted.{IsStrictlySortedBy}
-use Rattle.std.proofs.lemmas.Bool.{cases_eq, eq-eqb, ne_eqb, lt-ltb}
+use Rattle.std.proofs.lemmas.Bool.{cases_eq, eq-eqb, ne_eqb, lt-ltb, or_from, and_left, or_left, or_right, and_right}
 use Rattle.std.proofs.lemmas.List.{length-append, get_or_push, get_or_append_left, take_all, drop_all, append-nil}
 use Rattle.std.proofs.lemmas.List.Elements.{All-head, All-tail, All-push, All-weaker, All-nil}
 use Rattle.std.proofs.lemmas.List.Folds.{list_any-append}
+use Rattle.std.proofs.Math.Bool.{or-false, or_assoc}
+use Rattle.std.proofs.lemmas.Option.{same_Some}
+use Rattle.std.proofs.lemmas.Map.Entries.{length-keys_of}
 use Rattle.ten_unit.specs.declared.character.Element.{Element}
 use Rattle.slot_evidence.specs.declared.places.Seen.{Seen}
 use Rattle.slot_evidence.specs.Facts.{Facts, facts_of, no_facts, union}
@@ -20,55 +23,29 @@ use Rattle.join_groups.specs.Holds.{named_with, facts_with, facts_without, IsFul
 use Rattle.join_groups.proofs.Naming.{same_facts}
 use Rattle.join_groups.proofs.Rising.{at_test, found, among_keys, rising_keys, same_rising}
 
-or_nothing : (x : Bool) → (x || false) ≡ x
-or_nothing true = refl
-or_nothing false = refl
-
-or_none : (x y : Bool) → x ≡ false → y ≡ false → (x || y) ≡ false
-or_none true y h k = absurd cc
-or_none false y h k = k
-
-or_more : (x y : Bool) → x ≡ true → (x || y) ≡ true
-or_more true y h = refl
-or_more false y h = absurd cc
-
-and_none : (x y : Bool) → x ≡ false → (x && y) ≡ false
-and_none true y h = absurd cc
-and_none false y h = refl
-
 -- the sheet's facts and the batch's, with some more of either
 more_closed : (c b g : Bool) → (c || b || g) ≡ (c || g || b)
 more_closed true b g = refl
 more_closed false true true = refl
 more_closed false true false = refl
-more_closed false false g = sym (or_nothing g)
-
-more_waiting : (c b g : Bool) → (c || b || g) ≡ (c || (b || g))
-more_waiting true b g = refl
-more_waiting false b g = refl
+more_closed false false g = sym (or-false g)
 
 less_of : (t c : Bool) → (not t && (c || false)) ≡ ((not t && c) || false)
 less_of true c = refl
 less_of false c = refl
-
-eq_is : (a b : ℕ) → (a == b) ≡ true → a ≡ b
-eq_is a b h = grind arith
-
-eq_one : (k : ℕ) → (k == k) ≡ true
-eq_one k = grind arith
 
 -- batches
 batch_push : (batch : List GroupReception) (h : GroupReception) (n p v : ℕ) → facts_of_group (batch ++ h ∷ []) n p v ≡ (facts_of_group batch n p v || (h.group == n && facts_of h.reception p v))
 unfolding facts_of_group
 batch_push batch h n p v =
     list_any-append (λ heard. heard.group == n && facts_of heard.reception p v) batch (h ∷ [])
-    ∙ ap (λ (b : Bool). list_any (λ heard. heard.group == n && facts_of heard.reception p v) batch || b) (or_nothing (h.group == n && facts_of h.reception p v))
+    ∙ ap (λ (b : Bool). list_any (λ heard. heard.group == n && facts_of heard.reception p v) batch || b) (or-false (h.group == n && facts_of h.reception p v))
 
 none_of_next : (batch : List GroupReception) (n p v : ℕ) → All (Belongs n) batch → facts_of_group batch n p v ≡ false
 unfolding facts_of_group
 none_of_next [] n p v all = refl
 none_of_next (h ∷ batch) n p v all =
-    or_none _ _ (and_none (h.group == n) _ (ne_eqb h.group n (λ e. absurd (omega (arith, (All-head (Belongs n) h batch all).group, e)))))
+    or_from _ _ (and_left (h.group == n) _ (ne_eqb h.group n (λ e. absurd (omega (arith, (All-head (Belongs n) h batch all).group, e)))))
     (none_of_next batch n p v (All-tail (Belongs n) h batch all))
 
 pub none_waits : (n p v : ℕ) → facts_of_group [] n p v ≡ false
@@ -108,8 +85,8 @@ pub holds_named : (at : ℕ → Option ℕ) (sheets : List (List Seen)) (batch :
 holds_named at sheets batch named F group n is h =
     holds_same at sheets batch named (named_with group named) F F
     (λ k. elim (cases_eq group k) [
-      | inl here ↦ (let yes : named k ≡ true = subst (λ (j : ℕ). named j ≡ true) here (held_some at sheets batch named F group n is h).0 in yes ∙ sym (or_more (named k) (group == k) yes))
-      | inr apart ↦ sym (ap (λ (b : Bool). named k || b) (ne_eqb group k apart) ∙ or_nothing (named k))
+      | inl here ↦ (let yes : named k ≡ true = subst (λ (j : ℕ). named j ≡ true) here (held_some at sheets batch named F group n is h).0 in yes ∙ sym (or_left (named k) (group == k) yes))
+      | inr apart ↦ sym (ap (λ (b : Bool). named k || b) (ne_eqb group k apart) ∙ or-false (named k))
     ])
     (λ k p v. refl) h
 
@@ -130,7 +107,7 @@ holds_numbered at next sheets batch named F group blank none is ends h =
     let count = length sheets in
     let more : length (sheets ++ blank ∷ []) ≡ count + 1 = length-append sheets (blank ∷ []) in
     let closed : ℕ → Facts = λ m p v. nat_lt m count && h.closed m p v in
-    let here : group ≡ group → next group ≡ Some count = λ e. is group ∙ ap (λ (b : Bool). cond b (Some count) (at group)) (at_test group group ∙ eq_one group) in
+    let here : group ≡ group → next group ≡ Some count = λ e. is group ∙ ap (λ (b : Bool). cond b (Some count) (at group)) (at_test group group ∙ eq-eqb group group refl) in
     let other : (k : ℕ) → (group ≡ k → ⊥) → next k ≡ at k = λ k apart. is k ∙ ap (λ (b : Bool). cond b (Some count) (at k)) (at_test group k ∙ ne_eqb group k apart) in
     record {
       closed = closed;
@@ -139,7 +116,7 @@ holds_numbered at next sheets batch named F group blank none is ends h =
         each = λ m below. elim (cases_eq m count) [
           | inl last ↦
               subst (λ (s : List Seen). IsEnds (closed m) s) (sym (get_or_push sheets blank [] m (sym last)))
-              (subst (λ (X : Facts). IsEnds X blank) (sym (same_facts (closed m) no_facts (λ p v. and_none (nat_lt m count) _ (not_below m count last)))) ends)
+              (subst (λ (X : Facts). IsEnds X blank) (sym (same_facts (closed m) no_facts (λ p v. and_left (nat_lt m count) _ (not_below m count last)))) ends)
           | inr apart ↦ (let under : m < count = omega (arith, below, more, apart) in
               subst (λ (s : List Seen). IsEnds (closed m) s) (sym (get_or_append_left sheets (blank ∷ []) [] m under))
               (subst (λ (X : Facts). IsEnds X (slice_index_or sheets m []))
@@ -153,7 +130,7 @@ holds_numbered at next sheets batch named F group blank none is ends h =
       numbered = λ k n found. elim (cases_eq group k) [
         | inl same ↦
             (let number : Some count ≡ Some n = sym (here refl) ∙ ap next same ∙ found in
-            ap (λ (b : Bool). cond b group (h.group_with n)) (eq-eqb n count (sym (some_same count n number))) ∙ same)
+            ap (λ (b : Bool). cond b group (h.group_with n)) (eq-eqb n count (sym (same_Some count n number))) ∙ same)
         | inr apart ↦
             (let old : at k ≡ Some n = sym (other k apart) ∙ found in
             let under : n < count = below_next (named k) (F k) h.closed count batch (at k) n old (h.held k) in
@@ -163,40 +140,30 @@ holds_numbered at next sheets batch named F group blank none is ends h =
         | inl same ↦
             (let nothing : (p v : ℕ) → F k p v ≡ false = λ p v. subst (λ (j : ℕ). F j p v ≡ false) same ((held_none at sheets batch named F group none h).1 p v) in
             subst (λ (o : Option ℕ). IsHeld (named_with group named k) (F k) closed (length (sheets ++ blank ∷ [])) batch o) (sym (here refl) ∙ ap next same) (
-              or_yes (named k) (group == k) (eq-eqb group k same),
+              or_right (named k) (group == k) (eq-eqb group k same),
               omega (arith, more),
               λ p v.
-                  nothing p v ∙ sym (or_none _ _ (and_none (nat_lt count count) _ (not_below count count refl)) (none_of_next batch count p v h.belong)),
+                  nothing p v ∙ sym (or_from _ _ (and_left (nat_lt count count) _ (not_below count count refl)) (none_of_next batch count p v h.belong)),
             ))
         | inr apart ↦
             subst (λ (n : ℕ). IsHeld (named_with group named k) (F k) closed n batch (next k)) (sym more)
             (subst (λ (o : Option ℕ). IsHeld (named_with group named k) (F k) closed (count + 1) batch o) (sym (other k apart))
             (next_held (named_with group named k) (F k) h.closed count batch (at k)
-            (same_held (named k) (named_with group named k) (F k) (F k) h.closed count batch (at k) (sym (ap (λ (b : Bool). named k || b) (ne_eqb group k apart) ∙ or_nothing (named k))) (λ p v. refl) (h.held k))))
+            (same_held (named k) (named_with group named k) (F k) (F k) h.closed count batch (at k) (sym (ap (λ (b : Bool). named k || b) (ne_eqb group k apart) ∙ or-false (named k))) (λ p v. refl) (h.held k))))
       ];
     }
   where
     not_below : (m count : ℕ) → m ≡ count → nat_lt m count ≡ false
     not_below m count e = grind arith
 
-    some_same : (a b : ℕ) → Some a ≡ Some b → a ≡ b
-    some_same a b e = cc
-
-    or_yes : (x y : Bool) → y ≡ true → (x || y) ≡ true
-    or_yes true y e = refl
-    or_yes false y e = e
-
 -- the number of one group is no other's
 same_test : (at : ℕ → Option ℕ) (sheets : List (List Seen)) (batch : List GroupReception) (named : ℕ → Bool) (F : ℕ → Facts) (group n k m : ℕ) → at group ≡ Some n → at k ≡ Some m → HoldsIn at sheets batch named F
     → (group == k) ≡ (n == m)
 same_test at sheets batch named F group n k m is found h =
     elim (cases_eq group k) [
-      | inl same ↦ eq-eqb group k same ∙ sym (eq-eqb n m (some_same n m (sym is ∙ ap at same ∙ found)))
+      | inl same ↦ eq-eqb group k same ∙ sym (eq-eqb n m (same_Some n m (sym is ∙ ap at same ∙ found)))
       | inr apart ↦ ne_eqb group k apart ∙ sym (ne_eqb n m (λ e. apart (sym (h.numbered group n is) ∙ ap h.group_with e ∙ h.numbered k m found)))
     ]
-  where
-    some_same : (a b : ℕ) → Some a ≡ Some b → a ≡ b
-    some_same a b e = cc
 
 -- one that has no number is another group
 no_test : (at : ℕ → Option ℕ) (group n k : ℕ) → at group ≡ Some n → at k ≡ None → (group == k) ≡ false
@@ -209,7 +176,7 @@ module _ (at : ℕ → Option ℕ) (sheets : List (List Seen)) (batch : List Gro
   -- its sheet is met with some facts
   met_held : (G : Facts) (k : ℕ) (o : Option ℕ) → at k ≡ o → IsHeld (named k) (F k) h.closed (length sheets) batch o
       → IsHeld (named k) (facts_with group G F k) (λ m. union (h.closed m) (λ p v. n == m && G p v)) (length sheets) batch o
-  met_held G k None found held = (held.0, λ p v. or_none (F k p v) _ (held.1 p v) (and_none (group == k) _ (no_test at group n k is found)))
+  met_held G k None found held = (held.0, λ p v. or_from (F k p v) _ (held.1 p v) (and_left (group == k) _ (no_test at group n k is found)))
   met_held G k (Some m) found held = (
     held.0,
     held.1,
@@ -235,14 +202,14 @@ module _ (at : ℕ → Option ℕ) (sheets : List (List Seen)) (batch : List Gro
   -- a reception of it waits
   heard_held : (e : List Element) (k : ℕ) (o : Option ℕ) → at k ≡ o → IsHeld (named k) (F k) h.closed (length sheets) batch o
       → IsHeld (named k) (facts_with group (facts_of e) F k) h.closed (length sheets) (batch ++ record { group = n; reception = e } ∷ []) o
-  heard_held e k None found held = (held.0, λ p v. or_none (F k p v) _ (held.1 p v) (and_none (group == k) _ (no_test at group n k is found)))
+  heard_held e k None found held = (held.0, λ p v. or_from (F k p v) _ (held.1 p v) (and_left (group == k) _ (no_test at group n k is found)))
   heard_held e k (Some m) found held = (
     held.0,
     held.1,
     λ p v.
         ap (λ (b : Bool). b || (group == k && facts_of e p v)) (held.2 p v)
         ∙ ap (λ (b : Bool). h.closed m p v || facts_of_group batch m p v || (b && facts_of e p v)) (same_test at sheets batch named F group n k m is found h)
-        ∙ more_waiting (h.closed m p v) (facts_of_group batch m p v) (n == m && facts_of e p v)
+        ∙ or_assoc (h.closed m p v) (facts_of_group batch m p v) (n == m && facts_of e p v)
         ∙ ap (λ (b : Bool). h.closed m p v || b) (sym (batch_push batch (record { group = n; reception = e }) m p v)),
   )
 
@@ -264,7 +231,7 @@ closed_held named F closed sheets batch (Some m) held = (
   held.0,
   held.1,
   λ p v.
-      held.2 p v ∙ sym (ap (λ (b : Bool). closed m p v || facts_of_group batch m p v || b) (none_waits m p v) ∙ or_nothing _),
+      held.2 p v ∙ sym (ap (λ (b : Bool). closed m p v || facts_of_group batch m p v || b) (none_waits m p v) ∙ or-false _),
 )
 
 -- a batch that is joined into the sheets leaves all that is held as it was
@@ -289,7 +256,7 @@ shown_whole at sheets batch named F k n sheet ended is h ends =
     (same_facts (h.closed n) (F k) (λ p v.
     sym ((held_some at sheets batch named F k n is h).2 p v
     ∙ ap (λ (b : List GroupReception). h.closed n p v || facts_of_group b n p v) ended
-    ∙ ap (λ (b : Bool). h.closed n p v || b) (none_waits n p v) ∙ or_nothing (h.closed n p v))))
+    ∙ ap (λ (b : Bool). h.closed n p v || b) (none_waits n p v) ∙ or-false (h.closed n p v))))
     ends
 
 -- its facts begin anew
@@ -309,11 +276,7 @@ holds_anew at sheets after batch named F group n ended is left h =
   where
     anew_held : (k : ℕ) (o : Option ℕ) → at k ≡ o → IsHeld (named k) (F k) h.closed (length sheets) batch o
         → IsHeld (named k) (facts_without group F k) (λ j p v. not (n == j) && h.closed j p v) (length sheets) batch o
-    anew_held k None found held = (held.0, λ p v. and_zero (not (group == k)) (F k p v) (held.1 p v))
-      where
-        and_zero : (x y : Bool) → y ≡ false → (x && y) ≡ false
-        and_zero true y e = e
-        and_zero false y e = refl
+    anew_held k None found held = (held.0, λ p v. and_right (not (group == k)) (F k p v) (held.1 p v))
     anew_held k (Some m) found held = (
       held.0,
       held.1,
@@ -346,10 +309,6 @@ pub held_groups : (numbers : List (ℕ × ℕ)) (sheets : List (List Seen)) (bat
     → (k : ℕ) → is_among (keys_of numbers) k ≡ named k
 held_groups numbers sheets batch named F h k = among_keys numbers k ∙ is_held_some (named k) (F k) h.closed (length sheets) batch (found numbers k) (h.held k)
 
-length_keys : (numbers : List (ℕ × ℕ)) → length (keys_of numbers) ≡ length numbers
-length_keys [] = refl
-length_keys (e ∷ numbers) = omega (arith, length_keys numbers)
-
 -- as many as there may be, and one more
 pub is_full : (numbers : List (ℕ × ℕ)) (sheets : List (List Seen)) (batch : List GroupReception) (named : ℕ → Bool) (F : ℕ → Facts) (group : ℕ) → IsStrictlySortedBy nat_cmp (keys_of numbers) → found numbers group ≡ None
     → 1024 ≤ length numbers → HoldsIn (found numbers) sheets batch named F → IsFull named group
@@ -358,7 +317,7 @@ is_full numbers sheets batch named F group ordered none many h = record {
   groups = keys_of numbers;
   rising = rising_keys (keys_of numbers) ordered;
   are = held_groups numbers sheets batch named F h;
-  many = omega (arith, many, length_keys numbers);
+  many = omega (arith, many, length-keys_of numbers);
 }
 
 pub full_has_many : (numbers : List (ℕ × ℕ)) (sheets : List (List Seen)) (batch : List GroupReception) (named : ℕ → Bool) (F : ℕ → Facts) (group : ℕ) → IsStrictlySortedBy nat_cmp (keys_of numbers)
@@ -366,7 +325,7 @@ pub full_has_many : (numbers : List (ℕ × ℕ)) (sheets : List (List Seen)) (b
 full_has_many numbers sheets batch named F group ordered h full =
     let same : full.groups ≡ keys_of numbers =
     same_rising full.groups (keys_of numbers) full.rising (rising_keys (keys_of numbers) ordered) (λ k. full.are k ∙ sym (held_groups numbers sheets batch named F h k)) in
-    omega (arith, full.many, ap length same, length_keys numbers)
+    omega (arith, full.many, ap length same, length-keys_of numbers)
 
 pub known_is_not_full : (at : ℕ → Option ℕ) (sheets : List (List Seen)) (batch : List GroupReception) (named : ℕ → Bool) (F : ℕ → Facts) (group n : ℕ) → at group ≡ Some n
     → HoldsIn at sheets batch named F → IsFull named group → ⊥
@@ -389,13 +348,6 @@ holds_nothing at sheets batch none no_sheets no_batch = record {
     never : (k n : ℕ) → at k ≡ Some n → ⊥
     never k n is = (let e : None ≡ Some n = sym (none k) ∙ is in absurd cc)
 
--- a row that was lent whole
-pub lent_whole : (X : Type 0) (items new : List X) (len : ℕ) → len ≡ length items → length new ≡ length items → take len (new ++ drop (length new) items) ≡ new
-lent_whole X items new len is same =
-    ap (λ (rest : List X). take len (new ++ rest)) (drop_all (length new) items (omega arith))
-    ∙ ap (take len) (append-nil new)
-    ∙ take_all len new (omega arith)
-
 -- the number of a group that got one
 pub number_given : (next at : ℕ → Option ℕ) (group n : ℕ) → ((k : ℕ) → next k ≡ cond (is_eq (nat_cmp group k)) (Some n) (at k)) → next group ≡ Some n
-number_given next at group n is = is group ∙ ap (λ (b : Bool). cond b (Some n) (at group)) (at_test group group ∙ eq_one group)
+number_given next at group n is = is group ∙ ap (λ (b : Bool). cond b (Some n) (at group)) (at_test group group ∙ eq-eqb group group refl)

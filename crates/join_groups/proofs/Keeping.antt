@@ -1,7 +1,7 @@
 -- What is kept after one line more.
 use Rattle.std.proofs.Common.{◌≡◌, ℕ, ◌≤◌, Bool, true, false, ◌&&◌, ◌||◌, ◌==◌, List, [], ◌∷◌, ◌++◌, length, refl, sym, ap, subst, ◌∙◌, inl, inr, length-append, arith}
 use Rattle.std.specs.Prelude.{codes, map, Result, Ok, Err, OnOk, IfErr}
-use Rattle.std.proofs.lemmas.Bool.{cases_eq, eq-eqb, ne_eqb}
+use Rattle.std.proofs.lemmas.Bool.{cases_eq, eq-eqb, ne_eqb, eqb-true}
 use Rattle.std.proofs.lemmas.List.{length-map}
 use Rattle.slot_evidence.specs.declared.places.Seen.{Seen}
 use Rattle.slot_evidence.specs.Facts.{Facts, facts_of, no_facts}
@@ -18,12 +18,6 @@ use Rattle.join_groups.specs.Meanings.{BringsTooMany}
 use Rattle.join_groups.specs.inside.Kept.{Keeps, IsShort}
 use Rattle.join_groups.proofs.Naming.{same_facts, named_push, facts_push, unnamed_line, named_of_others, facts_of_others}
 use Rattle.join_groups.proofs.Holding.{holds_same}
-
-eq_is : (a b : ℕ) → (a == b) ≡ true → a ≡ b
-eq_is a b h = grind arith
-
-pub eq_one : (k : ℕ) → (k == k) ≡ true
-eq_one k = grind arith
 
 -- a line of one group gives facts of this group alone
 pub line_of_one : (line : JoinLine) (group k p v : ℕ) → ((j : ℕ) → names j line ≡ (group == j)) → facts_of_line k line p v ≡ (group == k && facts_of_line group line p v)
@@ -54,7 +48,7 @@ keeps_line groups said line group G named facts h =
 pub full_brings : (said : List JoinLine) (line : JoinLine) (group : ℕ) → ((j : ℕ) → names j line ≡ (group == j)) → IsFull (is_named said) group → BringsTooMany said line
 full_brings said line group named full = record {
   group = group;
-  named = named group ∙ eq_one group;
+  named = named group ∙ eq-eqb group group refl;
   is_new = full.is_new;
   groups = full.groups;
   are_groups = record { rising = full.rising; named = full.are };
@@ -64,7 +58,7 @@ full_brings said line group named full = record {
 -- the group that is one too many is this line's
 pub brings_full : (said : List JoinLine) (line : JoinLine) (group : ℕ) → ((j : ℕ) → names j line ≡ (group == j)) → BringsTooMany said line → IsFull (is_named said) group
 brings_full said line group named b =
-    let same : group ≡ b.group = eq_is group b.group (sym (named b.group) ∙ b.named) in
+    let same : group ≡ b.group = eqb-true group b.group (sym (named b.group) ∙ b.named) in
     record {
       is_new = subst (λ (k : ℕ). is_named said k ≡ false) (sym same) b.is_new;
       groups = b.groups;
@@ -110,7 +104,7 @@ says_reception (evidence g pairs) group e is = absurd (two is.1.0)
 says_reception (reception g heard) group e is =
     let is_group : group ≡ g = (parts is).0 in
     let is_heard : e ≡ heard = (parts is).1 in
-    let same : (g == group) ≡ true = ap (λ (n : ℕ). g == n) is_group ∙ eq_one g in (
+    let same : (g == group) ≡ true = ap (λ (n : ℕ). g == n) is_group ∙ eq-eqb g g refl in (
       λ k. ap (λ (n : ℕ). n == k) (sym is_group),
       same_facts (facts_of_line group (reception g heard)) (facts_of heard) (λ p v. ap (λ (b : Bool). b && facts_of heard p v) same) ∙ ap facts_of (sym is_heard),
     )
@@ -132,7 +126,7 @@ says_evidence (reception g heard) group sheet is = absurd (two is)
 says_evidence (evidence g pairs) group sheet is =
     let is_group : group ≡ g = (parts is.1.0).0 in
     let is_sheet : sheet ≡ is.0 = (parts is.1.0).1 in
-    let same : (g == group) ≡ true = ap (λ (n : ℕ). g == n) is_group ∙ eq_one g in
+    let same : (g == group) ≡ true = ap (λ (n : ℕ). g == n) is_group ∙ eq-eqb g g refl in
     let facts : facts_of_line group (evidence g pairs) ≡ facts_of_pairs pairs =
     same_facts (facts_of_line group (evidence g pairs)) (facts_of_pairs pairs) (λ p v. ap (λ (b : Bool). b && facts_of_pairs pairs p v) same) in (
       λ k. ap (λ (n : ℕ). n == k) (sym is_group),
@@ -154,16 +148,3 @@ says_nothing said nothing groups keeps is = (
   holds_same (number_in groups) groups.sheets.items groups.batch.items (is_named said) (is_named (said ++ nothing ∷ [])) (group_facts said) (group_facts (said ++ nothing ∷ []))
       (λ k. sym (named_of_others said nothing k refl)) (λ k p v. sym (ap (λ (F : Facts). F p v) (facts_of_others said nothing k refl))) keeps,
 )
-
--- what holds of an answer where another thing does
-pub map_ok : {X E : Type 0} {P Q : Type 0} (r : Result X E) → (P → Q) → OnOk r P → OnOk r Q
-map_ok (Ok x) f h = f h
-map_ok (Err e) f h = tt
-
-pub map_err : {X E : Type 0} {P Q : E → Type 0} (r : Result X E) → ((e : E) → P e → Q e) → IfErr r P → IfErr r Q
-map_err (Ok x) f h = tt
-map_err (Err e) f h = f e h
-
-pub map_both : {X E : Type 0} {P Q R : Type 0} (r : Result X E) → (P → Q → R) → OnOk r P → OnOk r Q → OnOk r R
-map_both (Ok x) f p q = f p q
-map_both (Err e) f p q = tt

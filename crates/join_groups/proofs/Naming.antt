@@ -3,21 +3,11 @@ use Rattle.std.proofs.Common.{◌≡◌, ℕ, Bool, true, false, ◌&&◌, ◌||
 use Rattle.std.proofs.Math.Path.{fun_ext}
 use Rattle.std.specs.List.{list_any}
 use Rattle.std.proofs.lemmas.List.Folds.{list_any-append}
+use Rattle.std.proofs.Math.Bool.{or-false}
+use Rattle.std.proofs.lemmas.Bool.{or_right, or_from, and_left, or_parts}
 use Rattle.slot_evidence.specs.Facts.{Facts, union}
 use Rattle.dsc_lines.specs.JoinLine.{JoinLine, nothing, reception, evidence}
 use Rattle.join_groups.specs.Groups.{names, is_named, facts_of_line, group_facts}
-
-or_nothing : (x : Bool) → (x || false) ≡ x
-or_nothing true = refl
-or_nothing false = refl
-
-or_none : (x y : Bool) → x ≡ false → y ≡ false → (x || y) ≡ false
-or_none true y h k = absurd cc
-or_none false y h k = k
-
-or_parts : (x y : Bool) → (x || y) ≡ false → (x ≡ false) × (y ≡ false)
-or_parts true y h = absurd cc
-or_parts false y h = (refl, h)
 
 -- facts that are equal everywhere are the same
 pub same_facts : (F G : Facts) → ((p v : ℕ) → F p v ≡ G p v) → F ≡ G
@@ -25,23 +15,19 @@ same_facts F G h = fun_ext (λ p. fun_ext (λ v. h p v))
 
 pub named_push : (said : List JoinLine) (line : JoinLine) (k : ℕ) → is_named (said ++ line ∷ []) k ≡ (is_named said k || names k line)
 unfolding is_named
-named_push said line k = list_any-append (names k) said (line ∷ []) ∙ ap (λ (b : Bool). list_any (names k) said || b) (or_nothing (names k line))
+named_push said line k = list_any-append (names k) said (line ∷ []) ∙ ap (λ (b : Bool). list_any (names k) said || b) (or-false (names k line))
 
 pub facts_push : (said : List JoinLine) (line : JoinLine) (k : ℕ) → group_facts (said ++ line ∷ []) k ≡ union (group_facts said k) (facts_of_line k line)
 unfolding group_facts
 facts_push said line k = same_facts (group_facts (said ++ line ∷ []) k) (union (group_facts said k) (facts_of_line k line)) (λ p v.
     list_any-append (λ l. facts_of_line k l p v) said (line ∷ [])
-    ∙ ap (λ (b : Bool). list_any (λ l. facts_of_line k l p v) said || b) (or_nothing (facts_of_line k line p v)))
-
-and_none : (x y : Bool) → x ≡ false → (x && y) ≡ false
-and_none true y h = absurd cc
-and_none false y h = refl
+    ∙ ap (λ (b : Bool). list_any (λ l. facts_of_line k l p v) said || b) (or-false (facts_of_line k line p v)))
 
 -- a line gives no facts of a group that it doesn't name
 pub unnamed_line : (line : JoinLine) (k p v : ℕ) → names k line ≡ false → facts_of_line k line p v ≡ false
 unnamed_line nothing k p v h = refl
-unnamed_line (reception group e) k p v h = and_none (group == k) _ h
-unnamed_line (evidence group pairs) k p v h = and_none (group == k) _ h
+unnamed_line (reception group e) k p v h = and_left (group == k) _ h
+unnamed_line (evidence group pairs) k p v h = and_left (group == k) _ h
 
 -- nor do lines
 pub unnamed_facts : (said : List JoinLine) (k p v : ℕ) → is_named said k ≡ false → group_facts said k p v ≡ false
@@ -49,26 +35,13 @@ unfolding is_named group_facts
 unnamed_facts [] k p v h = refl
 unnamed_facts (line ∷ said) k p v h =
     let parts = or_parts (names k line) (list_any (names k) said) h in
-    or_none (facts_of_line k line p v) (list_any (λ l. facts_of_line k l p v) said) (unnamed_line line k p v parts.0) (unnamed_facts said k p v parts.1)
+    or_from (facts_of_line k line p v) (list_any (λ l. facts_of_line k l p v) said) (unnamed_line line k p v parts.0) (unnamed_facts said k p v parts.1)
 
 -- a line that doesn't name the group changes nothing of it
 pub facts_of_others : (said : List JoinLine) (line : JoinLine) (k : ℕ) → names k line ≡ false → group_facts (said ++ line ∷ []) k ≡ group_facts said k
 facts_of_others said line k h =
     facts_push said line k ∙ same_facts (union (group_facts said k) (facts_of_line k line)) (group_facts said k) (λ p v.
-    ap (λ (b : Bool). group_facts said k p v || b) (unnamed_line line k p v h) ∙ or_nothing (group_facts said k p v))
-
--- the first line of a group gives all its facts
-pub facts_of_first : (said : List JoinLine) (line : JoinLine) (k : ℕ) → is_named said k ≡ false → group_facts (said ++ line ∷ []) k ≡ facts_of_line k line
-facts_of_first said line k h =
-    facts_push said line k ∙ same_facts (union (group_facts said k) (facts_of_line k line)) (facts_of_line k line) (λ p v.
-    ap (λ (b : Bool). b || facts_of_line k line p v) (unnamed_facts said k p v h))
+    ap (λ (b : Bool). group_facts said k p v || b) (unnamed_line line k p v h) ∙ or-false (group_facts said k p v))
 
 pub named_of_others : (said : List JoinLine) (line : JoinLine) (k : ℕ) → names k line ≡ false → is_named (said ++ line ∷ []) k ≡ is_named said k
-named_of_others said line k h = named_push said line k ∙ ap (λ (b : Bool). is_named said k || b) h ∙ or_nothing (is_named said k)
-
-or_yes : (x y : Bool) → y ≡ true → (x || y) ≡ true
-or_yes true y h = refl
-or_yes false y h = h
-
-pub named_by_line : (said : List JoinLine) (line : JoinLine) (k : ℕ) → names k line ≡ true → is_named (said ++ line ∷ []) k ≡ true
-named_by_line said line k h = named_push said line k ∙ or_yes (is_named said k) (names k line) h
+named_of_others said line k h = named_push said line k ∙ ap (λ (b : Bool). is_named said k || b) h ∙ or-false (is_named said k)

@@ -6,21 +6,9 @@ use Rattle.std.specs.Prelude.{is_some}
 use Rattle.std.specs.declared.cmp.Ordering.TheVariants.{Less, Equal, Greater}
 use Rattle.std.specs.Map.{lookup, keys_of}
 use Rattle.std.specs.Ordering.{nat_cmp, is_eq}
-use Rattle.std.proofs.lemmas.Bool.{cases_lt, cond-true, cond-false, lt-ltb}
+use Rattle.std.proofs.lemmas.Bool.{cases_lt, cond-true, cond-false, lt-ltb, ne_eqb, eq-eqb, le-ltb}
 use Rattle.std.proofs.lemmas.Map.Keys.{sorted_head, sorted_tail}
 use Rattle.join_groups.specs.Groups.{AreAbove, IsRising, is_among}
-
-eq_same : (k : ℕ) → (k == k) ≡ true
-eq_same k = grind arith
-
-eq_is : (a b : ℕ) → (a == b) ≡ true → a ≡ b
-eq_is a b h = grind arith
-
-eq_not : (a b : ℕ) → (a ≡ b → ⊥) → (a == b) ≡ false
-eq_not a b h = grind arith
-
-not_below : (a b : ℕ) → b ≤ a → nat_lt a b ≡ false
-not_below a b h = grind arith
 
 above_more : (m n : ℕ) (numbers : List ℕ) → m ≤ n → AreAbove n numbers → AreAbove m numbers
 above_more m n [] h a = tt
@@ -31,15 +19,15 @@ pub below_not_among : (n k : ℕ) (numbers : List ℕ) → AreAbove n numbers �
 below_not_among n k [] a h = refl
 below_not_among n k (m ∷ numbers) a h =
     let apart : m ≡ k → ⊥ = λ e. absurd (omega (arith, a.0, e)) in
-    let no : (m == k) ≡ false = eq_not m k apart in
+    let no : (m == k) ≡ false = ne_eqb m k apart in
     ap (λ (b : Bool). b || is_among numbers k) no ∙ below_not_among n k numbers a.1 h
 
 first_among : (m : ℕ) (numbers : List ℕ) → is_among (m ∷ numbers) m ≡ true
-first_among m numbers = ap (λ (b : Bool). b || is_among numbers m) (eq_same m)
+first_among m numbers = ap (λ (b : Bool). b || is_among numbers m) (eq-eqb m m refl)
 
 -- a number above the first one is among the list where it is among the rest
 rest_among : (m k : ℕ) (numbers : List ℕ) → (m ≡ k → ⊥) → is_among (m ∷ numbers) k ≡ is_among numbers k
-rest_among m k numbers h = ap (λ (b : Bool). b || is_among numbers k) (eq_not m k h)
+rest_among m k numbers h = ap (λ (b : Bool). b || is_among numbers k) (ne_eqb m k h)
 
 -- rising lists with the same numbers are the same
 pub same_rising : (a b : List ℕ) → IsRising a → IsRising b → ((k : ℕ) → is_among a k ≡ is_among b k) → a ≡ b
@@ -70,14 +58,14 @@ equal_or_not false = refl
 
 pub at_test : (a b : ℕ) → is_eq (nat_cmp a b) ≡ (a == b)
 at_test a b = elim (cases_lt a b) [
-  | inl lt ↦ ap is_eq (cond-true (nat_lt a b) Less (cond (a == b) Equal Greater) (lt-ltb a b lt)) ∙ sym (eq_not a b (λ e. absurd (omega (arith, lt, e))))
-  | inr le ↦ ap is_eq (cond-false (nat_lt a b) Less (cond (a == b) Equal Greater) (not_below a b le)) ∙ equal_or_not (a == b)
+  | inl lt ↦ ap is_eq (cond-true (nat_lt a b) Less (cond (a == b) Equal Greater) (lt-ltb a b lt)) ∙ sym (ne_eqb a b (λ e. absurd (omega (arith, lt, e))))
+  | inr le ↦ ap is_eq (cond-false (nat_lt a b) Less (cond (a == b) Equal Greater) (le-ltb a b le)) ∙ equal_or_not (a == b)
 ]
 
 less_is : (a b : ℕ) → nat_cmp a b ≡ Less → a < b
 less_is a b h = elim (cases_lt a b) [
   | inl lt ↦ lt
-  | inr le ↦ absurd (never (a == b) (sym (cond-false (nat_lt a b) Less (cond (a == b) Equal Greater) (not_below a b le)) ∙ h))
+  | inr le ↦ absurd (never (a == b) (sym (cond-false (nat_lt a b) Less (cond (a == b) Equal Greater) (le-ltb a b le)) ∙ h))
 ]
   where
     never : (t : Bool) → cond t Equal Greater ≡ Less → ⊥
@@ -110,16 +98,16 @@ among_keys (e ∷ es) k =
 none_above : {X : Type 0} (es : List (ℕ × X)) (k : ℕ) → AreAbove k (keys_of es) → found es k ≡ None
 none_above [] k a = refl
 none_above (e ∷ es) k a =
-    cond-false (is_eq (nat_cmp k e.0)) (Some e.1) (found es k) (at_test k e.0 ∙ eq_not k e.0 (λ is. absurd (omega (arith, a.0, is)))) ∙ none_above es k a.1
+    cond-false (is_eq (nat_cmp k e.0)) (Some e.1) (found es k) (at_test k e.0 ∙ ne_eqb k e.0 (λ is. absurd (omega (arith, a.0, is)))) ∙ none_above es k a.1
 
 -- what holds of all that is found holds of each entry
 pub each_found : {X : Type 0} (P : ℕ → X → Type 0) (es : List (ℕ × X)) → IsRising (keys_of es) → ((k : ℕ) (x : X) → found es k ≡ Some x → P k x) → AllByRecursion (λ e. P e.0 e.1) es
 each_found P [] rising all = tt
 each_found P (e ∷ es) rising all = (
-  all e.0 e.1 (cond-true (is_eq (nat_cmp e.0 e.0)) (Some e.1) (found es e.0) (at_test e.0 e.0 ∙ eq_same e.0)),
+  all e.0 e.1 (cond-true (is_eq (nat_cmp e.0 e.0)) (Some e.1) (found es e.0) (at_test e.0 e.0 ∙ eq-eqb e.0 e.0 refl)),
   each_found P es rising.1 (λ k x is. all k x
       (elim (cases_lt e.0 k) [
-        | inl lt ↦ cond-false (is_eq (nat_cmp k e.0)) (Some e.1) (found es k) (at_test k e.0 ∙ eq_not k e.0 (λ same. absurd (omega (arith, lt, same)))) ∙ is
+        | inl lt ↦ cond-false (is_eq (nat_cmp k e.0)) (Some e.1) (found es k) (at_test k e.0 ∙ ne_eqb k e.0 (λ same. absurd (omega (arith, lt, same)))) ∙ is
         | inr le ↦ (let none : found es k ≡ None = none_above es k (above_more k e.0 (keys_of es) le rising.0) in
             let never : None ≡ Some x = sym none ∙ is in absurd cc)
       ])),

@@ -7,6 +7,7 @@ use Rattle.std.specs.Map.{keys_of}
 use Rattle.std.specs.Ordering.{nat_cmp}
 use Rattle.std.proofs.lemmas.Grind.{flat_map-append}
 use Rattle.std.proofs.lemmas.List.Folds.{list_all-append}
+use Rattle.std.proofs.Math.Bool.{and-true}
 use Rattle.slot_evidence.specs.declared.places.Seen.{Seen}
 use Rattle.slot_evidence.specs.Facts.{Facts}
 use Rattle.slot_evidence.specs.Sheet.{IsEnds}
@@ -27,10 +28,6 @@ module _ (tells : Telling) (sheets : List (List Seen)) where
   of_push (d ∷ numbers) [] e told of same tell = absurd of
   of_push (d ∷ numbers) (t ∷ all) e told of same tell = (of.0, of.1, of_push numbers all e told of.2 same tell)
 
-  and_true : (b : Bool) → (b && true) ≡ b
-  and_true true = refl
-  and_true false = refl
-
   told_push : (numbers : Numbers) (text : List ℕ) (is_well : Bool) (e : ℕ × ℕ) (told : Told) → HasTold tells sheets numbers text is_well → told.group ≡ e.0
       → ((F : Facts) → IsEnds F (slice_index_or sheets e.1 []) → tells F told) → HasTold tells sheets (numbers ++ e ∷ []) (text ++ told.line) (is_well && told.is_well)
   told_push numbers text is_well e told h same tell = record {
@@ -38,7 +35,7 @@ module _ (tells : Telling) (sheets : List (List Seen)) where
     are_of = of_push numbers h.all e told h.are_of same tell;
     text_is = ap (λ (l : List ℕ). l ++ told.line) h.text_is ∙ ap (λ (l : List ℕ). flat_map (λ t. t.line) h.all ++ l) (sym (append-nil told.line))
         ∙ sym (flat_map-append (λ (t : Told). t.line) h.all (told ∷ []));
-    well_is = ap (λ (b : Bool). b && told.is_well) h.well_is ∙ ap (λ (b : Bool). list_all (λ t. t.is_well) h.all && b) (sym (and_true told.is_well))
+    well_is = ap (λ (b : Bool). b && told.is_well) h.well_is ∙ ap (λ (b : Bool). list_all (λ t. t.is_well) h.all && b) (sym (and-true told.is_well))
         ∙ sym (list_all-append (λ (t : Told). t.is_well) h.all (told ∷ []));
   }
 

@@ -3,13 +3,15 @@ use Rattle.std.proofs.Common.{◌≡◌, ℕ, suc, Bool, true, false, ◌&&◌, 
 use Rattle.std.proofs.Math.Path.{fun_ext}
 use Rattle.std.specs.Prelude.{◌↔◌, Contains}
 use Rattle.std.specs.List.{list_any, AllByRecursion}
-use Rattle.std.proofs.lemmas.Bool.{or_cases}
+use Rattle.std.proofs.lemmas.Bool.{or_cases, eqb-true}
 use Rattle.std.proofs.lemmas.List.Folds.{list_any-append, list_any_at}
+use Rattle.std.proofs.lemmas.Bool.Decides.{same_from_decides}
 use Rattle.slot_evidence.specs.declared.places.Seen.{Seen}
 use Rattle.slot_evidence.specs.Facts.{Facts, Symbols}
 use Rattle.slot_evidence.specs.Seen.{IsSeen}
 use Rattle.slot_evidence.specs.Sheet.{IsSheet, IsEnds, seen_at, facts_in}
 use Rattle.slot_evidence.specs.Alike.{AreAlike}
+use Rattle.slot_evidence.proofs.PublicLaws.{same_alike, flip_alike}
 use Rattle.slot_join.specs.declared.joined.Joined.{Joined}
 use Rattle.slot_join.specs.Answer.{IsAnswer}
 use Rattle.dsc_lines.specs.JoinLine.{JoinLine, evidence}
@@ -75,19 +77,11 @@ any_has f (y ∷ d) h =
 has_any : (f : JoinLine → Bool) (d : List JoinLine) (x : JoinLine) → Contains d x → f x ≡ true → list_any f d ≡ true
 has_any f d x c h = list_any_at f d c.0 x c.1 (ap f c.2 ∙ h)
 
-same_tests : (a b : Bool) → (a ≡ true → b ≡ true) → (b ≡ true → a ≡ true) → a ≡ b
-same_tests true b to back = sym (to refl)
-same_tests false true to back = back refl
-same_tests false false to back = refl
-
 same_any : (f : JoinLine → Bool) (d e : List JoinLine) → ((x : JoinLine) → Contains d x ↔ Contains e x) → list_any f d ≡ list_any f e
 same_any f d e same =
-    same_tests (list_any f d) (list_any f e)
-    (λ h. let x = any_has f d h in has_any f e x.0 ((same x.0).0 x.1) x.2)
-    (λ h. let x = any_has f e h in has_any f d x.0 ((same x.0).1 x.1) x.2)
-
-equal_alike : Laws → (S T : Symbols) → ((v : ℕ) → S v ≡ T v) → AreAlike S T
-equal_alike laws S T same = subst (λ (U : Symbols). AreAlike S U) (fun_ext same) (laws.itself S)
+    same_from_decides {P = list_any f e ≡ true} (list_any f d) (list_any f e)
+    (λ h. let x = any_has f d h in has_any f e x.0 ((same x.0).0 x.1) x.2, λ h. let x = any_has f e h in has_any f d x.0 ((same x.0).1 x.1) x.2)
+    (λ h. h, λ h. h)
 
 -- neither order nor repetition of lines matters
 pub order_over : Laws → (tells : Telling) → GoesOver tells → (said other : List JoinLine) (text : List ℕ) (status : ℕ) → ((line : JoinLine) → Contains said line ↔ Contains other line)
@@ -95,13 +89,7 @@ pub order_over : Laws → (tells : Telling) → GoesOver tells → (said other :
 unfolding is_named group_facts
 order_over laws tells over said other text status same t =
     text_over tells over said other text status (λ k. same_any (names k) said other same)
-    (λ k p. equal_alike laws (group_facts said k p) (group_facts other k p) (λ v. same_any (λ line. facts_of_line k line p v) said other same)) t
-
-flip : (S T : Symbols) → AreAlike S T → AreAlike T S
-flip S T a = record { forth = a.back; back = a.forth }
-
-is_equal : (a b : ℕ) → (a == b) ≡ true → a ≡ b
-is_equal a b h = grind arith
+    (λ k p. same_alike (group_facts said k p) (group_facts other k p) (λ v. same_any (λ line. facts_of_line k line p v) said other same)) t
 
 -- evidence stands for the lines of its group
 module _ (laws : Laws) (heard rest : List JoinLine) (k : ℕ) (sheet : List Seen) (lawful : IsSheet sheet) (of : AreOfGroup k heard) (ends : IsEnds (group_facts heard k) sheet) where
@@ -115,9 +103,9 @@ module _ (laws : Laws) (heard rest : List JoinLine) (k : ℕ) (sheet : List Seen
   own_alike : (j p : ℕ) (t : Bool) → (k == j) ≡ t → AreAlike (group_facts heard j p) (λ v. t && facts_of_pairs (pairs_below 64 sheet) p v)
   own_alike j p true is =
       let same : facts_in sheet p ≡ facts_of_pairs (pairs_below 64 sheet) p = fun_ext (λ v. sym (laws.pairs sheet p v lawful)) in
-      subst (λ (n : ℕ). AreAlike (group_facts heard n p) (facts_of_pairs (pairs_below 64 sheet) p)) (is_equal k j is)
+      subst (λ (n : ℕ). AreAlike (group_facts heard n p) (facts_of_pairs (pairs_below 64 sheet) p)) (eqb-true k j is)
       (subst (λ (S : Symbols). AreAlike (group_facts heard k p) S) same (laws.sheet (group_facts heard k) sheet p ends))
-  own_alike j p false is = equal_alike laws (group_facts heard j p) (λ v. false) (λ v. unnamed_facts heard j p v (of j ∙ is))
+  own_alike j p false is = same_alike (group_facts heard j p) (λ v. false) (λ v. unnamed_facts heard j p v (of j ∙ is))
 
   pub facts_alike : (j p : ℕ) → AreAlike (group_facts (heard ++ rest) j p) (group_facts (evidence k (pairs_below 64 sheet) ∷ rest) j p)
   unfolding group_facts
@@ -133,5 +121,5 @@ module _ (laws : Laws) (heard rest : List JoinLine) (k : ℕ) (sheet : List Seen
   evidence_over tells over text status = (
     text_over tells over (heard ++ rest) (evidence k (pairs_below 64 sheet) ∷ rest) text status names_same facts_alike,
     text_over tells over (evidence k (pairs_below 64 sheet) ∷ rest) (heard ++ rest) text status (λ j. sym (names_same j))
-        (λ j p. flip (group_facts (heard ++ rest) j p) (group_facts (evidence k (pairs_below 64 sheet) ∷ rest) j p) (facts_alike j p)),
+        (λ j p. flip_alike (group_facts (heard ++ rest) j p) (group_facts (evidence k (pairs_below 64 sheet) ∷ rest) j p) (facts_alike j p)),
   )

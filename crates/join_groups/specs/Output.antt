@@ -1,6 +1,7 @@
 -- What is written of groups: this project's profile.
 use Rattle.std.specs.Prelude.{◌≡◌, ℕ, Bool, true, false, if◌then◌else◌, List, [], ◌∷◌, ◌++◌, map}
 use Rattle.std.specs.List.{list_all, flat_map, AllByRecursion}
+use Rattle.line_grammar.specs.Bytes.{line_feed}
 use Rattle.slot_evidence.specs.declared.places.Seen.{Seen}
 use Rattle.slot_evidence.specs.Facts.{Facts}
 use Rattle.slot_evidence.specs.Sheet.{IsEnds}
@@ -22,7 +23,7 @@ is_reported (Check n want got) = false
 
 -- the line of a group's answer
 abbrev pub answer_line : ℕ → Joined → List ℕ
-answer_line group answer = answer_text group answer ++ 10 ∷ []
+answer_line group answer = answer_text group answer ++ line_feed ∷ []
 
 -- what is told of a group: its line, and whether the run may end with status 0
 pub record Told : Type 0 where
@@ -45,7 +46,7 @@ pub record TellsAnswer (F : Facts) (told : Told) : Type 0 where
 pub record TellsEvidence (F : Facts) (told : Told) : Type 0 where
   pub sheet : List Seen
   pub are_ends : IsEnds F sheet
-  pub line_is : told.line ≡ evidence_text told.group sheet ++ 10 ∷ []
+  pub line_is : told.line ≡ evidence_text told.group sheet ++ line_feed ∷ []
   pub well_is : told.is_well ≡ true
 
 -- the text and status of what is told of each group that lines name, by rising number

@@ -1,10 +1,9 @@
 //! The lines of `join` and `evidence`, and what groups take of them.
-ghost use Rattle.std.specs.Prelude.{◌≡◌, ◌≢◌, ◌⊎◌, ◌++◌, ◌∷◌, ◌<◌, ◌≤◌, length, [], List, IfErr, OnOk};
+ghost use Rattle.std.specs.Prelude.{◌≡◌, ◌≢◌, ◌++◌, ◌∷◌, ◌<◌, ◌≤◌, length, [], List, IfErr, OnOk};
 ghost use Rattle.dsc_lines.specs.JoinLine.{JoinLine as Line, IsLine};
-ghost use Rattle.dsc_lines.specs.Lines.{Says};
 ghost use Rattle.join_groups.specs.Holds.{HoldsSome};
 ghost use Rattle.join_groups.specs.Meanings.{BringsTooMany};
-ghost use Rattle.join_groups.specs.inside.Kept.{Keeps, IsRefused, IsShort};
+ghost use Rattle.join_groups.specs.inside.Kept.{Keeps, IsRefused, IsShort, TakesRead, RefusesRead};
 
 use crate::groups::{MOST_IN_BATCH, NamedGroups};
 use dsc_lines::{JoinLine, LineFault, join_line};
@@ -47,11 +46,8 @@ pub fn take_read<W: Joiner>(
     requires short { IsShort read }
     requires ready { HoldsSome groups.old }
     requires joins { W.can_join workers.now }
-    ensures ok { OnOk result ((said : List Line) (line : Line) → Keeps groups.old said → Says line read
-        → (BringsTooMany said line → ⊥) × Keeps groups.new (said ++ line ∷ [])) }
-    ensures err { IfErr result (λ refusal. (refusal ≡ Refusal.Memory)
-        ⊎ ((said : List Line) (line : Line) → Keeps groups.old said
-        → Says line read → (refusal ≡ Refusal.TooManyGroups) × BringsTooMany said line)) }
+    ensures ok { OnOk result (TakesRead groups.old read groups.new) }
+    ensures err { IfErr result (RefusesRead groups.old read) }
     ensures kept { IfErr result (λ refusal. refusal ≢ Refusal.Memory → groups.new ≡ groups.old) }
     ensures few { OnOk result (length groups.old.batch.items < MOST_IN_BATCH
         → length groups.new.batch.items < MOST_IN_BATCH) }
@@ -67,11 +63,8 @@ pub fn take_read<W: Joiner>(
 pub fn take_waiting(groups: &mut NamedGroups, read: JoinLine) -> Result<(), Refusal>
     requires short { IsShort read }
     requires ready { HoldsSome groups.old }
-    ensures ok { OnOk result ((said : List Line) (line : Line) → Keeps groups.old said → Says line read
-        → (BringsTooMany said line → ⊥) × Keeps groups.new (said ++ line ∷ [])) }
-    ensures err { IfErr result (λ refusal. (refusal ≡ Refusal.Memory)
-        ⊎ ((said : List Line) (line : Line) → Keeps groups.old said
-        → Says line read → (refusal ≡ Refusal.TooManyGroups) × BringsTooMany said line)) }
+    ensures ok { OnOk result (TakesRead groups.old read groups.new) }
+    ensures err { IfErr result (RefusesRead groups.old read) }
     ensures kept { IfErr result (λ refusal. refusal ≢ Refusal.Memory → groups.new ≡ groups.old) }
 {
     match read {

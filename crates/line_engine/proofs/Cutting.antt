@@ -35,11 +35,6 @@ pub no_lines : lines_of [] ≡ []
 unfolding lines_of
 no_lines = refl
 
--- what is left without a line feed is one line or none
-pub last_line : (text : List ℕ) → is_text text ≡ true → ((text ≡ []) × (lines_of text ≡ [])) ⊎ (lines_of text ≡ text ∷ [])
-last_line [] h = inl (refl, no_lines)
-last_line (b ∷ text) h = inr (cut_all (b ∷ text) h (omega arith))
-
 -- an open line, whatever comes behind it
 pub record IsOpenLine (text more : List ℕ) : Type 0 where
   pub line : List ℕ

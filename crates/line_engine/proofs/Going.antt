@@ -220,20 +220,6 @@ on_through {meaning = meaning} {stands_for = stands_for} {taken = taken} {new = 
       wrote = on.wrote;
     }
 
--- the source fails
-pub stops_in_read : {Command Sink : Type 0} {meaning : Meaning} {stands_for : Command → Lines → List ℕ → Type 0} {written : Sink → Option (List ℕ)} {faults : Sink → ℕ} {start sink : Sink}
-    {taken : List ℕ} {count : ℕ} {command : Command} {pending : List ℕ} (rest : List ℕ) → GivesLaw meaning stands_for → is_text rest ≡ true → pending ≡ []
-    → IsOn meaning stands_for written faults start taken rest count command pending sink → StopsInRead meaning written faults start taken sink
-stops_in_read {meaning = meaning} {command = command} {pending = pending} rest gives t e on = record {
-  lines = on.lines;
-  text = on.text;
-  end = rest;
-  cut = record { is_open = t; goes_on = on.goes_on };
-  faultless = on.faultless;
-  gives = subst (λ (p : List ℕ). meaning.Gives on.lines p) (ap (λ (p : List ℕ). on.text ++ p) e ∙ append-nil on.text) (gives command on.lines (on.text ++ pending) on.stands);
-  wrote = on.wrote;
-}
-
 -- what is left, in another spelling
 pub on_left : {Command Sink : Type 0} {meaning : Meaning} {stands_for : Command → Lines → List ℕ → Type 0} {written : Sink → Option (List ℕ)} {faults : Sink → ℕ} {start sink : Sink}
     {taken left other : List ℕ} {count : ℕ} {command : Command} {pending : List ℕ} → left ≡ other

@@ -12,10 +12,6 @@ use Rattle.line_engine.specs.Endings.{IsOfFault, IsRest, Writes, WritesFront, Te
 use Rattle.line_engine.specs.inside.Progress.{HasWritten, Fails, RunsThrough, RunsInto, StopsAtFault}
 use Rattle.line_engine.proofs.Going.{GivesLaw, no_rest}
 
--- a write that fails behind what was written
-abbrev pub FailsBehind : {Sink : Type 0} (written : Sink → Option (List ℕ)) (faults : Sink → ℕ) (old new : Sink) (text : List ℕ) → Type 0
-FailsBehind {Sink} written faults old new text = (start : Sink) (before : List ℕ) → HasWritten written faults start old before → Fails written faults start new (before ++ text)
-
 first_so_far : {meaning : Meaning} {all lines : Lines} {text : List ℕ} → ((later : Lines) × (all ≡ lines ++ later)) → IsFaultless meaning lines → meaning.Gives lines text → IsSoFar meaning all text
 first_so_far {lines = lines} first none gives = record { first = lines; later = first.0; list = first.1; faultless = none; gives = gives }
 

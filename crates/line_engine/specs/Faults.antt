@@ -1,5 +1,6 @@
 -- The first fault of an input: this project's profile.
 use Rattle.std.specs.Prelude.{◌≡◌, ℕ, ◌+◌, ◌<◌, ◌≤◌, List, [], ◌∷◌, ◌++◌, length, codes, decimal}
+use Rattle.line_grammar.specs.Bytes.{line_feed}
 use Rattle.line_engine.specs.declared.bounds.TheConstants.{MOST_LINES, LONGEST_LINE}
 use Rattle.line_engine.specs.declared.faults.Fault.{Fault}
 use Rattle.line_engine.specs.declared.faults.Fault.TheVariants.{TooManyLines, TooLong, Column, TooManyGroups}
@@ -41,7 +42,7 @@ fault_name TooManyGroups = codes " too many groups"
 
 -- the line that tells of a fault
 unfoldable pub fault_line : ℕ → Fault → List ℕ
-fault_line number fault = codes "dsc: line " ++ decimal number ++ fault_name fault ++ 10 ∷ []
+fault_line number fault = codes "dsc: line " ++ decimal number ++ fault_name fault ++ line_feed ∷ []
 
 -- the status of a fault: 3 for an ill-formed line and 7 for a limit
 abbrev pub fault_status : Fault → ℕ

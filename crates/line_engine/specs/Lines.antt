@@ -1,14 +1,11 @@
 -- An input and its lines: this project's profile.
 use Rattle.std.specs.Prelude.{◌≡◌, ℕ, Bool, true, not, List, [], ◌∷◌, ◌++◌, ◌==◌, if◌then◌else◌}
 use Rattle.std.specs.List.{list_all}
+use Rattle.line_grammar.specs.Bytes.{line_feed}
 
 -- lines, each without its line feed
 abbrev pub Lines : Type 0
 Lines = List (List ℕ)
-
--- the byte that ends a line
-abbrev pub line_feed : ℕ
-line_feed = 10
 
 -- a test of bytes: whether it stands inside a line
 abbrev pub is_inside : ℕ → Bool

@@ -72,5 +72,6 @@ pub trait Command: Drop {
         ensures finished { IfOk result IsFinished };
 
     /// What it stands for is what its lines give.
-    ghost gives: { (command : Self) (lines : Lines) (text : List ℕ) → stands_for command lines text → meaning.Gives lines text };
+    ghost gives: { (command : Self) (lines : Lines) (text : List ℕ) → stands_for command lines text
+        → meaning.Gives lines text };
 }

@@ -26,8 +26,10 @@ fn take_input<C: Command, S: Source, K: Sink>(
 ) -> Result<(), Halt>
     requires fresh { C.stands_for command.old [] [] }
     requires empty { out.old.items ≡ [] }
-    ensures through { OnOk result (RunsThrough C.meaning C.stands_for K.written K.faults (S.left source.old) (S.left source.new) sink.old command.new out.new.items sink.new) }
-    ensures stopped { IfErr result (λ halt. RunsInto C.meaning K.written K.faults (S.left source.old) (S.left source.new) sink.old out.new.items sink.new halt) }
+    ensures through { OnOk result (RunsThrough C.meaning C.stands_for K.written K.faults (S.left source.old)
+        (S.left source.new) sink.old command.new out.new.items sink.new) }
+    ensures stopped { IfErr result (λ halt. RunsInto C.meaning K.written K.faults (S.left source.old)
+        (S.left source.new) sink.old out.new.items sink.new halt) }
     ensures cause { IsErrOf result Halt.Read → Rises (S.faults source.old) (S.faults source.new) }
     ensures sound { (IsErrOf result Halt.Read → ⊥) → S.faults source.new ≡ S.faults source.old }
     ensures not_flushed { K.flushed sink.new ≡ K.flushed sink.old }
@@ -59,9 +61,11 @@ fn run_lines<C: Command, S: Source, K: Sink>(
 
     // What was written, by the status.
     ensures whole { IsFinished result
-        → TellsWhole C.meaning (S.left source.old) (S.left source.new) (K.written sink.old) (K.written sink.new) (K.flushed sink.new) result }
+        → TellsWhole C.meaning (S.left source.old) (S.left source.new) (K.written sink.old) (K.written sink.new)
+        (K.flushed sink.new) result }
     ensures faulty { IsOfFault result
-        → TellsFault C.meaning (S.left source.old) (S.left source.new) (K.written sink.old) (K.written sink.new) (K.flushed sink.new) result }
+        → TellsFault C.meaning (S.left source.old) (S.left source.new) (K.written sink.old) (K.written sink.new)
+        (K.flushed sink.new) result }
     ensures stopped { result ≡ 4
         → TellsSoFar C.meaning (S.left source.old) (S.left source.new) (K.written sink.old) (K.written sink.new) }
     ensures cut { result ≡ 5

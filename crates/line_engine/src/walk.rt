@@ -1,5 +1,6 @@
 ghost use Rattle.std.specs.Prelude.{◌≡◌, ℕ, ◌+◌, ◌-◌, ◌*◌, ◌<◌, ◌≤◌, true, Option, List, [], ◌∷◌, ◌++◌, length, drop, IfOk, IfErr, OnOk};
 ghost use Rattle.std.specs.List.{list_all};
+ghost use Rattle.line_grammar.specs.Bytes.{line_feed};
 ghost use Rattle.line_engine.specs.Lines.{Lines, lines_of, is_inside};
 ghost use Rattle.line_engine.specs.inside.Progress.{IsCounted, PassesLimit, TakesLines, StopsAtLine, IsOn, Stops};
 
@@ -114,12 +115,13 @@ fn take_and_write<C: Command, K: Sink>(
     ensures counted { OnOk result (IsCounted C.stands_for command.new out.new.items (count + 1)) }
     ensures on { OnOk result ((start : K) (taken rest : List ℕ) → list_all is_inside line.now ≡ true
         → IsOn C.meaning C.stands_for K.written K.faults start taken (line.now
-        ++ (10 ∷ rest)) count command.old out.old.items sink.old
-        → IsOn C.meaning C.stands_for K.written K.faults start taken rest (count + 1) command.new out.new.items sink.new) }
+        ++ (line_feed ∷ rest)) count command.old out.old.items sink.old
+        → IsOn C.meaning C.stands_for K.written K.faults start taken rest (count + 1)
+        command.new out.new.items sink.new) }
     ensures stopped { IfErr result (λ halt. (start : K) (left : Option (List ℕ)) (taken rest : List ℕ)
         → list_all is_inside line.now ≡ true
         → IsOn C.meaning C.stands_for K.written K.faults start taken (line.now
-        ++ (10 ∷ rest)) count command.old out.old.items sink.old
+        ++ (line_feed ∷ rest)) count command.old out.old.items sink.old
         → Stops C.meaning K.written K.faults start left taken out.new.items sink.new halt) }
     ensures not_flushed { K.flushed sink.new ≡ K.flushed sink.old }
 {
@@ -151,11 +153,13 @@ pub(crate) fn take_lines<C: Command, K: Sink>(
     ensures open_end { IfOk result (λ walked. list_all is_inside (drop (length bytes.now - walked.left) bytes.now)
         ≡ true) }
     ensures few { IfOk result (λ walked. walked.count ≤ MOST_LINES) }
-    ensures goes_on { IfOk result (λ walked. count * (LONGEST_LINE + 1) + length bytes.now ≤ walked.count * (LONGEST_LINE + 1) + walked.left) }
+    ensures goes_on { IfOk result (λ walked. count * (LONGEST_LINE + 1) + length bytes.now
+        ≤ walked.count * (LONGEST_LINE + 1) + walked.left) }
     ensures counted { IfOk result (λ walked. IsCounted C.stands_for command.new out.new.items walked.count) }
     ensures on { IfOk result (λ walked. (start : K) (taken : List ℕ)
         → IsOn C.meaning C.stands_for K.written K.faults start taken bytes.now count command.old out.old.items sink.old
-        → IsOn C.meaning C.stands_for K.written K.faults start taken (drop (length bytes.now - walked.left) bytes.now) walked.count command.new out.new.items sink.new) }
+        → IsOn C.meaning C.stands_for K.written K.faults start taken (drop (length bytes.now - walked.left) bytes.now)
+        walked.count command.new out.new.items sink.new) }
     ensures stopped { IfErr result (λ halt. (start : K) (left : Option (List ℕ)) (taken : List ℕ)
         → IsOn C.meaning C.stands_for K.written K.faults start taken bytes.now count command.old out.old.items sink.old
         → Stops C.meaning K.written K.faults start left taken out.new.items sink.new halt) }

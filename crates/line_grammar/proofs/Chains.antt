@@ -92,19 +92,6 @@ unfolding read after
 no_word c text rest b bytes h =
     ap (λ (r : Result (List ℕ) ℕ). and_then r (read rest)) (cond-false (b == c) (after text bytes) (Err (suc (length bytes))) (ne_eqb b c h))
 
-pub no_byte : (c : ℕ) (text : List ℕ) (rest : Grammar) → read (word (c ∷ text) rest) [] ≡ Err 0
-unfolding read after
-no_byte c text rest = refl
-
--- a word's first byte was read
-pub byte_read : (c : ℕ) (text : List ℕ) (rest : Grammar) (bytes : List ℕ) → read (word (c ∷ text) rest) (c ∷ bytes) ≡ read (word text rest) bytes
-unfolding read after
-byte_read c text rest bytes = ap (λ (r : Result (List ℕ) ℕ). and_then r (read rest)) (cond-true (c == c) (after text bytes) (Err (suc (length bytes))) (eq-eqb c c refl))
-
-pub word_done : (rest : Grammar) (bytes : List ℕ) → read (word [] rest) bytes ≡ read rest bytes
-unfolding read after
-word_done rest bytes = refl
-
 -- where the line ends, no bytes are left
 pub end_nil : (bytes : List ℕ) → ended bytes ≡ Ok none → bytes ≡ []
 unfolding ended

@@ -1,6 +1,5 @@
 pub mod Stops
 pub mod Words
-pub mod Splits
 pub mod Tokens
 pub mod Numbers
 pub mod DigitSteps

@@ -76,11 +76,6 @@ grown_column G least bytes left grow sound e =
     let s = Stops-limit G (SpellsSome G) least bytes left (grown_limit G grow) (reads_stop G least bytes left sound e) in
     IsColumn-stops (SpellsSome G) bytes left (length bytes + 1 - left) s (omega (arith, left_le (SpellsSome G) bytes left s))
 
--- reading: the end, or one part more
-pub read_no_more : (item : Grammar → Grammar) (n : ℕ) → read (repeated item (suc n)) [] ≡ Ok (first none)
-unfolding read ended
-read_no_more item n = refl
-
 further_missed : (all left : ℕ) → left ≤ all → further {A = Parts} (Err all) (Err left) ≡ Err left
 further_missed all left h = ap (λ (k : ℕ). Err k) (omega arith)
 
@@ -89,20 +84,3 @@ pub read_one_less : (item : Grammar → Grammar) (n b left : ℕ) (bytes : List 
 unfolding read ended
 read_one_less item n b left bytes e few =
     ap (λ (r : Result Parts ℕ). further (Err (suc (length bytes))) (named second r)) e ∙ further_missed (suc (length bytes)) left few
-
-pub read_one_more : (item : Grammar → Grammar) (n b : ℕ) (bytes : List ℕ) (name : Parts → Parts) (r : Result Parts ℕ) → read (word (codes " ") (item (repeated item n))) (b ∷ bytes) ≡ named name r
-    → ((left : ℕ) → r ≡ Err left → left ≤ length bytes) → read (repeated item (suc n)) (b ∷ bytes) ≡ named (λ parts. second (name parts)) r
-unfolding read ended
-read_one_more item n b bytes name (Ok parts) e few = ap (λ (r : Result Parts ℕ). further (Err (suc (length bytes))) (named second r)) e
-read_one_more item n b bytes name (Err left) e few =
-    ap (λ (r : Result Parts ℕ). further (Err (suc (length bytes))) (named second r)) e ∙ further_missed (suc (length bytes)) left (omega (arith, few left refl))
-
--- soundness
-pub repeated_sound : (item : Grammar → Grammar) → ((n : ℕ) → is_sound (repeated item n) ≡ true → is_sound (item (repeated item n)) ≡ true) → (n : ℕ) → is_sound (repeated item n) ≡ true
-repeated_sound item more zero = refl
-repeated_sound item more (suc n) = more n (repeated_sound item more n)
-
--- a blank may follow a token, and so may such parts
-pub repeated_follows : (token : Token) (item : Grammar → Grammar) → may_follow token (word (codes " ") finish) ≡ true → (n : ℕ) → may_follow token (repeated item n) ≡ true
-repeated_follows token item h zero = refl
-repeated_follows token item h (suc n) = h

@@ -1,11 +1,12 @@
 -- Shapes: parts of a line whose own bytes tell where they end. This project's profile.
 use Rattle.std.specs.Prelude.{◌≡◌, ℕ, zero, suc, ◌+◌, ◌/◌, ◌%◌, Bool, true, ◌&&◌, nat_le, List, [], ◌∷◌, ◌++◌, ◌⊎◌}
 use Rattle.std.specs.List.{list_any}
+use Rattle.line_grammar.specs.Bytes.{digit_zero}
 
 -- the last so many decimal digits of a number, zeros in front included
 unfoldable pub digits : ℕ → ℕ → List ℕ
 digits zero n = []
-digits (suc width) n = digits width (n / 10) ++ (48 + n % 10) ∷ []
+digits (suc width) n = digits width (n / 10) ++ (digit_zero + n % 10) ∷ []
 
 -- a test of numbers: whether one of these ranges has it, their ends included
 abbrev pub is_within : List (ℕ × ℕ) → ℕ → Bool

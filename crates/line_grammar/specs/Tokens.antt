@@ -1,6 +1,7 @@
 -- Tokens: parts of a line that are read as far as they go. This project's profile.
 use Rattle.std.specs.Prelude.{◌≡◌, ◌≢◌, ℕ, ◌+◌, ◌-◌, ◌*◌, ◌≤◌, Bool, true, ◌&&◌, ◌==◌, nat_le, List, [], ◌∷◌}
 use Rattle.std.specs.List.{list_any, list_all}
+use Rattle.line_grammar.specs.Bytes.{digit_zero, digit_nine}
 use Rattle.line_grammar.specs.Shapes.{Shape, IsShaped}
 
 -- a test of bytes: whether it is one of these
@@ -9,18 +10,18 @@ is_one_of bytes b = list_any (λ c. c == b) bytes
 
 -- a test of bytes: whether it is a decimal digit
 abbrev pub is_digit : ℕ → Bool
-is_digit b = nat_le 48 b && nat_le b 57
+is_digit b = nat_le digit_zero b && nat_le b digit_nine
 
 -- the number of more digits behind those of a number
 abbrev pub value_after : ℕ → List ℕ → ℕ
 value_after n [] = n
-value_after n (b ∷ digits) = value_after (10 * n + (b - 48)) digits
+value_after n (b ∷ digits) = value_after (10 * n + (b - digit_zero)) digits
 
 -- there is a digit, and the first of several is not 0
 abbrev pub HasNoLeadingZero : List ℕ → Type 0
 HasNoLeadingZero [] = ⊥
 HasNoLeadingZero (b ∷ []) = Unit {0}
-HasNoLeadingZero (b ∷ c ∷ digits) = b ≢ 48
+HasNoLeadingZero (b ∷ c ∷ digits) = b ≢ digit_zero
 
 -- the decimal digits of a number from the least to the most
 pub record IsNumber (least most : ℕ) (bytes : List ℕ) : Type 0 where

@@ -1,4 +1,5 @@
 ghost use Rattle.std.specs.Prelude.{◌≡◌, ℕ, ◌+◌, ◌-◌, ◌*◌, ◌<◌, ◌≤◌, ◌^◌, ◌&&◌, true, false, List, length, IfOk, IfErr, MatchOption, Ok, Err};
+ghost use Rattle.line_grammar.specs.Bytes.{digit_zero};
 ghost use Rattle.line_grammar.specs.Tokens as tokens;
 ghost use Rattle.line_grammar.specs.Tokens.{is_digit, value_after};
 ghost use Rattle.line_grammar.specs.inside.Reading as readers;
@@ -25,8 +26,8 @@ fn with_digit(least: u64, most: u64, number: u64, byte: u8) -> Option<u64>
     requires least { least < 2 ^ 60 }
     requires number { number < 2 ^ 60 }
     ensures { MatchOption result
-        ((is_digit byte && readers.goes_on least most (10 * number + (byte - 48))) ≡ false)
-        (λ next. (next ≤ most) × (next ≡ 10 * number + (byte - 48))
+        ((is_digit byte && readers.goes_on least most (10 * number + (byte - digit_zero))) ≡ false)
+        (λ next. (next ≤ most) × (next ≡ 10 * number + (byte - digit_zero))
         × ((is_digit byte && readers.goes_on least most next) ≡ true)) }
 {
     if !byte.is_ascii_digit() {

@@ -1,4 +1,5 @@
 ghost use Rattle.std.specs.Prelude.{◌≡◌, ℕ, ◌+◌, ◌-◌, ◌*◌, ◌<◌, ◌≤◌, ◌^◌, ◌&&◌, true, false, IfOk, IfErr, MatchOption, Ok, Err};
+ghost use Rattle.line_grammar.specs.Bytes.{digit_zero};
 ghost use Rattle.line_grammar.specs.Shapes as shape;
 ghost use Rattle.line_grammar.specs.Shapes.{digits, is_within};
 ghost use Rattle.line_grammar.specs.Tokens.{is_digit};
@@ -31,8 +32,8 @@ fn with_digit(more: usize, ranges: &[(u64, u64)], number: u64, byte: u8) -> Opti
     requires more { more ≤ 10 }
     requires number { number < 2 ^ 60 }
     ensures { MatchOption result
-        ((is_digit byte && fits more ranges.now (10 * number + (byte - 48))) ≡ false)
-        (λ next. (next ≡ 10 * number + (byte - 48)) × ((is_digit byte && fits more ranges.now next) ≡ true)) }
+        ((is_digit byte && fits more ranges.now (10 * number + (byte - digit_zero))) ≡ false)
+        (λ next. (next ≡ 10 * number + (byte - digit_zero)) × ((is_digit byte && fits more ranges.now next) ≡ true)) }
 {
     if !byte.is_ascii_digit() {
         return None;

@@ -48,10 +48,6 @@ shown_one entry G ends = record {
   are = λ k p v. sym (or-false (entry.group == k && G p v));
 }
 
--- groups' receptions aren't too long
-pub belong_short : (n : ℕ) (batch : List GroupReception) → All (Belongs n) batch → All IsShort batch
-belong_short n batch belong = All-weaker (Belongs n) IsShort (λ x b. b.short) batch belong
-
 -- sheets that entries are being met with: what they keep and what the other entries show are all facts together
 pub record Meeting (F G : ℕ → Facts) (sheets : List (List Seen)) (n : ℕ) (others : List GroupSheet) : Type 0 where
   pub kept : ℕ → Facts
@@ -59,9 +55,6 @@ pub record Meeting (F G : ℕ → Facts) (sheets : List (List Seen)) (n : ℕ) (
   pub are_sheets : AreSheets kept sheets n
   pub are_shown : AreShown rest others
   pub same : (k p v : ℕ) → (F k p v || G k p v) ≡ (kept k p v || rest k p v)
-
-pub begins_meeting : (F G : ℕ → Facts) (sheets : List (List Seen)) (n : ℕ) (entries : List GroupSheet) → AreSheets F sheets n → AreShown G entries → Meeting F G sheets n entries
-begins_meeting F G sheets n entries f g = record { kept = F; rest = G; are_sheets = f; are_shown = g; same = λ k p v. refl }
 
 pub goes_on_meeting : (F G : ℕ → Facts) (old new : List (List Seen)) (n i : ℕ) (entries : List GroupSheet) (entry : GroupSheet) → i < length entries → entry ≡ slice_index_or entries i entry
     → ((H : ℕ → Facts) (E : Facts) (m : ℕ) → AreSheets H old m → IsEnds E entry.sheet → AreSheets (λ k. union (H k) (λ p v. entry.group == k && E p v)) new m)

@@ -161,20 +161,3 @@ pub met_at : (number : ℕ) (F : ℕ → Facts) (G : Facts) (old new : List (Lis
     → AreSheets (λ k. union (F k) (λ p v. number == k && G p v)) new n
 met_at number F G old new shown met n inside changed meets ends are =
     turned_at number F G old new met n inside changed (meets (F number) G (are.each number (omega (arith, are.count))) ends) are
-
--- the sheet with one number is taken out
-pub taken_at : (number : ℕ) (F : ℕ → Facts) (old new : List (List Seen)) (blank : List Seen) (n : ℕ) → number < length old → new ≡ set old number blank → IsEnds no_facts blank → AreSheets F old n
-    → AreSheets (λ k p v. not (number == k) && F k p v) new n
-taken_at number F old new blank n inside changed none are = record {
-  count = ap length changed ∙ length-set old number blank ∙ are.count;
-  each = λ k below. elim (cases_eq k number) [
-    | inl here ↦
-        subst (λ (s : List Seen). IsEnds (λ p v. not (number == k) && F k p v) s)
-        (sym (ap (λ (s : List (List Seen)). slice_index_or s k []) changed ∙ ap (λ (j : ℕ). slice_index_or (set old number blank) j []) here ∙ get_or-set_same old number blank [] inside))
-        (IsEnds-same no_facts _ blank (λ p v. ap (λ (b : Bool). not b && F k p v) (sym (eq-eqb number k (sym here)))) none)
-    | inr apart ↦
-        subst (λ (s : List Seen). IsEnds (λ p v. not (number == k) && F k p v) s)
-        (sym (ap (λ (s : List (List Seen)). slice_index_or s k []) changed ∙ get_or-set_other old number k blank [] apart))
-        (IsEnds-same (F k) _ _ (λ p v. ap (λ (b : Bool). not b && F k p v) (sym (ne_eqb number k (λ e. apart (sym e))))) (are.each k below))
-  ];
-}

@@ -37,12 +37,6 @@ row_seats share F boards seats row = record { count = row.count; each = row.each
 pub row_sheets : (F : ℕ → Facts) (sheets : List (List Seen)) (n : ℕ) → Row (Sheets F) [] sheets n → AreSheets F sheets n
 row_sheets F sheets n row = record { count = row.count; each = row.each }
 
-pub tables_row : (boards : List TableId) → Row (Tables boards) no_table boards (length boards)
-tables_row boards = record { count = refl; each = λ j small. refl }
-
-pub any_row : (sheets : List (List Seen)) (n : ℕ) → length sheets ≡ n → Row Any [] sheets n
-any_row sheets n count = record { count = count; each = λ j small. refl }
-
 -- a sheet was posted through a seat
 pub posted : (share : ℕ) (F G : Facts) (board : TableId) (old new : Held) (sheet : List Seen) → new.table ≡ board → new.view.share ≡ old.view.share
     → ((F G : Facts) → IsEnds F (given_sheet old.view) → IsEnds G sheet → IsEnds (union F G) (given_sheet new.view))

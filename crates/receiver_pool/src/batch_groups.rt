@@ -91,7 +91,8 @@ fn read_into(
     requires short { All IsShort batch.now }
     requires places { ArePlaces (length batch.now) (length sheets.old) places.now }
     ensures { (n : ℕ) → AreSheets (λ k. no_facts) sheets.old n
-        → AreSheets (place_part (is_turn workers worker (worker + 1)) batch.now places.now (length batch.now)) sheets.new n }
+        → AreSheets (place_part (is_turn workers worker (worker + 1)) batch.now places.now (length batch.now))
+        sheets.new n }
 {
     for (index, heard) in batch.iter().enumerate() {
         let mine = index % workers as usize == worker as usize;

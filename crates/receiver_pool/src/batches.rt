@@ -50,7 +50,8 @@ fn work<G: Gate>(
     requires worker { worker < turns.now.workers }
     requires seats { Sit 1 boards.now seats.items }
     requires turns { AreTurns (length boards.now) batch.now turns.now }
-    ensures { IfOk result (λ v. HavePosted (read_by batch.now turns.now worker (worker + 1)) boards.now seats.items v.items) }
+    ensures { IfOk result (λ v. HavePosted (read_by batch.now turns.now worker (worker + 1))
+        boards.now seats.items v.items) }
 {
     let entered = enter(gate, worker);
     let sheets = shown_to(&entered, alloc, batch, turns, boards.len(), worker)?;
@@ -87,12 +88,14 @@ pub(crate) fn fork_groups<R: Threads + Sync, G: Gate>(
         move || -> Result<Vec<Seat<AllFacts>>, AllocError>
             requires { IsSync R.row × IsSync G.row × ((low < middle) × (middle ≤ turns.now.workers))
                 × Sit (middle - low) boards.now seats.items × AreTurns (length boards.now) batch.now turns.now }
-            ensures { IfOk result (λ v. HavePosted (read_by batch.entry.now turns.entry.now low middle) boards.entry.now seats.items v.items) }
+            ensures { IfOk result (λ v. HavePosted (read_by batch.entry.now turns.entry.now low middle) boards.entry.now
+                seats.items v.items) }
         { fork_groups(rt, alloc, boards, seats, batch, turns, low, middle, gate) },
         move || -> Result<Vec<Seat<AllFacts>>, AllocError>
             requires { IsSync R.row × IsSync G.row × ((middle < high) × (high ≤ turns.now.workers))
                 × Sit (high - middle) boards.now others.items × AreTurns (length boards.now) batch.now turns.now }
-            ensures { IfOk result (λ v. HavePosted (read_by batch.entry.now turns.entry.now middle high) boards.entry.now others.items v.items) }
+            ensures { IfOk result (λ v. HavePosted (read_by batch.entry.now turns.entry.now middle high)
+                boards.entry.now others.items v.items) }
         { fork_groups(rt, alloc, boards, others, batch, turns, middle, high, gate) },
     );
     let mut joined = first?;
@@ -119,7 +122,8 @@ fn start_groups<R: Threads + Sync, G: Gate>(
     requires workers { 1 ≤ turns.now.workers }
     requires seats { Sit turns.now.workers boards.now seats.items }
     requires turns { AreTurns (length boards.now) batch.now turns.now }
-    ensures { IfOk result (λ v. HavePosted (read_by batch.now turns.now 0 turns.now.workers) boards.now seats.items v.items) }
+    ensures { IfOk result (λ v. HavePosted (read_by batch.now turns.now 0 turns.now.workers) boards.now seats.items
+        v.items) }
 {
     let workers = turns.workers;
     if batch.len() < FEW {
@@ -131,7 +135,8 @@ fn start_groups<R: Threads + Sync, G: Gate>(
         move || -> Result<Vec<Seat<AllFacts>>, AllocError>
             requires { IsSync R.row × IsSync G.row × ((1 ≤ workers) × (workers ≤ turns.now.workers))
                 × Sit workers boards.now seats.items × AreTurns (length boards.now) batch.now turns.now }
-            ensures { IfOk result (λ v. HavePosted (read_by batch.entry.now turns.entry.now 0 workers) boards.entry.now seats.items v.items) }
+            ensures { IfOk result (λ v. HavePosted (read_by batch.entry.now turns.entry.now 0 workers) boards.entry.now
+                seats.items v.items) }
         { fork_groups(rt, alloc, boards, seats, batch, turns, 0, workers, gate) },
     );
     joined

@@ -70,7 +70,8 @@ fn fork_beside<R: Threads + Sync, G: Gate, B: Beside>(
     requires turns { AreTurns (length boards.now) batch.now turns.now }
     ensures { IfOk result (λ v. (share other : ℕ) (F H : ℕ → Facts) → AreSeats share F boards.now seats.items
         → AreSeats other H boards.now others.items
-        → AreSeats (share + other) (λ k. union (union (F k) (read_by batch.now turns.now 0 turns.now.workers k)) (H k)) boards.now v.1.items) }
+        → AreSeats (share + other) (λ k. union (union (F k) (read_by batch.now turns.now 0 turns.now.workers k)) (H k))
+        boards.now v.1.items) }
 {
     let workers = turns.workers;
     let (first, joined) = join(
@@ -82,7 +83,8 @@ fn fork_beside<R: Threads + Sync, G: Gate, B: Beside>(
         move || -> Result<Vec<Seat<AllFacts>>, AllocError>
             requires { IsSync R.row × IsSync G.row × ((1 ≤ workers) × (workers ≤ turns.now.workers))
                 × Sit workers boards.now seats.items × AreTurns (length boards.now) batch.now turns.now }
-            ensures { IfOk result (λ v. HavePosted (read_by batch.entry.now turns.entry.now 0 workers) boards.entry.now seats.items v.items) }
+            ensures { IfOk result (λ v. HavePosted (read_by batch.entry.now turns.entry.now 0 workers) boards.entry.now
+                seats.items v.items) }
         { fork_groups(rt, alloc, boards, seats, batch, turns, 0, workers, gate) },
     );
     let (beside, others) = first;
@@ -118,7 +120,8 @@ fn share_beside<R: Threads + Sync, G: Gate, B: Beside>(
 ) -> Result<(Vec<Sheet>, B), AllocError>
     requires workers { (1 ≤ turns.now.workers) × (turns.now.workers ≤ 64) }
     requires turns { AreTurns (length groups.now) batch.now turns.now }
-    ensures { IfOk result (λ v. AreSheets (read_by batch.now turns.now 0 turns.now.workers) v.0.items (length groups.now)) }
+    ensures { IfOk result (λ v. AreSheets (read_by batch.now turns.now 0 turns.now.workers) v.0.items
+        (length groups.now)) }
 {
     let (boards, seats) = boards_for(alloc, groups.len())?;
     let (seats, others) = halved(alloc, &boards, seats)?;

@@ -55,7 +55,8 @@ fn work<A: Allowed, G: Gate>(
     ensures board { result.table ≡ board.now }
     ensures share { result.view.share ≡ seat.view.share }
     ensures ends { (F : Facts) → IsEnds F (given_sheet seat.view)
-        → IsEnds (union F (part (is_turn workers worker (worker + 1)) list.now (length list.now))) (given_sheet result.view) }
+        → IsEnds (union F (part (is_turn workers worker (worker + 1)) list.now (length list.now)))
+        (given_sheet result.view) }
 {
     let entered = enter(gate, worker);
     let sheet = heard_by(&entered, list, workers, worker);
@@ -99,7 +100,8 @@ fn fork<A: Allowed, R: Threads + Sync, G: Gate>(
                 × (middle ≤ low + first.view.share) × All (λ heard. length heard ≤ LONGEST) list.now }
             ensures { (result.table ≡ board.entry.now) × (result.view.share ≡ first.view.share)
                 × ((F : Facts) → IsEnds F (given_sheet first.view)
-                → IsEnds (union F (part (is_turn workers low middle) list.entry.now (length list.entry.now))) (given_sheet result.view)) }
+                → IsEnds (union F (part (is_turn workers low middle) list.entry.now (length list.entry.now)))
+                (given_sheet result.view)) }
         { fork(rt, board, first, list, low, middle, workers, gate) },
         move || -> Seat<A>
             requires { IsSync R.row × IsSync A.row × IsSend A.row × IsSync G.row × (second.table ≡ board.now)
@@ -107,7 +109,8 @@ fn fork<A: Allowed, R: Threads + Sync, G: Gate>(
                 × (high ≤ middle + second.view.share) × All (λ heard. length heard ≤ LONGEST) list.now }
             ensures { (result.table ≡ board.entry.now) × (result.view.share ≡ second.view.share)
                 × ((F : Facts) → IsEnds F (given_sheet second.view)
-                → IsEnds (union F (part (is_turn workers middle high) list.entry.now (length list.entry.now))) (given_sheet result.view)) }
+                → IsEnds (union F (part (is_turn workers middle high) list.entry.now (length list.entry.now)))
+                (given_sheet result.view)) }
         { fork(rt, board, second, list, middle, high, workers, gate) },
     );
     board.join(first, second)

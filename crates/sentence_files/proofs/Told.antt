@@ -2,6 +2,7 @@
 use Rattle.std.proofs.Common.{◌≡◌, ℕ, Bool, true, false, not, ◌&&◌, ◌||◌, List, [], ◌∷◌, ◌++◌, flat_map, refl, sym, ap, ◌∙◌, append-nil}
 use Rattle.std.specs.List.{list_all}
 use Rattle.std.proofs.lemmas.Grind.{flat_map-append}
+use Rattle.std.proofs.Math.Bool.{and-true, and_assoc}
 use Rattle.line_engine.specs.Lines.{Lines}
 use Rattle.dsc_lines.specs.declared.sentences.SentenceLine.{SentenceLine}
 use Rattle.dsc_lines.specs.SentenceLine.{IsSentenceLine}
@@ -18,16 +19,8 @@ are_more (s ∷ all) [] w text are is = absurd are
 are_more (s ∷ all) (t ∷ lines) w text are is = (are.0, are_more all lines w text are.1 is)
 
 well_more : (all : List SentenceLine) (w : SentenceLine) → list_all is_well (all ++ w ∷ []) ≡ (list_all is_well all && is_well w)
-well_more [] w = last (is_well w)
-  where
-    last : (b : Bool) → (b && true) ≡ b
-    last true = refl
-    last false = refl
-well_more (s ∷ all) w = ap (λ (b : Bool). is_well s && b) (well_more all w) ∙ sym (grouped (is_well s) (list_all is_well all) (is_well w))
-  where
-    grouped : (a b c : Bool) → ((a && b) && c) ≡ (a && (b && c))
-    grouped true b c = refl
-    grouped false b c = refl
+well_more [] w = and-true (is_well w)
+well_more (s ∷ all) w = ap (λ (b : Bool). is_well s && b) (well_more all w) ∙ sym (and_assoc (is_well s) (list_all is_well all) (is_well w))
 
 -- a line more, which gives this
 pub more_told : (refused : Bool) (lines : Lines) (text line : List ℕ) (w : SentenceLine) → HasTold refused lines text → IsSentenceLine w line

@@ -1,6 +1,7 @@
 -- What `sentences` writes: this project's profile.
 use Rattle.std.specs.Prelude.{◌≡◌, ℕ, Bool, true, false, if◌then◌else◌, List, [], ◌∷◌, ◌++◌}
 use Rattle.std.specs.List.{list_all, flat_map}
+use Rattle.line_grammar.specs.Bytes.{line_feed}
 use Rattle.line_grammar.specs.Columns.{IsColumn}
 use Rattle.line_engine.specs.Lines.{Lines}
 use Rattle.line_engine.specs.Meaning.{Meaning}
@@ -33,7 +34,7 @@ call_sentences (line.Call c expansion) = sentences_of c expansion
 -- what a line gives: what a line of calls does; or the verdict on a sentence, with LF
 abbrev pub line_text : SentenceLine → List ℕ
 line_text (Said says) = call_sentences says
-line_text (Sentence bytes) = verdict_text (verdict_of bytes.now) ++ 10 ∷ []
+line_text (Sentence bytes) = verdict_text (verdict_of bytes.now) ++ line_feed ∷ []
 
 -- a line is no sentence that is refused
 abbrev pub is_well : SentenceLine → Bool

@@ -1,4 +1,5 @@
 ghost use Rattle.std.specs.Prelude.{◌≡◌, ◌||◌, ◌++◌, ◌∷◌, not, [], OnOk};
+ghost use Rattle.line_grammar.specs.Bytes.{line_feed};
 ghost use Rattle.dsc_sentences.specs.Verdicts.{verdict_of, verdict_text};
 ghost use Rattle.dsc_sentences.specs.CallSentences.{sentences_of};
 ghost use Rattle.sentence_files.specs.Telling.{call_sentences, is_accepted, is_well, line_text, sentences_meaning};
@@ -49,7 +50,7 @@ impl Sentences {
     /// Appends the verdict on a sentence.
     fn judge(&mut self, sentence: &[u8], out: &mut Vec<u8>) -> Result<(), AllocError>
         ensures text { OnOk result (out.new.items
-            ≡ out.old.items ++ (verdict_text (verdict_of sentence.now) ++ 10 ∷ [])) }
+            ≡ out.old.items ++ (verdict_text (verdict_of sentence.now) ++ line_feed ∷ [])) }
         ensures refused { OnOk result (self.new.refused
             ≡ (self.old.refused || not (is_accepted (verdict_of sentence.now)))) }
     {
@@ -95,5 +96,9 @@ impl Command for Sentences {
         }
     }
 
-    ghost gives = { λ command lines text stands. record { said = stands.said; are_lines = stands.are_lines; text_is = stands.text_is } };
+    ghost gives = { λ command lines text stands. record {
+      said = stands.said;
+      are_lines = stands.are_lines;
+      text_is = stands.text_is;
+    } };
 }

@@ -17,10 +17,3 @@ grown_more head ts items t new g e = record {
       e ∙ ap (λ (l : List ℕ). l ++ 44 ∷ t) g.is ∙ append_assoc head (behind_commas ts) (44 ∷ t)
       ∙ ap (λ (l : List ℕ). head ++ l) (ap (λ (l : List ℕ). behind_commas ts ++ (44 ∷ l)) (sym (append-nil t)) ∙ sym (flat_map-append (λ (text : List ℕ). 44 ∷ text) ts (t ∷ [])));
 }
-
-pub grown_texts : (head : List ℕ) (ts us : List (List ℕ)) (items new : List ℕ) → IsGrown head ts items → new ≡ items ++ behind_commas us → IsGrown head (ts ++ us) new
-grown_texts head ts us items new g e = record {
-  is =
-      e ∙ ap (λ (l : List ℕ). l ++ behind_commas us) g.is ∙ append_assoc head (behind_commas ts) (behind_commas us)
-      ∙ ap (λ (l : List ℕ). head ++ l) (sym (flat_map-append (λ (text : List ℕ). 44 ∷ text) ts us));
-}

@@ -2,6 +2,7 @@
 -- refusals are this project's profile.
 use Rattle.std.specs.Prelude.{ℕ, ◌+◌, ◌-◌, ◌*◌, Bool, not, ◌&&◌, ◌||◌, ◌==◌, nat_eq, nat_le, nat_lt, if◌then◌else◌, List, ◌∷◌, length, take, drop, slice_index, Result, Ok, Err}
 use Rattle.std.specs.List.{list_all, starts_with, slice_split}
+use Rattle.line_grammar.specs.Bytes.{digit_zero}
 use Rattle.line_grammar.specs.Tokens.{is_digit}
 use Rattle.sentence_frame.specs.declared.refusals.SentenceRefusal.{SentenceRefusal}
 use Rattle.sentence_frame.specs.declared.refusals.SentenceRefusal.TheVariants.{TooLong, Start, End, Checksum, FieldCount, Field}
@@ -41,7 +42,7 @@ is_ending bytes =
 
 -- the value of a hexadecimal digit, and the number that an ending writes
 abbrev pub hexadecimal_value : ℕ → ℕ
-hexadecimal_value b = if nat_lt b 65 then b - 48 else b - 55
+hexadecimal_value b = if nat_lt b 65 then b - digit_zero else b - 55
 
 abbrev pub written : List ℕ → ℕ
 written ending = 16 * hexadecimal_value (slice_index ending 1) + hexadecimal_value (slice_index ending 2)

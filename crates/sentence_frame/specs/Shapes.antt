@@ -1,6 +1,7 @@
 -- Shapes: what the text of a field may be. This project's profile over the fields of IEC 61162-1.
 use Rattle.std.specs.Prelude.{ℕ, ◌-◌, map, Bool, true, false, ◌&&◌, ◌||◌, ◌==◌, nat_le, List, [], ◌∷◌, length, slice_index}
 use Rattle.std.specs.List.{list_all, list_any}
+use Rattle.line_grammar.specs.Bytes.{digit_zero}
 use Rattle.line_grammar.specs.Tokens.{is_digit, value_after}
 
 -- so many digits that make a number up to the most; two digits that make one of these numbers; so many digits; at most so many
@@ -19,7 +20,7 @@ number_of text = value_after 0 text
 
 -- the values of digits
 abbrev pub digits_of : List ℕ → List ℕ
-digits_of text = map (λ b. b - 48) text
+digits_of text = map (λ b. b - digit_zero) text
 
 -- a test of numbers: whether it is one of these
 abbrev pub is_among : List ℕ → ℕ → Bool

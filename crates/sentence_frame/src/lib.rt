@@ -15,6 +15,6 @@ pub use fields::{
 pub use frames::{LONGEST_SENTENCE, fields_of, next_text};
 pub use refusals::SentenceRefusal;
 pub use writing::{
-    append_digit_text, append_digits_field, append_field, append_fixed_number, append_number_field,
-    append_perhaps_digits_field, begin_sentence, close, hexadecimal,
+    append_digit_text, append_digits_field, append_field, append_number_field,
+    append_perhaps_digits_field, begin_sentence, close, hexadecimal, widened,
 };

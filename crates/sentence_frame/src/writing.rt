@@ -1,12 +1,13 @@
 ghost use Rattle.std.specs.Prelude.{◌≡◌, ◌+◌, ◌<◌, ◌≤◌, ◌++◌, ◌∷◌, IsTrue, IfSome, length};
 ghost use Rattle.arrayvec.specs.ArrayVec.{array_vec_len};
+ghost use Rattle.line_grammar.specs.Bytes.{comma};
 ghost use Rattle.sentence_frame.specs.Frames as frame;
 ghost use Rattle.sentence_frame.specs.Refusals as refusal;
 ghost use Rattle.sentence_frame.specs.Texts.{AreDigits, digits, digit_text, perhaps_text};
 
 use crate::frames::{LONGEST_SENTENCE, checksum};
 use arrayvec::ArrayVec;
-use text_pieces::append;
+use text_pieces::{append, append_digits};
 
 /// A sentence that begins with this head.
 pub fn begin_sentence(head: &[u8]) -> ArrayVec<u8, LONGEST_SENTENCE>
@@ -21,34 +22,31 @@ pub fn begin_sentence(head: &[u8]) -> ArrayVec<u8, LONGEST_SENTENCE>
 /// Appends a comma and a text.
 pub fn append_field(out: &mut ArrayVec<u8, LONGEST_SENTENCE>, text: &[u8])
     requires { array_vec_len out.old + length text.now < 82 }
-    ensures items { out.new.items ≡ out.old.items ++ 44 ∷ text.now }
+    ensures items { out.new.items ≡ out.old.items ++ comma ∷ text.now }
     ensures len { array_vec_len out.new ≡ array_vec_len out.old + 1 + length text.now }
 {
     append(out, b",");
     append(out, text);
 }
 
-/// Appends the last so many decimal digits of a number, zeros in front included.
-#[tactic(auto, unfolding(line_grammar::specs::Shapes::digits))]
-pub fn append_fixed_number<const N: usize>(out: &mut ArrayVec<u8, N>, width: usize, number: u32)
-    requires { array_vec_len out.old + width ≤ N }
-    ensures items { out.new.items ≡ out.old.items ++ digits width number }
-    ensures len { array_vec_len out.new ≡ array_vec_len out.old + width }
-{
-    if width > 0 {
-        append_fixed_number(out, width - 1, number / 10);
-        out.push(b'0' + (number % 10) as u8);
-    }
-}
-
 /// Appends a comma and a number in so many digits.
 pub fn append_number_field(out: &mut ArrayVec<u8, LONGEST_SENTENCE>, width: usize, number: u32)
     requires { array_vec_len out.old + width < 82 }
-    ensures items { out.new.items ≡ out.old.items ++ 44 ∷ digits width number }
+    ensures items { out.new.items ≡ out.old.items ++ comma ∷ digits width number }
     ensures len { array_vec_len out.new ≡ array_vec_len out.old + 1 + width }
 {
     append(out, b",");
-    append_fixed_number(out, width, number);
+    append_digits(out, width, u64::from(number));
+}
+
+/// The same number in more bits.
+pub fn widened(number: Option<u8>) -> Option<u16>
+    ensures { result ≡ number }
+{
+    match number {
+        Some(number) => Some(u16::from(number)),
+        None => None,
+    }
 }
 
 /// Appends digits in decimal.
@@ -67,7 +65,7 @@ pub fn append_digit_text<const N: usize>(out: &mut ArrayVec<u8, N>, digits: &[u8
 pub fn append_digits_field(out: &mut ArrayVec<u8, LONGEST_SENTENCE>, digits: &[u8])
     requires room { array_vec_len out.old + length digits.now < 82 }
     requires digits { AreDigits digits.now }
-    ensures items { out.new.items ≡ out.old.items ++ 44 ∷ digit_text digits.now }
+    ensures items { out.new.items ≡ out.old.items ++ comma ∷ digit_text digits.now }
     ensures len { array_vec_len out.new ≡ array_vec_len out.old + 1 + length digits.now }
 {
     append(out, b",");
@@ -81,7 +79,7 @@ pub fn append_perhaps_digits_field<const N: usize>(
 )
     requires room { array_vec_len out.old + N < 82 }
     requires digits { IfSome digits.now AreDigits }
-    ensures items { out.new.items ≡ out.old.items ++ 44 ∷ perhaps_text digit_text digits.now }
+    ensures items { out.new.items ≡ out.old.items ++ comma ∷ perhaps_text digit_text digits.now }
     ensures len { array_vec_len out.new ≤ array_vec_len out.old + 1 + N }
 {
     append(out, b",");

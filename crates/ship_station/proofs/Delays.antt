@@ -64,9 +64,3 @@ first_delay_used h =
 -- an event that gives no delay and uses none leaves those that are left
 pub none_given_none_used : (h : History ShipWhat) → drop (delays_used h) (delays_given h ++ []) ≡ delays_left h
 none_given_none_used h = ap (drop (delays_used h)) (append-nil (delays_given h))
-
--- an attempt is due where an alert is on and the first delay has passed
-pub attempt_due : (own : ℕ) (place : Whereabouts) (alert : OwnAlert) (delays : List ℕ) (last at : ℕ) → (length delays == 0) ≡ false → has_passed (slice_index delays 0) last at ≡ true
-    → at_tick own place (Some alert) delays last at ≡ attempt own place alert ∷ []
-attempt_due own place alert [] last at some passed = absurd (false≢true (sym some))
-attempt_due own place alert (delay ∷ delays) last at some passed = ap (λ (b : Bool). if b then attempt own place alert ∷ [] else []) passed

@@ -2,6 +2,7 @@
 use Rattle.std.proofs.Common.{◌≡◌, ℕ, inl, inr, true, false, Some, None, is_some, List, [], ◌∷◌, ◌++◌, refl, sym, ◌∙◌, ap}
 use Rattle.std.proofs.lemmas.Bool.{false≢true, or_from, or_parts}
 use Rattle.std.specs.List.{list_any}
+use Rattle.std.proofs.lemmas.Option.{none-some}
 use Rattle.traffic_rules.specs.declared.acts.Act.{Act}
 use Rattle.traffic_rules.specs.declared.acts.Act.TheVariants as act
 use Rattle.traffic_rules.specs.Histories.{Entry, History, does, NoneIs}
@@ -17,14 +18,11 @@ use Rattle.ship_station.specs.ShipRules.{Identities, ship_rules}
 use Rattle.ship_station.proofs.Endings.{off_after_end}
 use Rattle.ship_station.proofs.Sent.{IsSentSo, AreSentSo, entry_so}
 
-some_is_none : (alert : OwnAlert) → Some alert ≡ None → ⊥
-some_is_none alert h = cc
-
 -- where no alert is on, no event tries one but one that begins it
 module _ (own : ℕ) (h : History ShipWhat) (what : ShipWhat) (off : open_alert h ≡ None) (none : is_some (alert_of what) ≡ false) where
   untried : (alert : OwnAlert) (w : ShipWhat) → w ≡ what → IsTried h w alert → ⊥
   untried alert (Alert nature comm) is tried = false≢true (sym none ∙ sym (ap (λ (x : ShipWhat). is_some (alert_of x)) is))
-  untried alert Tick is tried = some_is_none alert (sym tried ∙ off)
+  untried alert Tick is tried = none-some alert (sym (sym tried ∙ off))
   untried alert _ is tried = absurd tried
 
   one_silent : (a : Act) → IsSentSo own h what a → sends is_alert a ≡ false

@@ -1,12 +1,13 @@
 -- a ship that keeps what a history with an accepted event more tells stands for it
 use Rattle.std.proofs.Common.{◌≡◌, ℕ, ◌≤◌, ◌==◌, Bool, false, Option, Some, None, is_some, Result, Ok, List, ◌∷◌, length, if◌then◌else◌, refl, sym, ◌∙◌, ap, subst}
 use Rattle.std.specs.Prelude.{OnOk, OnErr}
+use Rattle.std.proofs.lemmas.Result.{on_err_weaker}
 use Rattle.traffic_rules.specs.declared.acts.Act.{Act}
 use Rattle.traffic_rules.specs.declared.refusals.StationRefusal.{StationRefusal}
 use Rattle.traffic_rules.specs.declared.refusals.StationRefusal.TheVariants.{AlertActive, NeedsDelay}
 use Rattle.traffic_rules.specs.Histories.{Entry, History, last_moment}
 use Rattle.traffic_rules.specs.Rules.{refusal_or, answer_to, continued, Legal}
-use Rattle.traffic_rules.proofs.PublicLaws.{refused_on_time, answer_accepted, continued_accepted, legal_continued, on_err, goes_on}
+use Rattle.traffic_rules.proofs.PublicLaws.{refused_on_time, answer_accepted, continued_accepted, legal_continued, goes_on}
 use Rattle.traffic_rules.specs.Giving.{answer_with}
 use Rattle.traffic_rules.specs.Occurrences.{other}
 use Rattle.traffic_rules.proofs.PublicLaws.{AreQuiet, after_nothing}
@@ -18,7 +19,7 @@ use Rattle.ship_station.specs.Past.{open_alert, delays_left}
 use Rattle.ship_station.specs.ShipRules.{Identities, held, refused_where, refusal_at, due_at, ship_rules}
 use Rattle.ship_station.specs.Stands.{Keeps, Stands}
 
--- a ship that takes an event stands for the longer history
+-- after an accepted event the ship stands for the history that goes on
 pub accepted : (who : Identities) (h : History ShipWhat) (at : ℕ) (what : ShipWhat) (acts : List Act) (new : Ship) → last_moment h ≤ at → IsShipWhat what
     → Legal (ship_rules who) h → refusal_at who h what ≡ None → due_at who h at what ≡ acts
     → Keeps new who (record { at = at; what = what; acts = acts } ∷ h) → Stands new who (continued (ship_rules who) h at what)
@@ -27,10 +28,11 @@ accepted who h at what acts new late event legal none due keeps =
     let here = subst (λ (some : List Act). Keeps new who (record { at = at; what = what; acts = some } ∷ h)) (sym due) keeps in
     (legal_continued (ship_rules who) h at what event legal, subst (λ (g : History ShipWhat). Keeps new who g) (sym goes) here)
 
--- where its cause doesn't hold a refusal doesn't come
+-- a test that is false refuses nothing
 pub not_refused : (test : Bool) (refusal : StationRefusal) → test ≡ false → refused_where test refusal ≡ None
 not_refused test refusal h = ap (λ b. refused_where b refusal) h
 
+-- the answer to an event that isn't refused is the acts that are due
 pub answered : (who : Identities) (h : History ShipWhat) (at : ℕ) (what : ShipWhat) (acts : List Act) → last_moment h ≤ at
     → refusal_at who h what ≡ None → due_at who h at what ≡ acts → Ok acts ≡ answer_to (ship_rules who) h at what
 answered who h at what acts late none due =
@@ -44,7 +46,7 @@ pub goes : (who : Identities) (h : History ShipWhat) (at : ℕ) (what : ShipWhat
     → Stands new who (continued (ship_rules who) h at what)
 goes who h at what old new result acts late event stands answer same keeps =
     goes_on (ship_rules who) h at what (λ (g : History ShipWhat). Keeps new who g) result acts late event stands.0 answer
-    (on_err result (λ is. subst (λ (ship : Ship). Keeps ship who h) (sym is) stands.1) same) keeps
+    (on_err_weaker result (λ is. subst (λ (ship : Ship). Keeps ship who h) (sym is) stands.1) same) keeps
 
 -- an event that mentions no held call
 pub holds_on : (e : Entry ShipWhat) (h : History ShipWhat) → ship_occurs e.what ≡ other → AreQuiet e.acts → held (e ∷ h) ≡ held h

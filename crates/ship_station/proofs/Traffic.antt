@@ -21,11 +21,11 @@ use Rattle.ship_station.specs.Past.{is_attempt, is_end, kept, open_alert, last_a
 use Rattle.ship_station.specs.ShipRules.{Identities, attempt, at_tick, at_call}
 use Rattle.ship_station.specs.Stands.{Keeps}
 
--- no act of traffic is an attempt
+-- acts of traffic are no attempts of an alert
 pub attempts_missed : Misses is_attempt
 attempts_missed = record { sent = λ c is. refl; shown = refl; held = λ n. refl; answered = λ n. refl; gave_up = λ n. refl; distress = λ c. refl }
 
--- no act of traffic ends the alert
+-- and no ends of one
 pub ends_missed : Misses is_end
 ends_missed = record { sent = λ c is. refl; shown = refl; held = λ n. refl; answered = λ n. refl; gave_up = λ n. refl; distress = λ c. refl }
 

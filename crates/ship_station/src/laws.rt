@@ -52,7 +52,8 @@ pub fn attempts_are_apart()
 /// are kept, at the event that begins the alert or at a tick at which it is on; and that it sends every other call once, in every
 /// legal history.
 pub fn alerts_are_sent_as_attempts()
-    ensures { (who : Identities) (later earlier : History ShipWhat) (sent : Entry ShipWhat) (call : Call) (times : ℕ) (first last : List Act)
+    ensures { (who : Identities) (later earlier : History ShipWhat) (sent : Entry ShipWhat) (call : Call) (times : ℕ)
+        (first last : List Act)
         → Legal (ship_rules who) (later ++ sent ∷ earlier) → sent.acts ≡ first ++ act.Send call times ∷ last
         → IsAttempted who.own earlier sent.what (act.Send call times) ⊎ ((is_alert call ≡ false) × (times ≡ 1)) }
 {}

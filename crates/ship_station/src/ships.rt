@@ -209,7 +209,8 @@ impl Ship {
     fn attempt_again(&mut self, at: u64, acts: &mut Acts)
         requires { acts.old.items ≡ [] }
         ensures acts { acts.new.items
-            ≡ at_tick self.old.own (self.old.position, self.old.time) self.old.alert self.old.delays.items self.old.attempted_at at }
+            ≡ at_tick self.old.own (self.old.position, self.old.time) self.old.alert self.old.delays.items
+            self.old.attempted_at at }
         ensures few { length acts.new.items ≤ 1 }
         ensures attempted { self.new.attempted_at
             ≡ if list_any is_attempt acts.new.items then at else self.old.attempted_at }

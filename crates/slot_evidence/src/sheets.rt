@@ -31,7 +31,10 @@ impl Model for Sheet {
 
     ghost inverse = { λ l. record { leasts = map least_of l; pasts = map past_of l } };
 
-    ghost inverse_ok = { λ s h i. record { leasts = leasts_back s.leasts s.pasts h.ordered i; pasts = pasts_back s.leasts s.pasts h.ordered i } };
+    ghost inverse_ok = { λ s h i. record {
+      leasts = leasts_back s.leasts s.pasts h.ordered i;
+      pasts = pasts_back s.leasts s.pasts h.ordered i;
+    } };
 }
 
 impl Sheet {

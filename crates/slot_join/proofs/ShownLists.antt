@@ -86,11 +86,6 @@ shown_front F (x ∷ (y ∷ k)) rest some a =
 pub three : (l : List ℕ) → IsAtEnd l → 2 ≤ length l
 three l a = omega (arith, ap length a.list, length-append l (end_of a.call ∷ []), length-append (fields_of a.call) (end_of a.call ∷ []))
 
--- a list of two characters has no late end of sequence
-pub prompt_start : (F : Facts) (l : List ℕ) → length l ≡ 2 → IsShownLate F l → ⊥
-prompt_start F l len late =
-    absurd (omega (arith, three (take late.place l) late.late.at_end, length-take-le late.place l (omega (arith, late.inside)), late.inside))
-
 -- behind a list without one, a place that showed a symbol gives none
 pub prompt_push : (F : Facts) (l : List ℕ) (v w : ℕ) → (IsShownLate F l → ⊥) → F (length l) w ≡ true → IsShownLate F (l ++ v ∷ []) → ⊥
 prompt_push F l v w prompt has late = elim (cases_lt late.place (length l)) [

@@ -61,24 +61,3 @@ coast_moment at (of_coast.Get number) = refl
 pub end_at_ship : (base at : ℕ) (what : ShipEntry) (entry : Entry) (made : WorldEvent)
     → made ≡ event_of base entry → entry ≡ AtShip at what → codes "s " ≡ end_text made
 end_at_ship base at what entry made same is = ship_end base at what ∙ ap (λ (e : Entry). end_text (event_of base e)) (sym is) ∙ ap end_text (sym same)
-
-pub moment_at_ship : (base at : ℕ) (what : ShipEntry) (entry : Entry) (made : WorldEvent)
-    → made ≡ event_of base entry → entry ≡ AtShip at what → at ≡ moment_of made
-moment_at_ship base at what entry made same is = ship_moment base at what ∙ ap (λ (e : Entry). moment_of (event_of base e)) (sym is) ∙ ap moment_of (sym same)
-
-pub end_at_coast : (base at : ℕ) (what : CoastEntry) (entry : Entry) (made : WorldEvent)
-    → made ≡ event_of base entry → entry ≡ AtCoast at what → codes "c " ≡ end_text made
-end_at_coast base at what entry made same is = coast_end at what ∙ ap (λ (e : Entry). end_text (event_of base e)) (sym is) ∙ ap end_text (sym same)
-
-pub moment_at_coast : (base at : ℕ) (what : CoastEntry) (entry : Entry) (made : WorldEvent)
-    → made ≡ event_of base entry → entry ≡ AtCoast at what → at ≡ moment_of made
-moment_at_coast base at what entry made same is = coast_moment at what ∙ ap (λ (e : Entry). moment_of (event_of base e)) (sym is) ∙ ap moment_of (sym same)
-
--- what follows from a call's success, and from its refusal
-pub map_ok : {T E : Type 0} {A B : Type 0} (r : Result T E) → (A → B) → OnOk r A → OnOk r B
-map_ok (Ok b) f a = f a
-map_ok (Err e) f a = tt
-
-pub map_err : {T E : Type 0} {A B : E → Type 0} (r : Result T E) → ((e : E) → A e → B e) → IfErr r A → IfErr r B
-map_err (Ok b) f a = tt
-map_err (Err e) f a = f e a

@@ -1,6 +1,7 @@
 -- What an exchange writes of its events: this project's profile.
 use Rattle.std.specs.Prelude.{ℕ, Bool, true, ◌&&◌, List, [], ◌∷◌, ◌++◌, codes, decimal}
 use Rattle.std.specs.List.{flat_map}
+use Rattle.line_grammar.specs.Bytes.{line_feed}
 use Rattle.traffic_rules.specs.declared.acts.Act.{Act}
 use Rattle.act_texts.specs.Moments.{at_moment}
 use Rattle.station_lines.specs.Answers.{act_line, refusal_line}
@@ -25,7 +26,7 @@ moment_of (world.CoastGets at number) = at
 
 -- the line of a delivery for which no call of this number was sent
 unfoldable pub nothing_line : (at number : ℕ) → List ℕ
-nothing_line at number = at_moment at (codes "nothing " ++ decimal number ++ 10 ∷ [])
+nothing_line at number = at_moment at (codes "nothing " ++ decimal number ++ line_feed ∷ [])
 
 -- the lines of what an event gave: one for each act in order, or that of the refusal, or that of a delivery of nothing
 abbrev pub given_lines : (end : List ℕ) → (at : ℕ) → Given → List ℕ

@@ -1,6 +1,7 @@
 //! The lines of what a station answers to an event.
-ghost use Rattle.std.specs.Prelude.{◌≡◌, ◌++◌, is_ok, OnOk, IfOk};
+ghost use Rattle.std.specs.Prelude.{◌≡◌, ◌++◌, ◌∷◌, [], is_ok, OnOk, IfOk};
 ghost use Rattle.std.specs.List.{flat_map};
+ghost use Rattle.line_grammar.specs.Bytes.{line_feed};
 ghost use Rattle.traffic_rules.specs.Giving.{answer_with};
 ghost use Rattle.station_lines.specs.Answers.{act_line, refusal_line, answer_lines};
 
@@ -8,14 +9,21 @@ use act_texts::{put_act, put_refused};
 use std::alloc::AllocError;
 use traffic_rules::{Act, StationRefusal};
 
+/// Appends a text and a line feed.
+fn append_line(out: &mut Vec<u8>, text: &[u8]) -> Result<(), AllocError>
+    ensures { OnOk result (out.new.items ≡ out.old.items ++ (text.now ++ line_feed ∷ [])) }
+{
+    out.extend_from_slice(text)?;
+    out.extend_from_slice(b"\n")?;
+    Ok(())
+}
+
 /// Appends the line of an act.
 #[tactic(auto, unfolding(crate::specs::Answers::act_line))]
 fn append_act(out: &mut Vec<u8>, at: u32, act: &Act) -> Result<(), AllocError>
     ensures { OnOk result (out.new.items ≡ out.old.items ++ act_line at act.now) }
 {
-    out.extend_from_slice(&put_act(at, act))?;
-    out.extend_from_slice(b"\n")?;
-    Ok(())
+    append_line(out, &put_act(at, act))
 }
 
 /// Appends the lines of acts, each behind what names the station: nothing where an output has one station.
@@ -43,9 +51,7 @@ pub fn append_refusal(
 ) -> Result<(), AllocError>
     ensures { OnOk result (out.new.items ≡ out.old.items ++ refusal_line at refusal.now) }
 {
-    out.extend_from_slice(&put_refused(at, refusal))?;
-    out.extend_from_slice(b"\n")?;
-    Ok(())
+    append_line(out, &put_refused(at, refusal))
 }
 
 /// Appends the lines of what a station answers, where these are the acts that it gave, and tells whether it accepted the event.

@@ -3,6 +3,7 @@ use Rattle.std.proofs.Common.{◌≡◌, ℕ, zero, suc, ◌+◌, ◌-◌, ◌<�
 use Rattle.std.specs.List.{AllByRecursion, filter, range_with_len}
 use Rattle.std.proofs.Math.Path.{fun_ext}
 use Rattle.std.proofs.lemmas.List.Elements.{filter-append}
+use mathlib.Core.List.{cons-eq-cons}
 use Rattle.ten_unit.specs.declared.character.Element.{Element}
 use Rattle.phasing.specs.Origin.{is_phased}
 use Rattle.slot_evidence.specs.Facts.{Facts}
@@ -96,15 +97,12 @@ pub record GoesOn (whole front : List Told) (leads : List ℕ) : Type 0 where
 same_told : {a b : Told} → a.lead ≡ b.lead → a.answer ≡ b.answer → a ≡ b
 same_told lead answer = ap₂ (λ (l : ℕ) (j : Joined). record { lead = l; answer = j }) lead answer
 
-same_heads : {x y : ℕ} {xs ys : List ℕ} → x ∷ xs ≡ y ∷ ys → (x ≡ y) × (xs ≡ ys)
-same_heads e = (cc, cc)
-
 goes_on : OneAnswer → (e : List Element) (whole front : List Told) (leads : List ℕ) → map (λ one. one.lead) whole ≡ map (λ one. one.lead) front ++ leads
     → AreAnswered e whole → AreAnswered e front → GoesOn whole front leads
 goes_on law e whole [] leads same x y = record { back = whole; list = refl; leads_are = same }
 goes_on law e [] (b ∷ front) leads same x y = absurd cc
 goes_on law e (a ∷ whole) (b ∷ front) leads same x y =
-    let heads = same_heads same in
+    let heads = cons-eq-cons.0 same in
     let rest = goes_on law e whole front leads heads.1 x.1 y.1 in
     let answer = law (facts_from e b.lead) a.answer b.answer (subst (λ (k : ℕ). IsAnswer (facts_from e k) a.answer) heads.0 x.0) y.0 in
     record {

@@ -23,9 +23,6 @@ pub added_short : (e : List Element) (line : List ℕ) → IsStreamLine e line �
 added_short e line (inl is) = omega (arith, ap length is.0)
 added_short e line (inr is) = omega (arith, ap length is.1, body_length e)
 
-pub signs_short : (signs line : List ℕ) (element : ℕ → Element) → IsStreamLine (map element signs) line → length signs ≤ length line
-signs_short signs line element is = omega (arith, length-map signs element, added_short (map element signs) line is)
-
 -- ---- one line further
 
 are_more : (said : List (List Element)) (lines : Lines) (e : List Element) (line : List ℕ) → AreStreamLines said lines → IsStreamLine e line → AreStreamLines (said ++ e ∷ []) (lines ++ line ∷ [])

@@ -22,11 +22,6 @@ pub record Laws : Type 0 where
   pub quiet : (e : List Element) (low high : ℕ) → AreQuiet e low high → starts_below e high ≡ starts_below e low
   pub next : (e : List Element) (low high : ℕ) (start : Start) (is : IsNextStart e low high start) → starts_below e high ≡ starts_below e low ++ is.lead ∷ []
 
--- what holds where all went well, and more
-pub map_ok : {A B P Q : Type 0} (r : Result A B) → (P → Q) → OnOk r P → OnOk r Q
-map_ok (Ok a) f h = f h
-map_ok (Err b) f h = h
-
 -- a start of a stream whose answer has this lead
 abbrev one_at : ℕ → Joined → Told
 one_at lead answer = record { lead = lead; answer = answer }

@@ -2,6 +2,7 @@
 use Rattle.std.proofs.Common.{◌≡◌, ℕ, suc, ◌+◌, ◌&&◌, Bool, true, false, List, [], ◌∷◌, ◌++◌, length, pos, ◌-ℤ◌, ℤ, codes, refl, sym, ◌∙◌, ap, append_assoc, append-nil, arith}
 use Rattle.slot_join.specs.declared.joined.Joined.{Joined}
 use Rattle.std.specs.Fmt.{signed_decimal}
+use Rattle.std.proofs.Math.Bool.{and-true, and_assoc}
 use Rattle.join_groups.specs.Output.{is_reported, answer_line}
 use Rattle.stream_capture.specs.Telling.{Told, start_line, told_text, are_reported}
 
@@ -27,13 +28,5 @@ told_push told one = told_append 0 told (one ∷ []) ∙ ap (λ (t : List ℕ). 
     ∙ ap (λ (k : ℕ). told_text 0 told ++ line_of k one) (let same : 0 + length told ≡ length told = omega arith in same)
 
 pub reported_push : (told : List Told) (one : Told) → are_reported (told ++ one ∷ []) ≡ (are_reported told && is_reported one.answer)
-reported_push [] one = last (is_reported one.answer)
-  where
-    last : (b : Bool) → (b && true) ≡ b
-    last true = refl
-    last false = refl
-reported_push (t ∷ told) one = ap (λ (b : Bool). is_reported t.answer && b) (reported_push told one) ∙ sym (grouped (is_reported t.answer) (are_reported told) (is_reported one.answer))
-  where
-    grouped : (a b c : Bool) → ((a && b) && c) ≡ (a && (b && c))
-    grouped true b c = refl
-    grouped false b c = refl
+reported_push [] one = and-true (is_reported one.answer)
+reported_push (t ∷ told) one = ap (λ (b : Bool). is_reported t.answer && b) (reported_push told one) ∙ sym (and_assoc (is_reported t.answer) (are_reported told) (is_reported one.answer))

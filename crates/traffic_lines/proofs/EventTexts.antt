@@ -15,6 +15,7 @@ use Rattle.line_grammar.specs.Tokens.{Token, free_number}
 use Rattle.line_grammar.specs.Grammar.{Grammar, finish, either, Parts, none, part, first, second, Spells}
 use Rattle.line_grammar.specs.inside.Reading.{fits, read}
 use Rattle.line_grammar.specs.inside.Soundness.{is_sound}
+use Rattle.line_grammar.proofs.Chains.{after_list, finished}
 use Rattle.line_grammar.proofs.Fields.{field_of}
 use Rattle.line_grammar.proofs.Grammars.{choice_back}
 use Rattle.line_grammar.proofs.Stops.{IsChoice}
@@ -38,13 +39,6 @@ use Rattle.traffic_lines.specs.inside.Grammars.{labelled_to_end, word_to_end, po
 use Rattle.traffic_lines.specs.inside.Reading.{ReadsBy, IsShipText, IsCoastText, IsDelayText, IsAskText, SaysAtBoth, SaysHearing}
 use Rattle.traffic_lines.proofs.Languages.{HasLine}
 use Rattle.traffic_lines.proofs.Tokens.{number_told}
-
--- the end of a line
-pub finished : (parts : Parts) (bytes : List ℕ) → Spells finish parts bytes → bytes ≡ []
-finished none bytes h = h
-finished (part a b) bytes h = absurd h
-finished (first a) bytes h = absurd h
-finished (second a) bytes h = absurd h
 
 -- a value behind a word, and what follows it
 pub labelled_of : {V : Type 0} (label : List ℕ) (token : Token) (rest : Grammar) (Lawful : V → Type 0) (text : V → List ℕ) → Told token Lawful text → (parts : Parts) (bytes : List ℕ)

@@ -7,9 +7,9 @@ use Rattle.line_grammar.specs.inside.Reading.{read, further}
 use Rattle.line_grammar.specs.inside.Soundness.{is_sound}
 use Rattle.line_grammar.proofs.Chains.{both_miss}
 use Rattle.line_grammar.proofs.Repeats.{read_stops}
-use Rattle.line_grammar.proofs.Splits.{split}
 use Rattle.line_grammar.proofs.Stops.{Stops, IsChoice, IsAlike, left_le, IsColumn-stops, Stops-alike, Stops-choice}
 use Rattle.traffic_lines.specs.inside.Reading.{ReadsBy, Finds}
+use Rattle.plain_laws.proofs.Lists.{split}
 
 -- a language has a line
 pub record HasLine {W : Type 0} (L : W → List ℕ → Type 0) : Type 0 where
@@ -72,7 +72,7 @@ pub exit_read : {W : Type 0} (G : Grammar) (L : W → List ℕ → Type 0) (byte
 exit_read G L bytes left (Ok w) h e = absurd h
 exit_read G L bytes left (Err n) h e = e ∙ ap (λ (m : ℕ). Err m) (sym h)
 
--- a reader that ends there has found the column
+-- and the column
 pub exit_found : {V W : Type 0} (M : V → List ℕ → Type 0) (L : W → List ℕ → Type 0) (bytes : List ℕ) (left : ℕ) (r : Result W ℕ) → IsErrAnd r (λ y. y ≡ left) → IsColumn M bytes (length bytes + 1 - left)
     → Finds M L bytes r
 exit_found M L bytes left (Ok w) h k = absurd h
@@ -84,7 +84,7 @@ further_read G H L bytes (Ok w) s h k = h
 further_read G H L bytes (Err m) (Ok w) h k = k
 further_read G H L bytes (Err m) (Err n) h k = both_miss G H bytes m n (min m n) h k refl
 
--- of two grammars' readers the one that comes further answers for both
+-- an answer that is the further of two reads their choice
 pub further_by : {W : Type 0} (G H : Grammar) (L : W → List ℕ → Type 0) (bytes : List ℕ) (r s t : Result W ℕ) → t ≡ further r s → ReadsBy G L bytes r → ReadsBy H L bytes s → ReadsBy (either G H) L bytes t
 further_by G H L bytes r s t e h k = subst (ReadsBy (either G H) L bytes) (sym e) (further_read G H L bytes r s h k)
 
@@ -95,7 +95,7 @@ further_find M N K L bytes (Err m) (Ok w) one two both h k = k
 further_find M N K L bytes (Err m) (Err n) one two both h k =
     stops_column K bytes (min m n) (Stops-choice M N K bytes m n both (found_stops M bytes m one h) (found_stops N bytes n two k))
 
--- of two readers the one that comes further answers for both languages
+-- and finds the choice's column
 pub further_found : {U V X W : Type 0} (M : U → List ℕ → Type 0) (N : V → List ℕ → Type 0) (K : X → List ℕ → Type 0) (L : W → List ℕ → Type 0) (bytes : List ℕ) (r s t : Result W ℕ)
     → t ≡ further r s → HasLine M → HasLine N → IsChoice M N K → Finds M L bytes r → Finds N L bytes s → Finds K L bytes t
 further_found M N K L bytes r s t e one two both h k = subst (Finds K L bytes) (sym e) (further_find M N K L bytes r s one two both h k)

@@ -196,13 +196,13 @@ moment_behind event M L has = record {
   one = same_moment;
 }
 
--- without a moment the column is the moment's
+-- a column of an event line is in its moment
 pub no_moment : {V W : Type 0} (event : ℕ → V → W) (M : V → List ℕ → Type 0) (L : W → List ℕ → Type 0) → HasEvents event M L → HasLine M → (bytes : List ℕ) (left : ℕ) → read moment bytes ≡ Err left
     → IsColumn L bytes (length bytes + 1 - left)
 no_moment event M L has some bytes left h =
     stops_column L bytes left (Stops-front IsMoment moment M L bytes left moment_fronts (moment_behind event M L has) some (read_stops moment bytes left refl h))
 
--- behind a moment the column is the event's
+-- or behind it
 pub no_event : {V W : Type 0} (event : ℕ → V → W) (M : V → List ℕ → Type 0) (L : W → List ℕ → Type 0) → HasEvents event M L → HasLine M → (bytes back : List ℕ) (at left : ℕ) → at < 2 ^ 32
     → bytes ≡ decimal at ++ (codes " " ++ back) → IsColumn M back (length back + 1 - left) → IsColumn L bytes (length bytes + 1 - left)
 no_event event M L has some bytes back at left small e k =

@@ -3,6 +3,7 @@ use Rattle.std.proofs.Common.{◌≡◌, ℕ, ◌+◌, ◌*◌, ◌<◌, ◌≤�
 use Rattle.std.proofs.lemmas.List.{append_cancel_left, append_cancel_right}
 use Rattle.std.specs.List.{list_all}
 use Rattle.std.proofs.lemmas.Bool.{and_parts, leb-true}
+use Rattle.std.proofs.lemmas.Fmt.{decimal_injective}
 use Rattle.call_values.specs.declared.calls.Call.{Call}
 use Rattle.call_values.specs.declared.choices.Band.{Band}
 use Rattle.call_values.specs.declared.choices.Band.TheVariants.{Mf, Hf, Vhf}
@@ -33,7 +34,6 @@ use Rattle.traffic_lines.specs.Lines.{IsHear, IsSend, IsPerhapsDelay, delay_text
 use Rattle.traffic_lines.specs.inside.Grammars.{ask_or_tell}
 use Rattle.traffic_lines.proofs.EventTexts.{ask_is}
 use Rattle.traffic_lines.proofs.LineTexts.{same_moment}
-use Rattle.traffic_lines.proofs.Tokens.{one_decimal}
 
 -- texts tell calls apart, whatever stands behind them
 abbrev pub TellsApart : Type 0
@@ -111,9 +111,9 @@ other_word m n text h k = absurd (omega (arith, ap (λ (l : List ℕ). get_or l 
 
 one_answer : (m n : ℕ) (a b : Bool) (text : List ℕ) → IsEventText (Answer m a) text → IsEventText (Answer n b) text → Answer m a ≡ Answer n b
 one_answer m n true true text h k =
-    ap (λ (x : ℕ). Answer x true) (one_decimal m n (omega (arith, h.0)) (omega (arith, k.0)) (append_cancel_left (codes "answer ") (decimal m) (decimal n) (sym h.1 ∙ k.1)))
+    ap (λ (x : ℕ). Answer x true) (decimal_injective m n (omega (arith, h.0)) (omega (arith, k.0)) (append_cancel_left (codes "answer ") (decimal m) (decimal n) (sym h.1 ∙ k.1)))
 one_answer m n false false text h k =
-    ap (λ (x : ℕ). Answer x false) (one_decimal m n (omega (arith, h.0)) (omega (arith, k.0)) (append_cancel_left (codes "decline ") (decimal m) (decimal n) (sym h.1 ∙ k.1)))
+    ap (λ (x : ℕ). Answer x false) (decimal_injective m n (omega (arith, h.0)) (omega (arith, k.0)) (append_cancel_left (codes "decline ") (decimal m) (decimal n) (sym h.1 ∙ k.1)))
 one_answer m n true false text h k = absurd (other_word m n text h.1 k.1)
 one_answer m n false true text h k = absurd (other_word n m text k.1 h.1)
 
@@ -123,7 +123,7 @@ no_blank_there ms e = absurd (cc)
 
 one_delay : (a b : Option ℕ) → IsPerhapsDelay a → IsPerhapsDelay b → delay_text a ≡ delay_text b → a ≡ b
 one_delay None None h k e = refl
-one_delay (Some m) (Some n) h k e = ap (λ (x : ℕ). Some x) (one_decimal m n (omega (arith, h)) (omega (arith, k)) (append_cancel_left (codes " ") (decimal m) (decimal n) e))
+one_delay (Some m) (Some n) h k e = ap (λ (x : ℕ). Some x) (decimal_injective m n (omega (arith, h)) (omega (arith, k)) (append_cancel_left (codes " ") (decimal m) (decimal n) e))
 one_delay None (Some n) h k e = absurd (no_blank_there n e)
 one_delay (Some m) None h k e = absurd (no_blank_there m (sym e))
 
@@ -170,7 +170,7 @@ pub one_event : TellsApart → (a b : EventLine) (text : List ℕ) → IsEventTe
 one_event apart (Position p) (Position q) text h k =
     ap Position (position_told.one p q h.0 k.0 (append_cancel_left (codes "position ") _ _ (sym h.1 ∙ k.1)))
 one_event apart (Delay m) (Delay n) text h k =
-    ap Delay (one_decimal m n (omega (arith, h.0)) (omega (arith, k.0)) (append_cancel_left (codes "delay ") (decimal m) (decimal n) (sym h.1 ∙ k.1)))
+    ap Delay (decimal_injective m n (omega (arith, h.0)) (omega (arith, k.0)) (append_cancel_left (codes "delay ") (decimal m) (decimal n) (sym h.1 ∙ k.1)))
 one_event apart (Alert m c) (Alert n d) text h k = one_alert m c n d text h k
 one_event apart Cancel Cancel text h k = refl
 one_event apart Tick Tick text h k = refl
@@ -178,7 +178,7 @@ one_event apart (Send a) (Send b) text h k = ap Send (one_send apart a b text h 
 one_event apart (Answer m a) (Answer n b) text h k = one_answer m n a b text h k
 one_event apart (Hear a) (Hear b) text h k = ap Hear (one_hear apart a b text h k)
 one_event apart (Heard m) (Heard n) text h k =
-    ap Heard (one_decimal m n (omega (arith, h.0)) (omega (arith, k.0)) (append_cancel_left (codes "heard g") (decimal m) (decimal n) (sym h.1 ∙ k.1)))
+    ap Heard (decimal_injective m n (omega (arith, h.0)) (omega (arith, k.0)) (append_cancel_left (codes "heard g") (decimal m) (decimal n) (sym h.1 ∙ k.1)))
 one_event apart (Accept m a) (Accept n b) text h k = one_accept m n a b text h k
 one_event apart (Relay m s a) (Relay n t b) text h k = one_relay m n s t a b text h k
 one_event apart a b text h k = let e = sym (has_key a text h) ∙ has_key b text k in absurd (omega (arith, e))
@@ -188,7 +188,7 @@ one_moment : TellsApart → (at to : ℕ) (what that : EventLine) (text : List �
 one_moment apart at to what that text h k =
     let list = append_assoc (decimal at) (codes " ") h.0 ∙ sym h.3 ∙ k.3 ∙ sym (append_assoc (decimal to) (codes " ") k.0) in
     let same = same_moment (decimal at ++ codes " ") (decimal to ++ codes " ") h.0 k.0 (at, h.1, refl) (to, k.1, refl) list in
-    let moments = one_decimal at to (omega (arith, h.1)) (omega (arith, k.1)) (append_cancel_right (decimal at) (decimal to) (codes " ") same.0) in
+    let moments = decimal_injective at to (omega (arith, h.1)) (omega (arith, k.1)) (append_cancel_right (decimal at) (decimal to) (codes " ") same.0) in
     let events = one_event apart what that k.0 (subst (IsEventText what) same.1 h.2) k.2 in
     ap (λ (x : ℕ). Event x what) moments ∙ ap (Event to) events
 
@@ -264,7 +264,7 @@ one_line apart (Coast m a) (Coast n b) text h k = one_coast m n a b text h k
 one_line apart (Ship m) (Coast n b) text h k = absurd (other_station m n b text h k)
 one_line apart (Coast m a) (Ship n) text h k = absurd (other_station n m a text k h)
 one_line apart (Base m) (Base n) text h k =
-    ap Base (one_decimal m n (omega (arith, h.0)) (omega (arith, k.0)) (append_cancel_left (codes "base ") (decimal m) (decimal n) (sym h.1 ∙ k.1)))
+    ap Base (decimal_injective m n (omega (arith, h.0)) (omega (arith, k.0)) (append_cancel_left (codes "base ") (decimal m) (decimal n) (sym h.1 ∙ k.1)))
 one_line apart (Group m) (Group n) text h k = ap Group (one_number 9 m n (omega (arith, h.0)) (omega (arith, k.0)) (append_cancel_left (codes "group ") (digits 9 m) (digits 9 n) (sym h.1 ∙ k.1)))
 one_line apart (Event at what) (Event to that) text h k = one_moment apart at to what that text h k
 one_line apart a b text h k = let e = one_key a b text h k in absurd (omega (arith, e.1, e.2))

@@ -1,6 +1,8 @@
 -- a line of a file of an exchange says one thing
 use Rattle.std.proofs.Common.{◌≡◌, ℕ, ◌<◌, ◌^◌, true, false, List, ◌++◌, get_or, Option, Some, None, codes, decimal, refl, sym, ◌∙◌, ap, subst, append_assoc, arith}
 use Rattle.std.proofs.lemmas.List.{append_cancel_left, append_cancel_right}
+use Rattle.std.proofs.lemmas.Option.{same_Some}
+use Rattle.std.proofs.lemmas.Fmt.{decimal_injective}
 use Rattle.traffic_lines.specs.declared.lines.EventLine.{EventLine}
 use Rattle.traffic_lines.specs.declared.lines.EventLine.TheVariants.{Position, Delay, Alert, Cancel, Tick, Send, Answer, Hear, Heard, Accept, Relay}
 use Rattle.traffic_lines.specs.declared.lines.ShipOwn.{ShipOwn}
@@ -23,7 +25,6 @@ use Rattle.traffic_lines.specs.Lines.{IsEventText}
 use Rattle.traffic_lines.specs.Worlds.{IsGetText, IsShipEntryText, IsCoastEntryText, IsEntryText, IsWorldLineText}
 use Rattle.traffic_lines.proofs.LineTexts.{same_moment}
 use Rattle.traffic_lines.proofs.OneLine.{TellsApart, one_event, one_line}
-use Rattle.traffic_lines.proofs.Tokens.{one_decimal}
 
 -- the own event that a line says
 own_of_ship : EventLine → Option ShipOwn
@@ -62,16 +63,13 @@ coast_returns coast.Tick = refl
 coast_returns (coast.Send call) = refl
 coast_returns (coast.Answer k accepts) = refl
 
-same_some : {A : Type 0} (a b : A) → Some a ≡ Some b → a ≡ b
-same_some a b e = cc
-
 one_ship_own : TellsApart → (a b : ShipOwn) (text : List ℕ) → IsEventText (event_of_ship (at_ship.Own a)) text → IsEventText (event_of_ship (at_ship.Own b)) text → a ≡ b
 one_ship_own apart a b text h k =
-    same_some a b (sym (ship_returns a) ∙ ap own_of_ship (one_event apart (event_of_ship (at_ship.Own a)) (event_of_ship (at_ship.Own b)) text h k) ∙ ship_returns b)
+    same_Some a b (sym (ship_returns a) ∙ ap own_of_ship (one_event apart (event_of_ship (at_ship.Own a)) (event_of_ship (at_ship.Own b)) text h k) ∙ ship_returns b)
 
 one_coast_own : TellsApart → (a b : CoastOwn) (text : List ℕ) → IsEventText (event_of_coast (at_coast.Own a)) text → IsEventText (event_of_coast (at_coast.Own b)) text → a ≡ b
 one_coast_own apart a b text h k =
-    same_some a b (sym (coast_returns a) ∙ ap own_of_coast (one_event apart (event_of_coast (at_coast.Own a)) (event_of_coast (at_coast.Own b)) text h k) ∙ coast_returns b)
+    same_Some a b (sym (coast_returns a) ∙ ap own_of_coast (one_event apart (event_of_coast (at_coast.Own a)) (event_of_coast (at_coast.Own b)) text h k) ∙ coast_returns b)
 
 -- a call that comes is no event
 first_byte : List ℕ → ℕ
@@ -128,7 +126,7 @@ no_get : (e : EventLine) (number : ℕ) (text : List ℕ) → IsEventText e text
 no_get e number text h k = no_g e (sym (event_first e text h) ∙ get_first number text k)
 
 one_get : (m n : ℕ) (text : List ℕ) → IsGetText m text → IsGetText n text → m ≡ n
-one_get m n text h k = one_decimal m n (omega (arith, h.0)) (omega (arith, k.0)) (append_cancel_left (codes "get ") (decimal m) (decimal n) (sym h.1 ∙ k.1))
+one_get m n text h k = decimal_injective m n (omega (arith, h.0)) (omega (arith, k.0)) (append_cancel_left (codes "get ") (decimal m) (decimal n) (sym h.1 ∙ k.1))
 
 -- what happens at an end
 one_at_ship : TellsApart → (a b : ShipEntry) (text : List ℕ) → IsShipEntryText a text → IsShipEntryText b text → a ≡ b
@@ -149,7 +147,7 @@ one_moment : {V : Type 0} (M : V → List ℕ → Type 0) → ((a b : V) (text :
 one_moment M one at to a b said that small little h k e =
     let list = append_assoc (decimal at) (codes " ") said ∙ e ∙ sym (append_assoc (decimal to) (codes " ") that) in
     let same = same_moment (decimal at ++ codes " ") (decimal to ++ codes " ") said that (at, small, refl) (to, little, refl) list in
-    let moments = one_decimal at to (omega (arith, small)) (omega (arith, little)) (append_cancel_right (decimal at) (decimal to) (codes " ") same.0) in
+    let moments = decimal_injective at to (omega (arith, small)) (omega (arith, little)) (append_cancel_right (decimal at) (decimal to) (codes " ") same.0) in
     (moments, one a b that (subst (M a) same.1 h) k)
 
 one_entry : TellsApart → (a b : entries.Entry) (text : List ℕ) → IsEntryText a text → IsEntryText b text → a ≡ b

@@ -3,15 +3,9 @@ use Rattle.std.proofs.Common.{◌≡◌, ℕ, ◌<◌, ◌≤◌, ◌^◌, List,
 use Rattle.line_grammar.specs.Grammar.{finish, field, none}
 use Rattle.line_grammar.specs.Tokens.{Token, free_number, value_after}
 use Rattle.line_grammar.specs.inside.Reading.{after, ended, read_token, read}
-use Rattle.line_grammar.proofs.Chains.{after_list, word_missed, word_on, token_missed, token_on, end_missed}
+use Rattle.line_grammar.proofs.Chains.{after_list, word_missed, word_on, token_missed, token_on, end_missed, end_nil}
 use Rattle.line_grammar.proofs.Decimals.{number_read}
 use Rattle.traffic_lines.specs.inside.Grammars.{labelled_to_end, word_to_end}
-
--- where the line ends, no bytes are left
-pub end_nil : (bytes : List ℕ) → ended bytes ≡ Ok none → bytes ≡ []
-unfolding ended
-end_nil [] h = refl
-end_nil (b ∷ bytes) h = absurd (cc)
 
 -- a value behind a word was missed at its word, in its token or at its end, or it was read
 pub no_label : (label : List ℕ) (token : Token) (bytes : List ℕ) (left : ℕ) → after label bytes ≡ Err left → read (labelled_to_end label token) bytes ≡ Err left
@@ -47,7 +41,7 @@ pub record NumberRead (least most v : ℕ) (bytes back : List ℕ) : Type 0 wher
   pub list : bytes ≡ decimal v ++ back
   pub value : read_token (free_number least most) bytes ≡ Ok (decimal v, back)
 
--- a number that was read stands in front, within its bounds
+-- what the reader of numbers answers
 pub number_of : (least most v : ℕ) (bytes front back : List ℕ) → least ≤ most → most < 2 ^ 64 → read_token (free_number least most) bytes ≡ Ok (front, back) → value_after 0 front ≡ v
     → NumberRead least most v bytes back
 number_of least most v bytes front back order small h e =

@@ -1,5 +1,6 @@
 -- the lines of a traffic file determine what is told of them
 use Rattle.std.proofs.Common.{◌≡◌, ℕ, Bool, if◌then◌else◌, Option, Some, Result, Ok, List, [], ◌∷◌, ◌++◌, refl, sym, ◌∙◌, ap, subst}
+use Rattle.std.proofs.lemmas.Option.{same_Some}
 use Rattle.traffic_rules.specs.Rules.{Rules}
 use Rattle.line_grammar.specs.Columns.{IsColumn}
 use Rattle.line_engine.specs.Lines.{Lines}
@@ -27,15 +28,12 @@ use Rattle.traffic_replay.proofs.Fronts.{front_of}
 abbrev pub OneAnswer : Type 0
 OneAnswer = (F : Facts) (a b : Joined) → IsAnswer F a → IsAnswer F b → a ≡ b
 
-same_value : {A : Type 0} {x y : A} → Some x ≡ Some y → x ≡ y
-same_value e = cc
-
 -- an event line that gives an event of itself
 abbrev IsPlain : {What : Type 0} → Option What → Result What Unreported → Type 0
 IsPlain {What} gives outcome = (event : What) × (gives ≡ Some event) × (outcome ≡ Ok event)
 
 same_plain : {What : Type 0} (gives : Option What) (a b : Result What Unreported) → IsPlain gives a → IsPlain gives b → a ≡ b
-same_plain {What} gives a b x y = let event : x.0 ≡ y.0 = same_value (sym x.1 ∙ y.1) in x.2 ∙ ap (λ (e : What). Ok e) event ∙ sym y.2
+same_plain {What} gives a b x y = let event : x.0 ≡ y.0 = same_Some _ _ (sym x.1 ∙ y.1) in x.2 ∙ ap (λ (e : What). Ok e) event ∙ sym y.2
 
 same_heard : OneAnswer → {What : Type 0} (taking : Taking What) (said : Said) (at group : ℕ) (a b : Result What Unreported)
     → ComesOf taking said at (Heard group) a → ComesOf taking said at (Heard group) b → a ≡ b

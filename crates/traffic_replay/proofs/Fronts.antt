@@ -19,11 +19,7 @@ use Rattle.traffic_replay.specs.Happenings.{Taking, taking_ship, taking_coast, H
 use Rattle.traffic_replay.specs.Output.{history_of, text_of, all_accepted, written_behind}
 use Rattle.traffic_replay.specs.Meaning.{Tells, StationTells}
 use Rattle.traffic_replay.specs.inside.Progress.{IsBeforeEvents}
-
--- behind an event or a line of receivers there are no further lines of the station's own
-among_never : (kind : Kind) → IsBeforeEvents (among_events kind) → ⊥
-among_never ship early = early
-among_never (coast band) early = early
+use Rattle.traffic_replay.proofs.Told.{no_more_early}
 
 ship_early : (p : Point) (mmsi : ℕ) → MayStand p (line.Ship mmsi) → IsBeforeEvents p
 ship_early point.Station mmsi may = tt
@@ -57,13 +53,13 @@ group_early point.Coast mmsi may = absurd may
 none_early : {What : Type 0} (taking : Taking What) (said : Said) (lines : Lines) → AreSaid said lines → IsBeforeEvents (point_of said) → AreHappenings taking said []
 none_early taking [] lines are early = refl
 none_early taking (joined nothing ∷ said) lines are early = none_early taking said are.0 are.4 early
-none_early taking (joined (reception group e) ∷ said) lines are early = absurd (among_never (kind_of said) early)
-none_early taking (joined (evidence group pairs) ∷ said) lines are early = absurd (among_never (kind_of said) early)
+none_early taking (joined (reception group e) ∷ said) lines are early = absurd (no_more_early (kind_of said) early)
+none_early taking (joined (evidence group pairs) ∷ said) lines are early = absurd (no_more_early (kind_of said) early)
 none_early taking (traffic (line.Ship mmsi) ∷ said) lines are early = none_early taking said are.0 are.4 (ship_early (point_of said) mmsi are.3.0)
 none_early taking (traffic (line.Coast mmsi band) ∷ said) lines are early = none_early taking said are.0 are.4 (coast_early (point_of said) mmsi band are.3.0)
 none_early taking (traffic (line.Base second) ∷ said) lines are early = none_early taking said are.0 are.4 (base_early (point_of said) second are.3.0)
 none_early taking (traffic (line.Group mmsi) ∷ said) lines are early = none_early taking said are.0 are.4 (group_early (point_of said) mmsi are.3.0)
-none_early taking (traffic (line.Event at what) ∷ said) lines are early = absurd (among_never (kind_of said) early)
+none_early taking (traffic (line.Event at what) ∷ said) lines are early = absurd (no_more_early (kind_of said) early)
 
 -- a text that begins with that of what was said
 pub record IsBehind (kind : Kind) (said : Said) (whole : List ℕ) : Type 0 where

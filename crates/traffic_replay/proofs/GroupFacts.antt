@@ -1,5 +1,6 @@
 -- One line more: which groups are named, and their facts since they were last heard.
 use Rattle.std.proofs.Common.{◌≡◌, ℕ, Bool, true, false, cond, ◌||◌, [], ◌∷◌, refl, ap, ◌∙◌}
+use Rattle.std.proofs.Math.Bool.{or_comm}
 use Rattle.slot_evidence.specs.Facts.{Facts, union, no_facts}
 use Rattle.traffic_lines.specs.declared.lines.TrafficLine.{TrafficLine}
 use Rattle.dsc_lines.specs.JoinLine.{JoinLine}
@@ -9,14 +10,8 @@ use Rattle.join_groups.proofs.PublicLaws.{same_facts, unnamed_line}
 use Rattle.traffic_replay.specs.Said.{Said}
 use Rattle.traffic_replay.specs.HeardGroups.{of_receivers, hears, since_heard, facts_since_heard}
 
-or_swap : (x y : Bool) → (x || y) ≡ (y || x)
-or_swap true true = refl
-or_swap true false = refl
-or_swap false true = refl
-or_swap false false = refl
-
 union_swap : (F G : Facts) → union F G ≡ union G F
-union_swap F G = same_facts (union F G) (union G F) (λ p v. or_swap (F p v) (G p v))
+union_swap F G = same_facts (union F G) (union G F) (λ p v. or_comm (F p v) (G p v))
 
 named_more : (said : Said) (line : JoinLine) (k : ℕ) → is_named (of_receivers (joined line ∷ said)) k ≡ (names k line || is_named (of_receivers said) k)
 unfolding is_named
@@ -27,7 +22,7 @@ named_of_others said line k h = named_more said line k ∙ ap (λ (b : Bool). b 
 
 -- the line's group is named with those that were
 pub named_push : (said : Said) (line : JoinLine) (k : ℕ) → is_named (of_receivers (joined line ∷ said)) k ≡ (is_named (of_receivers said) k || names k line)
-named_push said line k = named_more said line k ∙ or_swap (names k line) (is_named (of_receivers said) k)
+named_push said line k = named_more said line k ∙ or_comm (names k line) (is_named (of_receivers said) k)
 
 facts_more : (said : Said) (line : JoinLine) (k : ℕ) → facts_since_heard k (joined line ∷ said) ≡ union (facts_of_line k line) (facts_since_heard k said)
 unfolding facts_since_heard group_facts

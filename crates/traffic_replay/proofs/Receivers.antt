@@ -1,5 +1,6 @@
 -- What was read of a line of receivers, and of a line that says nothing.
 use Rattle.std.proofs.Common.{◌≡◌, ℕ, true, false, Option, Some, Ok, List, ◌∷◌, refl, sym, subst}
+use Rattle.std.proofs.lemmas.Bool.{false≢true}
 use Rattle.ten_unit.specs.declared.character.Element.{Element}
 use Rattle.slot_evidence.specs.declared.places.Seen.{Seen}
 use Rattle.slot_evidence.specs.Facts.{facts_of}
@@ -96,7 +97,7 @@ pub nothing_taken : (replay : Replay) (said : Said) (line : JoinLine) (text : Li
 nothing_taken replay said (reception g f) text is keeps = absurd (apart (sym is))
 nothing_taken replay said (evidence g pairs) text is keeps = absurd (apart_too (sym is.1.0))
 nothing_taken replay said nothing text is keeps = (
-  λ b. never b.named,
+  λ b. false≢true b.named,
   record {
     point = keeps.point;
     own = keeps.own;
@@ -111,6 +112,3 @@ nothing_taken replay said nothing text is keeps = (
     told = carry_joined (kind_of said) replay.station (IsBeforeEvents replay.point) (IsBeforeEvents replay.point) nothing said text replay.is_well (λ early. early) keeps.told;
   },
 )
-  where
-    never : false ≡ true → ⊥
-    never h = cc

@@ -121,7 +121,7 @@ at_base (coast band) (at.Coast s) A said text is_well told = refl
 at_base ship (at.Coast s) A said text is_well told = absurd told
 at_base (coast band) (at.Ship s) A said text is_well told = absurd told
 
--- among events no line of the beginning may stand
+-- behind an event or a line of receivers there are no further lines of the station's own
 pub no_more_early : (kind : Kind) → IsBeforeEvents (among_events kind) → ⊥
 no_more_early ship early = early
 no_more_early (coast band) early = early
@@ -185,14 +185,6 @@ coast_here point.Ship band body of = absurd (no_coast of)
 coast_here point.Coast band body of = refl
 coast_here point.Station band body of = absurd body
 coast_here point.Base band body of = absurd body
-
--- a group stands among groups, of which there are fewer than sixteen
-pub group_may : (p : Point) (groups : List ℕ) (mmsi : ℕ) → MayStand (ship_point (groups_at p)) (line.Group mmsi) → IsBehindGroups p groups → IsAmongGroups p × (length groups < 16)
-group_may (point.Groups held) groups mmsi may behind = (tt, subst (λ (n : ℕ). n < 16) behind may)
-group_may point.Station groups mmsi may behind = absurd may
-group_may point.Base groups mmsi may behind = absurd may
-group_may point.Ship groups mmsi may behind = absurd may
-group_may point.Coast groups mmsi may behind = absurd may
 
 -- a text is appended behind what was there
 behind : (text out new lines all : List ℕ) → new ≡ out ++ lines → text ++ out ≡ all → text ++ new ≡ all ++ lines

@@ -1,5 +1,6 @@
 -- What a replay writes, over the rules of a station: this project's profile.
 use Rattle.std.specs.Prelude.{ℕ, Bool, true, false, ◌&&◌, is_ok, Result, Ok, Err, List, [], ◌∷◌, ◌++◌}
+use Rattle.line_grammar.specs.Bytes.{line_feed}
 use Rattle.traffic_rules.specs.Histories.{History}
 use Rattle.traffic_rules.specs.Rules.{Rules, answer_to, continued}
 use Rattle.act_texts.specs.Moments.{at_moment}
@@ -10,7 +11,7 @@ use Rattle.traffic_replay.specs.Happenings.{Happening}
 
 -- the line of a group that isn't reported: the moment stands in front of its answer
 unfoldable pub unreported_line : (at : ℕ) → Unreported → List ℕ
-unreported_line at unreported = at_moment at (answer_text unreported.group unreported.answer ++ 10 ∷ [])
+unreported_line at unreported = at_moment at (answer_text unreported.group unreported.answer ++ line_feed ∷ [])
 
 module _ {What : Type 0} (rules : Rules What) where
   -- the history behind what happens: an event is put last unless it is refused, and a group that isn't reported is no event

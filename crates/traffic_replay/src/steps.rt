@@ -119,7 +119,8 @@ pub(crate) fn happen_at_ship<W: Joiner>(
     ensures happens { IfOk result (λ accepted. (said : Said) (who : Identities) (h : History AtShip)
         → KeepsGroups groups.old said → base ≡ base_of said
         → ShipStands ship.old who h
-        → Happens (ship_rules who) taking_ship (ShipStands ship.new who) h said at (event_of_ship what.now) out.old.items out.new.items accepted) }
+        → Happens (ship_rules who) taking_ship (ShipStands ship.new who) h said at (event_of_ship what.now)
+        out.old.items out.new.items accepted) }
 {
     match *what {
         ShipLine::Own(own) => step_ship(ship, at, ship_event(base, at, &own), acts, out),
@@ -153,7 +154,8 @@ pub(crate) fn happen_at_coast<W: Joiner>(
     ensures happens { IfOk result (λ accepted. (said : Said) (who : Station) (h : History AtCoast)
         → KeepsGroups groups.old said
         → CoastStands coast.old who h
-        → Happens (coast_rules who) taking_coast (CoastStands coast.new who) h said at (event_of_coast what.now) out.old.items out.new.items accepted) }
+        → Happens (coast_rules who) taking_coast (CoastStands coast.new who) h said at (event_of_coast what.now)
+        out.old.items out.new.items accepted) }
 {
     match *what {
         CoastLine::Own(own) => step_coast(coast, at, coast_event(&own), acts, out),

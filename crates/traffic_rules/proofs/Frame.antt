@@ -9,14 +9,6 @@ use Rattle.traffic_rules.specs.Rules.{Rules, refusal_or, answer_to, continued, L
 use Rattle.traffic_rules.specs.Giving.{answer_with}
 use Rattle.traffic_rules.proofs.Steps.{in_time, entry_at, refused_on_time, continued_refused, continued_accepted, legal_continued, refusal_of, acts_of}
 
-pub on_ok : {A E P Q : Type 0} (r : Result A E) → (P → Q) → OnOk r P → OnOk r Q
-on_ok (Ok x) f h = f h
-on_ok (Err e) f h = h
-
-pub on_err : {A E P Q : Type 0} (r : Result A E) → (P → Q) → OnErr r P → OnErr r Q
-on_err (Ok x) f h = h
-on_err (Err e) f h = f h
-
 -- an event that isn't before a station's last moment isn't before the history's
 pub not_before : {What : Type 0} (last : ℕ) (h : History What) (at : ℕ) → last ≡ last_moment h → None ≡ time_back last at → last_moment h ≤ at
 not_before last h at same none = subst (λ (n : ℕ). n ≤ at) same (in_time last at (sym none))

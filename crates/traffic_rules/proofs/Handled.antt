@@ -5,6 +5,7 @@ use Rattle.std.proofs.lemmas.Bool.{false≢true}
 use Rattle.std.proofs.lemmas.List.Folds.{list_any-append}
 use Rattle.std.specs.List.{list_any}
 use Rattle.std.specs.Prelude.{replicate}
+use Rattle.std.proofs.lemmas.Option.{none-some}
 use Rattle.call_values.specs.declared.calls.Call.{Call}
 use Rattle.call_values.specs.declared.calls.Call.TheVariants.{Alert, Ack, Relay, Individual, Service}
 use Rattle.call_values.specs.declared.choices.Category.{Category}
@@ -14,8 +15,7 @@ use Rattle.traffic_rules.specs.declared.acts.Act.TheVariants.{Send, GaveUp}
 use Rattle.traffic_rules.specs.declared.held.TheConstants.{MOST_HELD}
 use Rattle.traffic_rules.specs.declared.held.Holding.{Holding}
 use Rattle.traffic_rules.specs.declared.held.Side.TheVariants.{Sent, Got}
-use Rattle.traffic_rules.specs.declared.refusals.StationRefusal.{StationRefusal}
-use Rattle.traffic_rules.specs.declared.refusals.StationRefusal.TheVariants.{NotSendable, Full}
+use Rattle.traffic_rules.specs.declared.refusals.StationRefusal.TheVariants.{Full}
 use Rattle.traffic_rules.specs.Histories.{Entry, History}
 use Rattle.traffic_rules.specs.Holding.{Places, place_of, first_free, newly_held}
 use Rattle.traffic_rules.specs.Rules.{Rules, Follows, Legal}
@@ -29,7 +29,7 @@ use Rattle.traffic_rules.specs.Sendings.{asking, sends, is_holding, times_in, se
 use Rattle.traffic_rules.specs.TrafficActs.{AreSentSuch}
 use Rattle.traffic_rules.specs.After.{held_at, freed_at, after_sending, after_answering, after_tick, after_question, after_hearing}
 use Rattle.traffic_rules.proofs.Counts.{waiting, times_append, all_sent_again, placed, none_in, placed_such, ticked_such}
-use Rattle.traffic_rules.proofs.Plain.{may_be_sent}
+use Rattle.traffic_rules.proofs.Plain.{may_be_sent, sendable}
 use Rattle.traffic_rules.proofs.HeldLists.{nothing_held}
 
 -- one call in the acts is sent and held
@@ -112,13 +112,6 @@ handles_tick own p front at places none none_held =
           (list_any (sends p) acts) (list_any is_holding acts) holds (times_append p front (repeats at 1 places)) (none_in p front none) (all_sent_again p at 1 places);
       may_still = ticked_such (is_sendable own) at places;
     }
-
-some_is_none : (r : StationRefusal) → Some r ≡ None → ⊥
-some_is_none r h = cc
-
-sendable : (s : Bool) (r : Option StationRefusal) → (if s then r else Some NotSendable) ≡ None → r ≡ None
-sendable true r none = none
-sendable false r none = absurd (some_is_none NotSendable none)
 
 module _ (is_such : Call → Bool) where
   abbrev counted : Call → Bool
@@ -219,7 +212,7 @@ module _ (is_such : Call → Bool) where
       }
 
   room_of : (must : Bool) (o : Option ℕ) → (if must && is_none o then Some Full else None) ≡ None → (must && is_none o) ≡ false
-  room_of true None none = absurd (some_is_none Full none)
+  room_of true None none = absurd (none-some Full (sym none))
   room_of true (Some n) none = refl
   room_of false o none = refl
 

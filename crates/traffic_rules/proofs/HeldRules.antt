@@ -2,17 +2,17 @@
 use native.Mathlib.Omega.{arith}
 use Rattle.std.proofs.Common.{◌≡◌, ℕ, zero, suc, ◌+◌, ◌<◌, ◌≤◌, ◌⊎◌, inl, inr, ◌==◌, ◌&&◌, ◌||◌, not, Bool, true, false, Option, Some, None, is_none, List, [], ◌∷◌, ◌++◌, if◌then◌else◌, refl, sym, ◌∙◌, ap}
 use Rattle.std.specs.List.{list_any}
-use Rattle.std.proofs.Math.Bool.{or-false}
+use Rattle.std.proofs.Math.Bool.{or-false, and-true, and-false}
 use Rattle.std.proofs.lemmas.Bool.{eq-eqb, ne_eqb, cases_lt}
 use Rattle.std.proofs.lemmas.List.Folds.{list_any-append}
+use Rattle.std.proofs.lemmas.Option.{none-some}
 use Rattle.call_values.specs.declared.calls.Call.{Call}
 use Rattle.call_values.specs.declared.calls.Call.TheVariants.{Alert, Ack, Relay, RelayAck, AllShips, AreaCall, GroupCall, Individual, Service}
 use Rattle.call_values.specs.declared.parts.Kind.TheVariants.{Test, AskPosition, Position}
 use Rattle.traffic_rules.specs.declared.acts.Act.{Act}
 use Rattle.traffic_rules.specs.declared.acts.Act.TheVariants.{Send, Held, GaveUp}
 use Rattle.traffic_rules.specs.declared.held.Holding.{Holding}
-use Rattle.traffic_rules.specs.declared.refusals.StationRefusal.{StationRefusal}
-use Rattle.traffic_rules.specs.declared.refusals.StationRefusal.TheVariants.{NotSendable, Full, NoSuchCall}
+use Rattle.traffic_rules.specs.declared.refusals.StationRefusal.TheVariants.{Full, NoSuchCall}
 use Rattle.traffic_rules.specs.Histories.{Entry, History}
 use Rattle.traffic_rules.specs.declared.held.Side.TheVariants.{Sent, Got}
 use Rattle.call_values.specs.declared.choices.Category.{Category}
@@ -27,6 +27,7 @@ use Rattle.traffic_rules.specs.After.{held_at, freed_at, after_sending, after_an
 use Rattle.traffic_rules.proofs.Places.{place_from, no_place, number_from, free_number}
 use Rattle.traffic_rules.proofs.HeldAfter.{gives_up}
 use Rattle.traffic_rules.proofs.HeldLists.{none_changed, one_begun, one_ended, all_ticked}
+use Rattle.traffic_rules.proofs.Plain.{sendable}
 
 -- acts that mention no number
 pub record AreQuiet (acts : List Act) : Type 0 where
@@ -59,19 +60,11 @@ repeats_begin at n k (o ∷ places) =
     list_any-append (holds k) (repeated at n o) (repeats at (suc n) places)
     ∙ ap (λ (b : Bool). b || list_any (holds k) (repeats at (suc n) places)) (one_begin at n k o) ∙ repeats_begin at (suc n) k places
 
-and_false : (b : Bool) → (b && false) ≡ false
-and_false true = refl
-and_false false = refl
-
-and_true : (b : Bool) → (b && true) ≡ b
-and_true true = refl
-and_true false = refl
-
 repeats_past : (at n k : ℕ) (places : Places) → k < n → list_any (frees k) (repeats at n places) ≡ false
 repeats_past at n k [] past = refl
 repeats_past at n k (o ∷ places) past =
     list_any-append (frees k) (repeated at n o) (repeats at (suc n) places)
-    ∙ ap (λ (b : Bool). b || list_any (frees k) (repeats at (suc n) places)) (one_end at n k o ∙ ap (λ (b : Bool). gives_up at o && b) (ne_eqb n k (λ same. omega arith)) ∙ and_false (gives_up at o))
+    ∙ ap (λ (b : Bool). b || list_any (frees k) (repeats at (suc n) places)) (one_end at n k o ∙ ap (λ (b : Bool). gives_up at o && b) (ne_eqb n k (λ same. omega arith)) ∙ and-false (gives_up at o))
     ∙ repeats_past at (suc n) k places (omega arith)
 
 repeats_end : (at n k i : ℕ) (places : Places) → k ≡ n + i → list_any (frees k) (repeats at n places) ≡ gives_up at (place_of places (suc i))
@@ -79,25 +72,17 @@ repeats_end at n k i [] is = refl
 repeats_end at n k zero (o ∷ places) is =
     list_any-append (frees k) (repeated at n o) (repeats at (suc n) places)
     ∙ ap (λ (b : Bool). list_any (frees k) (repeated at n o) || b) (repeats_past at (suc n) k places (omega arith)) ∙ or-false (list_any (frees k) (repeated at n o))
-    ∙ one_end at n k o ∙ ap (λ (b : Bool). gives_up at o && b) (eq-eqb n k (omega arith)) ∙ and_true (gives_up at o)
+    ∙ one_end at n k o ∙ ap (λ (b : Bool). gives_up at o && b) (eq-eqb n k (omega arith)) ∙ and-true (gives_up at o)
 repeats_end at n k (suc i) (o ∷ places) is =
     list_any-append (frees k) (repeated at n o) (repeats at (suc n) places)
-    ∙ ap (λ (b : Bool). b || list_any (frees k) (repeats at (suc n) places)) (one_end at n k o ∙ ap (λ (b : Bool). gives_up at o && b) (ne_eqb n k (λ same. omega arith)) ∙ and_false (gives_up at o))
+    ∙ ap (λ (b : Bool). b || list_any (frees k) (repeats at (suc n) places)) (one_end at n k o ∙ ap (λ (b : Bool). gives_up at o && b) (ne_eqb n k (λ same. omega arith)) ∙ and-false (gives_up at o))
     ∙ repeats_end at (suc n) k i places (omega arith)
-
-some_is_none : (r : StationRefusal) → Some r ≡ None → ⊥
-some_is_none r h = cc
 
 -- a call that must be held isn't refused where a number is free
 room : (must : Bool) (places : Places) (first : Option ℕ) → first_free places ≡ first → refused_full must places ≡ None → must ≡ true → (n : ℕ) × (first ≡ Some n)
 room must places (Some n) is none wanted = (n, refl)
 room must places None is none wanted =
-    absurd (some_is_none Full (ap (λ (o : Option ℕ). if true && is_none o then Some Full else None) (sym is) ∙ ap (λ (b : Bool). if b && is_none (first_free places) then Some Full else None) (sym wanted) ∙ none))
-
--- an operator's call that isn't refused is held where a number is free
-sendable : (s : Bool) (r : Option StationRefusal) → (if s then r else Some NotSendable) ≡ None → r ≡ None
-sendable true r none = none
-sendable false r none = absurd (some_is_none NotSendable none)
+    absurd (none-some Full (sym (ap (λ (o : Option ℕ). if true && is_none o then Some Full else None) (sym is) ∙ ap (λ (b : Bool). if b && is_none (first_free places) then Some Full else None) (sym wanted) ∙ none)))
 
 reply_quiet : (own : ℕ) (accepts : Bool) (call : Call) → AreQuiet (reply_to own accepts call)
 reply_quiet own true (Alert casualty) = record { begin = λ k. refl; end = λ k. refl }
@@ -229,9 +214,9 @@ module _ {What : Type 0} (occurs : What → Occurrence) (e : Entry What) (h : Hi
   got_within : (n : ℕ) → answer_refusal (all_held occurs h) n ≡ None → (n < 1) ⊎ (1 ≤ n) → (n ≤ 16) ⊎ (16 < n) → (1 ≤ n) × (n ≤ 16)
   got_within n none (inl none_low) high =
       let zeroth : n ≡ 0 = omega arith in
-      absurd (some_is_none (NoSuchCall n) (sym (ap (λ (m : ℕ). refused_unless_got n (place_of (all_held occurs h) m)) zeroth) ∙ none))
+      absurd (none-some (NoSuchCall n) (sym (sym (ap (λ (m : ℕ). refused_unless_got n (place_of (all_held occurs h) m)) zeroth) ∙ none)))
   got_within n none (inr low) (inl high) = (low, high)
-  got_within n none (inr low) (inr past) = absurd (some_is_none (NoSuchCall n) (sym (ap (refused_unless_got n) (no_held_place n past)) ∙ none))
+  got_within n none (inr low) (inr past) = absurd (none-some (NoSuchCall n) (sym (sym (ap (refused_unless_got n) (no_held_place n past)) ∙ none)))
 
   high_or_past : (n : ℕ) → (16 < n) ⊎ (n ≤ 16) → (n ≤ 16) ⊎ (16 < n)
   high_or_past n (inl past) = inr past

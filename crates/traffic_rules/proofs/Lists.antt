@@ -1,25 +1,21 @@
 -- equal lists of numbers, and the places of held calls in turn
 use lib.Pointwise.{pointwise}
 use native.Mathlib.Omega.{arith}
-use Rattle.std.proofs.Common.{◌≡◌, ℕ, zero, suc, ◌+◌, ◌<◌, nat_eq, Bool, true, false, ◌&&◌, Option, None, List, [], ◌∷◌, ◌++◌, length, take, drop, slice_index_or, slice_set, refl, sym, ◌∙◌, ap}
-use Rattle.std.proofs.lemmas.Bool.{false≢true, eqb-true, eq-eqb}
+use Rattle.std.proofs.Common.{◌≡◌, ℕ, zero, suc, ◌+◌, ◌<◌, nat_eq, Bool, true, ◌&&◌, Option, None, List, [], ◌∷◌, ◌++◌, length, take, drop, slice_index_or, slice_set, refl, sym, ◌∙◌, ap}
+use Rattle.std.proofs.lemmas.Bool.{false≢true, eqb-true, eq-eqb, and_parts}
 use Rattle.std.specs.Prelude.{map}
+use Rattle.std.proofs.lemmas.List.{append-nil}
 use Rattle.traffic_rules.specs.declared.acts.Act.{Act}
 use Rattle.traffic_rules.specs.declared.held.Holding.{Holding}
 use Rattle.traffic_rules.specs.Holding.{Places, place_of, with_place}
 use Rattle.traffic_rules.specs.Repeating.{repeated, repeats}
-
-both : (a b : Bool) → (a && b) ≡ true → (a ≡ true) × (b ≡ true)
-both true true h = (refl, refl)
-both true false h = absurd (false≢true h)
-both false b h = absurd (false≢true h)
 
 pub same_list : (xs ys : List ℕ) → pointwise nat_eq xs ys ≡ true → xs ≡ ys
 same_list [] [] h = refl
 same_list [] (y ∷ ys) h = absurd (false≢true h)
 same_list (x ∷ xs) [] h = absurd (false≢true h)
 same_list (x ∷ xs) (y ∷ ys) h =
-    let parts = both (nat_eq x y) (pointwise nat_eq xs ys) h in
+    let parts = and_parts (nat_eq x y) (pointwise nat_eq xs ys) h in
     ap (λ (z : ℕ). z ∷ xs) (eqb-true x y parts.0) ∙ ap (λ (zs : List ℕ). y ∷ zs) (same_list xs ys parts.1)
 
 pub list_itself : (xs : List ℕ) → pointwise nat_eq xs xs ≡ true
@@ -43,14 +39,10 @@ pub append_again : (a b c : List Act) → (a ++ b) ++ c ≡ a ++ (b ++ c)
 append_again [] b c = refl
 append_again (x ∷ a) b c = ap (λ (rest : List Act). x ∷ rest) (append_again a b c)
 
-append_nil : (a : List Act) → a ++ [] ≡ a
-append_nil [] = refl
-append_nil (x ∷ a) = ap (λ (rest : List Act). x ∷ rest) (append_nil a)
-
 next_repeats : (at : ℕ) (places : Places) (i n k : ℕ) → i < length places → k ≡ n + i
     → repeats at n (take (suc i) places) ≡ repeats at n (take i places) ++ repeated at k (slice_index_or places i None)
 next_repeats at [] i n k below is = absurd (omega arith)
-next_repeats at (x ∷ places) zero n k below is = ap (λ (m : ℕ). repeated at m x ++ []) (omega arith) ∙ append_nil (repeated at k x)
+next_repeats at (x ∷ places) zero n k below is = ap (λ (m : ℕ). repeated at m x ++ []) (omega arith) ∙ append-nil (repeated at k x)
 next_repeats at (x ∷ places) (suc i) n k below is =
     ap (λ (rest : List Act). repeated at n x ++ rest) (next_repeats at places i (suc n) k (omega arith) (omega arith))
     ∙ sym (append_again (repeated at n x) (repeats at (suc n) (take i places)) (repeated at k (slice_index_or places i None)))

@@ -1,6 +1,7 @@
 -- acts by the rules of traffic send such calls alone, each once
-use Rattle.std.proofs.Common.{◌≡◌, ℕ, suc, ◌==◌, ◌&&◌, ◌||◌, Bool, true, false, Option, Some, None, List, [], ◌∷◌, ◌++◌, if◌then◌else◌, refl, ap}
-use Rattle.std.proofs.lemmas.Bool.{eq-eqb}
+use Rattle.std.proofs.Common.{◌≡◌, ℕ, suc, ◌==◌, ◌&&◌, ◌||◌, Bool, true, false, Option, Some, None, List, [], ◌∷◌, ◌++◌, if◌then◌else◌, refl, ap, sym}
+use Rattle.std.proofs.lemmas.Bool.{eq-eqb, or_right}
+use Rattle.std.proofs.lemmas.Option.{none-some}
 use Rattle.call_values.specs.declared.calls.Call.{Call}
 use Rattle.call_values.specs.declared.calls.Call.TheVariants.{Alert, Ack, Relay, Individual, Service}
 use Rattle.call_values.specs.declared.choices.Category.{Category}
@@ -105,12 +106,14 @@ module _ (q : Call → Bool) where
     plain_heard place places call = heard_by place places call (is_question call) (acknowledges call)
 
 -- a call that is sent and not refused may be sent
-some_is_none : (r : StationRefusal) → Some r ≡ None → ⊥
-some_is_none r h = cc
-
 sent_by : (s : Bool) (r : Option StationRefusal) → (if s then r else Some NotSendable) ≡ None → s ≡ true
 sent_by true r none = refl
-sent_by false r none = absurd (some_is_none NotSendable none)
+sent_by false r none = absurd (none-some NotSendable (sym none))
+
+-- and it isn't refused for what else there is
+pub sendable : (s : Bool) (r : Option StationRefusal) → (if s then r else Some NotSendable) ≡ None → r ≡ None
+sendable true r none = none
+sendable false r none = absurd (none-some NotSendable (sym none))
 
 -- a call that isn't refused may be sent
 pub may_be_sent : (own : ℕ) (places : Places) (call : Call) → send_refusal own places call ≡ None → is_sendable own call ≡ true
@@ -120,12 +123,8 @@ may_be_sent own places call none = sent_by (is_sendable own call) _ none
 pub sendable_of_traffic : (own : ℕ) (call : Call) → is_sendable own call ≡ true → is_of_traffic own call ≡ true
 sendable_of_traffic own call is = ap (λ (b : Bool). b || is_reply own call) is
 
-either : (a b : Bool) → b ≡ true → (a || b) ≡ true
-either true b is = refl
-either false b is = is
-
 pub reply_of_traffic : (own : ℕ) (call : Call) → is_reply own call ≡ true → is_of_traffic own call ≡ true
-reply_of_traffic own call is = either (is_sendable own call) (is_reply own call) is
+reply_of_traffic own call is = or_right (is_sendable own call) (is_reply own call) is
 
 -- what is held as sent is also such as is wider
 pub wider_such : (p q : Call → Bool) → ((call : Call) → p call ≡ true → q call ≡ true) → (places : Places) → AreSentSuch p places → AreSentSuch q places

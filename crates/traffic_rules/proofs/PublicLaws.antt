@@ -9,7 +9,7 @@ pub use Rattle.traffic_rules.proofs.Steps.{follows_rules}
 -- what a legal history is continued by, and what was before it, is legal
 pub use Rattle.traffic_rules.proofs.Steps.{legal_continued, legal_before}
 -- a step of a station, whatever its rules and whatever it keeps of its histories
-pub use Rattle.traffic_rules.proofs.Frame.{on_ok, on_err, not_before, answer_on_time, goes_on}
+pub use Rattle.traffic_rules.proofs.Frame.{not_before, answer_on_time, goes_on}
 -- before its first event a station holds nothing
 pub use Rattle.traffic_rules.proofs.HeldLists.{nothing_held}
 -- acts that mention no number, and what is held after an event of each kind

@@ -1,14 +1,12 @@
 -- the steps of a station, and its legal histories
 use Rattle.std.proofs.Common.{◌≡◌, ℕ, ◌≤◌, Option, Some, None, Result, Ok, Err, [], ◌∷◌, ◌++◌, refl, sym, ◌∙◌, ap, inl, inr, if◌then◌else◌}
 use Rattle.std.proofs.lemmas.Bool.{le-ltb, lt-ltb, cases_lt}
+use Rattle.std.proofs.lemmas.Option.{none-some}
 use Rattle.traffic_rules.specs.declared.refusals.StationRefusal.{StationRefusal}
 use Rattle.traffic_rules.specs.declared.refusals.StationRefusal.TheVariants.{TimeBack}
 use Rattle.traffic_rules.specs.Moments.{time_back}
 use Rattle.traffic_rules.specs.Histories.{Entry, History, last_moment}
 use Rattle.traffic_rules.specs.Rules.{Rules, first_refusal, refusal_or, unless_refused, refused, answer_to, continued, Follows, Legal}
-
-some_is_none : {refusal : StationRefusal} → Some refusal ≡ None → ⊥
-some_is_none h = cc
 
 pub on_time : (last given : ℕ) → last ≤ given → time_back last given ≡ None
 on_time last given h = ap (λ b. if b then Some (TimeBack last given) else None) (le-ltb given last h)
@@ -16,7 +14,7 @@ on_time last given h = ap (λ b. if b then Some (TimeBack last given) else None)
 pub in_time : (last given : ℕ) → time_back last given ≡ None → last ≤ given
 in_time last given none =
     elim (cases_lt given last) [
-      | inl back ↦ absurd (some_is_none (ap (λ b. if b then Some (TimeBack last given) else None) (sym (lt-ltb given last back)) ∙ none))
+      | inl back ↦ absurd (none-some _ (sym (ap (λ b. if b then Some (TimeBack last given) else None) (sym (lt-ltb given last back)) ∙ none)))
       | inr late ↦ late
     ]
 
@@ -30,7 +28,7 @@ module _ {What : Type 0} (rules : Rules What) where
 
   by_rules : (back own : Option StationRefusal) → first_refusal back own ≡ None → own ≡ None
   by_rules None own accepted = accepted
-  by_rules (Some refusal) own accepted = absurd (some_is_none accepted)
+  by_rules (Some refusal) own accepted = absurd (none-some _ (sym accepted))
 
   -- an entry of a legal history isn't refused by the station's rules
   pub follows_rules : (e : Entry What) (h : History What) → Follows rules e h → rules.refusal h e.what ≡ None
@@ -73,8 +71,8 @@ acts_in other (Err refusal) = other
 
 pub refusal_of : {A : Type 0} (r : Option StationRefusal) (acts : A) (refusal : StationRefusal) → Err refusal ≡ refusal_or r acts → r ≡ Some refusal
 refusal_of (Some other) acts refusal is = sym (ap refusal_in is)
-refusal_of None acts refusal is = absurd (some_is_none (ap refusal_in is))
+refusal_of None acts refusal is = absurd (none-some _ (sym (ap refusal_in is)))
 
 pub acts_of : {A : Type 0} (r : Option StationRefusal) (acts given : A) → Ok given ≡ refusal_or r acts → (r ≡ None) × (given ≡ acts)
-acts_of (Some other) acts given is = absurd (some_is_none (sym (ap refusal_in is)))
+acts_of (Some other) acts given is = absurd (none-some _ (sym (sym (ap refusal_in is))))
 acts_of None acts given is = (refl, ap (acts_in given) is)

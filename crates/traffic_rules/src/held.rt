@@ -127,7 +127,8 @@ impl HeldCalls {
     /// Notes that the call under a number was sent again. It was sent, fewer than 255 times.
     pub fn sent_again(&mut self, number: u8, at: u64)
         requires { holding.IsToSend (holding.place_of self.old number) }
-        ensures { self.new ≡ holding.with_place self.old number (holding.sent_at at (holding.place_of self.old number)) }
+        ensures { self.new
+            ≡ holding.with_place self.old number (holding.sent_at at (holding.place_of self.old number)) }
     {
         let place = number as usize - 1;
         if let Some(held) = self.places[place] {

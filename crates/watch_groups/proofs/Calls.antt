@@ -1,8 +1,10 @@
 -- Calls told one behind another.
 use Rattle.std.proofs.Common.{◌≡◌, ℕ, Bool, true, false, ◌||◌, ◌==◌, List, [], ◌∷◌, ◌++◌, refl, sym, ap, ◌∙◌, append_assoc, append-nil, arith}
-use Rattle.std.proofs.lemmas.Bool.{or_left, or_right}
+use Rattle.std.proofs.lemmas.Bool.{or_left, or_right, or_from, or_parts, eq-eqb}
 use Rattle.std.proofs.lemmas.Grind.{flat_map-append}
 use Rattle.std.proofs.lemmas.List.Folds.{list_any-append}
+use Rattle.std.proofs.Math.Bool.{or-false}
+use Rattle.plain_laws.proofs.Tests.{apart_turned}
 use Rattle.call_values.specs.declared.calls.Call.{Call}
 use Rattle.call_grammar.specs.Spelling.{format_of}
 use Rattle.slot_evidence.specs.Facts.{Facts}
@@ -18,36 +20,18 @@ use Rattle.watch_groups.specs.declared.telling.Told.{Told}
 use Rattle.watch_groups.specs.Telling.{told_line, told_text, is_told, IsToldOf, AreTold}
 use Rattle.watch_groups.specs.inside.Kept.{IsDone, TellsMore}
 
-pub or_nothing : (x : Bool) → (x || false) ≡ x
-or_nothing true = refl
-or_nothing false = refl
-
-pub or_none : (x y : Bool) → x ≡ false → y ≡ false → (x || y) ≡ false
-or_none true y h k = absurd cc
-or_none false y h k = k
-
-pub or_parts : (x y : Bool) → (x || y) ≡ false → (x ≡ false) × (y ≡ false)
-or_parts true y h = absurd cc
-or_parts false y h = (refl, h)
-
-turned : (a b : ℕ) → (a == b) ≡ false → (b == a) ≡ false
-turned a b h = grind arith
-
-pub eq_one : (k : ℕ) → (k == k) ≡ true
-eq_one k = grind arith
-
 text_push : (told : List Told) (one : Told) → told_text (told ++ one ∷ []) ≡ told_text told ++ told_line one
 text_push told one = flat_map-append told_line told (one ∷ []) ∙ ap (λ (l : List ℕ). told_text told ++ l) (append-nil (told_line one))
 
 told_push : (told : List Told) (one : Told) (k : ℕ) → is_told (told ++ one ∷ []) k ≡ (is_told told k || one.group == k)
-told_push told one k = list_any-append (λ (t : Told). t.group == k) told (one ∷ []) ∙ ap (λ (b : Bool). is_told told k || b) (or_nothing (one.group == k))
+told_push told one k = list_any-append (λ (t : Told). t.group == k) told (one ∷ []) ∙ ap (λ (b : Bool). is_told told k || b) (or-false (one.group == k))
 
 are_push : (said : List JoinLine) (told : List Told) (one : Told) → IsToldOf said one → is_told told one.group ≡ false → AreTold said told → AreTold said (told ++ one ∷ [])
 are_push said [] one of new are = (of, refl, tt)
 are_push said (first ∷ told) one of new are =
     let parts = or_parts (first.group == one.group) (is_told told one.group) new in (
       are.0,
-      told_push told one first.group ∙ or_none (is_told told first.group) (one.group == first.group) are.1 (turned first.group one.group parts.0),
+      told_push told one first.group ∙ or_from (is_told told first.group) (one.group == first.group) are.1 (apart_turned first.group one.group parts.0),
       are_push said told one of parts.1 are.2,
     )
 
@@ -87,23 +71,16 @@ tells_one said told one out after of new written = record {
 }
 
 pub one_is_told : (told : List Told) (one : Told) → is_told (told ++ one ∷ []) one.group ≡ true
-one_is_told told one = told_push told one one.group ∙ or_right (is_told told one.group) _ (eq_one one.group)
+one_is_told told one = told_push told one one.group ∙ or_right (is_told told one.group) _ (eq-eqb one.group one.group refl)
 
 -- the answer to a group's facts reports no call
 abbrev pub OneAnswer : Type 0
 OneAnswer = (F : Facts) (a b : Joined) → IsAnswer F a → IsAnswer F b → a ≡ b
 
-pub unreported_done : OneAnswer → (said : List JoinLine) (told : List Told) (k : ℕ) (answer : Joined) → IsAnswer (group_facts said k) answer → ((call : Call) (extra : Extra) → answer ≡ Reported call extra → ⊥) → IsDone said told k
-unreported_done one said told k answer is never call extra reported = absurd (never call extra (one (group_facts said k) answer (Reported call extra) is reported))
-
--- a group that was told or of which nothing is reported
-pub told_done : (said : List JoinLine) (told : List Told) (k : ℕ) → is_told told k ≡ true → IsDone said told k
-told_done said told k is call extra answer = is
-
 -- where nothing was shown no call may be told
 pub nothing_reported : {P : Type 0} (F : Facts) (call : Call) → ((p v : ℕ) → F p v ≡ false) → IsTold F call → P
 nothing_reported F call none told =
-    let neither : (F 0 (format_of call) || F 1 (format_of call)) ≡ false = or_none _ _ (none 0 (format_of call)) (none 1 (format_of call)) in
+    let neither : (F 0 (format_of call) || F 1 (format_of call)) ≡ false = or_from _ _ (none 0 (format_of call)) (none 1 (format_of call)) in
     let some_there = told.head in
     absurd (cc)
 

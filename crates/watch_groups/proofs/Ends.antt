@@ -26,10 +26,6 @@ use Rattle.watch_groups.proofs.Calls.{none_shown, nothing_reported}
 use Rattle.watch_groups.proofs.Batches.{no_end_at_first}
 use Rattle.watch_groups.proofs.Kept.{all_done}
 
-pub both_ok : {X E : Type 0} {P Q R : Type 0} (r : Result X E) → (P → Q → R) → OnOk r P → OnOk r Q → OnOk r R
-both_ok (Ok x) f p q = f p q
-both_ok (Err e) f p q = tt
-
 -- a line says one thing
 abbrev pub OneLine : Type 0
 OneLine = (a b : JoinLine) (text : List ℕ) → IsLine a text → IsLine b text → a ≡ b

@@ -1,6 +1,7 @@
 -- What a watch keeps behind one line more.
 use Rattle.std.proofs.Common.{◌≡◌, ℕ, ◌+◌, ◌<◌, Bool, true, false, ◌||◌, ◌==◌, List, [], ◌∷◌, ◌++◌, refl, sym, subst, ◌∙◌, arith, inl, inr}
-use Rattle.std.proofs.lemmas.Bool.{or_cases, or_left, or_right}
+use Rattle.std.proofs.lemmas.Bool.{or_cases, or_left, or_right, or_parts}
+use Rattle.std.proofs.Math.Bool.{or-false}
 use Rattle.ten_unit.specs.declared.character.Element.{Element}
 use Rattle.slot_evidence.specs.Facts.{Facts}
 use Rattle.slot_join.specs.declared.joined.Joined.TheVariants.{Reported}
@@ -14,7 +15,7 @@ use Rattle.join_groups.proofs.PublicLaws.{named_push, facts_of_others}
 use Rattle.watch_groups.specs.declared.telling.Told.{Told}
 use Rattle.watch_groups.specs.Telling.{is_told, TellsReported, EndsBatch}
 use Rattle.watch_groups.specs.inside.Kept.{IsOpen, AreOthersDone, Watches, LooksThrough}
-use Rattle.watch_groups.proofs.Calls.{More, are_more, or_nothing, or_parts}
+use Rattle.watch_groups.proofs.Calls.{More, are_more}
 use Rattle.watch_groups.proofs.Batches.{no_end_nothing, no_end_evidence, no_end_open, open_nothing, open_evidence, open_more, open_anew, each_more}
 
 -- the groups that a line names are noted
@@ -83,7 +84,7 @@ module _ (law : More) (groups new : NamedGroups) (named more : List ℕ) (told n
 
 -- the same of a line that names so
 nothing_more : (named : List ℕ) → Notes named nothing named
-nothing_more named k = sym (or_nothing (is_among named k))
+nothing_more named k = sym (or-false (is_among named k))
 
 pub stands_nothing : More → (groups new : NamedGroups) (named : List ℕ) (told : List Told) (heard : ℕ) (said : List JoinLine) (line : JoinLine) → line ≡ nothing → Watches groups named told heard said
     → Keeps new (said ++ line ∷ []) → Watches new named told heard (said ++ line ∷ [])

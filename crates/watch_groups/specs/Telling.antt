@@ -1,6 +1,7 @@
 -- The calls that a watch of an input tells: this project's profile.
 use Rattle.std.specs.Prelude.{◌≡◌, ℕ, ◌+◌, ◌*◌, ◌≤◌, ◌==◌, Bool, true, false, List, [], ◌∷◌, ◌++◌, codes, decimal, length, take}
 use Rattle.std.specs.List.{list_any, flat_map}
+use Rattle.line_grammar.specs.Bytes.{line_feed}
 use Rattle.ten_unit.specs.declared.character.Element.{Element}
 use Rattle.call_values.specs.declared.calls.Call.{Call}
 use Rattle.slot_join.specs.declared.joined.Joined.TheVariants.{Reported}
@@ -15,7 +16,7 @@ use Rattle.watch_groups.specs.declared.telling.Told.{Told}
 
 -- the line of a told call: the word told, the group, and the call's text
 abbrev pub told_line : Told → List ℕ
-told_line told = codes "told g" ++ decimal told.group ++ codes " " ++ call_text told.call ++ 10 ∷ []
+told_line told = codes "told g" ++ decimal told.group ++ codes " " ++ call_text told.call ++ line_feed ∷ []
 
 -- the lines of told calls, one behind another
 abbrev pub told_text : List Told → List ℕ

@@ -85,7 +85,8 @@ impl<W: WatchedJoiner> WatchGroups<W> {
         ensures keeps { OnOk result ((said : List Line) → Keeps self.old.groups said → Keeps self.new.groups said) }
         ensures told { OnOk result ((said : List Line) → Keeps self.old.groups said
             → ((k : ℕ) → is_among self.old.named.items k ≡ true → is_named said k ≡ true)
-            → LooksThrough said self.old.named.items [] self.old.told.items out.old.items self.new.told.items out.new.items) }
+            → LooksThrough said self.old.named.items [] self.old.told.items out.old.items self.new.told.items
+            out.new.items) }
     {
         let begun = watcher_of(self.alloc, &self.groups, &self.named, &self.told)?;
         let watcher = self.groups.close_watched(&self.workers, begun)?;
@@ -158,7 +159,8 @@ impl<W: WatchedJoiner> WatchGroups<W> {
 impl<W: WatchedJoiner> Command for WatchGroups<W> {
     ghost meaning = { watch_meaning };
 
-    ghost stands_for = { λ command lines text. W.can_join command.workers × StandsFor command.groups command.named.items command.told.items command.heard lines text };
+    ghost stands_for = { λ command lines text. W.can_join command.workers
+        × StandsFor command.groups command.named.items command.told.items command.heard lines text };
 
     fn take(&mut self, line: &[u8], out: &mut Vec<u8>) -> Result<(), Refusal> {
         one_line();

@@ -1,4 +1,5 @@
 ghost use Rattle.std.specs.Prelude.{◌≡◌, ℕ, ◌≤◌, nat_lt, None, [], ◌∷◌, ◌++◌, codes, length, slice_index, if◌then◌else◌};
+ghost use Rattle.line_grammar.specs.Bytes.{line_feed};
 ghost use Rattle.line_engine.specs.Lines.{Lines};
 ghost use Rattle.line_engine.specs.Said.{said};
 ghost use Rattle.line_engine.specs.Determined.{IsDetermined};
@@ -29,11 +30,12 @@ impl Command for Echo {
     ghost meaning = { record {
       IsIllFormed = λ _ line n. (slice_index line 0 ≡ 33) × (n ≡ 1);
       IsOverfull = λ earlier line. (slice_index line 0 ≡ 43) × (3 ≤ length earlier);
-      Gives = λ lines text. text ≡ said (λ _ line. line ++ 10 ∷ []) lines;
-      Ends = λ lines text status. (text ≡ said (λ _ line. line ++ 10 ∷ []) lines) × (status ≡ 0);
+      Gives = λ lines text. text ≡ said (λ _ line. line ++ line_feed ∷ []) lines;
+      Ends = λ lines text status. (text ≡ said (λ _ line. line ++ line_feed ∷ []) lines) × (status ≡ 0);
     } };
 
-    ghost stands_for = { λ echo lines text. (text ≡ said (λ _ line. line ++ 10 ∷ []) lines) × (echo.count ≡ length lines) };
+    ghost stands_for = { λ echo lines text. (text ≡ said (λ _ line. line ++ line_feed ∷ []) lines)
+        × (echo.count ≡ length lines) };
 
     ghost gives = { λ echo lines text h. h.0 };
 
@@ -72,7 +74,8 @@ impl Command for Seen {
       IsIllFormed = λ _ _ _. ⊥;
       IsOverfull = λ _ _. ⊥;
       Gives = λ _ text. text ≡ [];
-      Ends = λ lines text status. (text ≡ (if nat_lt 0 (length lines) then codes "some\n" else [])) × (status ≡ (if nat_lt 0 (length lines) then 1 else 0));
+      Ends = λ lines text status. (text ≡ (if nat_lt 0 (length lines) then codes "some\n" else []))
+          × (status ≡ (if nat_lt 0 (length lines) then 1 else 0));
     } };
 
     ghost stands_for = { λ seen lines text. (text ≡ []) × (seen.any ≡ nat_lt 0 (length lines)) };

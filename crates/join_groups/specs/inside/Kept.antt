@@ -1,10 +1,11 @@
 -- What is kept of the groups that lines named.
-use Rattle.std.specs.Prelude.{◌≡◌, ℕ, ◌<◌, ◌≤◌, List, [], length}
+use Rattle.std.specs.Prelude.{◌≡◌, ◌⊎◌, ℕ, ◌<◌, ◌≤◌, List, [], ◌∷◌, ◌++◌, length}
 use Rattle.ten_unit.specs.declared.character.Element.{Element}
 use Rattle.line_grammar.specs.Columns.{IsColumn}
 use Rattle.line_engine.specs.declared.command.Refusal.{Refusal}
 use Rattle.line_engine.specs.declared.command.Refusal.TheVariants.{Column, TooManyGroups, Memory}
 use Rattle.dsc_lines.specs.JoinLine.{JoinLine, IsLine}
+use Rattle.dsc_lines.specs.Lines.{Says}
 use Rattle.dsc_lines.specs.declared.join.JoinLine.{JoinLine as Got}
 use Rattle.dsc_lines.specs.declared.join.JoinLine.TheVariants as got
 use Rattle.phasing.specs.declared.reception.TheConstants.{LONGEST}
@@ -36,3 +37,16 @@ pub record StandsFor (groups : NamedGroups) (lines : Lines) (text : List ℕ) : 
 -- what was read of a line has no more elements than a reception may have
 abbrev pub IsShort : Got → Type 0
 IsShort read = (group : ℕ) (e : List Element) → read ≡ got.Reception group e → length e ≤ LONGEST
+
+-- what was read of a line is taken behind what was said: it brings no group too many
+abbrev pub TakesRead : NamedGroups → Got → NamedGroups → Type 0
+TakesRead old read new =
+    (said : List JoinLine) (line : JoinLine) → Keeps old said → Says line read
+    → (BringsTooMany said line → ⊥) × Keeps new (said ++ line ∷ [])
+
+-- why what was read of a line isn't taken
+abbrev pub RefusesRead : NamedGroups → Got → Refusal → Type 0
+RefusesRead old read refusal =
+    (refusal ≡ Memory)
+    ⊎ ((said : List JoinLine) (line : JoinLine) → Keeps old said → Says line read
+    → (refusal ≡ TooManyGroups) × BringsTooMany said line)

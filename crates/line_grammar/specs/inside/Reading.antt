@@ -1,6 +1,7 @@
 -- The plain reader of a grammar: it answers with the parts, or with how many bytes are left at the fault.
 use Rattle.std.specs.Prelude.{ℕ, ◌+◌, ◌-◌, ◌*◌, ◌/◌, ◌^◌, min, zero, suc, Bool, ◌&&◌, nat_le, ◌==◌, if◌then◌else◌, List, [], ◌∷◌, ◌++◌, length, take, drop, Result, Ok, Err}
 use Rattle.std.specs.List.{prefix_len, list_any}
+use Rattle.line_grammar.specs.Bytes.{digit_zero}
 use Rattle.line_grammar.specs.Shapes.{Shape, letters, fixed_number, pair, choice}
 use Rattle.line_grammar.specs.Tokens.{Token, run, free_number, shaped, is_one_of, is_digit}
 use Rattle.line_grammar.specs.Grammar.{Grammar, finish, anything, word, field, either, Parts, none, part, first, second}
@@ -41,22 +42,22 @@ judged least n front back = if nat_le least n then Ok (front, back) else Err (le
 unfoldable pub read_digits : (least : ℕ) → (most : ℕ) → (n : ℕ) → (front : List ℕ) → (back : List ℕ) → Result (List ℕ × List ℕ) ℕ
 read_digits least most n front [] = judged least n front []
 read_digits least most n front (b ∷ back) =
-    let next = 10 * n + (b - 48) in
+    let next = 10 * n + (b - digit_zero) in
     if is_digit b && goes_on least most next
     then read_digits least most next (front ++ (b ∷ [])) back
     else judged least n front (b ∷ back)
 
 -- a 0 at the front
 abbrev pub judged_zero : (least : ℕ) → (bytes : List ℕ) → Result (List ℕ × List ℕ) ℕ
-judged_zero least bytes = if least == 0 then Ok (48 ∷ [], bytes) else Err (suc (length bytes))
+judged_zero least bytes = if least == 0 then Ok (digit_zero ∷ [], bytes) else Err (suc (length bytes))
 
 -- a number from its first digit on; no digit follows a 0
 unfoldable pub read_number : (least : ℕ) → (most : ℕ) → List ℕ → Result (List ℕ × List ℕ) ℕ
 read_number least most [] = Err 0
 read_number least most (b ∷ bytes) =
-    if b == 48
+    if b == digit_zero
     then judged_zero least bytes
-    else (if is_digit b && goes_on least most (b - 48) then read_digits least most (b - 48) (b ∷ []) bytes else Err (suc (length bytes)))
+    else (if is_digit b && goes_on least most (b - digit_zero) then read_digits least most (b - digit_zero) (b ∷ []) bytes else Err (suc (length bytes)))
 
 -- a shape's bytes with these in front of them
 abbrev pub behind : List ℕ → Result (List ℕ × List ℕ) ℕ → Result (List ℕ × List ℕ) ℕ
@@ -77,7 +78,7 @@ unfoldable pub read_numeral : (width : ℕ) → (ranges : List (ℕ × ℕ)) →
 read_numeral zero ranges n bytes = Ok ([], bytes)
 read_numeral (suc more) ranges n [] = Err 0
 read_numeral (suc more) ranges n (b ∷ bytes) =
-    let next = 10 * n + (b - 48) in
+    let next = 10 * n + (b - digit_zero) in
     if is_digit b && fits more ranges next then behind (b ∷ []) (read_numeral more ranges next bytes) else Err (suc (length bytes))
 
 -- the second of two shapes, behind the first

@@ -1,6 +1,7 @@
 -- Which grammars a reader may read by going as far as each token goes: this project's profile.
 use Rattle.std.specs.Prelude.{ℕ, zero, suc, ◌+◌, ◌-◌, ◌^◌, Bool, true, false, not, nat_le, ◌&&◌, ◌||◌, ◌==◌, if◌then◌else◌, List, [], ◌∷◌, ◌++◌, length, Option, Some, None, codes}
 use Rattle.std.specs.List.{flat_map, list_any, list_all}
+use Rattle.line_grammar.specs.Bytes.{digit_zero}
 use Rattle.line_grammar.specs.Shapes.{Shape, letters, fixed_number, pair, choice}
 use Rattle.line_grammar.specs.Tokens.{Token, run, free_number, shaped, is_one_of, is_digit}
 use Rattle.line_grammar.specs.inside.Reading.{fits}
@@ -26,7 +27,7 @@ abbrev pub may_begin : Shape → ℕ → Bool
 may_begin (letters []) b = false
 may_begin (letters (c ∷ text)) b = c == b
 may_begin (fixed_number zero ranges) b = false
-may_begin (fixed_number (suc more) ranges) b = is_digit b && fits more ranges (b - 48)
+may_begin (fixed_number (suc more) ranges) b = is_digit b && fits more ranges (b - digit_zero)
 may_begin (pair left right) b = may_begin left b
 may_begin (choice left right) b = may_begin left b || may_begin right b
 

@@ -1,4 +1,4 @@
-use Rattle.std.proofs.Common.{ℕ, List, ◌++◌, ◌∙◌, ap, codes}
+use Rattle.std.proofs.Common.{ℕ, Option, List, ◌++◌, ◌∙◌, ap, codes}
 use Rattle.sentence_frame.specs.Texts.{digit_text}
 use Rattle.casualty_book.specs.Texts.{row_text, kind_text, number_or_hyphen, digits_or_hyphen}
 use Rattle.casualty_book.proofs.Pieces.{regrouped}
@@ -21,13 +21,13 @@ returns c =
     let t4 = kind_text row.kind ++ t5 in
     let t3 = codes " " ++ t4 in
     let t2 = digit_text row.casualty ++ t3 in
-    (c.append_two_digits-2.ensures.items)
-    ∙ regrouped c.append_four_digits.new.out.items (codes " then=") c.append-8.new.out.items t14 (c.append-8.ensures.items)
-    ∙ regrouped c.append-7.new.out.items (number_or_hyphen 4 row.time) c.append_four_digits.new.out.items t13 (c.append_four_digits.ensures.items)
+    (c.append_number_or_hyphen-3.ensures.items ∙ ap (λ (n : Option ℕ). c.append-8.new.out.items ++ number_or_hyphen 2 n) c.widened-2.ensures)
+    ∙ regrouped c.append_number_or_hyphen-2.new.out.items (codes " then=") c.append-8.new.out.items t14 (c.append-8.ensures.items)
+    ∙ regrouped c.append-7.new.out.items (number_or_hyphen 4 row.time) c.append_number_or_hyphen-2.new.out.items t13 (c.append_number_or_hyphen-2.ensures.items)
     ∙ regrouped c.append_digits_or_hyphen.new.out.items (codes " time=") c.append-7.new.out.items t12 (c.append-7.ensures.items)
     ∙ regrouped c.append-6.new.out.items (digits_or_hyphen row.place.items) c.append_digits_or_hyphen.new.out.items t11 (c.append_digits_or_hyphen.ensures.items ∙ ap (λ (l : List ℕ). c.append-6.new.out.items ++ digits_or_hyphen l) c.as_slice.ensures.value)
-    ∙ regrouped c.append_two_digits.new.out.items (codes " pos=") c.append-6.new.out.items t10 (c.append-6.ensures.items)
-    ∙ regrouped c.append-5.new.out.items (number_or_hyphen 2 row.nature) c.append_two_digits.new.out.items t9 (c.append_two_digits.ensures.items)
+    ∙ regrouped c.append_number_or_hyphen.new.out.items (codes " pos=") c.append-6.new.out.items t10 (c.append-6.ensures.items)
+    ∙ regrouped c.append-5.new.out.items (number_or_hyphen 2 row.nature) c.append_number_or_hyphen.new.out.items t9 (c.append_number_or_hyphen.ensures.items ∙ ap (λ (n : Option ℕ). c.append-5.new.out.items ++ number_or_hyphen 2 n) c.widened.ensures)
     ∙ regrouped c.append_digit_text-2.new.out.items (codes " nature=") c.append-5.new.out.items t8 (c.append-5.ensures.items)
     ∙ regrouped c.append-4.new.out.items (digit_text row.from) c.append_digit_text-2.new.out.items t7 (c.append_digit_text-2.ensures.items)
     ∙ regrouped c.append-3.new.out.items (codes " from=") c.append-4.new.out.items t6 (c.append-4.ensures.items)

@@ -3,20 +3,19 @@ use Rattle.std.specs.Fmt.{decimal}
 use Rattle.std.specs.Result.{result_ok}
 use Rattle.std.proofs.lemmas.Fmt.{parse-decimal}
 use Rattle.std.proofs.lemmas.Slice.Eq.{bytes_eq-Decides}
-use Rattle.dsc_words.proofs.LongWords.{none_is_some}
-use Rattle.dsc_words.proofs.PlanWords.{some_same}
+use Rattle.std.proofs.lemmas.Option.{same_Some, none-some}
 use Rattle.dsc_words.proofs.numbers.number.Goals as goal
 use Rattle.dsc_words.proofs.numbers.number.Goals.{else-is_plain-via-then-is_plain+then-number-ge1+else-number-most, else-is_plain-via-then-is_plain+else-number-ge1, else-is_plain-via-else-is_plain}
 
 pub returns-in_err-number-clause-none : goal.returns-in_err-number-clause-none
 returns-in_err-number-clause-none c none n is =
     let read = parse-decimal 16 n c.args.text.now c.parse.result (omega arith) (omega arith) is.0 c.parse.ensures.value.0 in
-    none_is_some (c.in_err-number.ensures.value ∙ ap result_ok read)
+    none-some _ (c.in_err-number.ensures.value ∙ ap result_ok read)
 
 pub returns-else-is_plain-clause-none : goal.returns-else-is_plain-clause-none
 returns-else-is_plain-clause-none c none n is =
     let read = parse-decimal 16 n c.args.text.now c.parse.result (omega arith) (omega arith) is.0 c.parse.ensures.value.0 in
-    let same : c.in_ok-number.number ≡ n = some_same c.in_ok-number.number n (c.in_ok-number.ensures.value ∙ ap result_ok read) in
+    let same : c.in_ok-number.number ≡ n = same_Some c.in_ok-number.number n (c.in_ok-number.ensures.value ∙ ap result_ok read) in
     elim c.else-is_plain.branch [
       | else-is_plain-via-then-is_plain+then-number-ge1+else-number-most w ↦ absurd (omega arith)
       | else-is_plain-via-then-is_plain+else-number-ge1 w ↦ absurd (omega arith)

@@ -1,17 +1,16 @@
 use Rattle.std.proofs.Common.{◌≡◌, ◌∙◌, ap₂, sym, subst, Option, Some, None, option_map, List, codes}
-use Rattle.std.proofs.lemmas.Option.{IfSome_then}
+use Rattle.std.proofs.lemmas.Option.{IfSome_then, same_Some, none-some}
 use Rattle.clap.specs.Words.{Row, Text, found_of, first_of, rows_of, subcommand_rows_of}
 use Rattle.clap.proofs.WalkLemmas.{first_value-rows}
 use Rattle.dsc_words.specs.inside.CommandLine.{IsAsked}
-use Rattle.dsc_words.proofs.LongWords.{none_is_some}
-use Rattle.dsc_words.proofs.PlanWords.{same_pair, some_same}
+use Rattle.dsc_words.proofs.PlanWords.{same_pair}
 use Rattle.dsc_words.proofs.reading.read.Goals as goal
 
 -- the name and the rows of what was entered, taken apart
 entry_is : {X : Type 0} (o : Option X) (f : X → Text) (g : X → List Row) (name : Text) (rows : List Row) → Some name ≡ option_map f o
     → Some rows ≡ option_map (λ (p : Text × List Row). p.1) (option_map {U = Text × List Row} (λ x. (f x, g x)) o) → option_map {U = Text × List Row} (λ x. (f x, g x)) o ≡ Some (name, rows)
-entry_is None f g name rows is also = absurd (none_is_some (sym is))
-entry_is (Some x) f g name rows is also = ap₂ (λ (n : Text) (rs : List Row). Some (n, rs)) (sym (some_same name (f x) is)) (sym (some_same rows (g x) also))
+entry_is None f g name rows is also = absurd (none-some _ (sym is))
+entry_is (Some x) f g name rows is also = ap₂ (λ (n : Text) (rs : List Row). Some (n, rs)) (sym (same_Some name (f x) is)) (sym (same_Some rows (g x) also))
 
 pub returns-clause-some : goal.returns-clause-some
 returns-clause-some c =

@@ -1,9 +1,10 @@
 use Rattle.std.proofs.Common.{refl, subst, inl, inr}
+use Rattle.std.proofs.lemmas.Result.{on_ok_weaker, IfErr-weaker}
 use Rattle.slot_evidence.specs.Facts.{facts_of}
 use Rattle.dsc_lines.specs.declared.join.JoinLine.{JoinLine as Got}
 use Rattle.dsc_lines.specs.Lines.{Says}
 use Rattle.join_groups.specs.Groups.{is_named, facts_of_line, group_facts}
-use Rattle.join_groups.proofs.Keeping.{says_nothing, says_reception, says_evidence, keeps_line, full_brings, brings_full, map_ok, map_err}
+use Rattle.join_groups.proofs.Keeping.{says_nothing, says_reception, says_evidence, keeps_line, full_brings, brings_full}
 use Rattle.join_groups.proofs.taking.take_waiting.Goals as goal
 
 pub returns-in-Nothing-clause-ok : goal.returns-in-Nothing-clause-ok
@@ -11,7 +12,7 @@ returns-in-Nothing-clause-ok c = λ said line keeps is.
     says_nothing said line c.args.groups.now keeps (subst (λ (read : Got). Says line read) c.in-Nothing.is is)
 
 pub returns-in-Reception-clause-ok : goal.returns-in-Reception-clause-ok
-returns-in-Reception-clause-ok c = map_ok c.wait.result
+returns-in-Reception-clause-ok c = on_ok_weaker c.wait.result
     (λ ok. λ said line keeps is.
     let says = says_reception line c.in-Reception.group c.in-Reception.elements (subst (λ (read : Got). Says line read) c.in-Reception.is is) in
     let taken = ok (is_named said) (group_facts said) keeps in (
@@ -21,7 +22,7 @@ returns-in-Reception-clause-ok c = map_ok c.wait.result
     c.wait.ensures.ok
 
 pub returns-in-Reception-clause-err : goal.returns-in-Reception-clause-err
-returns-in-Reception-clause-err c = map_err c.wait.result
+returns-in-Reception-clause-err c = IfErr-weaker c.wait.result _ _
     (λ refusal err. elim err [
       | inl memory ↦ inl memory
       | inr full ↦ inr (λ said line keeps is.
@@ -32,7 +33,7 @@ returns-in-Reception-clause-err c = map_err c.wait.result
     c.wait.ensures.err
 
 pub returns-in-Evidence-clause-ok : goal.returns-in-Evidence-clause-ok
-returns-in-Evidence-clause-ok c = map_ok c.meet.result
+returns-in-Evidence-clause-ok c = on_ok_weaker c.meet.result
     (λ ok. λ said line keeps is.
     let says = says_evidence line c.in-Evidence.group c.in-Evidence.sheet (subst (λ (read : Got). Says line read) c.in-Evidence.is is) in
     let taken = ok (is_named said) (group_facts said) (facts_of_line c.in-Evidence.group line) keeps says.1 in (
@@ -42,7 +43,7 @@ returns-in-Evidence-clause-ok c = map_ok c.meet.result
     c.meet.ensures.ok
 
 pub returns-in-Evidence-clause-err : goal.returns-in-Evidence-clause-err
-returns-in-Evidence-clause-err c = map_err c.meet.result
+returns-in-Evidence-clause-err c = IfErr-weaker c.meet.result _ _
     (λ refusal err. elim err [
       | inl memory ↦ inl memory
       | inr full ↦ inr (λ said line keeps is.

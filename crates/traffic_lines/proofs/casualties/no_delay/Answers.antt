@@ -1,8 +1,7 @@
 use Rattle.line_grammar.specs.Grammar.{finish}
-use Rattle.line_grammar.proofs.Chains.{end_missed}
+use Rattle.line_grammar.proofs.Chains.{end_missed, end_nil}
 use Rattle.traffic_lines.specs.inside.Reading.{IsDelayText}
 use Rattle.traffic_lines.proofs.Languages.{exit_read}
-use Rattle.traffic_lines.proofs.Steps.{end_nil}
 use Rattle.traffic_lines.proofs.casualties.no_delay.Goals as goal
 
 pub returns-in_err-end : goal.returns-in_err-end

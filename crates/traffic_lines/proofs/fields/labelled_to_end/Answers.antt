@@ -1,9 +1,8 @@
 use Rattle.std.proofs.Common.{◌≡◌, ◌++◌, ◌∙◌, ℕ, List, Err, ap, append-nil}
 use Rattle.line_grammar.specs.Grammar.{finish}
 use Rattle.line_grammar.specs.inside.Reading.{read}
-use Rattle.line_grammar.proofs.Chains.{passed, end_missed}
+use Rattle.line_grammar.proofs.Chains.{passed, end_missed, end_nil}
 use Rattle.traffic_lines.specs.inside.Grammars.{labelled_to_end}
-use Rattle.traffic_lines.proofs.Steps.{end_nil}
 use Rattle.traffic_lines.proofs.fields.labelled_to_end.Goals as goal
 
 pub returns-in_err-value-clause-left : goal.returns-in_err-value-clause-left

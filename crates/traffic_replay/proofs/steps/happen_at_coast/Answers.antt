@@ -1,4 +1,5 @@
 use Rattle.std.proofs.Common.{◌≡◌, ◌∷◌, ◌∙◌, Ok, refl, sym, subst}
+use Rattle.std.proofs.lemmas.Result.{on_ok_weaker}
 use Rattle.coast_station.specs.CoastRules.{coast_rules}
 use Rattle.coast_station.specs.Stands.{Stands}
 use Rattle.coast_station.specs.declared.events.CoastWhat.{CoastWhat}
@@ -9,7 +10,6 @@ use Rattle.traffic_lines.specs.declared.lines.TrafficLine.TheVariants.{Event}
 use Rattle.traffic_lines.specs.Anywhere.{event_of_coast}
 use Rattle.dsc_lines.specs.PointLine.{traffic}
 use Rattle.station_lines.specs.Events.{own_coast_event}
-use Rattle.join_groups.proofs.PublicLaws.{map_ok}
 use Rattle.traffic_replay.specs.Happenings.{taking_coast, ComesOf}
 use Rattle.traffic_replay.specs.inside.Happens.{Happens}
 use Rattle.traffic_replay.specs.inside.Kept.{KeepsGroups}
@@ -18,7 +18,7 @@ use Rattle.traffic_replay.proofs.Happened.{tell, plain_happens, heard_happens, u
 use Rattle.traffic_replay.proofs.steps.happen_at_coast.Goals as goal
 
 pub returns-in-Own-clause-kept : goal.returns-in-Own-clause-kept
-returns-in-Own-clause-kept g c = map_ok c.step_coast.result
+returns-in-Own-clause-kept g c = on_ok_weaker c.step_coast.result
     (λ stands. λ said keeps.
     subst (λ (what : CoastLine). KeepsGroups c.args.groups.now (traffic (Event c.args.at (event_of_coast what)) ∷ said)) (sym c.in-Own.is)
     (silent c.args.groups.now said (Event c.args.at (event_of_coast (at_coast.Own c.in-Own.own))) (own_coast_quiet c.args.at c.in-Own.own) keeps))
@@ -35,7 +35,7 @@ returns-in-Own-clause-happens g c = tell c.step_coast.result
     c.step_coast.ensures.stands c.step_coast.ensures.lines c.step_coast.ensures.accepted
 
 pub returns-in-Hear-clause-kept : goal.returns-in-Hear-clause-kept
-returns-in-Hear-clause-kept g c = map_ok c.step_coast-in-Hear.result
+returns-in-Hear-clause-kept g c = on_ok_weaker c.step_coast-in-Hear.result
     (λ stands. λ said keeps.
     subst (λ (what : CoastLine). KeepsGroups c.args.groups.now (traffic (Event c.args.at (event_of_coast what)) ∷ said)) (sym c.in-Hear.is)
     (silent c.args.groups.now said (Event c.args.at (event_of_coast (at_coast.Hear c.in-Hear.call))) (λ k. refl) keeps))

@@ -1,4 +1,5 @@
 use Rattle.std.proofs.Common.{ℕ, ◌≡◌, ◌∷◌, ◌∙◌, Ok, refl, sym, ap, subst}
+use Rattle.std.proofs.lemmas.Result.{on_ok_weaker}
 use Rattle.ship_station.specs.ShipRules.{ship_rules}
 use Rattle.ship_station.specs.Stands.{Stands}
 use Rattle.ship_station.specs.declared.events.ShipWhat.{ShipWhat}
@@ -9,7 +10,6 @@ use Rattle.traffic_lines.specs.declared.lines.TrafficLine.TheVariants.{Event}
 use Rattle.traffic_lines.specs.Anywhere.{event_of_ship}
 use Rattle.dsc_lines.specs.PointLine.{traffic}
 use Rattle.station_lines.specs.Events.{own_ship_event}
-use Rattle.join_groups.proofs.PublicLaws.{map_ok}
 use Rattle.traffic_replay.specs.Said.{base_of}
 use Rattle.traffic_replay.specs.Happenings.{taking_ship, ComesOf}
 use Rattle.traffic_replay.specs.inside.Happens.{Happens}
@@ -19,7 +19,7 @@ use Rattle.traffic_replay.proofs.Happened.{tell, plain_happens, heard_happens, u
 use Rattle.traffic_replay.proofs.steps.happen_at_ship.Goals as goal
 
 pub returns-in-Own-clause-kept : goal.returns-in-Own-clause-kept
-returns-in-Own-clause-kept g c = map_ok c.step_ship.result
+returns-in-Own-clause-kept g c = on_ok_weaker c.step_ship.result
     (λ stands. λ said keeps.
     subst (λ (what : ShipLine). KeepsGroups c.args.groups.now (traffic (Event c.args.at (event_of_ship what)) ∷ said)) (sym c.in-Own.is)
     (silent c.args.groups.now said (Event c.args.at (event_of_ship (at_ship.Own c.in-Own.own))) (own_ship_quiet c.args.at c.in-Own.own) keeps))
@@ -36,7 +36,7 @@ returns-in-Own-clause-happens g c = tell c.step_ship.result
     c.step_ship.ensures.stands c.step_ship.ensures.lines c.step_ship.ensures.accepted
 
 pub returns-in-Hear-clause-kept : goal.returns-in-Hear-clause-kept
-returns-in-Hear-clause-kept g c = map_ok c.step_ship-in-Hear.result
+returns-in-Hear-clause-kept g c = on_ok_weaker c.step_ship-in-Hear.result
     (λ stands. λ said keeps.
     subst (λ (what : ShipLine). KeepsGroups c.args.groups.now (traffic (Event c.args.at (event_of_ship what)) ∷ said)) (sym c.in-Hear.is)
     (silent c.args.groups.now said (Event c.args.at (event_of_ship (at_ship.Hear c.in-Hear.call))) (λ k. refl) keeps))

@@ -1,10 +1,11 @@
 use Rattle.std.proofs.Common.{ℕ, List, [], ◌++◌, length, take, drop, sym, subst}
+use Rattle.plain_laws.proofs.Lists.{lent_whole}
 use Rattle.slot_evidence.specs.declared.places.Seen.{Seen}
 use Rattle.slot_evidence.specs.Facts.{Facts, union}
 use Rattle.receiver_pool.specs.declared.group_entries.GroupReception.{GroupReception}
 use Rattle.receiver_pool.specs.Groups.{AreSheets, facts_of_group}
 use Rattle.join_groups.specs.Holds.{HoldsIn, number_in}
-use Rattle.join_groups.proofs.Holding.{holds_closed, lent_whole}
+use Rattle.join_groups.proofs.Holding.{holds_closed}
 use Rattle.join_groups.proofs.groups.NamedGroups.close_batch.Goals as goal
 
 pub returns-in_ok-reserve_exact-clause-holds : goal.returns-in_ok-reserve_exact-clause-holds

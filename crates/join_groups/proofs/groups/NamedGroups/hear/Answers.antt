@@ -1,10 +1,10 @@
+use Rattle.std.proofs.lemmas.Result.{on_ok_weaker}
 use Rattle.slot_evidence.specs.Facts.{facts_of}
 use Rattle.join_groups.specs.Holds.{named_with, facts_with}
-use Rattle.join_groups.proofs.Keeping.{map_ok}
 use Rattle.join_groups.proofs.groups.NamedGroups.hear.Goals as goal
 
 pub returns-in-Some-clause-ok : goal.returns-in-Some-clause-ok
-returns-in-Some-clause-ok g c = map_ok c.meet.result (λ ok. λ named F holds. ok named F (facts_of c.args.heard) holds c.in-Some.ensures) c.meet.ensures.ok
+returns-in-Some-clause-ok g c = on_ok_weaker c.meet.result (λ ok. λ named F holds. ok named F (facts_of c.args.heard) holds c.in-Some.ensures) c.meet.ensures.ok
 
 pub close_batch-requires-clause-ready : goal.close_batch-requires-clause-ready
 close_batch-requires-clause-ready g c =

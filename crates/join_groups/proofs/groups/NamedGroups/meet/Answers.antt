@@ -1,9 +1,10 @@
 use Rattle.std.proofs.Common.{◌<◌, ℕ, List, length, sym, subst}
+use Rattle.plain_laws.proofs.Lists.{lent_whole}
 use Rattle.slot_evidence.specs.declared.places.Seen.{Seen}
 use Rattle.slot_evidence.specs.Facts.{Facts}
 use Rattle.receiver_pool.specs.Groups.{AreSheets}
 use Rattle.join_groups.specs.Holds.{HoldsIn, named_with, facts_with, number_in}
-use Rattle.join_groups.proofs.Holding.{held_some, holds_met, lent_whole}
+use Rattle.join_groups.proofs.Holding.{held_some, holds_met}
 use Rattle.join_groups.proofs.groups.NamedGroups.meet.Goals as goal
 
 pub meet_at-requires : goal.meet_at-requires

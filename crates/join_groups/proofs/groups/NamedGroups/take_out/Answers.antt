@@ -1,4 +1,5 @@
 use Rattle.std.proofs.Common.{◌<◌, ℕ, List, length, not, ◌&&◌, ◌==◌, sym, subst}
+use Rattle.plain_laws.proofs.Lists.{lent_whole}
 use Rattle.slot_evidence.specs.declared.places.Seen.{Seen}
 use Rattle.slot_evidence.specs.Facts.{Facts, no_facts}
 use Rattle.slot_evidence.specs.Sheet.{IsEnds}
@@ -6,7 +7,7 @@ use Rattle.receiver_pool.specs.Groups.{AreSheets}
 use Rattle.join_groups.specs.Holds.{HoldsIn, facts_without}
 use Rattle.join_groups.proofs.Naming.{same_facts}
 use Rattle.join_groups.proofs.Rising.{found}
-use Rattle.join_groups.proofs.Holding.{held_some, held_none, shown_whole, holds_anew, holds_unknown, lent_whole}
+use Rattle.join_groups.proofs.Holding.{held_some, held_none, shown_whole, holds_anew, holds_unknown}
 use Rattle.join_groups.proofs.groups.NamedGroups.take_out.Goals as goal
 
 pub take_at-requires : goal.take_at-requires

@@ -1,5 +1,6 @@
 use Rattle.std.proofs.Common.{◌≡◌, ℕ, ◌==◌, ◌&&◌, Bool, true, false, is_some, Some, None, Option, List, [], ◌∷◌, if◌then◌else◌, refl, sym, ◌∙◌, ap, subst}
 use Rattle.std.specs.List.{list_any}
+use Rattle.std.proofs.lemmas.Result.{on_ok_weaker}
 use Rattle.call_values.specs.declared.positions.Fix.{Fix}
 use Rattle.call_values.specs.declared.calls.Call.{Call}
 use Rattle.call_values.specs.declared.calls.Call.TheVariants.{Ack}
@@ -12,7 +13,7 @@ use Rattle.traffic_rules.specs.Rules.{refusal_or}
 use Rattle.traffic_rules.specs.Giving.{answer_with}
 use Rattle.traffic_rules.specs.Hearing.{heard_refusal, heard_due}
 use Rattle.traffic_rules.specs.After.{after_hearing}
-use Rattle.traffic_rules.proofs.PublicLaws.{none_heard, after_heard, after_hearing_nothing, on_ok, answer_on_time}
+use Rattle.traffic_rules.proofs.PublicLaws.{none_heard, after_heard, after_hearing_nothing, answer_on_time}
 use Rattle.ship_station.specs.declared.events.ShipWhat.{ShipWhat}
 use Rattle.ship_station.specs.declared.events.ShipWhat.TheVariants.{Heard}
 use Rattle.ship_station.specs.declared.alerts.OwnAlert.{OwnAlert}
@@ -120,7 +121,7 @@ returns-in_default c =
       answer = λ who h stands late. told who h stands.1 ∙ sym (answer_on_time (ship_rules who) h at (Heard call) late);
       goes_on = λ who h stands late event.
           goes who h at (Heard call) ship c.hear_traffic.new.self c.hear_traffic.result c.hear_traffic.new.acts.items late event stands (told who h stands.1) c.hear_traffic.ensures.unchanged
-          (λ none. on_ok c.hear_traffic.result
+          (λ none. on_ok_weaker c.hear_traffic.result
           (keeps_heard who h at call ship c.hear_traffic.new.self stands.1 (due who h stands.1) (sym (refusal_for who h call (for_it who h stands.1)) ∙ none))
           c.hear_traffic.ensures.held);
       none = c.hear_traffic.ensures.none;

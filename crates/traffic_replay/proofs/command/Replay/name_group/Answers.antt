@@ -1,4 +1,5 @@
 use Rattle.std.proofs.Common.{◌≡◌, ◌+◌, ◌∙◌, ℕ, List, [], ◌∷◌, ◌++◌, length, refl, sym, ap, subst, arith, length-append}
+use Rattle.std.proofs.lemmas.List.{length_push}
 use Rattle.traffic_lines.specs.declared.lines.Point.TheVariants as point
 use Rattle.traffic_lines.specs.declared.lines.TrafficLine.TheVariants.{Group}
 use Rattle.ship_station.specs.Stands.{Stands}
@@ -13,9 +14,6 @@ use Rattle.traffic_replay.proofs.Beginnings.{before_events}
 use Rattle.traffic_replay.proofs.Told.{groups_early, groups_ship}
 use Rattle.traffic_replay.proofs.command.Replay.name_group.Goals as goal
 
-one_more : (gs : List ℕ) (m : ℕ) → length (gs ++ m ∷ []) ≡ length gs + 1
-one_more gs m = length-append gs (m ∷ [])
-
 pub returns-clause-ok : goal.returns-clause-ok
 returns-clause-ok c = λ said text keeps.
     let old = c.args.self.now in
@@ -23,7 +21,7 @@ returns-clause-ok c = λ said text keeps.
     let only : kind_of said ≡ ship = groups_ship old.point (kind_of said) c.requires.among keeps.kind in
     let new = c.push.new.self.items in
     let pushed : new ≡ old.groups.items ++ c.args.mmsi ∷ [] = c.in_ok-push.ensures.items in
-    let more : length new ≡ length old.groups.items + 1 = ap length pushed ∙ one_more old.groups.items c.args.mmsi in
+    let more : length new ≡ length old.groups.items + 1 = ap length pushed ∙ length_push old.groups.items c.args.mmsi in
     let same : length old.groups.items ≡ length (groups_of said) = ap length keeps.groups in
     let groups : new ≡ groups_of said ++ c.args.mmsi ∷ [] = pushed ∙ ap (λ (l : List ℕ). l ++ c.args.mmsi ∷ []) keeps.groups in
     let counted : c.len.result ≡ length new = c.len.ensures ∙ sym c.deref.ensures.len ∙ ap length c.deref.ensures.value in

@@ -1,7 +1,8 @@
 use Rattle.std.proofs.Common.{◌++◌, refl, sym, subst, inl, inr}
+use Rattle.std.proofs.lemmas.Result.{on_ok_weaker, IfErr-weaker}
 use Rattle.traffic_lines.specs.declared.lines.Point.{Point}
 use Rattle.dsc_lines.specs.PointLine.{joined, IsPointLine}
-use Rattle.join_groups.proofs.PublicLaws.{map_ok, map_err, short_read}
+use Rattle.join_groups.proofs.PublicLaws.{short_read}
 use Rattle.line_engine.specs.declared.command.Refusal.{Refusal}
 use Rattle.traffic_replay.specs.inside.Progress.{Refuses}
 use Rattle.traffic_replay.proofs.Receivers.{IsReceivers, receivers_line, joined_taken}
@@ -13,7 +14,7 @@ take_joined-requires-clause-short g c =
     short_read one.line c.in-Some.says c.args.line.now one.is_line.1 one.says_it c.requires.short
 
 pub returns-in-Some-clause-ok : goal.returns-in-Some-clause-ok
-returns-in-Some-clause-ok g c = map_ok c.take_joined.result
+returns-in-Some-clause-ok g c = on_ok_weaker c.take_joined.result
     (λ ok. λ said text keeps.
     let one : IsReceivers c.args.self.now.point c.in-Some.says c.args.line.now = receivers_line c.args.self.now.point c.in-Ok.joined c.in-Some.says c.args.line.now c.in-Some.is c.in-Ok.ensures in
     let taken = ok said one.line (text ++ c.args.out.now.items) keeps one.says_it in
@@ -26,7 +27,7 @@ returns-in-Some-clause-ok g c = map_ok c.take_joined.result
     c.take_joined.ensures.ok
 
 pub returns-in-Some-clause-err : goal.returns-in-Some-clause-err
-returns-in-Some-clause-err g c = map_err c.take_joined.result
+returns-in-Some-clause-err g c = IfErr-weaker c.take_joined.result _ _
     (λ refusal err. elim err [
       | inl memory ↦ λ said text keeps. subst (λ (r : Refusal). Refuses said c.args.line.now r) (sym memory) tt
       | inr full ↦ λ said text keeps.

@@ -1,10 +1,11 @@
 use Rattle.std.proofs.Common.{◌++◌, subst, sym, inl, inr}
-use Rattle.join_groups.proofs.PublicLaws.{map_ok, map_err}
-use Rattle.watch_groups.proofs.Ends.{both_ok, stands_after, taken_behind, refused_behind}
+use Rattle.std.proofs.lemmas.Result.{on_ok_weaker, IfErr-weaker}
+use Rattle.plain_laws.proofs.Results.{on_ok_both}
+use Rattle.watch_groups.proofs.Ends.{stands_after, taken_behind, refused_behind}
 use Rattle.watch_groups.proofs.command.WatchGroupsCommand.take.Goals as goal
 
 pub returns-in-Ok-clause-stands : goal.returns-in-Ok-clause-stands
-returns-in-Ok-clause-stands g c = both_ok c.take_line.result
+returns-in-Ok-clause-stands g c = on_ok_both c.take_line.result
     (λ same ok. λ lines written stands.
     let line = c.in-Ok.ensures in
     let new = c.take_line.new.self in
@@ -16,7 +17,7 @@ returns-in-Ok-clause-stands g c = both_ok c.take_line.result
     c.take_line.ensures.stands
 
 pub returns-in-Ok-clause-taken : goal.returns-in-Ok-clause-taken
-returns-in-Ok-clause-taken g c = map_ok c.take_line.result
+returns-in-Ok-clause-taken g c = on_ok_weaker c.take_line.result
     (λ ok. λ lines written stands.
     let line = c.in-Ok.ensures in
     let taken = ok stands.1.said line.0 written stands.1.watches line.1.1 stands.1.text_is in
@@ -24,7 +25,7 @@ returns-in-Ok-clause-taken g c = map_ok c.take_line.result
     c.take_line.ensures.stands
 
 pub returns-in-Ok-clause-refused : goal.returns-in-Ok-clause-refused
-returns-in-Ok-clause-refused g c = map_err c.take_line.result
+returns-in-Ok-clause-refused g c = IfErr-weaker c.take_line.result _ _
     (λ refusal err. λ lines written stands.
     let line = c.in-Ok.ensures in
     refused_behind stands.1 line.0 c.args.line.now refusal line.1.0 (elim err [

@@ -1,2 +1,0 @@
--- two ways to cut one list
-pub use Rattle.plain_laws.proofs.Lists.{split}
