@@ -1,7 +1,7 @@
 -- the sentences that are accepted determine the text of the book
-use Rattle.std.proofs.Common.{◌≡◌, ℕ, List, [], ◌++◌, sym, ap, ◌∙◌}
+use Rattle.std.proofs.Common.{◌≡◌, ℕ, List, sym, ap, ◌∙◌}
 use Rattle.line_engine.specs.Lines.{Lines}
-use Rattle.line_engine.specs.Determined.{IsDetermined, BeginsWith}
+use Rattle.line_engine.specs.Determined.{IsDetermined}
 use Rattle.dsc_lines.specs.BookLine.{IsBookLine}
 use Rattle.dsc_lines.proofs.PublicLaws.{one_column}
 use Rattle.casualty_book.specs.declared.rows.BookRow.{BookRow}

@@ -1,5 +1,5 @@
 -- what the command has taken, one line further
-use Rattle.std.proofs.Common.{◌≡◌, ℕ, Bool, true, false, ◌&&◌, ◌||◌, if◌then◌else◌, List, [], ◌∷◌, ◌++◌, inl, inr, refl, sym, ap, subst, ◌∙◌, append_assoc, arith}
+use Rattle.std.proofs.Common.{◌≡◌, ℕ, Bool, true, false, ◌&&◌, ◌||◌, List, [], ◌∷◌, ◌++◌, inl, inr, refl, sym, ap, subst, ◌∙◌}
 use Rattle.std.specs.List.{Contains, list_any}
 use Rattle.std.proofs.lemmas.List.Elements.{Contains-append_left, Contains-push, Contains-push_cases}
 use Rattle.std.proofs.Math.Bool.{or-false, or_assoc}
@@ -8,10 +8,8 @@ use Rattle.line_engine.specs.Lines.{Lines}
 use Rattle.dsc_lines.specs.BookLine.{is_sentence}
 use Rattle.dsc_sentences.specs.Verdicts.{verdict_of}
 use Rattle.casualty_book.specs.declared.rows.BookRow.{BookRow}
-use Rattle.casualty_book.specs.Books.{IsBook}
-use Rattle.casualty_book.specs.Texts.{book_text}
 use Rattle.book_logs.specs.declared.command.Logs.{Logs}
-use Rattle.book_logs.specs.Telling.{GivesRow, EndsBook, is_refusal, is_refused}
+use Rattle.book_logs.specs.Telling.{GivesRow, is_refusal, is_refused}
 use Rattle.book_logs.specs.inside.Progress.{HasTaken, StandsFor, TakesOne}
 
 -- before the first line

@@ -6,7 +6,7 @@ use Rattle.std.specs.declared.cmp.Ordering.{Ordering}
 use Rattle.std.specs.declared.cmp.Ordering.TheVariants.{Less, Equal, Greater}
 use Rattle.std.specs.Option.{option_cmp}
 use Rattle.std.specs.Prelude.{◌≡◌, ℕ, Option, Some, None}
-use Rattle.std.proofs.Common.{refl, ap, sym, subst, rules}
+use Rattle.std.proofs.Common.{refl, ap, subst, rules}
 use Rattle.std.proofs.lemmas.Map.Lookups.{CmpEqualImpliesEq, exact_unsigned, exact_bytes}
 use Rattle.casualty_book.specs.declared.rows.BookKind.{BookKind}
 use Rattle.casualty_book.specs.declared.rows.BookKind.TheVariants.{Alert, Ack, Relay, RelayAck}

@@ -1,6 +1,6 @@
 -- the identities of the casualties that are born: each is there once, and exactly where its casualty is open
 use Rattle.std.proofs.Common.{◌≡◌, ℕ, ◌==◌, ◌&&◌, ◌||◌, not, Bool, true, false, if◌then◌else◌, Option, Some, None, is_some, List, [], ◌∷◌, ◌++◌, refl, sym, ◌∙◌, ap}
-use Rattle.std.proofs.lemmas.Bool.{false≢true, true≢false, or_parts, or_from, eqb-true, eqb-false, ne_eqb, and_left, and_right}
+use Rattle.std.proofs.lemmas.Bool.{false≢true, true≢false, or_parts, or_from, eqb-true, and_left, and_right}
 use Rattle.std.specs.List.{list_any, filter}
 use Rattle.std.proofs.Math.Bool.{or-false, and-true, or_assoc}
 use Rattle.plain_laws.proofs.Tests.{apart_turned}

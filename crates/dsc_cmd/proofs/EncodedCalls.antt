@@ -1,5 +1,5 @@
 -- `join` gives back what `encode` wrote.
-use Rattle.std.proofs.Common.{◌≡◌, ℕ, ◌<◌, ◌^◌, ◌==◌, Bool, true, false, Option, Some, None, IfSome, ◌||◌, List, [], ◌∷◌, ◌++◌, refl, sym, ap, subst, ◌∙◌, inl, inr, arith, append_assoc, append-nil}
+use Rattle.std.proofs.Common.{◌≡◌, ℕ, ◌<◌, ◌^◌, ◌==◌, Bool, true, false, Option, Some, None, IfSome, ◌||◌, List, [], ◌∷◌, ◌++◌, refl, sym, ap, subst, ◌∙◌, inl, inr, append_assoc, append-nil}
 use Rattle.std.specs.Prelude.{codes, decimal}
 use Rattle.std.specs.List.{list_any, AllByRecursion}
 use Rattle.std.proofs.lemmas.Bool.{or_cases, and_parts, and_from, or_right, eq-eqb}
@@ -12,8 +12,8 @@ use Rattle.call_grammar.specs.Spelling.{spell, end_of, end_symbol, end_named}
 use Rattle.ten_unit.specs.declared.character.Element.{Element}
 use Rattle.time_diversity.specs.OnAir.{on_air}
 use Rattle.phasing.specs.Sent.{sent}
-use Rattle.slot_evidence.specs.Facts.{Symbols, facts_of}
-use Rattle.slot_evidence.specs.Alike.{AreAlike, IsBetween}
+use Rattle.slot_evidence.specs.Facts.{facts_of}
+use Rattle.slot_evidence.specs.Alike.{AreAlike}
 use Rattle.slot_join.specs.declared.joined.Joined.{Joined}
 use Rattle.slot_join.specs.declared.joined.Joined.TheVariants.{Reported}
 use Rattle.slot_join.specs.declared.joined.Extra.TheVariants.{Absent, Whole}

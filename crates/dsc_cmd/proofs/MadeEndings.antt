@@ -1,12 +1,10 @@
 -- What `make` writes is what an empty input ends with.
-use Rattle.std.proofs.Common.{◌≡◌, ◌≢◌, ◌⊎◌, inl, inr, ℕ, Bool, List, [], ◌∷◌, ◌++◌, Option, Some, None, refl, sym, ap, subst, append-nil, arith}
+use Rattle.std.proofs.Common.{◌≡◌, ◌≢◌, ◌⊎◌, inl, inr, ℕ, Bool, List, [], Option, Some, refl, sym, ap, subst, arith}
 use Rattle.dsc_streams.specs.declared.streams.Source
 use Rattle.dsc_streams.specs.declared.streams.Sink
-use Rattle.dsc_streams.specs.Streams.{Gains, Rises, Told}
+use Rattle.dsc_streams.specs.Streams.{Rises, Told}
 use Rattle.dsc_streams.proofs.PublicLaws.{Gains-none}
-use Rattle.line_engine.specs.Lines.{Lines, lines_of}
-use Rattle.line_engine.specs.Meaning.{Meaning}
-use Rattle.line_engine.specs.Faults.{IsFaultless}
+use Rattle.line_engine.specs.Lines.{lines_of}
 use Rattle.line_engine.specs.Output.{IsWhole, Asks}
 use Rattle.line_engine.specs.Endings.{IsFinished, IsOfFault, IsBrokenOff, IsRest, TellsWhole, CutsOff, TellsFront}
 use Rattle.line_engine.specs.Runs.{IsRun}

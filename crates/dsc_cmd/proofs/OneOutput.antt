@@ -1,6 +1,6 @@
 -- the lines of each command's input determine its output
-use Rattle.std.proofs.Common.{◌≡◌, ℕ, Bool, List, [], ◌++◌, sym, ap, ◌∙◌}
-use Rattle.line_engine.specs.Determined.{IsDetermined, HasOneColumn, BeginsWith}
+use Rattle.std.proofs.Common.{◌≡◌, ℕ, Bool, List, sym, ◌∙◌}
+use Rattle.line_engine.specs.Determined.{IsDetermined, HasOneColumn}
 use Rattle.line_engine.proofs.PublicLaws.{begins_empty}
 use Rattle.dsc_words.specs.declared.plans.Plan.{Plan}
 use Rattle.dsc_words.specs.declared.plans.Plan.TheVariants.{Join, Evidence, Encode, Sentences, Replay, Make, Capture, Watch, Exchange, Book}

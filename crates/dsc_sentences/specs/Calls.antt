@@ -1,5 +1,5 @@
 -- The DSC sentence of a call, one row a field: this project's profile over the forms of ITU-R M.493.
-use Rattle.std.specs.Prelude.{ℕ, zero, suc, ◌+◌, ◌*◌, ◌/◌, ◌%◌, ◌==◌, Bool, if◌then◌else◌, List, [], ◌∷◌, ◌++◌, Option, Some, None}
+use Rattle.std.specs.Prelude.{ℕ, zero, suc, ◌+◌, ◌*◌, ◌/◌, ◌%◌, Bool, List, [], ◌∷◌, ◌++◌, Option, Some, None}
 use Rattle.dsc_symbols.specs.declared.categories.TheConstants as categories
 use Rattle.dsc_symbols.specs.declared.telecommands.TheConstants as telecommands
 use Rattle.dsc_symbols.specs.declared.messages.TheConstants.{NO_INFORMATION}

@@ -1,4 +1,4 @@
-use Rattle.std.proofs.Common.{◌≡◌, ℕ, ◌+◌, ◌-◌, ◌≤◌, min, Bool, true, false, ◌&&◌, nat_eq, nat_le, List, [], ◌++◌, length, take, drop, Option, Some, None, Result, Ok, Err, OnErr, IsOk, is_ok, if◌then◌else◌, refl, sym, ◌∙◌, ap, arith, length-drop, append_assoc, append-nil}
+use Rattle.std.proofs.Common.{◌≡◌, ℕ, ◌+◌, ◌-◌, ◌≤◌, min, Bool, true, false, ◌&&◌, nat_eq, nat_le, List, [], ◌++◌, length, take, drop, Option, Some, None, Result, Ok, Err, IsOk, is_ok, if◌then◌else◌, refl, sym, ◌∙◌, ap, arith, length-drop, append_assoc, append-nil}
 use Rattle.std.proofs.lemmas.List.{take-append-drop, length-take, length-take-le, take_min, drop-drop, take_at}
 use Rattle.std.proofs.Math.Seq.{take-length, take-append-add}
 use Rattle.std.proofs.lemmas.Bool.Decides.{nat_tests}

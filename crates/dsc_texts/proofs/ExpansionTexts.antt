@@ -3,7 +3,7 @@ use Rattle.std.proofs.Common.{◌≡◌, ℕ, ◌<◌, ◌^◌, List, ◌⊎◌,
 use Rattle.expansion.specs.declared.parts.PartKind.{PartKind}
 use Rattle.expansion.specs.declared.parts.PartKind.TheVariants.{LeftOut, NoInformation, Digits}
 use Rattle.expansion.specs.declared.values.Sets.{Sets}
-use Rattle.expansion.specs.Parts.{IsThere, IsUpTo}
+use Rattle.expansion.specs.Parts.{IsUpTo}
 use Rattle.expansion.specs.Expansions.{IsExpansion}
 use Rattle.slot_join.specs.declared.joined.Extra.{Extra}
 use Rattle.slot_join.specs.declared.joined.Extra.TheVariants.{Absent, Whole, Broken}

@@ -6,13 +6,13 @@ use lib.ListN.{get_elem?}
 use Rattle.slot_evidence.specs.declared.places.Seen.{Seen}
 use Rattle.slot_evidence.specs.declared.places.Seen.TheVariants as seen
 use Rattle.slot_evidence.specs.Seen.{IsLawful}
-use Rattle.slot_evidence.specs.Sheet.{IsSheet, seen_at}
+use Rattle.slot_evidence.specs.Sheet.{seen_at}
 use Rattle.slot_evidence.specs.TwoNumbers.{least_of, past_of, AreInOrder}
 use Rattle.slot_evidence.proofs.PublicLaws.{order_met}
 use Rattle.evidence_board.specs.declared.seats.TheConstants.{WHOLE}
-use Rattle.evidence_board.specs.Views.{Reach, no_reach, united, reach_of, kept_of, Place, blank, View, place_at, fresh, spent, given_sheet}
+use Rattle.evidence_board.specs.Views.{Reach, no_reach, united, kept_of, Place, blank, View, place_at, fresh, spent, given_sheet}
 use Rattle.evidence_board.specs.Rule.{words_of, IsWithin, Fits, AreAllowed, IsPlaceKept, IsKept}
-use Rattle.evidence_board.specs.Steps.{admitted, uncounted, joined, kept_half, new_half, both}
+use Rattle.evidence_board.specs.Steps.{uncounted, joined, new_half, both}
 use Rattle.evidence_board.specs.Seats.{IsResting, IsSeated}
 use Rattle.evidence_board.specs.inside.Through.{Through, LooksAt}
 use Rattle.evidence_board.proofs.Folds.{lowest_alone, highest_alone, total_two}

@@ -1,5 +1,5 @@
 -- splits of the histories of both ends, in that of the exchange
-use Rattle.std.proofs.Common.{◌≡◌, ℕ, ◌⊎◌, inl, inr, ◌&&◌, ◌||◌, Bool, true, false, Option, Some, None, List, [], ◌∷◌, ◌++◌, slice_get, refl, ◌∙◌, ap}
+use Rattle.std.proofs.Common.{◌≡◌, ℕ, inl, inr, ◌&&◌, Bool, true, Option, Some, None, List, [], ◌∷◌, ◌++◌, slice_get, refl, ◌∙◌, ap}
 use Rattle.std.proofs.lemmas.Bool.{false≢true, or_left, or_right, or_cases}
 use Rattle.std.specs.List.{list_any}
 use Rattle.std.specs.Option.{option_map}

@@ -9,7 +9,7 @@ use Rattle.slot_join.specs.declared.joined.Joined.{Joined}
 use Rattle.slot_join.specs.Answer.{IsAnswer}
 use Rattle.evidence_texts.specs.Evidence.{evidence_text}
 use Rattle.line_engine.specs.Lines.{Lines}
-use Rattle.line_engine.specs.Determined.{IsDetermined, BeginsWith}
+use Rattle.line_engine.specs.Determined.{IsDetermined}
 use Rattle.dsc_lines.specs.JoinLine.{JoinLine, IsLine}
 use Rattle.dsc_lines.proofs.PublicLaws.{one_column}
 use Rattle.line_engine.proofs.PublicLaws.{begins_empty}

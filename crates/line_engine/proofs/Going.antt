@@ -10,7 +10,7 @@ use Rattle.line_engine.specs.Lines.{Lines, lines_of}
 use Rattle.line_engine.specs.Meaning.{Meaning}
 use Rattle.line_engine.specs.Faults.{IsFault, IsFaultless}
 use Rattle.line_engine.specs.Endings.{IsRest}
-use Rattle.line_engine.specs.inside.Progress.{HasWritten, IsOn, IsThrough, IsNextFault, Stops, StopsInRead, StopsAtLine, PassesLimit, IsLimitPassed, IsCounted, TakesLines, PendingFails, RunsInto}
+use Rattle.line_engine.specs.inside.Progress.{HasWritten, IsOn, IsThrough, IsNextFault, Stops, StopsAtLine, PassesLimit, IsLimitPassed, IsCounted, TakesLines, PendingFails, RunsInto}
 use Rattle.line_engine.proofs.Cutting.{is_text, IsOpenLine, open_line, none_taken, read_more, next_line, line_taken, at_end}
 use Rattle.line_engine.proofs.Faultless.{none_yet}
 

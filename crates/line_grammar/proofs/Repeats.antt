@@ -1,10 +1,9 @@
 -- parts that stand in a line any number of times
-use Rattle.std.proofs.Common.{◌≡◌, ℕ, zero, suc, ◌+◌, ◌-◌, ◌≤◌, ◌<◌, max, true, List, [], ◌∷◌, ◌++◌, length, codes, Result, Ok, Err, refl, ◌∙◌, ap, subst, arith}
+use Rattle.std.proofs.Common.{◌≡◌, ℕ, suc, ◌+◌, ◌-◌, ◌≤◌, ◌<◌, max, true, List, ◌∷◌, ◌++◌, length, codes, Result, Err, ◌∙◌, ap, subst, arith}
 use Rattle.line_grammar.specs.Columns.{Begins, IsColumn}
-use Rattle.line_grammar.specs.Grammar.{Grammar, finish, word, Parts, none, first, second, Spells}
-use Rattle.line_grammar.specs.Tokens.{Token}
+use Rattle.line_grammar.specs.Grammar.{Grammar, word, Parts, second, Spells}
 use Rattle.line_grammar.specs.Repeats.{repeated, SpellsSome, Grow}
-use Rattle.line_grammar.specs.inside.Soundness.{may_follow, is_sound}
+use Rattle.line_grammar.specs.inside.Soundness.{is_sound}
 use Rattle.line_grammar.specs.inside.Reading.{ended, named, further, read}
 use Rattle.line_grammar.proofs.Stops.{Stops, Reads, left_le, IsColumn-stops}
 use Rattle.line_grammar.proofs.Grammars.{reads}

@@ -7,7 +7,7 @@ use Rattle.std.proofs.lemmas.List.Sums.{sum_by-cons}
 use Rattle.std.proofs.lemmas.Bool.Decides.{nat_tests}
 use Rattle.std.proofs.lemmas.List.{length-take-le, length-drop, get_or-take, get_or-drop, get_or-map, ext_get_or}
 use Rattle.ten_unit.specs.declared.character.Element.{Element}
-use Rattle.ten_unit.specs.declared.character.Element.TheVariants.{Y, B, Lost}
+use Rattle.ten_unit.specs.declared.character.Element.TheVariants.{Lost}
 use Rattle.ten_unit.specs.Word.{element, information, count_of_b, elements_eq, is_word, word_of}
 use Rattle.ten_unit.proofs.PublicLaws.{elements_same, elements_own, element-sent, length-word}
 use Rattle.phasing.specs.Origin.{dx_right, rx_right, is_enough, is_phased}

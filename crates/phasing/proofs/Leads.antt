@@ -1,7 +1,6 @@
 -- past a reception's end and long before its first element nothing is phased
-use Rattle.std.proofs.Common.{◌≡◌, ℕ, zero, suc, ◌+◌, ◌*◌, ◌<◌, ◌≤◌, Bool, true, false, cond, List, length, find, Option, Some, None, refl, arith, ap, sym, ◌∙◌, inl, inr}
+use Rattle.std.proofs.Common.{◌≡◌, ℕ, ◌+◌, ◌*◌, ◌<◌, ◌≤◌, Bool, true, false, cond, List, length, Option, Some, None, refl, arith, ap, ◌∙◌, inl, inr}
 use Rattle.std.proofs.lemmas.Bool.{cases_lt, cases_order, both_ways}
-use Rattle.std.specs.List.{range_with_len}
 use Rattle.plain_laws.proofs.Searches.{find_least, find_none}
 use Rattle.ten_unit.specs.declared.character.Element.{Element}
 use Rattle.phasing.specs.Origin.{dx_right, rx_right, is_enough, is_phased, lead_of}

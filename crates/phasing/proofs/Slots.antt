@@ -4,7 +4,7 @@ use Rattle.std.proofs.lemmas.Bool.{and_parts, and_left, and_right, leb-true, lt-
 use Rattle.std.proofs.Math.Seq.{take-length}
 use Rattle.std.proofs.lemmas.List.{length-take-le, length-drop}
 use Rattle.ten_unit.specs.declared.character.Element.{Element}
-use Rattle.ten_unit.specs.Word.{is_word, word_of}
+use Rattle.ten_unit.specs.Word.{is_word}
 use Rattle.ten_unit.proofs.PublicLaws.{is_word-none}
 use Rattle.phasing.specs.Slot.{slot, shows}
 

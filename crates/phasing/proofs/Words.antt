@@ -5,10 +5,10 @@ use Rattle.std.proofs.lemmas.List.{get_or_past, length-take-le, length-drop, ext
 use Rattle.std.proofs.Math.Bool.{and-true, and_assoc}
 use Rattle.std.proofs.lemmas.Bool.Decides.{same_from_decides}
 use Rattle.ten_unit.specs.declared.character.Element.{Element}
-use Rattle.ten_unit.specs.declared.character.Element.TheVariants.{Y, B, Lost}
+use Rattle.ten_unit.specs.declared.character.Element.TheVariants.{Y, Lost}
 use Rattle.ten_unit.specs.inside.Marks.{IsMarks}
 use Rattle.ten_unit.specs.Word.{element_eq, word_of}
-use Rattle.ten_unit.proofs.PublicLaws.{elements_same, length-word, element_same, element_own}
+use Rattle.ten_unit.proofs.PublicLaws.{length-word, element_same, element_own}
 use Rattle.phasing.specs.inside.Places.{element_at, is_at}
 use Rattle.phasing.specs.Slot.{shows}
 use Rattle.phasing.proofs.Kept.{IsWordAt, word-sent, word_at, shown, get_or-part}

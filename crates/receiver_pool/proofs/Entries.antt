@@ -1,15 +1,13 @@
 -- What entries show together.
-use Rattle.std.proofs.Common.{◌≡◌, ℕ, ◌+◌, ◌<◌, ◌≤◌, ◌==◌, Bool, true, false, ◌&&◌, ◌||◌, List, [], ◌∷◌, ◌++◌, All, length, drop, slice_index_or, refl, ap, sym, ◌∙◌, subst}
+use Rattle.std.proofs.Common.{◌≡◌, ℕ, ◌+◌, ◌<◌, ◌≤◌, ◌==◌, Bool, true, false, ◌&&◌, ◌||◌, List, [], ◌∷◌, ◌++◌, length, drop, slice_index_or, refl, ap, sym, ◌∙◌, subst}
 use Rattle.std.proofs.lemmas.List.{drop_more, drop_all}
-use Rattle.std.proofs.lemmas.List.Elements.{All-weaker}
 use Rattle.std.proofs.Math.Bool.{or-false, or_assoc}
 use Rattle.plain_laws.proofs.Tests.{or_false_left, or_false_right}
 use Rattle.slot_evidence.specs.declared.places.Seen.{Seen}
 use Rattle.slot_evidence.specs.Facts.{Facts, no_facts, union}
 use Rattle.slot_evidence.specs.Sheet.{IsEnds}
-use Rattle.receiver_pool.specs.declared.group_entries.GroupReception.{GroupReception}
 use Rattle.receiver_pool.specs.declared.group_entries.GroupSheet.{GroupSheet}
-use Rattle.receiver_pool.specs.Groups.{AreSheets, AreShown, Belongs, IsShort}
+use Rattle.receiver_pool.specs.Groups.{AreSheets, AreShown}
 use Rattle.receiver_pool.proofs.Parts.{same_sheets}
 
 and_nothing : (a b : Bool) → (a && (b && false)) ≡ false

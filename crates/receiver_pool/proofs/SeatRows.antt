@@ -1,5 +1,5 @@
 -- A row of boards, and rows of their seats and sheets.
-use Rattle.std.proofs.Common.{◌≡◌, ℕ, ◌+◌, ◌-◌, ◌/◌, ◌<◌, ◌≤◌, List, [], length, set, slice_index_or, refl, arith, sym, ◌∙◌, subst, inl, inr}
+use Rattle.std.proofs.Common.{◌≡◌, ℕ, ◌+◌, ◌-◌, ◌/◌, ◌<◌, ◌≤◌, List, [], length, set, slice_index_or, arith, sym, ◌∙◌, subst, inl, inr}
 use Rattle.std.proofs.lemmas.Bool.{cases_eq}
 use Rattle.std.proofs.lemmas.List.{length-set, get_or-set_same, get_or-set_other}
 use Rattle.atomic_table.specs.Seated.{TableId}
@@ -10,7 +10,7 @@ use Rattle.slot_evidence.proofs.PublicLaws.{IsEnds-same}
 use Rattle.evidence_board.specs.Views.{given_sheet}
 use Rattle.receiver_pool.specs.Groups.{AreSheets}
 use Rattle.evidence_board.specs.Seats.{Held}
-use Rattle.receiver_pool.specs.Rows.{IsSeatOf, AreSeats, no_table, no_seat, table_at}
+use Rattle.receiver_pool.specs.Rows.{IsSeatOf, AreSeats, no_seat, table_at}
 use Rattle.receiver_pool.proofs.Turning.{Row}
 
 -- what stands at each place

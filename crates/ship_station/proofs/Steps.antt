@@ -1,5 +1,5 @@
 -- a ship that keeps what a history with an accepted event more tells stands for it
-use Rattle.std.proofs.Common.{◌≡◌, ℕ, ◌≤◌, ◌==◌, Bool, false, Option, Some, None, is_some, Result, Ok, List, ◌∷◌, length, if◌then◌else◌, refl, sym, ◌∙◌, ap, subst}
+use Rattle.std.proofs.Common.{◌≡◌, ℕ, ◌≤◌, ◌==◌, Bool, false, Some, None, is_some, Result, Ok, List, ◌∷◌, length, if◌then◌else◌, sym, ◌∙◌, ap, subst}
 use Rattle.std.specs.Prelude.{OnOk, OnErr}
 use Rattle.std.proofs.lemmas.Result.{on_err_weaker}
 use Rattle.traffic_rules.specs.declared.acts.Act.{Act}

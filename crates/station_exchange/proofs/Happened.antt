@@ -1,5 +1,5 @@
 -- What comes of an event line.
-use Rattle.std.proofs.Common.{◌≡◌, ℕ, codes, Result, Ok, Err, OnOk, IfErr, refl, sym, ◌∙◌, ap}
+use Rattle.std.proofs.Common.{◌≡◌, ℕ, codes, refl, sym, ◌∙◌, ap}
 use Rattle.traffic_lines.specs.declared.lines.ShipOwn.{ShipOwn}
 use Rattle.traffic_lines.specs.declared.lines.ShipOwn.TheVariants as own_ship
 use Rattle.traffic_lines.specs.declared.lines.CoastOwn.{CoastOwn}

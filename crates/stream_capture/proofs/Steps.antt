@@ -1,5 +1,5 @@
 -- what the command has told, some elements or one start further
-use Rattle.std.proofs.Common.{◌≡◌, ℕ, ◌+◌, ◌&&◌, Bool, List, [], ◌∷◌, ◌++◌, length, pos, ◌-ℤ◌, Result, Ok, Err, OnOk, sym, ◌∙◌, ap, ap₂, subst, append_assoc, length-append, arith}
+use Rattle.std.proofs.Common.{◌≡◌, ℕ, ◌+◌, ◌&&◌, Bool, List, [], ◌∷◌, ◌++◌, length, pos, ◌-ℤ◌, sym, ◌∙◌, ap, ap₂, subst, append_assoc, length-append, arith}
 use Rattle.std.specs.List.{AllByRecursion}
 use Rattle.std.proofs.lemmas.List.{map-append}
 use Rattle.ten_unit.specs.declared.character.Element.{Element}

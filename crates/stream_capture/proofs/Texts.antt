@@ -1,5 +1,5 @@
 -- the text of starts, one start further
-use Rattle.std.proofs.Common.{◌≡◌, ℕ, suc, ◌+◌, ◌&&◌, Bool, true, false, List, [], ◌∷◌, ◌++◌, length, pos, ◌-ℤ◌, ℤ, codes, refl, sym, ◌∙◌, ap, append_assoc, append-nil, arith}
+use Rattle.std.proofs.Common.{◌≡◌, ℕ, suc, ◌+◌, ◌&&◌, Bool, List, [], ◌∷◌, ◌++◌, length, pos, ◌-ℤ◌, ℤ, codes, sym, ◌∙◌, ap, append_assoc, append-nil, arith}
 use Rattle.slot_join.specs.declared.joined.Joined.{Joined}
 use Rattle.std.specs.Fmt.{signed_decimal}
 use Rattle.std.proofs.Math.Bool.{and-true, and_assoc}

@@ -15,7 +15,7 @@ use Rattle.line_grammar.specs.Tokens.{Token, free_number}
 use Rattle.line_grammar.specs.Grammar.{Grammar, finish, either, Parts, none, part, first, second, Spells}
 use Rattle.line_grammar.specs.inside.Reading.{fits, read}
 use Rattle.line_grammar.specs.inside.Soundness.{is_sound}
-use Rattle.line_grammar.proofs.Chains.{after_list, finished}
+use Rattle.line_grammar.proofs.Chains.{finished}
 use Rattle.line_grammar.proofs.Fields.{field_of}
 use Rattle.line_grammar.proofs.Grammars.{choice_back}
 use Rattle.line_grammar.proofs.Stops.{IsChoice}

@@ -1,5 +1,5 @@
 -- the steps of the readers of values
-use Rattle.std.proofs.Common.{◌≡◌, ℕ, ◌<◌, ◌≤◌, ◌^◌, List, [], ◌∷◌, ◌++◌, Result, Ok, Err, IfOk, IfErr, OnOk, decimal, refl, ◌∙◌, ap, append-nil}
+use Rattle.std.proofs.Common.{◌≡◌, ℕ, ◌<◌, ◌≤◌, ◌^◌, List, ◌++◌, Result, Ok, Err, IfOk, IfErr, OnOk, decimal, ◌∙◌, ap, append-nil}
 use Rattle.line_grammar.specs.Grammar.{finish, field, none}
 use Rattle.line_grammar.specs.Tokens.{Token, free_number, value_after}
 use Rattle.line_grammar.specs.inside.Reading.{after, ended, read_token, read}

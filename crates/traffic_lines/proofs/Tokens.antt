@@ -1,5 +1,5 @@
 -- tokens of lines: what they were read of, and whose texts they are
-use Rattle.std.proofs.Common.{◌≡◌, ℕ, ◌<◌, ◌≤◌, ◌^◌, true, List, ◌++◌, Result, Ok, decimal, sym, ◌∙◌, ap, subst, arith}
+use Rattle.std.proofs.Common.{◌≡◌, ℕ, ◌<◌, ◌≤◌, ◌^◌, true, List, ◌++◌, Result, Ok, decimal, sym, subst, arith}
 use Rattle.std.proofs.lemmas.Fmt.{decimal_injective}
 use Rattle.dsc_texts.proofs.PublicLaws.{Told}
 use Rattle.line_grammar.specs.Tokens.{Token, free_number, value_after}

@@ -1,5 +1,5 @@
 -- What was read of a line of receivers, and of a line that says nothing.
-use Rattle.std.proofs.Common.{◌≡◌, ℕ, true, false, Option, Some, Ok, List, ◌∷◌, refl, sym, subst}
+use Rattle.std.proofs.Common.{◌≡◌, ℕ, Option, Some, Ok, List, ◌∷◌, refl, sym, subst}
 use Rattle.std.proofs.lemmas.Bool.{false≢true}
 use Rattle.ten_unit.specs.declared.character.Element.{Element}
 use Rattle.slot_evidence.specs.declared.places.Seen.{Seen}

@@ -1,5 +1,5 @@
 -- what was told so far, line by line
-use Rattle.std.proofs.Common.{◌≡◌, ℕ, ◌<◌, Bool, true, ◌&&◌, List, [], ◌∷◌, ◌++◌, length, refl, sym, ◌∙◌, ap, subst, append_assoc}
+use Rattle.std.proofs.Common.{◌≡◌, ℕ, Bool, true, ◌&&◌, List, [], ◌∷◌, ◌++◌, length, refl, sym, ◌∙◌, ap, subst, append_assoc}
 use Rattle.call_values.specs.declared.choices.Band.{Band}
 use Rattle.traffic_rules.specs.Histories.{History}
 use Rattle.traffic_rules.specs.Rules.{Rules}
@@ -15,7 +15,6 @@ use Rattle.traffic_lines.specs.declared.lines.EventLine.{EventLine}
 use Rattle.traffic_lines.specs.declared.lines.Point.{Point}
 use Rattle.traffic_lines.specs.declared.lines.Point.TheVariants as point
 use Rattle.traffic_lines.specs.declared.lines.TrafficLine.TheVariants as line
-use Rattle.traffic_lines.specs.Lines.{MayStand}
 use Rattle.dsc_lines.specs.JoinLine.{JoinLine}
 use Rattle.dsc_lines.specs.PointLine.{joined, traffic, IsBody}
 use Rattle.traffic_lines.specs.Anywhere.{ship_point}

@@ -1,5 +1,5 @@
 -- Calls told one behind another.
-use Rattle.std.proofs.Common.{◌≡◌, ℕ, Bool, true, false, ◌||◌, ◌==◌, List, [], ◌∷◌, ◌++◌, refl, sym, ap, ◌∙◌, append_assoc, append-nil, arith}
+use Rattle.std.proofs.Common.{◌≡◌, ℕ, Bool, true, false, ◌||◌, ◌==◌, List, [], ◌∷◌, ◌++◌, refl, sym, ap, ◌∙◌, append_assoc, append-nil}
 use Rattle.std.proofs.lemmas.Bool.{or_left, or_right, or_from, or_parts, eq-eqb}
 use Rattle.std.proofs.lemmas.Grind.{flat_map-append}
 use Rattle.std.proofs.lemmas.List.Folds.{list_any-append}
@@ -9,8 +9,6 @@ use Rattle.call_values.specs.declared.calls.Call.{Call}
 use Rattle.call_grammar.specs.Spelling.{format_of}
 use Rattle.slot_evidence.specs.Facts.{Facts}
 use Rattle.slot_join.specs.declared.joined.Joined.{Joined}
-use Rattle.slot_join.specs.declared.joined.Joined.TheVariants.{Reported}
-use Rattle.slot_join.specs.declared.joined.Extra.{Extra}
 use Rattle.slot_join.specs.Answer.{IsAnswer}
 use Rattle.live_watch.specs.Told.{IsTold}
 use Rattle.dsc_lines.specs.JoinLine.{JoinLine}
@@ -18,7 +16,7 @@ use Rattle.join_groups.specs.Groups.{group_facts}
 use Rattle.join_groups.proofs.PublicLaws.{named_push, facts_push}
 use Rattle.watch_groups.specs.declared.telling.Told.{Told}
 use Rattle.watch_groups.specs.Telling.{told_line, told_text, is_told, IsToldOf, AreTold}
-use Rattle.watch_groups.specs.inside.Kept.{IsDone, TellsMore}
+use Rattle.watch_groups.specs.inside.Kept.{TellsMore}
 
 text_push : (told : List Told) (one : Told) → told_text (told ++ one ∷ []) ≡ told_text told ++ told_line one
 text_push told one = flat_map-append told_line told (one ∷ []) ∙ ap (λ (l : List ℕ). told_text told ++ l) (append-nil (told_line one))

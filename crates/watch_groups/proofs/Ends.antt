@@ -1,6 +1,5 @@
 -- A watch stands for one line more, and ends.
 use Rattle.std.proofs.Common.{◌≡◌, ◌⊎◌, ℕ, Bool, cond, List, [], ◌∷◌, ◌++◌, refl, sym, ap, subst, ◌∙◌, append_assoc, arith, true, inl, inr}
-use Rattle.std.specs.Prelude.{Result, Ok, Err, OnOk}
 use Rattle.line_engine.specs.Lines.{Lines}
 use Rattle.line_engine.specs.declared.command.Refusal.{Refusal}
 use Rattle.line_engine.specs.declared.command.Refusal.TheVariants.{Memory, TooManyGroups}

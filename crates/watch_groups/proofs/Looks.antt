@@ -1,5 +1,5 @@
 -- A look at one group after another.
-use Rattle.std.proofs.Common.{◌≡◌, ℕ, Bool, true, false, ◌||◌, ◌==◌, List, [], ◌∷◌, ◌++◌, length, arith, refl, ap, subst, ◌∙◌, inl, inr}
+use Rattle.std.proofs.Common.{◌≡◌, ℕ, Bool, true, false, ◌||◌, ◌==◌, List, [], ◌∷◌, ◌++◌, refl, ap, subst, ◌∙◌, inl, inr}
 use Rattle.std.proofs.lemmas.Bool.{or_left, or_right, cases_eq, ne_eqb, or_from, eq-eqb}
 use Rattle.std.proofs.lemmas.List.Folds.{list_any-append}
 use Rattle.std.proofs.Math.Bool.{or-false}
@@ -7,7 +7,7 @@ use Rattle.dsc_lines.specs.JoinLine.{JoinLine}
 use Rattle.join_groups.specs.Groups.{is_among}
 use Rattle.watch_groups.specs.declared.telling.Told.{Told}
 use Rattle.watch_groups.specs.inside.Kept.{IsDone, LooksAt, LooksThrough}
-use Rattle.watch_groups.proofs.Calls.{tells_none, tells_then}
+use Rattle.watch_groups.proofs.Calls.{tells_then}
 
 pub among_push : (rest : List ℕ) (group k : ℕ) → is_among (rest ++ group ∷ []) k ≡ (is_among rest k || group == k)
 among_push rest group k = list_any-append (λ n. n == k) rest (group ∷ []) ∙ ap (λ (b : Bool). is_among rest k || b) (or-false (group == k))

@@ -1,4 +1,4 @@
-use Rattle.std.proofs.Common.{rules, ◌≡◌, ℕ, List, [], ◌∷◌, length, inl, inr, refl, arith}
+use Rattle.std.proofs.Common.{rules, inl, inr}
 use Rattle.std.proofs.lemmas.List.{nil_from_length}
 use Rattle.dsc_lines.proofs.calls.call_line.Goals as goal
 

@@ -1,4 +1,4 @@
-use Rattle.std.proofs.Common.{rules, ◌≡◌, ℕ, List, [], ◌∷◌, length, inl, refl, arith}
+use Rattle.std.proofs.Common.{rules, inl, refl}
 use Rattle.std.proofs.lemmas.List.{nil_from_length}
 use Rattle.dsc_lines.proofs.sentences.sentence_line.Goals as goal
 

@@ -1,4 +1,3 @@
-use Rattle.std.proofs.Common.{Result, Ok, Err, OnOk}
 use Rattle.std.proofs.lemmas.Result.{on_ok_weaker}
 use Rattle.book_logs.proofs.Heard.{heard_taken}
 use Rattle.book_logs.proofs.command.Logs.hear.Goals as goal

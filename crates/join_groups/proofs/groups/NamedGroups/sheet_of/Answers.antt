@@ -1,4 +1,4 @@
-use Rattle.std.proofs.Common.{◌<◌, ℕ, List, [], length, arith, sym, subst}
+use Rattle.std.proofs.Common.{List, [], arith, sym, subst}
 use Rattle.std.proofs.lemmas.List.{get_or_read}
 use Rattle.slot_evidence.specs.declared.places.Seen.{Seen}
 use Rattle.slot_evidence.specs.Facts.{Facts, no_facts}
