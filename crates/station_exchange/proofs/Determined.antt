@@ -5,7 +5,7 @@ use Rattle.line_engine.specs.Lines.{Lines}
 use Rattle.line_engine.specs.Determined.{IsDetermined, BeginsWith}
 use Rattle.dsc_lines.specs.WorldLine.{IsWorldFileLine}
 use Rattle.dsc_lines.proofs.PublicLaws.{one_column}
-use Rattle.station_exchange.specs.Said.{Said, point_of, world_of, AreSaid}
+use Rattle.station_exchange.specs.Said.{Said, point_of, world_of}
 use Rattle.station_exchange.specs.Output.{text_of, all_accepted}
 use Rattle.station_exchange.specs.Meaning.{IsIllFormed, Exchanges, exchange_meaning}
 use Rattle.station_exchange.proofs.Unique.{OneWorldLine, same_said}
@@ -17,10 +17,6 @@ same_lines one lines a b x y = same_said one x.said y.said lines x.are_said y.ar
 same_text : OneWorldLine → (lines : Lines) (a b : List ℕ) → Exchanges lines a → Exchanges lines b → a ≡ b
 same_text one lines a b x y = x.text_is ∙ ap (λ (s : Said). text_of (world_of s)) (same_lines one lines a b x y) ∙ sym y.text_is
 
-said_text : OneWorldLine → (said : Said) (lines : Lines) (text : List ℕ) → AreSaid said lines → Exchanges lines text → text_of (world_of said) ≡ text
-said_text one said lines text are x =
-    ap (λ (s : Said). text_of (world_of s)) (same_said one said x.said lines are x.are_said) ∙ sym x.text_is
-
 same_column : OneWorldLine → (lines : Lines) (text : List ℕ) (m n : ℕ) → IsIllFormed lines text m → IsIllFormed lines text n → m ≡ n
 same_column one lines text m n x y =
     let said : y.said ≡ x.said = same_said one y.said x.said lines y.are_said x.are_said in
@@ -30,7 +26,7 @@ same_column one lines text m n x y =
 begins : OneWorldLine → (first later : Lines) (text whole : List ℕ) → Exchanges first text → Exchanges (first ++ later) whole → BeginsWith whole text
 begins one first later text whole x y =
     let front = front_of y.said (first ++ later) first later refl y.are_said in
-    let same = said_text one front.said first text front.are_said x in
+    let same : text_of (world_of front.said) ≡ text = same_text one first (text_of (world_of front.said)) text (record { said = front.said; are_said = front.are_said; text_is = refl }) x in
     (front.begins.0, y.text_is ∙ front.begins.1 ∙ ap (λ (t : List ℕ). t ++ front.begins.0) same)
 
 pub exchange_determined : OneWorldLine → IsDetermined exchange_meaning

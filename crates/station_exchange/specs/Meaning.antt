@@ -4,8 +4,7 @@ use Rattle.line_grammar.specs.Columns.{IsColumn}
 use Rattle.line_engine.specs.Lines.{Lines}
 use Rattle.line_engine.specs.Meaning.{Meaning}
 use Rattle.dsc_lines.specs.WorldLine.{IsWorldFileLine}
-use Rattle.exchange.specs.WorldRules.{IsLegal}
-use Rattle.station_exchange.specs.Said.{Said, point_of, parties_of, world_of, AreSaid}
+use Rattle.station_exchange.specs.Said.{Said, point_of, world_of, AreSaid}
 use Rattle.station_exchange.specs.Output.{text_of, all_accepted}
 
 -- behind these lines this one is no line of the point at which it stands, and this is its column there
@@ -14,11 +13,10 @@ pub record IsIllFormed (earlier : Lines) (text : List ℕ) (column : ℕ) : Type
   pub are_said : AreSaid said earlier
   pub is_column : IsColumn (IsWorldFileLine (point_of said)) text column
 
--- these lines give this text: that of the history of the exchange that they tell, and this history is legal
+-- these lines give this text: that of the history of the exchange that they tell
 pub record Exchanges (lines : Lines) (text : List ℕ) : Type 0 where
   pub said : Said
   pub are_said : AreSaid said lines
-  pub legal : IsLegal (parties_of said) (world_of said)
   pub text_is : text ≡ text_of (world_of said)
 
 -- each event is told as soon as its line is read; the status is 0 where no step was refused and each delivery was that of a call, and

@@ -11,7 +11,4 @@ mod telling;
 
 pub use command::Exchanging;
 pub use exchanging::exchange;
-pub use laws::{
-    lines_determine_output, no_alert_is_told_after_an_end,
-    told_alerts_end_by_cancel_or_acknowledgement,
-};
+pub use laws::lines_determine_output;

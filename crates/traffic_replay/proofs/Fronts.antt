@@ -1,9 +1,7 @@
 -- what the first lines of a traffic file said, and their text
-use Rattle.std.proofs.Common.{◌≡◌, ℕ, Bool, true, Option, Some, None, Result, Ok, Err, List, [], ◌∷◌, ◌++◌, refl, sym, ◌∙◌, ap, subst, append-nil, inl, inr}
+use Rattle.std.proofs.Common.{◌≡◌, ℕ, Bool, true, List, [], ◌∷◌, ◌++◌, refl, sym, ◌∙◌, ap, subst, append-nil, inl, inr}
 use Rattle.call_values.specs.declared.choices.Band.{Band}
-use Rattle.traffic_rules.specs.declared.refusals.StationRefusal.{StationRefusal}
-use Rattle.traffic_rules.specs.Histories.{Entry, History}
-use Rattle.traffic_rules.specs.Rules.{Rules, Legal, refused, unless_refused}
+use Rattle.traffic_rules.specs.Rules.{Rules}
 use Rattle.line_engine.specs.Lines.{Lines}
 use Rattle.line_engine.specs.Determined.{BeginsWith}
 use Rattle.station_lines.proofs.PublicLaws.{no_more, last_of, begins_itself, begins_further}
@@ -18,8 +16,7 @@ use Rattle.dsc_lines.specs.JoinLine.{JoinLine, nothing, reception, evidence}
 use Rattle.dsc_lines.specs.PointLine.{PointLine, joined, traffic, IsPointLine}
 use Rattle.traffic_replay.specs.Said.{Said, Kind, ship, coast, kind_of, identities_of, station_of, point_of, AreSaid}
 use Rattle.traffic_replay.specs.Happenings.{Taking, taking_ship, taking_coast, Happening, AreHappenings}
-use Rattle.traffic_replay.specs.Output.{history_behind, history_of, text_of, all_accepted, written_behind}
-use Rattle.traffic_replay.specs.declared.outcomes.Unreported.{Unreported}
+use Rattle.traffic_replay.specs.Output.{history_of, text_of, all_accepted, written_behind}
 use Rattle.traffic_replay.specs.Meaning.{Tells, StationTells}
 use Rattle.traffic_replay.specs.inside.Progress.{IsBeforeEvents}
 use Rattle.traffic_replay.proofs.Told.{no_more_early}
@@ -72,8 +69,8 @@ pub record IsBehind (kind : Kind) (said : Said) (whole : List ℕ) : Type 0 wher
   pub begins : BeginsWith whole text
 
 tells_none : (kind : Kind) (said : Said) (lines : Lines) → AreSaid said lines → IsBeforeEvents (point_of said) → StationTells kind said [] true
-tells_none ship said lines are early = record { happened = []; are_happenings = none_early taking_ship said lines are early; legal = tt; text_is = refl; well_is = refl }
-tells_none (coast band) said lines are early = record { happened = []; are_happenings = none_early taking_coast said lines are early; legal = tt; text_is = refl; well_is = refl }
+tells_none ship said lines are early = record { happened = []; are_happenings = none_early taking_ship said lines are early; text_is = refl; well_is = refl }
+tells_none (coast band) said lines are early = record { happened = []; are_happenings = none_early taking_coast said lines are early; text_is = refl; well_is = refl }
 
 -- every text begins with that of lines without an event
 behind_none : (kind : Kind) (said : Said) (lines : Lines) (whole : List ℕ) → AreSaid said lines → IsBeforeEvents (point_of said) → IsBehind kind said whole
@@ -85,9 +82,9 @@ behind_same kind said whole is_well tells = record { text = whole; is_well = is_
 -- a line of receivers, or one that says nothing, gives no text
 without_joined : (kind : Kind) (l : JoinLine) (said : Said) (whole : List ℕ) (is_well : Bool) → StationTells kind (joined l ∷ said) whole is_well → StationTells kind said whole is_well
 without_joined ship l said whole is_well tells =
-    record { happened = tells.happened; are_happenings = tells.are_happenings; legal = tells.legal; text_is = tells.text_is; well_is = tells.well_is }
+    record { happened = tells.happened; are_happenings = tells.are_happenings; text_is = tells.text_is; well_is = tells.well_is }
 without_joined (coast band) l said whole is_well tells =
-    record { happened = tells.happened; are_happenings = tells.are_happenings; legal = tells.legal; text_is = tells.text_is; well_is = tells.well_is }
+    record { happened = tells.happened; are_happenings = tells.are_happenings; text_is = tells.text_is; well_is = tells.well_is }
 
 -- the text of an event stands behind that of the lines before it
 pub record IsLater {What : Type 0} (rules : Rules What) (taking : Taking What) (said : Said) (whole : List ℕ) : Type 0 where
@@ -96,41 +93,23 @@ pub record IsLater {What : Type 0} (rules : Rules What) (taking : Taking What) (
   pub tells : Tells rules taking said text is_well
   pub begins : BeginsWith whole text
 
--- what was legal with an event more was legal without it
-legal_unless : {What : Type 0} (rules : Rules What) (refusal : Option StationRefusal) (e : Entry What) (h : History What) → Legal rules (unless_refused refusal e h)
-    → Legal rules h
-legal_unless rules (Some refusal) e h legal = legal
-legal_unless rules None e h legal = legal.1
-
-legal_before : {What : Type 0} (rules : Rules What) (at : ℕ) (outcome : Result What Unreported) (h : History What) → Legal rules (history_behind rules h at outcome)
-    → Legal rules h
-legal_before rules at (Ok what) h legal = legal_unless rules (refused rules h at what) (record { at = at; what = what; acts = rules.due h at what }) h legal
-legal_before rules at (Err unreported) h legal = legal
-
 without_event : {What : Type 0} (rules : Rules What) (taking : Taking What) (said : Said) (at : ℕ) (what : EventLine) (happened : List (Happening What)) (whole : List ℕ)
-    → AreHappenings taking (traffic (line.Event at what) ∷ said) happened → Legal rules (history_of rules happened) → whole ≡ text_of rules happened
-    → IsLater rules taking said whole
-without_event rules taking said at what [] whole are legal is = absurd are
-without_event rules taking said at what (h ∷ happened) whole are legal is = record {
+    → AreHappenings taking (traffic (line.Event at what) ∷ said) happened → whole ≡ text_of rules happened → IsLater rules taking said whole
+without_event rules taking said at what [] whole are is = absurd are
+without_event rules taking said at what (h ∷ happened) whole are is = record {
   text = text_of rules happened;
   is_well = all_accepted rules happened;
-  tells = record {
-    happened = happened;
-    are_happenings = are.2;
-    legal = legal_before rules h.at h.outcome (history_of rules happened) legal;
-    text_is = refl;
-    well_is = refl;
-  };
+  tells = record { happened = happened; are_happenings = are.2; text_is = refl; well_is = refl };
   begins = (written_behind rules (history_of rules happened) h.at h.outcome, is);
 }
 
 behind_event : (kind : Kind) (at : ℕ) (what : EventLine) (said : Said) (whole : List ℕ) (is_well : Bool) → StationTells kind (traffic (line.Event at what) ∷ said) whole is_well
     → IsBehind kind said whole
 behind_event ship at what said whole is_well tells =
-    let l = without_event (ship_rules (identities_of said)) taking_ship said at what tells.happened whole tells.are_happenings tells.legal tells.text_is in
+    let l = without_event (ship_rules (identities_of said)) taking_ship said at what tells.happened whole tells.are_happenings tells.text_is in
     record { text = l.text; is_well = l.is_well; tells = l.tells; begins = l.begins }
 behind_event (coast band) at what said whole is_well tells =
-    let l = without_event (coast_rules (station_of band said)) taking_coast said at what tells.happened whole tells.are_happenings tells.legal tells.text_is in
+    let l = without_event (coast_rules (station_of band said)) taking_coast said at what tells.happened whole tells.are_happenings tells.text_is in
     record { text = l.text; is_well = l.is_well; tells = l.tells; begins = l.begins }
 
 -- the text of lines begins with that of all but the last

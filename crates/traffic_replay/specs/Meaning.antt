@@ -3,14 +3,14 @@ use Rattle.std.specs.Prelude.{◌≡◌, ℕ, Bool, List, if◌then◌else◌}
 use Rattle.line_grammar.specs.Columns.{IsColumn}
 use Rattle.line_engine.specs.Lines.{Lines}
 use Rattle.line_engine.specs.Meaning.{Meaning}
-use Rattle.traffic_rules.specs.Rules.{Rules, Legal}
+use Rattle.traffic_rules.specs.Rules.{Rules}
 use Rattle.ship_station.specs.ShipRules.{ship_rules}
 use Rattle.coast_station.specs.CoastRules.{coast_rules}
 use Rattle.dsc_lines.specs.PointLine.{IsPointLine}
 use Rattle.traffic_replay.specs.Said.{Said, Kind, ship, coast, kind_of, identities_of, station_of, point_of, AreSaid}
 use Rattle.traffic_replay.specs.HeardGroups.{IsOverfull}
 use Rattle.traffic_replay.specs.Happenings.{Taking, taking_ship, taking_coast, Happening, AreHappenings}
-use Rattle.traffic_replay.specs.Output.{history_of, text_of, all_accepted}
+use Rattle.traffic_replay.specs.Output.{text_of, all_accepted}
 
 -- behind these lines this one is no line of the point at which it stands, and this is its column there
 pub record IsIllFormed (earlier : Lines) (text : List ℕ) (column : ℕ) : Type 0 where
@@ -18,12 +18,10 @@ pub record IsIllFormed (earlier : Lines) (text : List ℕ) (column : ℕ) : Type
   pub are_said : AreSaid said earlier
   pub is_column : IsColumn (IsPointLine (point_of said)) text column
 
--- what was said gives this text by the rules of a station, and its history is legal; all is well where no event was refused and each
--- heard group was reported
+-- what was said gives this text by the rules of a station; all is well where no event was refused and each heard group was reported
 pub record Tells {What : Type 0} (rules : Rules What) (taking : Taking What) (said : Said) (text : List ℕ) (is_well : Bool) : Type 0 where
   pub happened : List (Happening What)
   pub are_happenings : AreHappenings taking said happened
-  pub legal : Legal rules (history_of rules happened)
   pub text_is : text ≡ text_of rules happened
   pub well_is : is_well ≡ all_accepted rules happened
 

@@ -11,9 +11,9 @@ use Rattle.traffic_replay.specs.inside.Progress.{IsBeforeEvents, IsTold, StandsF
 abbrev pub told_text : (kind : Kind) (station : Station) (IsEarly : Type 0) (said : Said) (text : List ℕ) (is_well : Bool) → IsTold kind station IsEarly said text is_well
     → StationTells kind said text is_well
 told_text ship (at.Ship s) IsEarly said text is_well told =
-    record { happened = told.happened; are_happenings = told.are_happenings; legal = told.stands.0; text_is = told.text_is; well_is = told.well_is }
+    record { happened = told.happened; are_happenings = told.are_happenings; text_is = told.text_is; well_is = told.well_is }
 told_text (coast band) (at.Coast s) IsEarly said text is_well told =
-    record { happened = told.happened; are_happenings = told.are_happenings; legal = told.stands.0; text_is = told.text_is; well_is = told.well_is }
+    record { happened = told.happened; are_happenings = told.are_happenings; text_is = told.text_is; well_is = told.well_is }
 told_text ship (at.Coast s) IsEarly said text is_well told = absurd told
 told_text (coast band) (at.Ship s) IsEarly said text is_well told = absurd told
 
