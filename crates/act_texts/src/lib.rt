@@ -5,5 +5,5 @@ mod acts;
 mod moments;
 mod refusals;
 
-pub use acts::put_act;
-pub use refusals::put_refused;
+pub use acts::append_act_text;
+pub use refusals::append_refusal_text;

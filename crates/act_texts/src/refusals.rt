@@ -7,17 +7,20 @@ use arrayvec::ArrayVec;
 use text_pieces::{append, append_digits};
 use traffic_rules::StationRefusal;
 
-/// A refusal's line at a moment in milliseconds, without the line feed (this project's profile): `0 refused ` and one of
-/// `alertactive`, `noalert`, `nosuchcall 3`, `full`, `needsdelay`, `notsendable`, `nocasualty 338158137` and
-/// `timeback 5 4`.
-pub fn put_refused(at: u32, refusal: &StationRefusal) -> ArrayVec<u8, 96>
-    ensures { result.items ≡ refusal_text at refusal.now }
+/// Appends a refusal's line at a moment in milliseconds, without the line feed, at most 79 bytes (this project's profile):
+/// `0 refused ` and one of `alertactive`, `noalert`, `nosuchcall 3`, `full`, `needsdelay`, `notsendable`,
+/// `nocasualty 338158137` and `timeback 5 4`.
+pub fn append_refusal_text<const N: usize>(
+    out: &mut ArrayVec<u8, N>,
+    at: u32,
+    refusal: &StationRefusal,
+)
+    requires { array_vec_len out.old + 79 ≤ N }
+    ensures { out.new.items ≡ out.old.items ++ refusal_text at refusal.now }
 {
-    let mut out = ArrayVec::new();
-    append_moment(&mut out, at);
-    append(&mut out, b"refused ");
-    append_refusal(&mut out, refusal);
-    out
+    append_moment(out, at);
+    append(out, b"refused ");
+    append_refusal(out, refusal);
 }
 
 /// Appends why an event is refused, which takes at most 50 bytes.

@@ -1,5 +1,5 @@
 -- the steps of the readers of fields
-use Rattle.std.proofs.Common.{◌≡◌, ℕ, List, ◌++◌, Result, Ok, Err, IfOk, IfErr, IsErrAnd, sym, ◌∙◌, ap}
+use Rattle.std.proofs.Common.{◌≡◌, ℕ, true, is_ok, List, ◌++◌, Result, Ok, Err, IfOk, IfErr, IsErrAnd, sym, ◌∙◌, ap}
 use Rattle.line_grammar.specs.Shapes.{Shape, letters, pair, choice}
 use Rattle.line_grammar.specs.inside.Reading.{read_shape, after, behind, and_shape, and_letters, further}
 
@@ -62,3 +62,10 @@ pub choice_shows : {V R : Type 0} (text : V → List ℕ) (now : R → List ℕ)
     → t ≡ further r s → Shows (text_and text now) (read_shape one bytes) r → Shows (text_and text now) (read_shape two bytes) s → Shows (text_and text now) (read_shape (choice one two) bytes) t
 unfolding read_shape
 choice_shows text now one two bytes r s t e h k = further_shows (text_and text now) (read_shape one bytes) (read_shape two bytes) r s t e h k
+
+-- where the first of two shapes was read, that is the answer
+pub first_shows : {V R : Type 0} (text : V → List ℕ) (now : R → List ℕ) (one two : Shape) (bytes : List ℕ) (r : Result (V × R) ℕ)
+    → is_ok r ≡ true → Shows (text_and text now) (read_shape one bytes) r → Shows (text_and text now) (read_shape (choice one two) bytes) r
+unfolding read_shape
+first_shows text now one two bytes (Ok p) ok h = record { value = ap (λ x. further x (read_shape two bytes)) h.value; left = tt }
+first_shows text now one two bytes (Err n) ok h = absurd (cc)

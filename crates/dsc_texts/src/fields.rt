@@ -193,6 +193,9 @@ impl Token for Field {
 
     fn read(bytes: &[u8]) -> Result<(Field, &[u8]), Left> {
         let absent = spelled(b"none", Field::absent(), bytes);
+        if absent.is_ok() {
+            return absent;
+        }
         let told = further(&six_digits(bytes), &eight_digits(bytes));
         further(&absent, &told)
     }

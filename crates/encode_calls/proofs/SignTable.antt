@@ -1,22 +1,22 @@
 -- the signs of dots and of words
-use Rattle.std.proofs.Common.{◌≡◌, ℕ, ◌+◌, ◌<◌, Bool, true, List, [], ◌∷◌, ◌++◌, map, flat_map, slice_index_or, refl, sym, ap, ◌∙◌, arith}
+use Rattle.std.proofs.Common.{◌≡◌, ℕ, ◌<◌, Bool, true, List, [], ◌∷◌, ◌++◌, map, flat_map, slice_index_or, refl, sym, ap, ◌∙◌}
 use Rattle.std.specs.Str.{bytes_eq}
 use Rattle.std.proofs.lemmas.Slice.Eq.{bytes_eq-Decides}
 use Rattle.std.proofs.lemmas.Bool.{agree_below, agree_below_at}
 use Rattle.std.proofs.lemmas.List.{map-append}
-use Rattle.std.proofs.lemmas.List.FromFn.{map-range_with_len_more}
 use Rattle.ten_unit.specs.Word.{word_of}
-use Rattle.phasing.specs.Sent.{dot, dots, dot_count, sent}
+use Rattle.phasing.specs.Sent.{dots, dot_count, sent}
 use Rattle.dsc_lines.specs.JoinLine.{sign_of}
-use Rattle.encode_calls.specs.declared.signs.TheConstants.{WORDS}
+use Rattle.encode_calls.specs.declared.signs.TheConstants.{DOTS, LONG_DOTS, WORDS}
 
-pub no_dots : [] ≡ map sign_of (dots 0)
+-- the signs of both dot patterns
+pub short_dots : DOTS ≡ map sign_of (dots 20)
 unfolding dots
-no_dots = refl
+short_dots = refl
 
-pub dots_more : (n : ℕ) → map sign_of (dots (n + 1)) ≡ map sign_of (dots n) ++ sign_of (dot n) ∷ []
+pub long_dots : LONG_DOTS ≡ map sign_of (dots 200)
 unfolding dots
-dots_more n = ap (map sign_of) (map-range_with_len_more dot 0 n n (omega arith)) ∙ map-append sign_of (dots n) (dot n ∷ [])
+long_dots = refl
 
 -- each row of the table has the signs of its symbol's word
 is_right : ℕ → Bool

@@ -1,31 +1,27 @@
 //! The signs of transmissions: those of the dots, and those of each symbol's word.
-ghost use Rattle.std.specs.Prelude.{◌≡◌, ◌<◌, ◌++◌, All, [], map, slice_index_or, OnOk};
-ghost use Rattle.phasing.specs.Sent.{dot, dots, dot_count, sent};
+ghost use Rattle.std.specs.Prelude.{◌≡◌, ◌<◌, ◌≤◌, ◌++◌, All, [], length, map, slice_index_or, OnOk};
+ghost use Rattle.phasing.specs.Sent.{dots, dot_count, sent};
 ghost use Rattle.ten_unit.specs.Word.{word_of};
 ghost use Rattle.dsc_lines.specs.JoinLine.{sign_of};
 
+use arrayvec::ArrayVec;
 use std::alloc::AllocError;
 
-/// The number of dots.
-fn number_of_dots(long: bool) -> u8
-    ensures { result ≡ dot_count long }
-{
-    if long { 200 } else { 20 }
-}
+/// The signs of the short dot pattern (this project's profile).
+static DOTS: [u8; 20] = *b"BYBYBYBYBYBYBYBYBYBY";
 
-/// The sign of the dot with this number, which is counted from 0.
-fn dot_sign(number: u8) -> u8
-    ensures { result ≡ sign_of (dot number) }
-{
-    if number % 2 == 0 { b'B' } else { b'Y' }
-}
+/// The signs of the long dot pattern (ITU-R M.493, dot pattern).
+static LONG_DOTS: [u8; 200] =
+    *b"BYBYBYBYBYBYBYBYBYBYBYBYBYBYBYBYBYBYBYBYBYBYBYBYBYBYBYBYBYBYBYBYBYBYBYBYBYBYBYBYBYBYBYBYBYBYBYBYBYBYBYBYBYBYBYBYBYBYBYBYBYBYBYBYBYBYBYBYBYBYBYBYBYBYBYBYBYBYBYBYBYBYBYBYBYBYBYBYBYBYBYBYBYBYBYBYBYBYBYBY";
 
-/// Appends the signs of so many dots.
-fn append_dots(out: &mut Vec<u8>, count: u8) -> Result<(), AllocError>
-    ensures { OnOk result (out.new.items ≡ out.old.items ++ map sign_of (dots count)) }
+/// Appends the signs of a dot pattern.
+fn append_dots(out: &mut Vec<u8>, long: bool) -> Result<(), AllocError>
+    ensures { OnOk result (out.new.items ≡ out.old.items ++ map sign_of (dots (dot_count long))) }
 {
-    for number in 0..count {
-        out.push(dot_sign(number))?;
+    if long {
+        out.extend_from_slice(&LONG_DOTS)?;
+    } else {
+        out.extend_from_slice(&DOTS)?;
     }
     Ok(())
 }
@@ -46,15 +42,27 @@ fn word_signs(symbol: u8) -> [u8; 10]
     row(symbol)
 }
 
+/// The signs of the words of these symbols, each in an array.
+fn words_of(slots: &[u8]) -> ArrayVec<[u8; 10], 160>
+    requires length { length slots.now ≤ 140 }
+    requires symbols { All (λ v. v < 128) slots.now }
+    ensures { result.items ≡ map (λ v. map sign_of (word_of v)) slots.now }
+{
+    let mut words = ArrayVec::new();
+    for symbol in slots {
+        words.push(word_signs(*symbol));
+    }
+    words
+}
+
 /// Appends the signs of a transmission, of which the slots show these symbols.
 pub(crate) fn append_signs(out: &mut Vec<u8>, slots: &[u8], long: bool) -> Result<(), AllocError>
-    requires { All (λ v. v < 128) slots.now }
+    requires length { length slots.now ≤ 140 }
+    requires symbols { All (λ v. v < 128) slots.now }
     ensures { OnOk result (out.new.items ≡ out.old.items ++ map sign_of (sent slots.now long)) }
 {
-    append_dots(out, number_of_dots(long))?;
-    for symbol in slots {
-        out.extend_from_slice(&word_signs(*symbol))?;
-    }
+    append_dots(out, long)?;
+    out.extend_from_slice(words_of(slots).as_flattened())?;
     Ok(())
 }
 

@@ -1,4 +1,5 @@
 mod Ranges
+mod Overwritten
 mod Groups
 mod Counting
 mod LineTexts

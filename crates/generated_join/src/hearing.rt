@@ -1,10 +1,11 @@
-ghost use Rattle.std.specs.Prelude.{◌≡◌, ◌+◌, ◌*◌, ◌<◌, ◌≤◌, All, IfOk, length};
+ghost use Rattle.std.specs.Prelude.{◌≡◌, ◌+◌, ◌*◌, ◌<◌, ◌≤◌, ◌++◌, false, IfOk, length, take, drop, replicate};
+ghost use Rattle.ten_unit.specs.declared.character.Element.TheVariants.{B};
+ghost use Rattle.phasing.specs.Sent.{sent};
 ghost use Rattle.generated_join.specs.Generator as generator;
-ghost use Rattle.generated_join.specs.Generator.{heard_of, slot_heard};
+ghost use Rattle.generated_join.specs.Generator.{heard_of};
 
-use phasing::transmission;
 use std::alloc::{AllocError, Global};
-use ten_unit::{Element, word};
+use ten_unit::Element;
 use time_diversity::{dx_slot, rx_slot};
 
 /// So many receivers hear the alert of each group.
@@ -28,38 +29,37 @@ fn is_lost(group: u16, receiver: u16, slot: u16) -> bool
     in_turn || of_lost_place
 }
 
-/// What this receiver hears of a slot that shows a symbol: its word, or nothing but B, which is no word, where the slot is lost.
-fn slot_elements(group: u16, receiver: u16, slot: u16, symbol: u8) -> [Element; 10]
-    requires { (receiver < RECEPTIONS) × (slot ≤ 140) × (symbol < 128) }
-    ensures { result ≡ slot_heard group receiver slot symbol }
+/// Has nothing but B, which is no word, be heard of a slot.
+fn lose(elements: &mut [Element], slot: u16)
+    requires { 20 + 10 * slot + 10 ≤ length elements.old }
+    ensures { elements.new ≡ take (20 + 10 * slot) elements.old
+        ++ (replicate 10 B ++ drop (20 + 10 * slot + 10) elements.old) }
 {
-    if is_lost(group, receiver, slot) {
-        [Element::B; 10]
-    } else {
-        word(symbol)
-    }
+    let begin = 20 + 10 * slot as usize;
+    elements[begin..begin + 10].copy_from_slice(&[Element::B; 10]);
 }
 
-/// What this receiver hears of the group's alert, of which the slots show these symbols, at most 140: the dot pattern of 20
-/// elements, and the slots one after another (ITU-R M.493, dot pattern and time diversity).
+/// What this receiver hears of the group's alert, of which the slots show these symbols, at most 140, and which is sent as this
+/// transmission: the dot pattern of 20 elements, and the slots one after another (ITU-R M.493, dot pattern and time diversity).
 pub(crate) fn heard(
     alloc: Global,
     group: u16,
     receiver: u16,
     slots: &[u8],
+    transmission: &[Element],
 ) -> Result<Vec<Element>, AllocError>
     requires receiver { receiver < RECEPTIONS }
     requires length { length slots.now ≤ 140 }
-    requires symbols { All (λ v. v < 128) slots.now }
+    requires transmission { transmission.now ≡ sent slots.now false }
     ensures items { IfOk result (λ v. v.items ≡ heard_of group receiver slots.now) }
     ensures length { IfOk result (λ v. length v.items ≡ 20 + 10 * length slots.now) }
 {
-    let mut elements = Vec::with_capacity(alloc, 20 + 10 * slots.len())?;
-    elements.extend_from_slice(&transmission(&[], false))?;
+    let mut elements = Vec::with_capacity(alloc, transmission.len())?;
+    elements.extend_from_slice(transmission)?;
     for slot in 0..slots.len() as u16 {
-        let symbol = slots[slot as usize];
-        let shown = slot_elements(group, receiver, slot, symbol);
-        elements.extend_from_slice(&shown)?;
+        if is_lost(group, receiver, slot) {
+            lose(&mut elements, slot);
+        }
     }
     Ok(elements)
 }

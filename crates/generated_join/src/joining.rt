@@ -8,6 +8,7 @@ use crate::alerts::alert;
 use crate::hearing::{RECEPTIONS, heard};
 use crate::summary::Summary;
 use encode_calls::slots_of;
+use phasing::transmission;
 use receiver_pool::Gate;
 use slot_evidence::{Reception, Sheet, shown_by};
 use slot_join::{Joined, report};
@@ -23,9 +24,10 @@ fn answer_to(alloc: Global, group: u16) -> Result<Joined, AllocError>
     ensures { IfOk result (IsAnswer (group_facts (lines_of_group group) group)) }
 {
     let slots = slots_of(&alert(group), &None);
+    let sent = transmission(&slots, false);
     let mut sheet = Sheet::empty();
     for receiver in 0..RECEPTIONS {
-        let elements = heard(alloc, group, receiver, &slots)?;
+        let elements = heard(alloc, group, receiver, &slots, &sent)?;
         let shown = shown_by(&Reception::from(elements));
         sheet.meet(&shown);
     }

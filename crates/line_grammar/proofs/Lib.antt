@@ -15,6 +15,7 @@ pub mod Steps
 pub mod Apart
 pub mod Written
 pub mod NumeralSteps
+pub mod Spelled
 pub mod Repeats
 pub mod Decimals
 pub mod Chains

@@ -36,7 +36,7 @@ passed_none width ranges bytes h =
       same = behind_nothing (read_numeral width ranges 0 bytes);
     }
 
-digits_push : (done n b : ℕ) → is_digit b ≡ true → digits done n ++ (b ∷ []) ≡ digits (suc done) (10 * n + (b - 48))
+pub digits_push : (done n b : ℕ) → is_digit b ≡ true → digits done n ++ (b ∷ []) ≡ digits (suc done) (10 * n + (b - 48))
 unfolding digits
 digits_push done n b h =
     let k = and_parts (nat_le 48 b) (nat_le b 57) h in
@@ -47,7 +47,7 @@ digits_push done n b h =
     let last : b ≡ 48 + next % 10 = omega (arith, low, high) in
     ap (λ (m : ℕ). digits done m ++ (b ∷ [])) front ∙ ap (λ (c : ℕ). digits done (next / 10) ++ (c ∷ [])) last
 
-numeral_more : (more : ℕ) (ranges : List (ℕ × ℕ)) (n b next : ℕ) (back : List ℕ) → next ≡ 10 * n + (b - 48) → (is_digit b && fits more ranges next) ≡ true
+pub numeral_more : (more : ℕ) (ranges : List (ℕ × ℕ)) (n b next : ℕ) (back : List ℕ) → next ≡ 10 * n + (b - 48) → (is_digit b && fits more ranges next) ≡ true
     → read_numeral (suc more) ranges n (b ∷ back) ≡ behind (b ∷ []) (read_numeral more ranges next back)
 unfolding read_numeral
 numeral_more more ranges n b next back f h =

@@ -56,7 +56,7 @@ digits_length (suc width) n =
     let h = digits_length width (n / 10) in
     omega (arith, length-append (digits width (n / 10)) ((48 + n % 10) ∷ []), h)
 
-digit_is : (n : ℕ) → is_digit (48 + n % 10) ≡ true
+pub digit_is : (n : ℕ) → is_digit (48 + n % 10) ≡ true
 digit_is n =
     let d : n % 10 < 10 = omega arith in
     and_from (nat_le 48 (48 + n % 10)) (nat_le (48 + n % 10) 57) (le-leb 48 (48 + n % 10) (omega arith)) (le-leb (48 + n % 10) 57 (omega arith))

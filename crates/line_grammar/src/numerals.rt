@@ -1,4 +1,4 @@
-ghost use Rattle.std.specs.Prelude.{◌≡◌, ℕ, ◌+◌, ◌-◌, ◌*◌, ◌<◌, ◌≤◌, ◌^◌, ◌&&◌, true, false, IfOk, IfErr, MatchOption, Ok, Err};
+ghost use Rattle.std.specs.Prelude.{◌≡◌, ℕ, ◌+◌, ◌-◌, ◌*◌, ◌<◌, ◌≤◌, ◌^◌, ◌&&◌, true, false, ◌++◌, IfOk, IfErr, IfSome, MatchOption, Ok, Err};
 ghost use Rattle.line_grammar.specs.Bytes.{digit_zero};
 ghost use Rattle.line_grammar.specs.Shapes as shape;
 ghost use Rattle.line_grammar.specs.Shapes.{digits, is_within};
@@ -46,8 +46,9 @@ fn with_digit(more: usize, ranges: &[(u64, u64)], number: u64, byte: u8) -> Opti
     }
 }
 
-/// A number of these ranges in so many digits at the front of these bytes, and what follows it.
-pub fn fixed_number<'a>(
+/// A number of these ranges in so many digits at the front of these bytes, and what follows it, digit by digit: so the first that
+/// no number goes on with is found.
+fn digit_by_digit<'a>(
     width: usize,
     ranges: &[(u64, u64)],
     bytes: &'a [u8],
@@ -73,4 +74,50 @@ pub fn fixed_number<'a>(
         rest = back;
     }
     Ok((number, rest))
+}
+
+/// The number that so many digits at the front of these bytes are, and what follows them, where digits they are.
+fn digits_of(width: usize, bytes: &[u8]) -> Option<(u64, &[u8])>
+    requires { width ≤ 10 }
+    ensures { IfSome result (λ parts. bytes.now ≡ digits width parts.0 ++ parts.1.now) }
+{
+    let (front, rest) = bytes.split_at_checked(width)?;
+    let mut number = 0;
+    for byte in front {
+        if !byte.is_ascii_digit() {
+            return None;
+        }
+        number = 10 * number + u64::from(*byte - b'0');
+    }
+    Some((number, rest))
+}
+
+/// Whether one of these ranges has this number.
+fn has(ranges: &[(u64, u64)], number: u64) -> bool
+    ensures { result ≡ is_within ranges.now number }
+{
+    ranges
+        .iter()
+        .any(|range| range.0 <= number && number <= range.1)
+}
+
+/// A number of these ranges in so many digits at the front of these bytes, and what follows it. Only where none is there, the digits are
+/// judged one by one.
+pub fn fixed_number<'a>(
+    width: usize,
+    ranges: &[(u64, u64)],
+    bytes: &'a [u8],
+) -> Result<(u64, &'a [u8]), Left>
+    requires width { width ≤ 10 }
+    requires ranges { are_ranges width ranges.now ≡ true }
+    ensures number { IfOk result (λ parts. (is_within ranges.now parts.0 ≡ true)
+        × (read_shape (shape.fixed_number width ranges.now) bytes.now ≡ Ok (digits width parts.0, parts.1.now))) }
+    ensures left { IfErr result (λ left. read_shape (shape.fixed_number width ranges.now) bytes.now ≡ Err left) }
+{
+    if let Some((number, rest)) = digits_of(width, bytes)
+        && has(ranges, number)
+    {
+        return Ok((number, rest));
+    }
+    digit_by_digit(width, ranges, bytes)
 }

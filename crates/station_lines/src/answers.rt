@@ -5,7 +5,8 @@ ghost use Rattle.line_grammar.specs.Bytes.{line_feed};
 ghost use Rattle.traffic_rules.specs.Giving.{answer_with};
 ghost use Rattle.station_lines.specs.Answers.{act_line, refusal_line, answer_lines};
 
-use act_texts::{put_act, put_refused};
+use act_texts::{append_act_text, append_refusal_text};
+use arrayvec::ArrayVec;
 use std::alloc::AllocError;
 use traffic_rules::{Act, StationRefusal};
 
@@ -23,7 +24,9 @@ fn append_line(out: &mut Vec<u8>, text: &[u8]) -> Result<(), AllocError>
 fn append_act(out: &mut Vec<u8>, at: u32, act: &Act) -> Result<(), AllocError>
     ensures { OnOk result (out.new.items ≡ out.old.items ++ act_line at act.now) }
 {
-    append_line(out, &put_act(at, act))
+    let mut text: ArrayVec<u8, 160> = ArrayVec::new();
+    append_act_text(&mut text, at, act);
+    append_line(out, &text)
 }
 
 /// Appends the lines of acts, each behind what names the station: nothing where an output has one station.
@@ -51,7 +54,9 @@ pub fn append_refusal(
 ) -> Result<(), AllocError>
     ensures { OnOk result (out.new.items ≡ out.old.items ++ refusal_line at refusal.now) }
 {
-    append_line(out, &put_refused(at, refusal))
+    let mut text: ArrayVec<u8, 80> = ArrayVec::new();
+    append_refusal_text(&mut text, at, refusal);
+    append_line(out, &text)
 }
 
 /// Appends the lines of what a station answers, where these are the acts that it gave, and tells whether it accepted the event.

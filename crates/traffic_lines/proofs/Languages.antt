@@ -1,5 +1,5 @@
 -- languages of lines: where one stops, and where one stops that stands behind a front
-use Rattle.std.proofs.Common.{◌≡◌, ℕ, zero, suc, ◌+◌, ◌-◌, ◌<◌, ◌≤◌, min, true, List, ◌∷◌, ◌++◌, length, take, drop, Result, Ok, Err, IsErrAnd, inl, inr, refl, sym, ◌∙◌, ap, subst, append_assoc, length-append, length-drop, arith}
+use Rattle.std.proofs.Common.{◌≡◌, ℕ, zero, suc, ◌+◌, ◌-◌, ◌<◌, ◌≤◌, min, true, List, ◌∷◌, ◌++◌, length, take, drop, Result, Ok, Err, IsErrAnd, inl, inr, refl, sym, ◌∙◌, ap, subst, append_assoc, length-append, length-drop, is_ok, arith}
 use Rattle.std.proofs.lemmas.List.{take-append-drop, take-append-le}
 use Rattle.line_grammar.specs.Columns.{Begins, IsColumn}
 use Rattle.line_grammar.specs.Grammar.{Grammar, either, Parts, Spells}
@@ -99,6 +99,11 @@ further_find M N K L bytes (Err m) (Err n) one two both h k =
 pub further_found : {U V X W : Type 0} (M : U → List ℕ → Type 0) (N : V → List ℕ → Type 0) (K : X → List ℕ → Type 0) (L : W → List ℕ → Type 0) (bytes : List ℕ) (r s t : Result W ℕ)
     → t ≡ further r s → HasLine M → HasLine N → IsChoice M N K → Finds M L bytes r → Finds N L bytes s → Finds K L bytes t
 further_found M N K L bytes r s t e one two both h k = subst (Finds K L bytes) (sym e) (further_find M N K L bytes r s one two both h k)
+
+-- what was found says the same in each language
+pub found_ok : {V X W : Type 0} (M : V → List ℕ → Type 0) (K : X → List ℕ → Type 0) (L : W → List ℕ → Type 0) (bytes : List ℕ) (r : Result W ℕ) → is_ok r ≡ true → Finds M L bytes r → Finds K L bytes r
+found_ok M K L bytes (Ok w) ok h = h
+found_ok M K L bytes (Err n) ok h = absurd (cc)
 
 -- the lines of L are lines of M behind fronts, and the bytes tell where a front ends
 pub record IsBehind {V W : Type 0} (IsFront : List ℕ → Type 0) (M : V → List ℕ → Type 0) (L : W → List ℕ → Type 0) : Type 0 where

@@ -171,11 +171,15 @@ fn heard(bytes: &[u8]) -> Result<Hearing, Left>
     Ok(Hearing::Heard(group as u32))
 }
 
-/// Reads what a station hears.
+/// Reads what a station hears. A call that is heard ends the search.
 fn hearing(bytes: &[u8]) -> Result<Hearing, Left>
     ensures { Finds SaysHearing SaysHearing bytes.now result }
 {
-    further(&hear(bytes), &heard(bytes))
+    let call = hear(bytes);
+    if call.is_ok() {
+        return call;
+    }
+    further(&call, &heard(bytes))
 }
 
 /// Reads an event of a ship's own as one of its file.
@@ -218,16 +222,24 @@ fn hearing_at_coast(bytes: &[u8]) -> Result<CoastLine, Left>
     }
 }
 
-/// Reads an event of a ship.
+/// Reads an event of a ship. What it hears ends the search, since most lines say that.
 pub fn ship_event(bytes: &[u8]) -> Result<ShipLine, Left>
     ensures { Finds IsShipText SaysAtShip bytes.now result }
 {
-    further(&own_at_ship(bytes), &hearing_at_ship(bytes))
+    let heard = hearing_at_ship(bytes);
+    if heard.is_ok() {
+        return heard;
+    }
+    further(&own_at_ship(bytes), &heard)
 }
 
-/// Reads an event of a coast station.
+/// Reads an event of a coast station, in the same order.
 pub fn coast_event(bytes: &[u8]) -> Result<CoastLine, Left>
     ensures { Finds IsCoastText SaysAtCoast bytes.now result }
 {
-    further(&own_at_coast(bytes), &hearing_at_coast(bytes))
+    let heard = hearing_at_coast(bytes);
+    if heard.is_ok() {
+        return heard;
+    }
+    further(&own_at_coast(bytes), &heard)
 }

@@ -9,7 +9,6 @@ mod replaying;
 mod stations;
 mod steps;
 
-pub use act_texts::{put_act, put_refused};
 pub use civil_time::civil_minute;
 pub use command::Replay;
 pub use laws::lines_determine_output;

@@ -1,5 +1,6 @@
 use crate::tests::calls::call_of;
 use act_texts::*;
+use arrayvec::ArrayVec;
 use call_values::{Call, Mmsi};
 use std::test::Fail;
 use traffic_rules::{Act, StationRefusal};
@@ -72,7 +73,9 @@ fn lines_of_acts(rt: HostRuntime) -> Result<(), Fail> {
         ),
     ];
     for (at, act, text) in &rows {
-        assert_eq!(rt; put_act(*at, act).as_slice(), text.as_bytes(), "{text}");
+        let mut line: ArrayVec<u8, 160> = ArrayVec::new();
+        append_act_text(&mut line, *at, act);
+        assert_eq!(rt; line.as_slice(), text.as_bytes(), "{text}");
     }
     Ok(())
 }
@@ -107,11 +110,9 @@ fn lines_of_refusals(rt: HostRuntime) -> Result<(), Fail> {
         ),
     ];
     for (at, refusal, text) in &rows {
-        assert_eq!(rt;
-            put_refused(*at, refusal).as_slice(),
-            text.as_bytes(),
-            "{text}"
-        );
+        let mut line: ArrayVec<u8, 80> = ArrayVec::new();
+        append_refusal_text(&mut line, *at, refusal);
+        assert_eq!(rt; line.as_slice(), text.as_bytes(), "{text}");
     }
     Ok(())
 }

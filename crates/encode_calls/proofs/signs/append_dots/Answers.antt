@@ -1,20 +1,19 @@
-use Rattle.std.proofs.Common.{ℕ, List, ◌∷◌, [], ◌++◌, map, sym, ap, ◌∙◌, append-nil, append_assoc}
-use Rattle.phasing.specs.Sent.{dots}
+use Rattle.std.proofs.Common.{ℕ, Bool, List, ◌++◌, map, sym, ap, ◌∙◌}
+use Rattle.phasing.specs.Sent.{dots, dot_count}
 use Rattle.dsc_lines.specs.JoinLine.{sign_of}
-use Rattle.encode_calls.proofs.SignTable.{no_dots, dots_more}
+use Rattle.encode_calls.proofs.SignTable.{short_dots, long_dots}
 use Rattle.encode_calls.proofs.signs.append_dots.Goals as goal
 
-pub loop-number-init : goal.loop-number-init
-loop-number-init c =
+pub returns-in_ok-extend_from_slice : goal.returns-in_ok-extend_from_slice
+returns-in_ok-extend_from_slice c =
     let out = c.args.out.now.items in
-    sym (append-nil out) ∙ ap (λ (l : List ℕ). out ++ l) no_dots
+    c.in_ok-extend_from_slice.ensures.items
+    ∙ ap (λ (l : List ℕ). out ++ l) long_dots
+    ∙ ap (λ (long : Bool). out ++ map sign_of (dots (dot_count long))) (sym c.if-long.true)
 
-pub loop-number-preserved : goal.loop-number-preserved
-loop-number-preserved c =
+pub returns-in_ok-extend_from_slice-2 : goal.returns-in_ok-extend_from_slice-2
+returns-in_ok-extend_from_slice-2 c =
     let out = c.args.out.now.items in
-    let n = c.loop-number.number in
-    c.in_ok-push.ensures.items
-    ∙ ap (λ (l : List ℕ). l ++ c.dot_sign.result ∷ []) c.loop-number.invariant
-    ∙ append_assoc out (map sign_of (dots n)) (c.dot_sign.result ∷ [])
-    ∙ ap (λ (b : ℕ). out ++ (map sign_of (dots n) ++ b ∷ [])) c.dot_sign.ensures
-    ∙ ap (λ (l : List ℕ). out ++ l) (sym (dots_more n))
+    c.in_ok-extend_from_slice-2.ensures.items
+    ∙ ap (λ (l : List ℕ). out ++ l) short_dots
+    ∙ ap (λ (long : Bool). out ++ map sign_of (dots (dot_count long))) (sym c.if-long.false)

@@ -1,36 +1,34 @@
-use Rattle.std.proofs.Common.{◌≡◌, ℕ, ◌++◌, List, flat_map, length, slice_index, sym, ap, ◌∙◌, append_assoc, length-append, arith}
-use Rattle.std.specs.List.{range_with_len}
+use Rattle.std.proofs.Common.{◌≡◌, ◌+◌, ◌*◌, ◌++◌, List, length, take, drop, replicate, ◌∙◌, sym, ap, subst, arith}
+use Rattle.std.proofs.lemmas.List.{with_items_is}
 use Rattle.ten_unit.specs.declared.character.Element.{Element}
-use Rattle.phasing.specs.Sent.{dots, sent}
-use Rattle.generated_join.specs.Generator.{heard_of, slot_heard}
-use Rattle.generated_join.proofs.Ranges.{flat_more}
+use Rattle.ten_unit.specs.declared.character.Element.TheVariants.{B}
+use Rattle.generated_join.proofs.Overwritten.{Overwritten, overwritten_none, overwritten_kept, overwritten_lost, overwritten_all, slot_inside}
 use Rattle.generated_join.proofs.hearing.heard.Goals as goal
+use Rattle.generated_join.proofs.hearing.heard.Goals.{then-is_lost, else-is_lost}
 
 pub loop-slot-init : goal.loop-slot-init
-unfolding sent
 loop-slot-init c =
-    let items = c.in_ok-extend_from_slice.ensures.items
-    ∙ ap (λ (l : List Element). l ++ c.deref.result.now) c.in_ok-elements.ensures.items
-    ∙ c.deref.ensures.0 in
-    record { heard = items ∙ c.transmission.ensures.sent; long = ap length items ∙ c.transmission.ensures.length }
+    overwritten_none _ _ _ _ (c.in_ok-extend_from_slice.ensures.items ∙ ap (λ (l : List Element). l ++ c.args.transmission.now) c.in_ok-elements.ensures.items ∙ c.requires.transmission)
+
+pub lose-requires : goal.lose-requires
+lose-requires c =
+    let room = slot_inside _ _ _ _ _ c.loop-slot.invariant c.loop-slot-test.true in
+    omega (arith, room, ap length c.deref_mut.ensures.value)
 
 pub loop-slot-preserved : goal.loop-slot-preserved
 loop-slot-preserved c =
-    let f : ℕ → List Element = λ slot. slot_heard c.args.group c.args.receiver slot (slice_index c.args.slots.now slot) in
     let n = c.loop-slot.slot in
-    let before = flat_map f (range_with_len 0 n) in
-    let shown = c.slot_elements-shown.result in
-    let items = c.in_ok-extend_from_slice-2.ensures.items in
-    record {
-      heard = items ∙ ap (λ (l : List Element). l ++ shown) c.loop-slot.invariant.heard
-          ∙ append_assoc (dots 20) before shown
-          ∙ ap (λ (l : List Element). dots 20 ++ l) (ap (λ (l : List Element). before ++ l) c.slot_elements-shown.ensures ∙ sym (flat_more f n));
-      long = omega (arith, ap length items, length-append c.loop-slot.elements.items shown, c.loop-slot.invariant.long);
-    }
+    elim c.if-is_lost.branch [
+      | then-is_lost w ↦
+          let new = w.lose.ensures ∙ ap (λ (l : List Element). take (20 + 10 * n) l ++ (replicate 10 B ++ drop (20 + 10 * n + 10) l)) w.deref_mut.ensures.value in
+          let items = ap (λ v. v.items) w.elements-is ∙ with_items_is c.loop-slot.elements w.lose.new.elements (w.lose.auto.elements ∙ w.deref_mut.ensures.len) in
+          overwritten_lost _ _ _ _ _ _ c.loop-slot.invariant c.loop-slot-test.true (sym w.if-is_lost.ensures) (items ∙ new)
+      | else-is_lost w ↦
+          subst (λ v. Overwritten c.args.group c.args.receiver c.args.slots.now (n + 1) v.items) (sym w.elements-is)
+          (overwritten_kept _ _ _ _ _ c.loop-slot.invariant c.loop-slot-test.true (sym w.if-is_lost.ensures))
+    ]
 
 pub returns-clause-items : goal.returns-clause-items
-unfolding heard_of
 returns-clause-items c =
-    let f : ℕ → List Element = λ slot. slot_heard c.args.group c.args.receiver slot (slice_index c.args.slots.now slot) in
     let all : c.loop-slot.slot ≡ length c.args.slots.now = omega arith in
-    c.loop-slot.invariant.heard ∙ ap (λ (n : ℕ). dots 20 ++ flat_map f (range_with_len 0 n)) all
+    overwritten_all _ _ _ _ _ c.loop-slot.invariant all

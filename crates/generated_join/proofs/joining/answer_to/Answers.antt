@@ -18,7 +18,7 @@ pub loop-receiver-preserved : goal.loop-receiver-preserved
 loop-receiver-preserved c =
     let k = c.args.group in
     let n = c.loop-receiver.receiver in
-    let symbols = c.deref.ensures.0 ∙ c.slots_of-slots.ensures.slots ∙ ap (λ (call : Call). on_air (list_on_air call None)) c.alert.ensures
+    let symbols = c.deref-in-loop-receiver.ensures.0 ∙ c.slots_of-slots.ensures.slots ∙ ap (λ (call : Call). on_air (list_on_air call None)) c.alert.ensures
     ∙ ap (λ (l : List ℕ). on_air l) (append-nil (spell (alert_of k))) in
     let same : c.from.result ≡ heard k n = c.from.ensures ∙ c.in_ok-elements.ensures.items ∙ ap (λ (l : List ℕ). heard_of k n l) symbols in
     let shown = subst (λ (e : List Element). IsEnds (facts_of e) c.shown_by-shown.result) same c.shown_by-shown.ensures in
