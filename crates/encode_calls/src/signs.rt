@@ -1,5 +1,6 @@
 //! The signs of transmissions: those of the dots, and those of each symbol's word.
-ghost use Rattle.std.specs.Prelude.{◌≡◌, ◌<◌, ◌≤◌, ◌++◌, All, [], length, map, slice_index_or, OnOk};
+ghost use Rattle.std.specs.Prelude.{◌≡◌, ◌<◌, ◌≤◌, ◌+◌, ◌++◌, All, [], length, map, slice_index_or, OnOk};
+ghost use Rattle.arrayvec.specs.ArrayVec.{array_vec_len};
 ghost use Rattle.phasing.specs.Sent.{dots, dot_count, sent};
 ghost use Rattle.ten_unit.specs.Word.{word_of};
 ghost use Rattle.dsc_lines.specs.JoinLine.{sign_of};
@@ -42,17 +43,15 @@ fn word_signs(symbol: u8) -> [u8; 10]
     row(symbol)
 }
 
-/// The signs of the words of these symbols, each in an array.
-fn words_of(slots: &[u8]) -> ArrayVec<[u8; 10], 160>
-    requires length { length slots.now ≤ 140 }
+/// Appends the signs of the words of these symbols, each word in an array.
+fn append_words(words: &mut ArrayVec<[u8; 10], 160>, slots: &[u8])
+    requires length { array_vec_len words.old + length slots.now ≤ 160 }
     requires symbols { All (λ v. v < 128) slots.now }
-    ensures { result.items ≡ map (λ v. map sign_of (word_of v)) slots.now }
+    ensures { words.new.items ≡ words.old.items ++ map (λ v. map sign_of (word_of v)) slots.now }
 {
-    let mut words = ArrayVec::new();
     for symbol in slots {
         words.push(word_signs(*symbol));
     }
-    words
 }
 
 /// Appends the signs of a transmission, of which the slots show these symbols.
@@ -62,7 +61,9 @@ pub(crate) fn append_signs(out: &mut Vec<u8>, slots: &[u8], long: bool) -> Resul
     ensures { OnOk result (out.new.items ≡ out.old.items ++ map sign_of (sent slots.now long)) }
 {
     append_dots(out, long)?;
-    out.extend_from_slice(words_of(slots).as_flattened())?;
+    let mut words = ArrayVec::new();
+    append_words(&mut words, slots);
+    out.extend_from_slice(words.as_flattened())?;
     Ok(())
 }
 

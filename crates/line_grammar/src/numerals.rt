@@ -48,6 +48,7 @@ fn with_digit(more: usize, ranges: &[(u64, u64)], number: u64, byte: u8) -> Opti
 
 /// A number of these ranges in so many digits at the front of these bytes, and what follows it, digit by digit: so the first that
 /// no number goes on with is found.
+#[inline(never)]
 fn digit_by_digit<'a>(
     width: usize,
     ranges: &[(u64, u64)],
@@ -77,6 +78,7 @@ fn digit_by_digit<'a>(
 }
 
 /// The number that so many digits at the front of these bytes are, and what follows them, where digits they are.
+#[inline(always)]
 fn digits_of(width: usize, bytes: &[u8]) -> Option<(u64, &[u8])>
     requires { width ≤ 10 }
     ensures { IfSome result (λ parts. bytes.now ≡ digits width parts.0 ++ parts.1.now) }
@@ -93,6 +95,7 @@ fn digits_of(width: usize, bytes: &[u8]) -> Option<(u64, &[u8])>
 }
 
 /// Whether one of these ranges has this number.
+#[inline(always)]
 fn has(ranges: &[(u64, u64)], number: u64) -> bool
     ensures { result ≡ is_within ranges.now number }
 {
@@ -102,7 +105,8 @@ fn has(ranges: &[(u64, u64)], number: u64) -> bool
 }
 
 /// A number of these ranges in so many digits at the front of these bytes, and what follows it. Only where none is there, the digits are
-/// judged one by one.
+/// judged one by one. Where the width and the ranges are constants, the loops fold.
+#[inline(always)]
 pub fn fixed_number<'a>(
     width: usize,
     ranges: &[(u64, u64)],

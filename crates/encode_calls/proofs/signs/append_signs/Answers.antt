@@ -12,7 +12,7 @@ returns c =
     let slots = c.args.slots.now in
     let front = map sign_of (dots (dot_count c.args.long)) in
     let words = flat_map (λ v. map sign_of (word_of v)) slots in
-    let arrays = c.deref.ensures.0 ∙ c.words_of.ensures in
+    let arrays = c.deref.ensures.0 ∙ c.append_words.ensures ∙ ap (λ (l : List (List ℕ)). l ++ map (λ v. map sign_of (word_of v)) slots) c.new-words.ensures in
     let flat = c.as_flattened.ensures.value
     ∙ ap (λ (l : List (List ℕ)). flat_map (λ x. x) l) arrays
     ∙ flat_map-map (λ x. x) (λ v. map sign_of (word_of v)) slots in
