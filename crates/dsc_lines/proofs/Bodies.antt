@@ -1,9 +1,10 @@
 -- reading bodies of signs
-use Rattle.std.proofs.Common.{◌≡◌, ◌≢◌, ℕ, suc, ◌≤◌, ◌==◌, ◌||◌, true, false, List, [], ◌∷◌, ◌++◌, length, map, codes, Ok, Err, inl, inr, refl, sym, ◌∙◌, ap, subst, append-nil, arith}
+use Rattle.std.proofs.Common.{◌≡◌, ◌≢◌, ℕ, suc, ◌≤◌, ◌==◌, ◌||◌, true, false, List, [], ◌∷◌, ◌++◌, length, map, codes, Result, Option, Some, None, IfOk, IfSome, Ok, Err, inl, inr, refl, sym, ◌∙◌, ap, subst, append-nil, arith}
 use Rattle.std.specs.List.{list_all}
 use Rattle.std.proofs.lemmas.Bool.{or_cases, eqb-true, and_parts, and_from}
 use Rattle.ten_unit.specs.declared.character.Element.{Element}
 use Rattle.ten_unit.specs.declared.character.Element.TheVariants.{Y, B, Lost}
+use Rattle.ten_unit.specs.Signs as sign
 use Rattle.line_grammar.specs.Tokens.{run, is_one_of, IsToken}
 use Rattle.line_grammar.specs.Grammar.{Grammar, finish, word, none}
 use Rattle.line_grammar.specs.inside.Reading.{after, ended, read_token, read}
@@ -91,3 +92,27 @@ no_line_end bytes rest front back left h k m = word_on (codes " ") signs bytes r
 pub signs_behind_blank : IsBehindBlank signs
 unfolding read read_token
 signs_behind_blank = record { sound = refl; no_group = λ bytes. refl }
+
+-- signs that were packed are a body
+one_of_signs : (b : ℕ) → sign.is_sign b ≡ true → is_one_of (codes "YB-") b ≡ true
+one_of_signs b h =
+    elim (or_cases (b == 89) ((b == 66) || (b == 45)) h) [
+      | inl y ↦ subst (λ (x : ℕ). is_one_of (codes "YB-") x ≡ true) (sym (eqb-true b 89 y)) refl
+      | inr other ↦ (elim (or_cases (b == 66) (b == 45) other) [
+        | inl n ↦ subst (λ (x : ℕ). is_one_of (codes "YB-") x ≡ true) (sym (eqb-true b 66 n)) refl
+        | inr lost ↦ subst (λ (x : ℕ). is_one_of (codes "YB-") x ≡ true) (sym (eqb-true b 45 lost)) refl
+      ])
+    ]
+
+all_of_signs : (bytes : List ℕ) → list_all sign.is_sign bytes ≡ true → list_all (is_one_of (codes "YB-")) bytes ≡ true
+all_of_signs [] h = refl
+all_of_signs (b ∷ bytes) h =
+    let k = and_parts (sign.is_sign b) (list_all sign.is_sign bytes) h in
+    and_from (is_one_of (codes "YB-") b) (list_all (is_one_of (codes "YB-")) bytes) (one_of_signs b k.0) (all_of_signs bytes k.1)
+
+pub packed_body_of : {E : Type 0} (bytes front : List ℕ) (b : ℕ) (r : Result (Option (List Element)) E) → bytes ≡ b ∷ front → b ≡ 32 → (length front ≡ 0 → ⊥)
+    → IfOk r (λ read. IfSome read (λ e. (list_all sign.is_sign front ≡ true) × (e ≡ map element_of front))) → IfOk r (λ read. IfSome read (λ e. bytes ≡ body_text e))
+packed_body_of bytes front b (Ok (Some e)) list blank some is =
+    body_of bytes front (λ (e : front ≡ []). some (ap length e)) (all_of_signs front is.0) (list ∙ ap (λ (x : ℕ). x ∷ front) blank) ∙ ap body_text (sym is.1)
+packed_body_of bytes front b (Ok None) list blank some is = tt
+packed_body_of bytes front b (Err e) list blank some is = tt

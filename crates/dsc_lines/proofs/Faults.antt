@@ -1,5 +1,6 @@
 -- where a line is ill-formed
-use Rattle.std.proofs.Common.{◌≡◌, ℕ, zero, suc, ◌+◌, ◌≤◌, ◌<◌, min, true, List, [], ◌∷◌, ◌++◌, length, map, codes, Err, refl, sym, ◌∙◌, ap, subst, append_assoc, arith}
+use Rattle.ten_unit.specs.declared.character.Element.{Element}
+use Rattle.std.proofs.Common.{◌≡◌, ℕ, zero, suc, ◌+◌, ◌≤◌, ◌<◌, min, true, List, [], ◌∷◌, ◌++◌, length, map, codes, Option, Some, IfSome, Err, refl, sym, ◌∙◌, ap, subst, append_assoc, arith}
 use Rattle.std.specs.List.{flat_map, All}
 use Rattle.line_grammar.specs.Columns.{IsColumn}
 use Rattle.line_grammar.specs.Grammar.{finish, anything, word, either}
@@ -80,6 +81,15 @@ column_of text left n s e = IsColumn-stops IsLine text left n s e
 pub reception_read : (text rest name front : List ℕ) (group : ℕ) → text ≡ 114 ∷ rest → NamesGroup group name → rest ≡ name ++ body_text (map element_of front) → IsLine (reception group (map element_of front)) text
 reception_read text rest name front group e names h =
     (name, (names, e ∙ ap (λ (l : List ℕ). 114 ∷ l) h ∙ sym (append_assoc (codes "r") name (body_text (map element_of front)))))
+
+abbrev IsPacked : List ℕ → ℕ × List Element → Type 0
+IsPacked rest parts = (name : List ℕ) × (NamesGroup parts.0 name × (rest ≡ name ++ body_text parts.1))
+
+pub packed_read : (read : Option (ℕ × List Element)) (text rest : List ℕ) (group : ℕ) (e : List Element) → read ≡ Some (group, e) → text ≡ 114 ∷ rest
+    → IfSome read (IsPacked rest) → IsLine (reception group e) text
+packed_read read text rest group e here is packed =
+    let line = subst (λ (o : Option (ℕ × List Element)). IfSome o (IsPacked rest)) here packed in
+    (line.0, (line.1.0, is ∙ ap (λ (l : List ℕ). 114 ∷ l) line.1.1 ∙ sym (append_assoc (codes "r") line.0 (body_text e))))
 
 pub evidence_read : (text rest name : List ℕ) (pairs : List (ℕ × ℕ)) (group : ℕ) → text ≡ 101 ∷ rest → NamesGroup group name → All IsPair pairs → rest ≡ name ++ flat_map pair_text pairs → IsLine (evidence group pairs) text
 evidence_read text rest name pairs group e names all h =

@@ -1,5 +1,5 @@
 //! Lines of receptions.
-ghost use Rattle.std.specs.Prelude.{◌≡◌, ◌∷◌, ◌++◌, ℕ, List, map, codes, IfOk, IfErr, Err};
+ghost use Rattle.std.specs.Prelude.{◌≡◌, ◌∷◌, ◌++◌, ℕ, List, map, codes, IfOk, IfErr, IfSome, Err};
 ghost use Rattle.std.specs.List.{list_all};
 ghost use Rattle.line_grammar.specs.Bytes.{letter_r};
 ghost use Rattle.line_grammar.specs.Tokens as tokens;
@@ -88,7 +88,35 @@ fn list_of(alloc: Global, signs: &[u8]) -> Result<Vec<Element>, AllocError>
 pub(crate) fn elements_of(alloc: Global, signs: &[u8]) -> Result<Reception, AllocError>
     ensures { IfOk result (λ elements. elements ≡ map reading.element_of signs.now) }
 {
-    Ok(Reception::from(list_of(alloc, signs)?))
+    let list = list_of(alloc, signs)?;
+    Ok(Reception::of_elements(alloc, &list)?)
+}
+
+/// The elements of a body of at least one, read 64 signs at once. `None` comes where no such body stands there.
+fn packed_body(alloc: Global, bytes: &[u8]) -> Result<Option<Reception>, AllocError>
+    ensures { IfOk result (λ read. IfSome read (λ elements. bytes.now ≡ body_text elements)) }
+{
+    let Some((blank, signs)) = bytes.split_first() else {
+        return Ok(None);
+    };
+    if *blank != b' ' || signs.is_empty() {
+        return Ok(None);
+    }
+    Reception::of_signs(alloc, signs)
+}
+
+/// The group and the elements of a reception, behind its `r`, where it has some. Most lines are read by this.
+fn packed_line(alloc: Global, bytes: &[u8]) -> Result<Option<(u32, Reception)>, AllocError>
+    ensures { IfOk result (λ read. IfSome read (λ parts. (name : List ℕ)
+        × (NamesGroup parts.0 name × (bytes.now ≡ name ++ body_text parts.1)))) }
+{
+    let Ok((group, body)) = group(bytes) else {
+        return Ok(None);
+    };
+    let Some(elements) = packed_body(alloc, body)? else {
+        return Ok(None);
+    };
+    Ok(Some((group, elements)))
 }
 
 /// Reads a reception, which is this line behind its `r`.
@@ -96,6 +124,9 @@ pub(crate) fn reception_line(alloc: Global, line: &[u8], rest: &[u8]) -> Result<
     requires { line.now ≡ letter_r ∷ rest.now }
     ensures { ReadsJoin line.now result }
 {
+    if let Some((group, elements)) = packed_line(alloc, rest)? {
+        return Ok(JoinLine::Reception { group, elements });
+    }
     match group_and_signs(rest) {
         Ok((group, signs)) => {
             let elements = elements_of(alloc, signs)?;

@@ -9,4 +9,5 @@ mod transmissions;
 
 pub use command::{Dots, Encode, LongDots, ShortDots};
 pub use laws::lines_determine_output;
+pub use signs::append_signs;
 pub use transmissions::slots_of;

@@ -1,11 +1,9 @@
 //! The signs of transmissions: those of the dots, and those of each symbol's word.
-ghost use Rattle.std.specs.Prelude.{◌≡◌, ◌<◌, ◌≤◌, ◌+◌, ◌++◌, All, [], length, map, slice_index_or, OnOk};
-ghost use Rattle.arrayvec.specs.ArrayVec.{array_vec_len};
+ghost use Rattle.std.specs.Prelude.{◌≡◌, ◌<◌, ◌≤◌, ◌++◌, All, [], length, map, slice_index_or, OnOk};
 ghost use Rattle.phasing.specs.Sent.{dots, dot_count, sent};
 ghost use Rattle.ten_unit.specs.Word.{word_of};
 ghost use Rattle.dsc_lines.specs.JoinLine.{sign_of};
 
-use arrayvec::ArrayVec;
 use std::alloc::AllocError;
 
 /// The signs of the short dot pattern (this project's profile).
@@ -43,27 +41,20 @@ fn word_signs(symbol: u8) -> [u8; 10]
     row(symbol)
 }
 
-/// Appends the signs of the words of these symbols, each word in an array.
-fn append_words(words: &mut ArrayVec<[u8; 10], 160>, slots: &[u8])
-    requires length { array_vec_len words.old + length slots.now ≤ 160 }
-    requires symbols { All (λ v. v < 128) slots.now }
-    ensures { words.new.items ≡ words.old.items ++ map (λ v. map sign_of (word_of v)) slots.now }
-{
-    for symbol in slots {
-        words.push(word_signs(*symbol));
-    }
-}
-
-/// Appends the signs of a transmission, of which the slots show these symbols.
-pub(crate) fn append_signs(out: &mut Vec<u8>, slots: &[u8], long: bool) -> Result<(), AllocError>
+/// Appends the signs of a transmission, of which the slots show these symbols: at most 140, each below 128. They are those of the dot
+/// pattern, 200 where it is long, and else 20, and ten of each slot's word (ITU-R M.493, dot pattern and the ten-unit code). The error is
+/// want of memory.
+pub fn append_signs(out: &mut Vec<u8>, slots: &[u8], long: bool) -> Result<(), AllocError>
     requires length { length slots.now ≤ 140 }
     requires symbols { All (λ v. v < 128) slots.now }
     ensures { OnOk result (out.new.items ≡ out.old.items ++ map sign_of (sent slots.now long)) }
 {
     append_dots(out, long)?;
-    let mut words = ArrayVec::new();
-    append_words(&mut words, slots);
-    out.extend_from_slice(words.as_flattened())?;
+    let mut words = [[b'-'; 10]; 140];
+    for number in 0..slots.len() {
+        words[number] = word_signs(slots[number]);
+    }
+    out.extend_from_slice(words[..slots.len()].as_flattened())?;
     Ok(())
 }
 

@@ -1,14 +1,16 @@
 -- lost slots are overwritten in what was sent
-use Rattle.std.proofs.Common.{◌≡◌, ℕ, ◌+◌, ◌*◌, ◌<◌, ◌≤◌, ◌++◌, List, flat_map, take, drop, length, slice_index, replicate, false, true, refl, sym, ap, ◌∙◌, append_assoc, append-nil, length-append, arith}
-use Rattle.std.specs.List.{range_with_len}
-use Rattle.std.proofs.lemmas.Bool.{cond-true, cond-false}
-use Rattle.std.proofs.lemmas.List.{drop_all, drop_more, take_at, drop_at}
+use Rattle.std.proofs.Common.{◌≡◌, ℕ, ◌+◌, ◌*◌, ◌<◌, ◌≤◌, ◌++◌, List, [], ◌∷◌, Option, Some, None, IfSome, IsSome, IsNone, map, flat_map, take, drop, length, slice_index, replicate, false, true, refl, sym, ap, subst, ◌∙◌, append_assoc, append-nil, length-append, arith}
+use Rattle.std.specs.List.{range_with_len, list_all}
+use Rattle.std.proofs.lemmas.Bool.{cond-true, cond-false, and_from, both_ways}
+use Rattle.std.proofs.lemmas.List.{drop_all, drop_more, take_at, drop_at, take-map, drop-map, map-append, length-map}
 use Rattle.std.proofs.lemmas.List.FromFn.{length-map-range_with_len}
 use Rattle.ten_unit.specs.declared.character.Element.{Element}
-use Rattle.ten_unit.specs.declared.character.Element.TheVariants.{B}
+use Rattle.ten_unit.specs.declared.character.Element.TheVariants.{Y, B, Lost}
 use Rattle.ten_unit.specs.Word.{word_of}
+use Rattle.ten_unit.specs.Signs.{element_of, is_sign}
 use Rattle.ten_unit.proofs.PublicLaws.{length-word}
 use Rattle.phasing.specs.Sent.{dot, dots, sent}
+use Rattle.dsc_lines.specs.JoinLine.{sign_of}
 use Rattle.generated_join.specs.Generator.{heard_of, is_lost, slot_heard}
 use Rattle.generated_join.proofs.Ranges.{flat_more}
 
@@ -86,3 +88,72 @@ overwritten_all k j slots n elements o all =
     ∙ append-nil o.front
     ∙ o.heard
     ∙ ap (λ (m : ℕ). dots 20 ++ flat_map f (range_with_len 0 m)) all
+
+-- the same of the signs
+pub record SignsOverwritten (k j : ℕ) (slots : List ℕ) (n : ℕ) (signs : List ℕ) : Type 0 where
+  pub elements : List Element
+  pub overwritten : Overwritten k j slots n elements
+  pub are : signs ≡ map sign_of elements
+
+pub signs_none : (k j : ℕ) (slots signs : List ℕ) → signs ≡ map sign_of (sent slots false) → SignsOverwritten k j slots 0 signs
+signs_none k j slots signs e = record { elements = sent slots false; overwritten = overwritten_none k j slots (sent slots false) refl; are = e }
+
+pub sign_inside : (k j : ℕ) (slots : List ℕ) (n : ℕ) (signs : List ℕ) → SignsOverwritten k j slots n signs → n < length slots → 20 + 10 * n + 10 ≤ length signs
+sign_inside k j slots n signs o inside =
+    omega (arith, slot_inside k j slots n o.elements o.overwritten inside, ap length o.are, length-map {B = ℕ} o.elements)
+
+pub signs_kept : (k j : ℕ) (slots : List ℕ) (n : ℕ) (signs : List ℕ) → SignsOverwritten k j slots n signs → n < length slots → is_lost k j n ≡ false → SignsOverwritten k j slots (n + 1) signs
+signs_kept k j slots n signs o inside h = record { elements = o.elements; overwritten = overwritten_kept k j slots n o.elements o.overwritten inside h; are = o.are }
+
+pub signs_lost : (k j : ℕ) (slots : List ℕ) (n : ℕ) (signs new : List ℕ) → SignsOverwritten k j slots n signs → n < length slots → is_lost k j n ≡ true
+    → new ≡ take (20 + 10 * n) signs ++ (map sign_of (replicate 10 B) ++ drop (20 + 10 * n + 10) signs) → SignsOverwritten k j slots (n + 1) new
+signs_lost k j slots n signs new o inside h e =
+    let at = 20 + 10 * n in
+    let past = 20 + 10 * n + 10 in
+    let front = take at o.elements in
+    let back = drop past o.elements in
+    record {
+      elements = front ++ (replicate 10 B ++ back);
+      overwritten = overwritten_lost k j slots n o.elements (front ++ (replicate 10 B ++ back)) o.overwritten inside h refl;
+      are =
+          e
+          ∙ ap (λ (l : List ℕ). take at l ++ (map sign_of (replicate 10 B) ++ drop past l)) o.are
+          ∙ ap (λ (l : List ℕ). l ++ (map sign_of (replicate 10 B) ++ drop past (map sign_of o.elements))) (take-map sign_of at o.elements)
+          ∙ ap (λ (l : List ℕ). map sign_of front ++ (map sign_of (replicate 10 B) ++ l)) (drop-map sign_of past o.elements)
+          ∙ ap (λ (l : List ℕ). map sign_of front ++ l) (sym (map-append sign_of (replicate 10 B) back))
+          ∙ sym (map-append sign_of front (replicate 10 B ++ back));
+    }
+
+pub signs_all : (k j : ℕ) (slots : List ℕ) (n : ℕ) (signs : List ℕ) → SignsOverwritten k j slots n signs → n ≡ length slots → signs ≡ map sign_of (heard_of k j slots)
+signs_all k j slots n signs o all = o.are ∙ ap (map sign_of) (overwritten_all k j slots n o.elements o.overwritten all)
+
+-- signs of elements are signs, and tell the elements
+element_again : (e : Element) → element_of (sign_of e) ≡ e
+element_again Y = refl
+element_again B = refl
+element_again Lost = refl
+
+pub elements_again : (e : List Element) → map element_of (map sign_of e) ≡ e
+elements_again [] = refl
+elements_again (x ∷ e) = ap (λ (y : Element). y ∷ map element_of (map sign_of e)) (element_again x) ∙ ap (λ (l : List Element). x ∷ l) (elements_again e)
+
+one_sign : (e : Element) → is_sign (sign_of e) ≡ true
+one_sign Y = refl
+one_sign B = refl
+one_sign Lost = refl
+
+pub are_signs : (e : List Element) → list_all is_sign (map sign_of e) ≡ true
+are_signs [] = refl
+are_signs (x ∷ e) = and_from (is_sign (sign_of x)) (list_all is_sign (map sign_of e)) (one_sign x) (are_signs e)
+
+-- they are packed
+pub packed : (signs : List ℕ) (e : List Element) (read : Option (List Element)) → signs ≡ map sign_of e → (IsNone read → list_all is_sign signs ≡ false) → IsSome read
+packed signs e (Some x) are none = refl
+packed signs e None are none = absurd (both_ways (list_all is_sign signs) (none refl) (ap (list_all is_sign) are ∙ are_signs e))
+
+pub packed_elements : (signs : List ℕ) (e p : List Element) (read : Option (List Element)) → signs ≡ map sign_of e → read ≡ Some p
+    → IfSome read (λ p. (list_all is_sign signs ≡ true) × (p ≡ map element_of signs)) → p ≡ e
+packed_elements signs e p read are is some =
+    (subst (λ (o : Option (List Element)). IfSome o (λ p. (list_all is_sign signs ≡ true) × (p ≡ map element_of signs))) is some).1
+    ∙ ap (map element_of) are
+    ∙ elements_again e

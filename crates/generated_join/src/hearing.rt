@@ -1,11 +1,11 @@
-ghost use Rattle.std.specs.Prelude.{◌≡◌, ◌+◌, ◌*◌, ◌<◌, ◌≤◌, ◌++◌, false, IfOk, length, take, drop, replicate};
+ghost use Rattle.std.specs.Prelude.{◌≡◌, ◌+◌, ◌*◌, ◌<◌, ◌≤◌, ◌++◌, false, IfOk, length, map, take, drop, replicate};
 ghost use Rattle.ten_unit.specs.declared.character.Element.TheVariants.{B};
 ghost use Rattle.phasing.specs.Sent.{sent};
+ghost use Rattle.dsc_lines.specs.JoinLine.{sign_of};
 ghost use Rattle.generated_join.specs.Generator as generator;
 ghost use Rattle.generated_join.specs.Generator.{heard_of};
 
 use std::alloc::{AllocError, Global};
-use ten_unit::Element;
 use time_diversity::{dx_slot, rx_slot};
 
 /// So many receivers hear the alert of each group.
@@ -30,36 +30,36 @@ fn is_lost(group: u16, receiver: u16, slot: u16) -> bool
 }
 
 /// Has nothing but B, which is no word, be heard of a slot.
-fn lose(elements: &mut [Element], slot: u16)
-    requires { 20 + 10 * slot + 10 ≤ length elements.old }
-    ensures { elements.new ≡ take (20 + 10 * slot) elements.old
-        ++ (replicate 10 B ++ drop (20 + 10 * slot + 10) elements.old) }
+fn lose(signs: &mut [u8], slot: u16)
+    requires { 20 + 10 * slot + 10 ≤ length signs.old }
+    ensures { signs.new ≡ take (20 + 10 * slot) signs.old
+        ++ (map sign_of (replicate 10 B) ++ drop (20 + 10 * slot + 10) signs.old) }
 {
     let begin = 20 + 10 * slot as usize;
-    elements[begin..begin + 10].copy_from_slice(&[Element::B; 10]);
+    signs[begin..begin + 10].copy_from_slice(b"BBBBBBBBBB");
 }
 
-/// What this receiver hears of the group's alert, of which the slots show these symbols, at most 140, and which is sent as this
-/// transmission: the dot pattern of 20 elements, and the slots one after another (ITU-R M.493, dot pattern and time diversity).
+/// The signs of what this receiver hears of the group's alert, of which the slots show these symbols, at most 140, and which is sent as
+/// this transmission: the dot pattern of 20 elements, and the slots one after another (ITU-R M.493, dot pattern and time diversity).
 pub(crate) fn heard(
     alloc: Global,
     group: u16,
     receiver: u16,
     slots: &[u8],
-    transmission: &[Element],
-) -> Result<Vec<Element>, AllocError>
+    transmission: &[u8],
+) -> Result<Vec<u8>, AllocError>
     requires receiver { receiver < RECEPTIONS }
     requires length { length slots.now ≤ 140 }
-    requires transmission { transmission.now ≡ sent slots.now false }
-    ensures items { IfOk result (λ v. v.items ≡ heard_of group receiver slots.now) }
+    requires transmission { transmission.now ≡ map sign_of (sent slots.now false) }
+    ensures items { IfOk result (λ v. v.items ≡ map sign_of (heard_of group receiver slots.now)) }
     ensures length { IfOk result (λ v. length v.items ≡ 20 + 10 * length slots.now) }
 {
-    let mut elements = Vec::with_capacity(alloc, transmission.len())?;
-    elements.extend_from_slice(transmission)?;
+    let mut signs = Vec::with_capacity(alloc, transmission.len())?;
+    signs.extend_from_slice(transmission)?;
     for slot in 0..slots.len() as u16 {
         if is_lost(group, receiver, slot) {
-            lose(&mut elements, slot);
+            lose(&mut signs, slot);
         }
     }
-    Ok(elements)
+    Ok(signs)
 }

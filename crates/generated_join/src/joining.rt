@@ -7,8 +7,7 @@ ghost use Rattle.generated_join.specs.Summary.{IsSummary};
 use crate::alerts::alert;
 use crate::hearing::{RECEPTIONS, heard};
 use crate::summary::Summary;
-use encode_calls::slots_of;
-use phasing::transmission;
+use encode_calls::{append_signs, slots_of};
 use receiver_pool::Gate;
 use slot_evidence::{Reception, Sheet, shown_by};
 use slot_join::{Joined, report};
@@ -24,12 +23,13 @@ fn answer_to(alloc: Global, group: u16) -> Result<Joined, AllocError>
     ensures { IfOk result (IsAnswer (group_facts (lines_of_group group) group)) }
 {
     let slots = slots_of(&alert(group), &None);
-    let sent = transmission(&slots, false);
+    let mut sent = Vec::with_capacity(alloc, 20 + 10 * slots.len())?;
+    append_signs(&mut sent, &slots, false)?;
     let mut sheet = Sheet::empty();
     for receiver in 0..RECEPTIONS {
-        let elements = heard(alloc, group, receiver, &slots, &sent)?;
-        let shown = shown_by(&Reception::from(elements));
-        sheet.meet(&shown);
+        let signs = heard(alloc, group, receiver, &slots, &sent)?;
+        let reception = Reception::of_signs(alloc, &signs)?.unwrap();
+        sheet.meet(&shown_by(&reception));
     }
     Ok(report(&sheet))
 }

@@ -1,6 +1,6 @@
 -- equal numbers, and marks from equal places on
-use Rattle.std.proofs.Common.{◌≡◌, ℕ, nat_le, ap, subst}
-use Rattle.ten_unit.specs.inside.Marks.{IsPlanes}
+use Rattle.std.proofs.Common.{◌≡◌, ℕ, Bool, nat_le, ap, subst}
+use Rattle.ten_unit.specs.inside.Marks.{IsMarks, IsPlanes}
 use Rattle.ten_unit.specs.declared.character.Element.{Element}
 use Rattle.phasing.specs.declared.counting.Count.{Count}
 use Rattle.phasing.specs.declared.marking.Phasing.{Phasing}
@@ -20,3 +20,6 @@ phasing_at marks a b e same h = subst (λ n. ArePhasing marks n e) same h
 
 pub planes_at : (y b from to : ℕ) (e : ℕ → Element) → from ≡ to → IsPlanes y b from e → IsPlanes y b to e
 planes_at y b from to e same h = subst (λ n. IsPlanes y b n e) same h
+
+pub block_at : (word from to : ℕ) (f : ℕ → Bool) → from ≡ to → IsMarks word from f → IsMarks word to f
+block_at word from to f same h = subst (λ n. IsMarks word n f) same h

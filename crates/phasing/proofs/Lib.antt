@@ -13,3 +13,5 @@ mod Near
 mod WholeCalls
 mod TooShort
 mod Words
+mod Padding
+mod PackedBits

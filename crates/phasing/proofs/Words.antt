@@ -1,8 +1,8 @@
 -- words that begin at a place: what a slot shows
-use Rattle.std.proofs.Common.{◌≡◌, ℕ, zero, suc, ◌+◌, ◌-◌, ◌*◌, ◌<◌, ◌≤◌, Bool, true, false, ◌&&◌, nat_le, List, [], ◌∷◌, length, take, drop, get_or, add-zero, add-one, inl, inr, refl, arith, ap, sym, subst, ◌∙◌}
+use Rattle.std.proofs.Common.{◌≡◌, ℕ, zero, suc, ◌+◌, ◌-◌, ◌*◌, ◌<◌, ◌≤◌, Bool, true, false, ◌&&◌, nat_le, List, [], ◌∷◌, ◌++◌, length, take, drop, get_or, add-zero, add-one, inl, inr, refl, arith, ap, sym, subst, ◌∙◌}
 use Rattle.std.proofs.lemmas.Bool.{cases_lt, and_parts, and_from, cond-true, cond-false, le-leb, lt-leb, false_from_ne_true}
-use Rattle.std.proofs.lemmas.List.{get_or_past, length-take-le, length-drop, ext_get_or}
-use Rattle.std.proofs.Math.Bool.{and-true, and_assoc}
+use Rattle.std.proofs.lemmas.List.{get_or_past, length-take-le, length-drop, ext_get_or, take-append-drop, take_all}
+use Rattle.std.proofs.Math.Bool.{and-true, and_assoc, and_comm}
 use Rattle.std.proofs.lemmas.Bool.Decides.{same_from_decides}
 use Rattle.ten_unit.specs.declared.character.Element.{Element}
 use Rattle.ten_unit.specs.declared.character.Element.TheVariants.{Y, Lost}
@@ -27,6 +27,26 @@ is_at-more e (a ∷ w) (suc k) place h =
 -- one element more
 pub is_at_push : (e : ℕ → Element) (w : List Element) (k place : ℕ) → k < length w → is_at e (take (k + 1) w) place ≡ (is_at e (take k w) place && element_eq (e (place + k)) (get_or w k Y))
 is_at_push e w k place h = ap (λ (n : ℕ). is_at e (take n w) place) (add-one k) ∙ is_at-more e w k place h
+
+-- elements in two parts
+is_at-append : (e : ℕ → Element) (xs ys : List Element) (place : ℕ) → is_at e (xs ++ ys) place ≡ (is_at e xs place && is_at e ys (place + length xs))
+is_at-append e [] ys place = sym (ap (is_at e ys) (add-zero place))
+is_at-append e (x ∷ xs) ys place =
+    let next : place + 1 + length xs ≡ place + length (x ∷ xs) = omega arith in
+    ap (λ (t : Bool). element_eq (e place) x && t) (is_at-append e xs ys (place + 1) ∙ ap (λ (q : ℕ). is_at e xs (place + 1) && is_at e ys q) next)
+    ∙ sym (and_assoc (element_eq (e place) x) (is_at e xs (place + 1)) (is_at e ys (place + length (x ∷ xs))))
+
+-- the last elements of a word, and the first three
+pub is_at_parts : (e : ℕ → Element) (w : List Element) (place : ℕ) → length w ≡ 10 → (is_at e (take 7 (drop 3 w)) (place + 3) && is_at e (take 3 w) (place + 0)) ≡ is_at e w place
+is_at_parts e w place long =
+    let three : place + length (take 3 w) ≡ place + 3 = omega (arith, length-take-le 3 w (omega (arith, long))) in
+    let same : place + 0 ≡ place = omega arith in
+    ap (λ (l : List Element). is_at e l (place + 3) && is_at e (take 3 w) (place + 0)) (take_all 7 (drop 3 w) (omega (arith, long, length-drop 3 w)))
+    ∙ and_comm (is_at e (drop 3 w) (place + 3)) (is_at e (take 3 w) (place + 0))
+    ∙ ap (λ (q : ℕ). is_at e (take 3 w) q && is_at e (drop 3 w) (place + 3)) same
+    ∙ ap (λ (q : ℕ). is_at e (take 3 w) place && is_at e (drop 3 w) q) (sym three)
+    ∙ sym (is_at-append e (take 3 w) (drop 3 w) place)
+    ∙ ap (λ (l : List Element). is_at e l place) (take-append-drop 3 w)
 
 equal_elements : (a b : Element) → a ≡ b → element_eq a b ≡ true
 equal_elements a b h = ap (element_eq a) (sym h) ∙ element_own a

@@ -5,6 +5,7 @@ mod counting;
 mod laws;
 mod marking;
 mod one_lead;
+mod packed;
 mod phase;
 #[cfg(test)]
 mod plain;
@@ -17,10 +18,11 @@ pub use laws::{
     whole_calls_are_found,
 };
 pub use one_lead::phased;
+pub use packed::Reception;
 pub use phase::{first_phased, lead, origin};
 pub use reception::{LAST_LEAD, LONGEST, slot_symbol};
 pub use sending::transmission;
-pub use window::planes_from;
+pub use window::Elements;
 
 #[cfg(test)]
 mod tests;

@@ -1,4 +1,4 @@
-ghost use Rattle.std.specs.Prelude.{◌≡◌, ℕ, ◌+◌, ◌<◌, ◌≤◌, Bool, List};
+ghost use Rattle.std.specs.Prelude.{◌≡◌, ℕ, ◌+◌, ◌<◌, ◌≤◌, Bool, List, length};
 ghost use Rattle.ten_unit.specs.inside.Marks.{IsMarks, IsPlanes};
 ghost use Rattle.ten_unit.specs.Word.{element_eq, word_of};
 ghost use Rattle.ten_unit.specs.declared.character.Element.{Element};
@@ -51,22 +51,34 @@ fn element_marked(element: Element, here: Planes, next: Planes, shift: u32) -> u
     }
 }
 
-/// At which of 64 places a word begins. Each place is tested for the word's first element, the place behind it for
-/// the second, and so on. Where the word is a constant, the loop and its choices fold into shifts by constants.
+/// At which of 64 places these elements stand so many places behind. Each place is tested for the first of them, the place behind it for
+/// the second, and so on. Where they are constant, the loop and its choices fold into shifts by constants.
+#[inline(always)]
+fn run_marked(elements: &[Element], behind: u32, here: Planes, next: Planes) -> u64
+    requires { behind + length elements.now ≤ 10 }
+    ensures { (base : ℕ) (e : ℕ → Element) → IsPlanes here.y here.b base e → IsPlanes next.y next.b (base + 64) e
+        → IsMarks result base (λ place. is_at e elements.now (place + behind)) }
+{
+    let mut all = u64::MAX;
+    for number in 0..elements.len() {
+        all &= element_marked(elements[number], here, next, behind + number as u32);
+    }
+    all
+}
+
+/// At which of 64 places a word begins. The elements that most of the phasing symbols share come first, so that the compiler tests
+/// them once.
 #[inline(always)]
 fn word_marked(word: &[Element; 10], here: Planes, next: Planes) -> u64
     ensures { (base : ℕ) (e : ℕ → Element) → IsPlanes here.y here.b base e → IsPlanes next.y next.b (base + 64) e
         → IsMarks result base (is_at e word.now) }
 {
-    let mut all = u64::MAX;
-    for shift in 0..10u32 {
-        all &= element_marked(word[shift as usize], here, next, shift);
-    }
-    all
+    run_marked(&word[3..], 3, here, next) & run_marked(&word[..3], 0, here, next)
 }
 
 /// At which of 64 places the words of the phasing symbols begin (ITU-R M.493, phasing sequence). The planes are of
 /// these places and of the 64 behind them.
+#[inline(always)]
 pub(crate) fn phasing_marked(here: Planes, next: Planes) -> Phasing
     ensures { (base : ℕ) (e : ℕ → Element) → IsPlanes here.y here.b base e → IsPlanes next.y next.b (base + 64) e
         → ArePhasing result base e }

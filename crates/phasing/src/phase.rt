@@ -8,8 +8,8 @@ ghost use Rattle.phasing.specs.inside.Places.{element_at};
 use crate::counting::Count;
 use crate::marking::{Phasing, phasing_marked, shifted};
 use crate::reception::LONGEST;
-use crate::window::planes_from;
-use ten_unit::{Element, Planes};
+use crate::window::Elements;
+use ten_unit::Planes;
 
 /// How many DX slots show their phasing symbol at each of 64 leads, from the marks of the places from the first lead on.
 fn dx_right(first: &Phasing, second: &Phasing, third: &Phasing) -> Count
@@ -68,37 +68,90 @@ fn phased(first: &Phasing, second: &Phasing, third: &Phasing, fourth: &Phasing) 
 /// The elements of three slots. In fewer no three phasing symbols can be right.
 const SHORTEST: usize = 30;
 
-/// The first phased lead from the first block on, which begins 128 elements before this one. The marks are of three blocks of
-/// 64 places, the planes of the elements behind them. The first bit of a block that is enough is the lead.
+/// What a block of 64 leads takes from the places behind it, and which of its leads are phased.
+#[derive(Drop)]
+struct Searched {
+    marks: Phasing,
+    behind: Planes,
+    phased: u64,
+}
+
+/// At which of 64 leads, from 22 behind this element on, enough phasing symbols are right. The marks are of three blocks of 64 places,
+/// the planes of the elements behind them. It gives the marks of the fourth block and the planes behind that.
 #[inline(always)]
-fn first_from(
-    e: &[Element],
+fn search_block<E: Elements>(
+    e: E,
+    from: u32,
+    first: &Phasing,
+    second: &Phasing,
+    third: &Phasing,
+    next: Planes,
+) -> Searched
+    requires from { from ≤ length (E.list e) + 512 }
+    requires length { length (E.list e) ≤ LONGEST }
+    requires first { ArePhasing first.now (from + 22) (element_at (E.list e)) }
+    requires second { ArePhasing second.now (from + 86) (element_at (E.list e)) }
+    requires third { ArePhasing third.now (from + 150) (element_at (E.list e)) }
+    requires next { IsPlanes next.y next.b (from + 214) (element_at (E.list e)) }
+    ensures marks { ArePhasing result.marks (from + 214) (element_at (E.list e)) }
+    ensures behind { IsPlanes result.behind.y result.behind.b (from + 278) (element_at (E.list e)) }
+    ensures phased { IsMarks result.phased (from + 22) (sequence.is_phased (E.list e)) }
+{
+    let behind = e.planes_from((from + 128) as usize);
+    let fourth = phasing_marked(next, behind);
+    Searched {
+        marks: fourth,
+        behind,
+        phased: phased(first, second, third, &fourth),
+    }
+}
+
+/// The first phased lead from the first block on, which begins 128 elements before this one. The marks are of three blocks of
+/// 64 places, the planes of the elements behind them. The first bit of a block that is enough is the lead. Three blocks are one turn,
+/// so that three marks move to the place of three only once.
+#[inline(always)]
+fn first_from<E: Elements>(
+    e: E,
     begin: u32,
     mut first: Phasing,
     mut second: Phasing,
     mut third: Phasing,
     mut next: Planes,
 ) -> Option<u32>
-    requires length { length e.now ≤ LONGEST }
+    requires length { length (E.list e) ≤ LONGEST }
     requires begin { begin ≤ 128 }
-    requires first { ArePhasing first (begin + 22) (element_at e.now) }
-    requires second { ArePhasing second (begin + 86) (element_at e.now) }
-    requires third { ArePhasing third (begin + 150) (element_at e.now) }
-    requires next { IsPlanes next.y next.b (begin + 214) (element_at e.now) }
-    ensures first { IfSome result (IsFirstPhased e.now (begin + 22)) }
-    ensures none { IsNone result → (lead : ℕ) → begin + 22 ≤ lead → sequence.is_phased e.now lead ≡ false }
+    requires first { ArePhasing first (begin + 22) (element_at (E.list e)) }
+    requires second { ArePhasing second (begin + 86) (element_at (E.list e)) }
+    requires third { ArePhasing third (begin + 150) (element_at (E.list e)) }
+    requires next { IsPlanes next.y next.b (begin + 214) (element_at (E.list e)) }
+    ensures first { IfSome result (IsFirstPhased (E.list e) (begin + 22)) }
+    ensures none { IsNone result → (lead : ℕ) → begin + 22 ≤ lead → sequence.is_phased (E.list e) lead ≡ false }
 {
-    for block in 0..(e.len() as u32 + 191).saturating_sub(begin) / 64 {
-        let after = planes_from(e, (begin + 64 * block + 128) as usize);
-        let fourth = phasing_marked(next, after);
-        let found = phased(&first, &second, &third, &fourth);
-        if found != 0 {
-            return Some(begin + 64 * block + 22 + found.trailing_zeros());
+    for turn in 0..(e.count() as u32 + 319).saturating_sub(begin) / 192 {
+        let from = begin + 192 * turn;
+        let fourth = search_block(e, from, &first, &second, &third, next);
+        if fourth.phased != 0 {
+            return Some(from + 22 + fourth.phased.trailing_zeros());
         }
-        first = second;
-        second = third;
-        third = fourth;
-        next = after;
+        let fifth = search_block(e, from + 64, &second, &third, &fourth.marks, fourth.behind);
+        if fifth.phased != 0 {
+            return Some(from + 86 + fifth.phased.trailing_zeros());
+        }
+        let sixth = search_block(
+            e,
+            from + 128,
+            &third,
+            &fourth.marks,
+            &fifth.marks,
+            fifth.behind,
+        );
+        if sixth.phased != 0 {
+            return Some(from + 150 + sixth.phased.trailing_zeros());
+        }
+        first = fourth.marks;
+        second = fifth.marks;
+        third = sixth.marks;
+        next = sixth.behind;
     }
     None
 }
@@ -111,46 +164,46 @@ fn first_from(
 /// and ands of them give the places at which each phasing symbol's word begins, and three words count at each lead the
 /// symbols that are right, as far as three. Four blocks of 64 places move over the reception, from lead 22 on, so that
 /// element 0 is the first of a block. It takes some six instructions an element and under 1 KB of stack at any length.
-pub fn lead(e: &[Element]) -> Option<u32>
-    requires { length e.now ≤ LONGEST }
-    ensures least { result ≡ sequence.lead_of e.now }
-    ensures within { IfSome result (λ lead. lead < length e.now + 150) }
+pub fn lead<E: Elements>(e: E) -> Option<u32>
+    requires { length (E.list e) ≤ LONGEST }
+    ensures least { result ≡ sequence.lead_of (E.list e) }
+    ensures within { IfSome result (λ lead. lead < length (E.list e) + 150) }
     ensures from { IfSome result (λ lead. 40 ≤ lead) }
 {
-    if e.len() < SHORTEST {
+    if e.count() < SHORTEST {
         return None;
     }
-    let next = planes_from(e, 64);
-    let third = phasing_marked(planes_from(e, 0), next);
+    let next = e.planes_from(64);
+    let third = phasing_marked(e.planes_from(0), next);
     first_from(e, 0, Phasing::before(), Phasing::before(), third, next)
 }
 
 /// The first index of a reception that is a phased origin, whatever is phased before its first element, and its length where
 /// none is (ITU-R M.493, phasing sequence). It searches as `lead` does, from lead 150 on.
-pub fn first_phased(e: &[Element]) -> u32
-    requires { length e.now ≤ LONGEST }
-    ensures within { result ≤ length e.now }
-    ensures phased { result < length e.now → sequence.is_phased e.now (result + 150) ≡ true }
-    ensures none { (k : ℕ) → k < result → sequence.is_phased e.now (k + 150) ≡ false }
+pub fn first_phased<E: Elements>(e: E) -> u32
+    requires { length (E.list e) ≤ LONGEST }
+    ensures within { result ≤ length (E.list e) }
+    ensures phased { result < length (E.list e) → sequence.is_phased (E.list e) (result + 150) ≡ true }
+    ensures none { (k : ℕ) → k < result → sequence.is_phased (E.list e) (k + 150) ≡ false }
 {
-    let middle = planes_from(e, 64);
-    let last = planes_from(e, 128);
-    let next = planes_from(e, 192);
-    let first = phasing_marked(planes_from(e, 0), middle);
+    let middle = e.planes_from(64);
+    let last = e.planes_from(128);
+    let next = e.planes_from(192);
+    let first = phasing_marked(e.planes_from(0), middle);
     let second = phasing_marked(middle, last);
     let third = phasing_marked(last, next);
     match first_from(e, 128, first, second, third, next) {
         Some(lead) => lead - 150,
-        None => e.len() as u32,
+        None => e.count() as u32,
     }
 }
 
 /// The origin of a reception (ITU-R M.493, phasing sequence): the index at which the transmission's slot 0 begins,
 /// from -150 on (this project's profile), the least one at which at least two DX and one RX phasing symbols are
 /// right, or two RX and one DX, or three RX. `None` comes exactly where there is none.
-pub fn origin(e: &[Element]) -> Option<i32>
-    requires { length e.now ≤ LONGEST }
-    ensures { result ≡ sequence.origin_of e.now }
+pub fn origin<E: Elements>(e: E) -> Option<i32>
+    requires { length (E.list e) ≤ LONGEST }
+    ensures { result ≡ sequence.origin_of (E.list e) }
 {
     lead(e).map(|lead| lead as i32 - 150)
 }

@@ -36,9 +36,7 @@ fn append(elements: &mut ArrayVec<Element, 1600>, word: &[Element; 10])
     ensures items { elements.new.items ≡ elements.old.items ++ word.now }
     ensures length { array_vec_len elements.new ≡ array_vec_len elements.old + 10 }
 {
-    for element in word {
-        elements.push(*element);
-    }
+    elements.try_extend_from_slice(word).unwrap();
 }
 
 /// The elements of a transmission, of which the slots show these symbols: at most 140, each below 128. The dot pattern

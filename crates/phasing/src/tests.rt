@@ -33,8 +33,8 @@ fn received(
 fn an_alert_behind_dots(rt: HostRuntime) -> Result<(), Fail> {
     let elements = received(rt.alloc(), 7, &ALERT_SLOTS, &[])?;
     assert_eq!(rt; elements.len(), 527);
-    assert_eq!(rt; origin(&elements), Some(7));
-    assert_eq!(rt; lead(&elements), Some(157));
+    assert_eq!(rt; origin(elements.as_slice()), Some(7));
+    assert_eq!(rt; lead(elements.as_slice()), Some(157));
     for (slot, symbol) in ALERT_SLOTS.iter().enumerate() {
         assert_eq!(rt;
             slot_symbol(&elements, 157, slot as u16),
@@ -50,13 +50,13 @@ fn an_alert_behind_dots(rt: HostRuntime) -> Result<(), Fail> {
 fn an_alert_from_slot_9_on(rt: HostRuntime) -> Result<(), Fail> {
     let elements = received(rt.alloc(), 0, &ALERT_SLOTS[9..], &[])?;
     assert_eq!(rt; elements.len(), 430);
-    assert_eq!(rt; origin(&elements), Some(-90));
+    assert_eq!(rt; origin(elements.as_slice()), Some(-90));
     assert_eq!(rt; slot_symbol(&elements, 60, 8), None);
     assert_eq!(rt; slot_symbol(&elements, 60, 9), Some(107));
     assert!(rt; phased(&elements, -90));
     assert!(rt; !phased(&elements, -89));
     assert!(rt; !phased(&elements, 1_000_000));
-    assert_eq!(rt; first_phased(&elements), 430);
+    assert_eq!(rt; first_phased(elements.as_slice()), 430);
     Ok(())
 }
 
@@ -65,7 +65,7 @@ fn three_dx_alone_are_unphased(rt: HostRuntime) -> Result<(), Fail> {
     let lost = [1, 3, 5, 6, 7, 8, 9, 10, 11, 12, 13, 14, 15];
     let elements = received(rt.alloc(), 20, &ALERT_SLOTS[..16], &lost)?;
     assert_eq!(rt; elements.len(), 180);
-    assert_eq!(rt; origin(&elements), None);
+    assert_eq!(rt; origin(elements.as_slice()), None);
     Ok(())
 }
 
@@ -75,7 +75,7 @@ fn three_slots_alone_are_phased(rt: HostRuntime) -> Result<(), Fail> {
     let elements = received(rt.alloc(), 0, &ALERT_SLOTS[..3], &[])?;
     assert_eq!(rt; elements.len(), 30);
     let three = elements.first_chunk::<30>().ok_or("short")?;
-    assert_eq!(rt; origin(three), Some(0));
+    assert_eq!(rt; origin(&three[..30]), Some(0));
     assert_eq!(rt; origin(&three[..29]), None);
     Ok(())
 }

@@ -1,4 +1,5 @@
-ghost use Rattle.std.specs.Prelude.{◌≡◌, ℕ, ◌+◌, ◌<◌, length, slice_index_or};
+ghost use Rattle.std.specs.Prelude.{◌≡◌, ℕ, ◌+◌, ◌<◌, List, length, slice_index_or};
+ghost use Rattle.ten_unit.specs.declared.character.Element.{Element as AnElement};
 ghost use Rattle.ten_unit.specs.inside.Marks.{IsPlanes};
 ghost use Rattle.phasing.specs.inside.Places.{element_at};
 
@@ -14,17 +15,34 @@ fn padded(e: &[Element]) -> [Element; 64]
     block
 }
 
-/// The 64 elements of a reception from one on as bits, of which those past its end are lost. Places count, as leads do, from
-/// 150 elements before the reception's first one.
-///
-/// It is asked for once a block by the search for the origin, which is a tenth slower where the call isn't inlined.
-#[inline(always)]
-pub fn planes_from(e: &[Element], begin: usize) -> Planes
-    ensures { IsPlanes result.y result.b (begin + 150) (element_at e.now) }
-{
-    let rest = &e[begin.min(e.len())..];
-    match rest.first_chunk::<64>() {
-        Some(block) => pack_elements(block),
-        None => pack_elements(&padded(rest)),
+/// Elements in a row that are had as bits.
+pub trait Elements: Copy {
+    /// The list of them.
+    ghost list: { Self → List AnElement };
+
+    /// How many they are.
+    fn count(self) -> usize
+        ensures { result ≡ length (list self) };
+
+    /// The 64 elements from one on as bits, of which those past the last one are lost. Places count, as leads do, from 150 elements
+    /// before the first one.
+    fn planes_from(self, begin: usize) -> Planes
+        ensures { IsPlanes result.y result.b (begin + 150) (element_at (list self)) };
+}
+
+impl Elements for &[Element] {
+    ghost list = { λ e. e.now };
+
+    fn count(self) -> usize {
+        self.len()
+    }
+
+    #[inline(always)]
+    fn planes_from(self, begin: usize) -> Planes {
+        let rest = &self[begin.min(self.len())..];
+        match rest.first_chunk::<64>() {
+            Some(block) => pack_elements(block),
+            None => pack_elements(&padded(rest)),
+        }
     }
 }

@@ -4,11 +4,9 @@ ghost use Rattle.slot_evidence.specs.Facts.{facts_at, facts_of};
 ghost use Rattle.slot_evidence.specs.inside.Kept.{past_symbol};
 ghost use Rattle.slot_evidence.specs.Sheet.{IsEnds};
 
-use crate::receptions::Reception;
 use crate::sheets::Sheet;
 use crate::slots::{ShownSlot, read_slots};
-use phasing::{LAST_LEAD, LONGEST, lead};
-use ten_unit::Element;
+use phasing::{Elements, LAST_LEAD, LONGEST, lead};
 
 /// The number after a symbol, and 0 after none, which is 128.
 fn past(symbol: u8) -> u8
@@ -48,11 +46,11 @@ fn pasts_of(shown: &ShownSlot) -> [u8; 64]
 ///
 /// It reads the slots' symbols six slots a step, and then the least and the greatest of each place's two, sixteen places a
 /// step.
-pub fn sheet_at(e: &[Element], lead: u32) -> Sheet
-    requires length { length e.now ≤ LONGEST }
+pub fn sheet_at<E: Elements>(e: E, lead: u32) -> Sheet
+    requires length { length (E.list e) ≤ LONGEST }
     requires begun { 40 ≤ lead }
     requires lead { lead ≤ LAST_LEAD }
-    ensures { IsEnds (facts_at e.now (Some lead)) result }
+    ensures { IsEnds (facts_at (E.list e) (Some lead)) result }
 {
     let shown = read_slots(e, lead);
     Sheet::of_numbers(leasts_of(&shown), pasts_of(&shown))
@@ -60,21 +58,21 @@ pub fn sheet_at(e: &[Element], lead: u32) -> Sheet
 
 /// The sheet of a reception's facts: of each place below 64 what its DX slot and its RX slot show
 /// at the origin (ITU-R M.493, time diversity). `None` comes exactly where the reception has no origin.
-pub fn read_sheet(e: &[Element]) -> Option<Sheet>
-    requires { length e.now ≤ LONGEST }
-    ensures some { IfSome result (λ s. IsEnds (facts_of e.now) s) }
-    ensures none { IsNone result ↔ (lead_of e.now ≡ None) }
+pub fn read_sheet<E: Elements>(e: E) -> Option<Sheet>
+    requires { length (E.list e) ≤ LONGEST }
+    ensures some { IfSome result (λ s. IsEnds (facts_of (E.list e)) s) }
+    ensures none { IsNone result ↔ (lead_of (E.list e) ≡ None) }
 {
     let lead = lead(e)?;
     Some(sheet_at(e, lead))
 }
 
 /// The sheet of what a receiver heard: it is empty where no origin is found.
-pub fn shown_by(heard: &Reception) -> Sheet
-    requires { length heard.now ≤ LONGEST }
-    ensures { IsEnds (facts_of heard.now) result }
+pub fn shown_by<E: Elements>(heard: E) -> Sheet
+    requires { length (E.list heard) ≤ LONGEST }
+    ensures { IsEnds (facts_of (E.list heard)) result }
 {
-    match read_sheet(heard.elements()) {
+    match read_sheet(heard) {
         Some(sheet) => sheet,
         None => Sheet::empty(),
     }

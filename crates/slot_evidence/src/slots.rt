@@ -3,8 +3,8 @@ ghost use Rattle.std.specs.Prelude.{◌≡◌, ℕ, ◌+◌, ◌*◌, ◌<◌, �
 ghost use Rattle.ten_unit.specs.inside.Symbol.{IsSymbol};
 ghost use Rattle.phasing.specs.Slot.{slot};
 
-use phasing::{LAST_LEAD, LONGEST, planes_from};
-use ten_unit::{Element, symbol_at};
+use phasing::{Elements, LAST_LEAD, LONGEST};
+use ten_unit::symbol_at;
 
 /// The symbols of slots 12 to 143, 128 for none: in `dx` those of the even ones, in turn, from slot 12 on, which is the DX
 /// slot of place 0; and in `rx` those of the odd ones from slot 13 on, two before the RX slot of place 0.
@@ -17,17 +17,17 @@ pub(crate) struct ShownSlot {
 /// What slots 12 to 143 show at the lead of an origin. Slots from a reception's end on cost nothing.
 ///
 /// It packs 64 elements a step as bits, of which 60 are six slots', and looks into a table by each slot's ten bits.
-pub(crate) fn read_slots(e: &[Element], lead: u32) -> ShownSlot
-    requires length { length e.now ≤ LONGEST }
+pub(crate) fn read_slots<E: Elements>(e: E, lead: u32) -> ShownSlot
+    requires length { length (E.list e) ≤ LONGEST }
     requires begun { 40 ≤ lead }
     requires lead { lead ≤ LAST_LEAD }
-    ensures dx { (k : ℕ) → k < 66 → IsSymbol (slot e.now lead (12 + 2 * k)) (slice_index result.dx k) }
-    ensures rx { (k : ℕ) → k < 66 → IsSymbol (slot e.now lead (13 + 2 * k)) (slice_index result.rx k) }
+    ensures dx { (k : ℕ) → k < 66 → IsSymbol (slot (E.list e) lead (12 + 2 * k)) (slice_index result.dx k) }
+    ensures rx { (k : ℕ) → k < 66 → IsSymbol (slot (E.list e) lead (13 + 2 * k)) (slice_index result.rx k) }
 {
     let mut dx = [128; 66];
     let mut rx = [128; 66];
-    for window in 0..windows(e.len() as u32, lead) {
-        let planes = planes_from(e, (lead - 30 + 60 * window) as usize);
+    for window in 0..windows(e.count() as u32, lead) {
+        let planes = e.planes_from((lead - 30 + 60 * window) as usize);
         for k in 0..3 {
             dx[(3 * window + k) as usize] = symbol_at(&planes, 20 * k);
             rx[(3 * window + k) as usize] = symbol_at(&planes, 20 * k + 10);

@@ -1,4 +1,4 @@
-use crate::{Reception, Seen, Sheet, plain, read_sheet};
+use crate::{Seen, Sheet, plain, read_sheet};
 use dsc_symbols::worked::{ALERT, ALERT_SLOTS};
 use std::alloc::{AllocError, Global};
 use std::process::Abort;
@@ -20,7 +20,7 @@ fn received(alloc: Global, slots: &[u8; 52], lost: &[usize]) -> Result<Vec<Eleme
 fn sheet(rt: &impl Abort, alloc: Global, slots: &[u8; 52], lost: &[usize]) -> Result<Sheet, Fail> {
     let elements = received(alloc, slots, lost)?;
     assert_eq!(rt; elements.len(), 520);
-    Ok(read_sheet(&elements).ok_or("unphased")?)
+    Ok(read_sheet(elements.as_slice()).ok_or("unphased")?)
 }
 
 #[test]
@@ -50,27 +50,8 @@ fn two_receptions_together(rt: HostRuntime) -> Result<(), Fail> {
 }
 
 #[test]
-fn elements_stand_in_their_order(rt: HostRuntime) -> Result<(), Fail> {
-    let mut reception = Reception::new(rt.alloc());
-    assert_eq!(rt; reception.elements().len(), 0);
-    for e in [Element::B, Element::Lost, Element::Y] {
-        reception.push(e)?;
-    }
-    assert_eq!(rt;
-        reception.elements(),
-        [Element::B, Element::Lost, Element::Y].as_slice()
-    );
-    let elements = [Element::Y; 3].to_vec(rt.alloc())?;
-    assert_eq!(rt;
-        Reception::from(elements).elements(),
-        [Element::Y; 3].as_slice()
-    );
-    Ok(())
-}
-
-#[test]
 fn nothing_from_noise(rt: HostRuntime) -> Result<(), Fail> {
-    assert_eq!(rt; read_sheet(&[Element::Lost; 300]), None);
+    assert_eq!(rt; read_sheet([Element::Lost; 300].as_slice()), None);
     let mut sheet = Sheet::empty();
     sheet.add(63, 127);
     assert_eq!(rt; sheet.at(62), Seen::None);

@@ -4,3 +4,4 @@ mod Numbers
 mod Reading
 mod Rows
 mod Turned
+mod SignMarks

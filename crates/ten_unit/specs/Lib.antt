@@ -1,3 +1,4 @@
 pub mod Errors
 pub mod Word
+pub mod Signs
 pub mod inside

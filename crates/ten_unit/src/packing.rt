@@ -1,6 +1,8 @@
-ghost use Rattle.std.specs.Prelude.{◌≡◌, ℕ, ◌+◌, ◌<◌, ◌≤◌, cond, slice_index_or, slice_index, ◌==◌};
+ghost use Rattle.std.specs.Prelude.{◌≡◌, ℕ, ◌+◌, ◌<◌, ◌≤◌, cond, slice_index_or, slice_index, ◌==◌, true, false, IfSome, IsNone};
+ghost use Rattle.std.specs.List.{list_all};
 ghost use Rattle.std.specs.Int.{bit_at};
 ghost use Rattle.ten_unit.specs.declared.character.Element.{Element};
+ghost use Rattle.ten_unit.specs.Signs.{element_of, is_sign};
 ghost use Rattle.ten_unit.specs.inside.Codes.{code_of};
 ghost use Rattle.ten_unit.specs.inside.Marks.{IsPlanes};
 ghost use Rattle.ten_unit.specs.inside.Symbol.{IsSymbol, stretch};
@@ -46,6 +48,25 @@ pub fn pack_elements(block: &[Element; 64]) -> Planes
         y: equal_to(&codes, Element::Y as u8),
         b: equal_to(&codes, Element::B as u8),
     }
+}
+
+/// The elements of 64 signs as bits: `Y`, `B`, and `-` for a lost one (this project's profile). `None` comes where a byte is no sign. Lost
+/// ones are looked for only where there is a sign that is neither `Y` nor `B`.
+pub fn pack_signs(block: &[u8; 64]) -> Option<Planes>
+    ensures signs { IfSome result (λ _. list_all is_sign block.now ≡ true) }
+    ensures planes { IfSome result (λ planes. (base : ℕ) (e : ℕ → Element)
+        → ((i : ℕ) → i < 64 → e (base + i) ≡ element_of (slice_index block.now i)) → IsPlanes planes.y planes.b base e) }
+    ensures none { IsNone result → list_all is_sign block.now ≡ false }
+{
+    let y = equal_to(block, b'Y');
+    let b = equal_to(block, b'B');
+    if y | b == u64::MAX {
+        return Some(Planes { y, b });
+    }
+    if y | b | equal_to(block, b'-') == u64::MAX {
+        return Some(Planes { y, b });
+    }
+    None
 }
 
 /// The symbol whose word the ten elements from a place on are, and 128 where they are no symbol's word (ITU-R M.493, the

@@ -33,6 +33,12 @@ pub shows_phasing : (list : List ℕ) (slot : ℕ) → (slot ≤ 11) ⊎ (slot �
 unfolding sent_symbol
 shows_phasing list slot h = grind (arith, nat_tests)
 
+pub phasing_even : (n : ℕ) → phasing_symbol (2 * n) ≡ 125
+phasing_even n = grind (arith, nat_tests)
+
+pub phasing_odd : (n : ℕ) → phasing_symbol (2 * n + 1) ≡ 111 - n
+phasing_odd n = let half : (2 * n + 1 - 1) / 2 ≡ n = omega arith in grind (arith, nat_tests)
+
 -- each place is sent twice, among twelve more
 pub length-on_air : (list : List ℕ) → length (on_air list) ≡ 2 * length list + 12
 unfolding on_air

@@ -1,31 +1,28 @@
 ghost use Rattle.std.specs.Prelude.{◌≡◌, ◌+◌, ◌*◌, ◌<◌, ◌≤◌, All, length};
 ghost use Rattle.time_diversity.specs.OnAir as diversity;
 
-use crate::slots::place_of;
 use arrayvec::ArrayVec;
 use dsc_symbols::phasing::{DX, RX_7};
 
-/// The phasing symbol of a slot that is no place's.
-fn phasing_symbol(slot: u16) -> u8
-    requires { slot < 17 }
-    ensures { result ≡ diversity.phasing_symbol slot }
+/// The symbol of a DX slot of the transmission of a list, which are counted from 0.
+fn dx_symbol(list: &[u8], number: usize) -> u8
+    requires length { length list.now ≤ 64 }
+    requires number { number < length list.now + 6 }
+    ensures { result ≡ diversity.sent_symbol list.now (2 * number) }
 {
-    if slot % 2 == 0 {
-        DX
-    } else {
-        RX_7 - (slot as u8 - 1) / 2
-    }
+    if number < 6 { DX } else { list[number - 6] }
 }
 
-/// The symbol of a slot of the transmission of a list.
-fn sent_symbol(list: &[u8], slot: u16) -> u8
+/// The symbol of an RX slot, which are counted from 0 too.
+fn rx_symbol(list: &[u8], number: usize) -> u8
     requires length { length list.now ≤ 64 }
-    requires slot { slot < 2 * length list.now + 12 }
-    ensures { result ≡ diversity.sent_symbol list.now slot }
+    requires number { number < length list.now + 6 }
+    ensures { result ≡ diversity.sent_symbol list.now (2 * number + 1) }
 {
-    match place_of(slot) {
-        Some(p) => list[p as usize],
-        None => phasing_symbol(slot),
+    if number < 8 {
+        RX_7 - number as u8
+    } else {
+        list[number - 8]
     }
 }
 
@@ -38,9 +35,10 @@ pub fn on_air(list: &[u8]) -> ArrayVec<u8, 160>
     ensures length { length result.items ≡ 2 * length list.now + 12 }
     ensures symbols { All (λ v. v < 128) result.items }
 {
-    let mut slots = ArrayVec::new();
-    for slot in 0..2 * list.len() as u16 + 12 {
-        slots.push(sent_symbol(list, slot));
+    let mut symbols = [0; 140];
+    for number in 0..list.len() + 6 {
+        symbols[2 * number] = dx_symbol(list, number);
+        symbols[2 * number + 1] = rx_symbol(list, number);
     }
-    slots
+    ArrayVec::try_from(&symbols[..2 * list.len() + 12]).unwrap()
 }

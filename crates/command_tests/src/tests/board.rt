@@ -5,7 +5,7 @@ ghost use Rattle.evidence_board.specs.inside.Worked.{two_facts};
 
 use dsc_symbols::worked::{ALERT_SLOTS, LOST_BUT_PLACE_7, LOST_DX_AND_PLACE_7};
 use evidence_board::{Allowed, Board, Seat, WHOLE};
-use phasing::LONGEST;
+use phasing::{Elements, LONGEST};
 use receiver_pool::{Gate, GroupReception, GroupSheet, Open, Rendezvous, pool, pool_groups};
 use slot_evidence::{Reception, Seen, Sheet, shown_by};
 use std::alloc::{AllocError, Global};
@@ -161,7 +161,7 @@ fn reception(alloc: Global, lost: &[usize]) -> Result<Reception, AllocError> {
         let heard = if is_lost { [Element::Lost; 10] } else { sent };
         elements.extend_from_slice(&heard)?;
     }
-    Ok(Reception::from(elements))
+    Ok(Reception::of_elements(alloc, &elements)?)
 }
 
 /// The two receptions of the worked row: one lost its DX slots from 12 on and slot 31, the other all slots from 16 on but slot 26.
@@ -176,8 +176,7 @@ pub(crate) fn two_receptions(alloc: Global) -> Result<Vec<Reception>, AllocError
 pub(crate) fn are_short(list: &[Reception]) -> bool
     ensures { IsTrue result → All (λ heard. length heard ≤ LONGEST) list.now }
 {
-    list.iter()
-        .all(|heard| heard.elements().len() <= LONGEST as usize)
+    list.iter().all(|heard| heard.count() <= LONGEST as usize)
 }
 
 /// The sheet of receptions, joined one after another.
@@ -231,7 +230,9 @@ fn any_number_of_workers(rt: HostRuntime) -> Result<(), Fail> {
 pub(crate) fn are_all_short(batch: &[GroupReception]) -> bool
     ensures { IsTrue result → All IsShort batch.now }
 {
-    batch.iter().all(|heard| heard.reception.elements().len() <= LONGEST as usize)
+    batch
+        .iter()
+        .all(|heard| heard.reception.count() <= LONGEST as usize)
 }
 
 /// A batch of two groups, whose numbers are 512 apart: group 1 has both receptions, and group 513 the second one, which comes between.
@@ -268,7 +269,7 @@ fn receptions_without_an_origin_show_nothing(rt: HostRuntime) -> Result<(), Fail
     for group in [0, 1, 0] {
         batch.push(GroupReception {
             group,
-            reception: Reception::new(rt.alloc()),
+            reception: Reception::of_elements(rt.alloc(), &[])?,
         })?;
     }
     assert!(rt; are_all_short(&batch));

@@ -16,5 +16,5 @@ fn facts_joined_one_by_one(rt: HostRuntime) {
 
 #[test]
 fn a_reception_of_no_elements(rt: HostRuntime) {
-    assert_eq!(rt; read_sheet(&[]), None);
+    assert_eq!(rt; read_sheet([].as_slice()), None);
 }

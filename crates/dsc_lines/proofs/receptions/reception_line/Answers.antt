@@ -1,8 +1,11 @@
-use Rattle.std.proofs.Common.{ap}
+use Rattle.std.proofs.Common.{ap, refl}
 use Rattle.dsc_lines.specs.declared.join.JoinLine.TheVariants as got
 use Rattle.dsc_lines.specs.JoinLine.{reception}
-use Rattle.dsc_lines.proofs.Faults.{reception_fault, within_line, column_of, reception_read}
+use Rattle.dsc_lines.proofs.Faults.{reception_fault, within_line, column_of, packed_read, reception_read}
 use Rattle.dsc_lines.proofs.receptions.reception_line.Goals as goal
+
+pub returns-in-Some : goal.returns-in-Some
+returns-in-Some c = (reception _ _, (packed_read c.in_ok-group.field-0 _ _ c.in-Some.group c.in-Some.elements c.in-Some.is c.requires c.in_ok-group.ensures, refl))
 
 pub column-requires-clause-left : goal.column-requires-clause-left
 column-requires-clause-left c = within_line _ _ (reception_fault _ _ _ c.requires c.in-Err.ensures.left)

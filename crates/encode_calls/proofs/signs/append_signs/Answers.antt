@@ -1,4 +1,5 @@
-use Rattle.std.proofs.Common.{ℕ, List, ◌++◌, map, flat_map, ap, ◌∙◌, append_assoc}
+use Rattle.std.proofs.Common.{◌≡◌, ℕ, suc, ◌+◌, List, ◌++◌, ◌∷◌, [], length, take, set, map, flat_map, get_or, ap, sym, ◌∙◌, append_assoc, take-suc, take-suc-set, arith}
+use Rattle.std.proofs.lemmas.List.{length-set, map-append, take_all}
 use Rattle.std.proofs.lemmas.List.Folds.{flat_map-map}
 use Rattle.ten_unit.specs.Word.{word_of}
 use Rattle.phasing.specs.Sent.{dots, dot_count}
@@ -6,16 +7,41 @@ use Rattle.dsc_lines.specs.JoinLine.{sign_of}
 use Rattle.encode_calls.proofs.SignTable.{signs_of_sent}
 use Rattle.encode_calls.proofs.signs.append_signs.Goals as goal
 
+pub loop-number-preserved : goal.loop-number-preserved
+loop-number-preserved c =
+    let n = c.loop-number.number in
+    let was = c.loop-number.invariant in
+    let slots = c.args.slots.now in
+    let f : ℕ → List ℕ = λ v. map sign_of (word_of v) in
+    let next : n + 1 ≡ suc n = omega arith in
+    let more : take (suc n) slots ≡ take n slots ++ get_or slots n 0 ∷ [] = take-suc slots n 0 (omega arith) in
+    record {
+      long = length-set c.loop-number.words n c.word_signs.result ∙ was.long;
+      signs =
+          ap (λ (m : ℕ). take m (set c.loop-number.words n c.word_signs.result)) next
+          ∙ take-suc-set c.loop-number.words n c.word_signs.result (omega (arith, was.long))
+          ∙ ap (λ (l : List (List ℕ)). l ++ c.word_signs.result ∷ []) was.signs
+          ∙ ap (λ (w : List ℕ). map f (take n slots) ++ w ∷ []) c.word_signs.ensures
+          ∙ sym (map-append f (take n slots) (get_or slots n 0 ∷ []))
+          ∙ ap (map f) (sym more)
+          ∙ ap (λ (m : ℕ). map f (take m slots)) (sym next);
+    }
+
 pub returns : goal.returns
 returns c =
     let out = c.args.out.now.items in
     let slots = c.args.slots.now in
+    let f : ℕ → List ℕ = λ v. map sign_of (word_of v) in
     let front = map sign_of (dots (dot_count c.args.long)) in
-    let words = flat_map (λ v. map sign_of (word_of v)) slots in
-    let arrays = c.deref.ensures.0 ∙ c.append_words.ensures ∙ ap (λ (l : List (List ℕ)). l ++ map (λ v. map sign_of (word_of v)) slots) c.new-words.ensures in
-    let flat = c.as_flattened.ensures.value
-    ∙ ap (λ (l : List (List ℕ)). flat_map (λ x. x) l) arrays
-    ∙ flat_map-map (λ x. x) (λ v. map sign_of (word_of v)) slots in
+    let words = flat_map f slots in
+    let whole : c.loop-number.number ≡ length slots = omega arith in
+    let arrays : take (length slots) c.loop-number.words ≡ map f slots =
+    ap (λ (n : ℕ). take n c.loop-number.words) (sym whole)
+    ∙ c.loop-number.invariant.signs
+    ∙ ap (λ (n : ℕ). map f (take n slots)) whole
+    ∙ ap (map f) (take_all (length slots) slots (omega arith))
+    in
+    let flat = c.as_flattened.ensures.value ∙ ap (λ (l : List (List ℕ)). flat_map (λ x. x) l) arrays ∙ flat_map-map (λ x. x) f slots in
     c.in_ok-extend_from_slice.ensures.items
     ∙ ap (λ (l : List ℕ). c.append_dots.new.out.items ++ l) flat
     ∙ ap (λ (l : List ℕ). l ++ words) c.in_ok-append_dots.ensures

@@ -6,18 +6,18 @@ use Rattle.slot_evidence.proofs.Read.{AreRead, kept_read, ends_read}
 use Rattle.slot_evidence.proofs.reading.sheet_at.Goals as goal
 
 pub of_numbers-requires : goal.of_numbers-requires
-of_numbers-requires c =
+of_numbers-requires g c =
     let leasts = c.leasts_of.ensures in
     let pasts = c.pasts_of.ensures in
-    kept_read c.args.e.now c.args.lead c.read_slots-shown.result.dx c.read_slots-shown.result.rx _ _
+    kept_read (g.E.Elements.list c.args.e) c.args.lead c.read_slots-shown.result.dx c.read_slots-shown.result.rx _ _
     (record { even = c.read_slots-shown.ensures.dx; odd = c.read_slots-shown.ensures.rx; places = leasts.places; as_many = pasts.places; least = leasts.each; past = pasts.each })
 
 pub returns : goal.returns
-returns c =
+returns g c =
     let leasts = c.leasts_of.ensures in
     let pasts = c.pasts_of.ensures in
-    let read : AreRead c.args.e.now c.args.lead c.read_slots-shown.result.dx c.read_slots-shown.result.rx c.leasts_of.result c.pasts_of.result =
+    let read : AreRead (g.E.Elements.list c.args.e) c.args.lead c.read_slots-shown.result.dx c.read_slots-shown.result.rx c.leasts_of.result c.pasts_of.result =
     record { even = c.read_slots-shown.ensures.dx; odd = c.read_slots-shown.ensures.rx; places = leasts.places; as_many = pasts.places; least = leasts.each; past = pasts.each }
     in
-    subst (λ (s : List Seen). IsEnds (facts_at c.args.e.now (Some c.args.lead)) s) (sym c.of_numbers.ensures)
-    (ends_read c.args.e.now c.args.lead _ _ _ _ read)
+    subst (λ (s : List Seen). IsEnds (facts_at (g.E.Elements.list c.args.e) (Some c.args.lead)) s) (sym c.of_numbers.ensures)
+    (ends_read (g.E.Elements.list c.args.e) c.args.lead _ _ _ _ read)

@@ -7,6 +7,6 @@ use Rattle.slot_evidence.proofs.reading.shown_by.Goals as goal
 
 pub returns-in-None : goal.returns-in-None
 unfolding facts_of
-returns-in-None c =
-    let none : lead_of c.args.heard.now ≡ None = ap (λ (e : List Element). lead_of e) (sym c.elements.ensures) ∙ c.in-None.ensures.none.0 refl in
-    subst (λ (F : Facts). IsEnds F c.empty.result) (sym (ap (facts_at c.args.heard.now) none)) c.empty.ensures.ends
+returns-in-None g c =
+    let none : lead_of (g.E.Elements.list c.args.heard) ≡ None = c.in-None.ensures.none.0 refl in
+    subst (λ (F : Facts). IsEnds F c.empty.result) (sym (ap (facts_at (g.E.Elements.list c.args.heard)) none)) c.empty.ensures.ends

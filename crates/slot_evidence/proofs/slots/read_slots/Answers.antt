@@ -4,15 +4,15 @@ use Rattle.slot_evidence.proofs.Window.{slot_shown, filled_none, filled_more, fi
 use Rattle.slot_evidence.proofs.slots.read_slots.Goals as goal
 
 pub loop-window-init : goal.loop-window-init
-loop-window-init c = record {
-  dx = filled_none c.args.e.now c.args.lead 12;
-  rx = filled_none c.args.e.now c.args.lead 13;
+loop-window-init g c = record {
+  dx = filled_none (g.E.Elements.list c.args.e) c.args.lead 12;
+  rx = filled_none (g.E.Elements.list c.args.e) c.args.lead 13;
 }
 
 pub loop-k-preserved : goal.loop-k-preserved
-loop-k-preserved c =
+loop-k-preserved g c =
     let kept = c.loop-k.invariant in
-    let e = c.args.e.now in
+    let e = (g.E.Elements.list c.args.e) in
     let lead = c.args.lead in
     let at = 3 * c.loop-window.window + c.loop-k.k in
     let room : at < 66 = omega (arith, c.windows-window-end.ensures.most) in
@@ -23,10 +23,10 @@ loop-k-preserved c =
     }
 
 pub returns : goal.returns
-returns c =
+returns g c =
     let kept = c.loop-window.invariant in
     let rest = c.windows-window-end.ensures.rest in
     record {
-      dx = filled_all c.args.e.now c.args.lead 12 c.loop-window.dx _ kept.dx (λ k past below. rest k (omega arith) below);
-      rx = filled_all c.args.e.now c.args.lead 13 c.loop-window.rx _ kept.rx (λ k past below. omega (arith, rest k (omega arith) below));
+      dx = filled_all (g.E.Elements.list c.args.e) c.args.lead 12 c.loop-window.dx _ kept.dx (λ k past below. omega (arith, rest k (omega arith) below, c.count.ensures));
+      rx = filled_all (g.E.Elements.list c.args.e) c.args.lead 13 c.loop-window.rx _ kept.rx (λ k past below. omega (arith, rest k (omega arith) below, c.count.ensures));
     }

@@ -5,7 +5,7 @@ use Rattle.ten_unit.specs.declared.character.Element.{Element}
 use Rattle.ten_unit.specs.declared.character.Element.TheVariants.{Lost}
 use Rattle.phasing.specs.inside.Places.{element_at}
 use Rattle.phasing.proofs.Words.{element_at-inside}
-use Rattle.phasing.proofs.window.planes_from.Goals as goal
+use Rattle.phasing.proofs.window.RefSliceElementElements.planes_from.Goals as goal
 
 -- an element of what follows
 in_rest : (e : List Element) (begin from i : ℕ) → from ≡ min begin (length e) → get_or e (begin + i) Lost ≡ get_or (drop from e) i Lost
@@ -27,7 +27,7 @@ at_rest e begin from i is =
 
 pub returns-in-Some : goal.returns-in-Some
 returns-in-Some c =
-    let e = c.args.e.now in
+    let e = c.args.self.now in
     c.pack_elements.ensures (c.args.begin + 150) (element_at e)
     (λ i below.
     at_rest e c.args.begin c.min.result i c.min.ensures
@@ -36,6 +36,6 @@ returns-in-Some c =
 
 pub returns-in-None : goal.returns-in-None
 returns-in-None c =
-    let e = c.args.e.now in
+    let e = c.args.self.now in
     c.pack_elements-in-None.ensures (c.args.begin + 150) (element_at e)
     (λ i below. at_rest e c.args.begin c.min.result i c.min.ensures ∙ sym (c.padded.ensures i below))

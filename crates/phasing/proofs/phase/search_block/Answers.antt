@@ -1,0 +1,27 @@
+use Rattle.std.proofs.Common.{◌+◌, arith}
+use Rattle.phasing.specs.inside.Places.{element_at}
+use Rattle.phasing.proofs.Counts.{phasing_at, planes_at}
+use Rattle.phasing.proofs.phase.search_block.Goals as goal
+
+pub returns-clause-marks : goal.returns-clause-marks
+returns-clause-marks g c =
+    let e = element_at (g.E.Elements.list c.args.e) in
+    let behind = c.planes_from-behind.result in
+    c.phasing_marked-fourth.ensures (c.args.from + 214) e c.requires.next (planes_at behind.y behind.b _ _ e (omega arith) c.planes_from-behind.ensures)
+
+pub returns-clause-behind : goal.returns-clause-behind
+returns-clause-behind g c =
+    let behind = c.planes_from-behind.result in
+    planes_at behind.y behind.b _ _ (element_at (g.E.Elements.list c.args.e)) (omega arith) c.planes_from-behind.ensures
+
+pub returns-clause-phased : goal.returns-clause-phased
+returns-clause-phased g c =
+    let list = g.E.Elements.list c.args.e in
+    let e = element_at list in
+    let behind = c.planes_from-behind.result in
+    let fourth = c.phasing_marked-fourth.result in
+    let marked = c.phasing_marked-fourth.ensures (c.args.from + 214) e c.requires.next (planes_at behind.y behind.b _ _ e (omega arith) c.planes_from-behind.ensures) in
+    c.phased.ensures (c.args.from + 22) list c.requires.first
+    (phasing_at c.args.second.now _ _ e (omega arith) c.requires.second)
+    (phasing_at c.args.third.now _ _ e (omega arith) c.requires.third)
+    (phasing_at fourth _ _ e (omega arith) marked)

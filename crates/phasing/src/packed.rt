@@ -1,0 +1,128 @@
+//! Elements that are kept as bits.
+ghost use Rattle.std.specs.Prelude.{◌≡◌, ℕ, ◌+◌, ◌*◌, ◌<◌, ◌≤◌, ◌++◌, true, false, length, map, take, drop, replicate, slice_index_or, IfOk, IfSome, IsNone};
+ghost use Rattle.std.specs.List.{list_all};
+ghost use Rattle.ten_unit.specs.inside.Marks.{IsPlanes};
+ghost use Rattle.ten_unit.specs.Signs.{element_of, is_sign};
+ghost use Rattle.phasing.specs.Packed.{Keep, elements_in};
+ghost use Rattle.phasing.specs.inside.Places.{element_at};
+
+use crate::marking::shifted;
+use crate::window::Elements;
+use std::alloc::{AllocError, Global};
+use std::marker::Model;
+use ten_unit::{Element, Planes, pack_signs};
+
+/// The elements that one receiver heard, in their order, 64 of them in two words of bits. Contracts see it as the list of them.
+#[derive(Debug, Drop)]
+pub struct Reception {
+    planes: Vec<Planes>,
+    count: usize,
+}
+
+impl Model for Reception {
+    ghost use Rattle.std.specs.Prelude.{List};
+    ghost use Rattle.ten_unit.specs.declared.character.Element.{Element};
+    ghost use Rattle.phasing.specs.Packed.{Keep, elements_in};
+
+    ghost Value = { List Element };
+
+    ghost view = { λ p. elements_in p.planes.items p.count };
+
+    ghost invariant = { λ p. Keep p.planes.items (elements_in p.planes.items p.count) };
+}
+
+impl Reception {
+    /// So many elements that these words keep.
+    fn of(planes: Vec<Planes>, count: usize) -> Reception
+        requires { Keep planes.items (elements_in planes.items count) }
+        ensures { result ≡ elements_in planes.items count }
+    {
+        Reception { planes, count }
+    }
+
+    /// The elements of these signs, which are `Y`, `B`, and `-` for a lost one (this project's profile), and `None` where a byte is no sign.
+    /// The error is want of memory.
+    pub fn of_signs(alloc: Global, signs: &[u8]) -> Result<Option<Reception>, AllocError>
+        ensures some { IfOk result (λ packed. IfSome packed (λ p. (list_all is_sign signs.now ≡ true)
+            × (p ≡ map element_of signs.now))) }
+        ensures none { IfOk result (λ packed. IsNone packed → list_all is_sign signs.now ≡ false) }
+    {
+        let blocks = signs.len().div_ceil(64);
+        let mut planes = Vec::with_capacity(alloc, blocks)?;
+        for block in 0..blocks {
+            let Some(here) = signs_packed(signs, 64 * block) else {
+                return Ok(None);
+            };
+            planes.push(here)?;
+        }
+        Ok(Some(Reception::of(planes, signs.len())))
+    }
+
+    /// The elements of a list. The error is want of memory.
+    pub fn of_elements(alloc: Global, e: &[Element]) -> Result<Reception, AllocError>
+        ensures { IfOk result (λ reception. reception ≡ e.now) }
+    {
+        let blocks = e.len().div_ceil(64);
+        let mut planes = Vec::with_capacity(alloc, blocks)?;
+        for block in 0..blocks {
+            planes.push(e.planes_from(64 * block))?;
+        }
+        Ok(Reception::of(planes, e.len()))
+    }
+
+    /// The words with this number, and lost elements past the last ones.
+    #[inline(always)]
+    fn words(&self, number: usize) -> Planes
+        ensures { IsPlanes result.y result.b (64 * number + 150) (element_at self.now) }
+    {
+        match self.planes.get(number) {
+            Some(planes) => *planes,
+            None => Planes { y: 0, b: 0 },
+        }
+    }
+}
+
+impl Elements for &Reception {
+    ghost list = { λ p. p.now };
+
+    fn count(self) -> usize {
+        self.count
+    }
+
+    #[inline(always)]
+    fn planes_from(self, begin: usize) -> Planes {
+        let here = self.words(begin / 64);
+        let next = self.words(begin / 64 + 1);
+        let shift = (begin % 64) as u32;
+        Planes {
+            y: shifted(here.y, next.y, shift),
+            b: shifted(here.b, next.b, shift),
+        }
+    }
+}
+
+/// These signs, fewer than 64, and those of lost elements behind them.
+fn padded(signs: &[u8]) -> [u8; 64]
+    requires { length signs.now < 64 }
+    ensures { result ≡ signs.now ++ drop (length signs.now) (replicate 64 45) }
+{
+    let mut block = [b'-'; 64];
+    block[..signs.len()].copy_from_slice(signs);
+    block
+}
+
+/// The elements of 64 signs from one on as bits, of which those past the last one are lost. `None` where one of them is no sign.
+#[inline(always)]
+fn signs_packed(signs: &[u8], begin: usize) -> Option<Planes>
+    requires { begin ≤ length signs.now }
+    ensures planes { IfSome result (λ planes. IsPlanes planes.y planes.b begin
+        (λ p. element_of (slice_index_or signs.now p 45))) }
+    ensures signs { IfSome result (λ _. list_all is_sign (take 64 (drop begin signs.now)) ≡ true) }
+    ensures none { IsNone result → list_all is_sign (take 64 (drop begin signs.now)) ≡ false }
+{
+    let rest = &signs[begin..];
+    match rest.first_chunk::<64>() {
+        Some(block) => pack_signs(block),
+        None => pack_signs(&padded(rest)),
+    }
+}
