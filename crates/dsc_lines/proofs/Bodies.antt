@@ -1,17 +1,17 @@
 -- reading bodies of signs
-use Rattle.std.proofs.Common.{◌≡◌, ◌≢◌, ℕ, suc, ◌≤◌, ◌==◌, ◌||◌, true, false, List, [], ◌∷◌, ◌++◌, length, map, codes, Result, Option, Some, None, IfOk, IfSome, Ok, Err, inl, inr, refl, sym, ◌∙◌, ap, subst, append-nil, arith}
+use Rattle.std.proofs.Common.{◌≡◌, ◌≢◌, ℕ, suc, ◌≤◌, ◌==◌, ◌||◌, true, false, List, [], ◌∷◌, ◌++◌, length, map, codes, Result, Option, Some, None, IfOk, IfSome, IsSome, IsNone, Ok, Err, inl, inr, refl, sym, ◌∙◌, ap, subst, append-nil, arith}
 use Rattle.std.specs.List.{list_all}
-use Rattle.std.proofs.lemmas.Bool.{or_cases, eqb-true, and_parts, and_from}
+use Rattle.std.proofs.lemmas.Bool.{or_cases, eqb-true, and_parts, and_from, both_ways}
 use Rattle.ten_unit.specs.declared.character.Element.{Element}
 use Rattle.ten_unit.specs.declared.character.Element.TheVariants.{Y, B, Lost}
-use Rattle.ten_unit.specs.Signs as sign
+use Rattle.ten_unit.specs.Signs.{element_of, is_sign}
 use Rattle.line_grammar.specs.Tokens.{run, is_one_of, IsToken}
 use Rattle.line_grammar.specs.Grammar.{Grammar, finish, word, none}
 use Rattle.line_grammar.specs.inside.Reading.{after, ended, read_token, read}
 use Rattle.line_grammar.specs.inside.Soundness.{is_sound}
 use Rattle.line_grammar.proofs.Chains.{after_list, run_list, word_missed, word_on, token_missed, token_on, end_missed, fault_within, both_miss, no_end, end_nil}
 use Rattle.dsc_lines.specs.JoinLine.{sign_of, body_text}
-use Rattle.dsc_lines.specs.inside.Reading.{behind_blank, blank_and_signs, signs, element_of, IsBehindBlank}
+use Rattle.dsc_lines.specs.inside.Reading.{behind_blank, blank_and_signs, signs, IsBehindBlank}
 
 -- signs and elements
 sign_again : (b : ℕ) → is_one_of (codes "YB-") b ≡ true → sign_of (element_of b) ≡ b
@@ -43,15 +43,54 @@ pub elements_again : (e : List Element) → map element_of (map sign_of e) ≡ e
 elements_again [] = refl
 elements_again (x ∷ e) = ap (λ (y : Element). y ∷ map element_of (map sign_of e)) (element_again x) ∙ ap (λ (l : List Element). x ∷ l) (elements_again e)
 
-is_sign : (e : Element) → is_one_of (codes "YB-") (sign_of e) ≡ true
-is_sign Y = refl
-is_sign B = refl
-is_sign Lost = refl
+one_sign : (e : Element) → is_sign (sign_of e) ≡ true
+one_sign Y = refl
+one_sign B = refl
+one_sign Lost = refl
 
 -- elements are written by signs alone
+pub all_signs : (e : List Element) → list_all is_sign (map sign_of e) ≡ true
+all_signs [] = refl
+all_signs (x ∷ e) = and_from (is_sign (sign_of x)) (list_all is_sign (map sign_of e)) (one_sign x) (all_signs e)
+
+-- a sign is one of the bytes that lines have for signs, and each of these is a sign
+one_of_signs : (b : ℕ) → is_sign b ≡ true → is_one_of (codes "YB-") b ≡ true
+one_of_signs b h =
+    elim (or_cases (b == 89) ((b == 66) || (b == 45)) h) [
+      | inl y ↦ subst (λ (x : ℕ). is_one_of (codes "YB-") x ≡ true) (sym (eqb-true b 89 y)) refl
+      | inr other ↦ (elim (or_cases (b == 66) (b == 45) other) [
+        | inl n ↦ subst (λ (x : ℕ). is_one_of (codes "YB-") x ≡ true) (sym (eqb-true b 66 n)) refl
+        | inr lost ↦ subst (λ (x : ℕ). is_one_of (codes "YB-") x ≡ true) (sym (eqb-true b 45 lost)) refl
+      ])
+    ]
+
+all_of_signs : (bytes : List ℕ) → list_all is_sign bytes ≡ true → list_all (is_one_of (codes "YB-")) bytes ≡ true
+all_of_signs [] h = refl
+all_of_signs (b ∷ bytes) h =
+    let k = and_parts (is_sign b) (list_all is_sign bytes) h in
+    and_from (is_one_of (codes "YB-") b) (list_all (is_one_of (codes "YB-")) bytes) (one_of_signs b k.0) (all_of_signs bytes k.1)
+
+one_of_bytes : (b : ℕ) → is_one_of (codes "YB-") b ≡ true → is_sign b ≡ true
+one_of_bytes b h =
+    elim (or_cases (89 == b) ((66 == b) || ((45 == b) || false)) h) [
+      | inl y ↦ subst (λ (x : ℕ). is_sign x ≡ true) (eqb-true 89 b y) refl
+      | inr other ↦ (elim (or_cases (66 == b) ((45 == b) || false) other) [
+        | inl n ↦ subst (λ (x : ℕ). is_sign x ≡ true) (eqb-true 66 b n) refl
+        | inr lost ↦ (elim (or_cases (45 == b) false lost) [
+          | inl l ↦ subst (λ (x : ℕ). is_sign x ≡ true) (eqb-true 45 b l) refl
+          | inr never ↦ absurd (cc)
+        ])
+      ])
+    ]
+
+pub all_of_bytes : (bytes : List ℕ) → list_all (is_one_of (codes "YB-")) bytes ≡ true → list_all is_sign bytes ≡ true
+all_of_bytes [] h = refl
+all_of_bytes (b ∷ bytes) h =
+    let k = and_parts (is_one_of (codes "YB-") b) (list_all (is_one_of (codes "YB-")) bytes) h in
+    and_from (is_sign b) (list_all is_sign bytes) (one_of_bytes b k.0) (all_of_bytes bytes k.1)
+
 pub are_signs : (e : List Element) → list_all (is_one_of (codes "YB-")) (map sign_of e) ≡ true
-are_signs [] = refl
-are_signs (x ∷ e) = and_from (is_one_of (codes "YB-") (sign_of x)) (list_all (is_one_of (codes "YB-")) (map sign_of e)) (is_sign x) (are_signs e)
+are_signs e = all_of_signs (map sign_of e) (all_signs e)
 
 -- a body
 pub body_of : (bytes front : List ℕ) → front ≢ [] → list_all (is_one_of (codes "YB-")) front ≡ true → bytes ≡ codes " " ++ front → bytes ≡ body_text (map element_of front)
@@ -93,25 +132,18 @@ pub signs_behind_blank : IsBehindBlank signs
 unfolding read read_token
 signs_behind_blank = record { sound = refl; no_group = λ bytes. refl }
 
--- signs that were packed are a body
-one_of_signs : (b : ℕ) → sign.is_sign b ≡ true → is_one_of (codes "YB-") b ≡ true
-one_of_signs b h =
-    elim (or_cases (b == 89) ((b == 66) || (b == 45)) h) [
-      | inl y ↦ subst (λ (x : ℕ). is_one_of (codes "YB-") x ≡ true) (sym (eqb-true b 89 y)) refl
-      | inr other ↦ (elim (or_cases (b == 66) (b == 45) other) [
-        | inl n ↦ subst (λ (x : ℕ). is_one_of (codes "YB-") x ≡ true) (sym (eqb-true b 66 n)) refl
-        | inr lost ↦ subst (λ (x : ℕ). is_one_of (codes "YB-") x ≡ true) (sym (eqb-true b 45 lost)) refl
-      ])
-    ]
+-- signs are packed, and tell what was packed
+pub packed_some : (bytes : List ℕ) (read : Option (List Element)) → list_all is_sign bytes ≡ true → (IsNone read → list_all is_sign bytes ≡ false) → IsSome read
+packed_some bytes (Some e) all fails = refl
+packed_some bytes None all fails = absurd (both_ways (list_all is_sign bytes) (fails refl) all)
 
-all_of_signs : (bytes : List ℕ) → list_all sign.is_sign bytes ≡ true → list_all (is_one_of (codes "YB-")) bytes ≡ true
-all_of_signs [] h = refl
-all_of_signs (b ∷ bytes) h =
-    let k = and_parts (sign.is_sign b) (list_all sign.is_sign bytes) h in
-    and_from (is_one_of (codes "YB-") b) (list_all (is_one_of (codes "YB-")) bytes) (one_of_signs b k.0) (all_of_signs bytes k.1)
+pub packed_are : (bytes : List ℕ) (e : List Element) (read : Option (List Element)) → read ≡ Some e
+    → IfSome read (λ e. (list_all is_sign bytes ≡ true) × (e ≡ map element_of bytes)) → e ≡ map element_of bytes
+packed_are bytes e read is some = (subst (λ (o : Option (List Element)). IfSome o (λ e. (list_all is_sign bytes ≡ true) × (e ≡ map element_of bytes))) is some).1
 
+-- they are a body
 pub packed_body_of : {E : Type 0} (bytes front : List ℕ) (b : ℕ) (r : Result (Option (List Element)) E) → bytes ≡ b ∷ front → b ≡ 32 → (length front ≡ 0 → ⊥)
-    → IfOk r (λ read. IfSome read (λ e. (list_all sign.is_sign front ≡ true) × (e ≡ map element_of front))) → IfOk r (λ read. IfSome read (λ e. bytes ≡ body_text e))
+    → IfOk r (λ read. IfSome read (λ e. (list_all is_sign front ≡ true) × (e ≡ map element_of front))) → IfOk r (λ read. IfSome read (λ e. bytes ≡ body_text e))
 packed_body_of bytes front b (Ok (Some e)) list blank some is =
     body_of bytes front (λ (e : front ≡ []). some (ap length e)) (all_of_signs front is.0) (list ∙ ap (λ (x : ℕ). x ∷ front) blank) ∙ ap body_text (sym is.1)
 packed_body_of bytes front b (Ok None) list blank some is = tt

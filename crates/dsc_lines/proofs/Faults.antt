@@ -2,6 +2,7 @@
 use Rattle.ten_unit.specs.declared.character.Element.{Element}
 use Rattle.std.proofs.Common.{◌≡◌, ℕ, zero, suc, ◌+◌, ◌≤◌, ◌<◌, min, true, List, [], ◌∷◌, ◌++◌, length, map, codes, Option, Some, IfSome, Err, refl, sym, ◌∙◌, ap, subst, append_assoc, arith}
 use Rattle.std.specs.List.{flat_map, All}
+use Rattle.ten_unit.specs.Signs.{element_of}
 use Rattle.line_grammar.specs.Columns.{IsColumn}
 use Rattle.line_grammar.specs.Grammar.{finish, anything, word, either}
 use Rattle.line_grammar.specs.Repeats.{repeated}
@@ -12,7 +13,7 @@ use Rattle.line_grammar.proofs.Stops.{Stops, left_le, IsColumn-stops}
 use Rattle.line_grammar.proofs.Repeats.{Stops-limit, reads_stop}
 use Rattle.line_grammar.proofs.Chains.{word_on, fault_within, both_miss, no_end, no_word}
 use Rattle.dsc_lines.specs.JoinLine.{reception, evidence, NamesGroup, body_text, IsPair, pair_text, IsLine}
-use Rattle.dsc_lines.specs.inside.Reading.{behind_blank, signs, grouped, pair, reception_line, evidence_line, join_lines, element_of}
+use Rattle.dsc_lines.specs.inside.Reading.{behind_blank, signs, grouped, pair, reception_line, evidence_line, join_lines}
 use Rattle.dsc_lines.proofs.Pairs.{pairs_sound}
 use Rattle.dsc_lines.proofs.WholeLines.{lines_limit, lines_sound}
 

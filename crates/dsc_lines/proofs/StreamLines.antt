@@ -3,6 +3,7 @@ use Rattle.std.proofs.Common.{◌≡◌, ◌≢◌, ℕ, zero, suc, ◌+◌, ◌
 use Rattle.std.specs.List.{list_all}
 use mathlib.Core.List.{head-eq_of_cons-eq, nil≢cons}
 use Rattle.ten_unit.specs.declared.character.Element.{Element}
+use Rattle.ten_unit.specs.Signs.{element_of}
 use Rattle.line_grammar.specs.Columns.{Begins, IsColumn, ReadsAs, with_column}
 use Rattle.line_grammar.specs.Tokens.{is_one_of}
 use Rattle.line_grammar.specs.Grammar.{Parts, none, part, first, second, Spells}
@@ -10,7 +11,7 @@ use Rattle.line_grammar.specs.inside.Reading.{after, read}
 use Rattle.line_grammar.proofs.Chains.{word_on, fault_within}
 use Rattle.dsc_lines.specs.JoinLine.{sign_of, body_text}
 use Rattle.dsc_lines.specs.StreamLine.{IsNothing, IsStreamLine}
-use Rattle.dsc_lines.specs.inside.Reading.{blank_and_signs, elements_line, element_of}
+use Rattle.dsc_lines.specs.inside.Reading.{blank_and_signs, elements_line}
 use Rattle.dsc_lines.proofs.Bodies.{body_of, are_signs, elements_again}
 use Rattle.dsc_lines.proofs.Narrowing.{AreAt, column_of_kind}
 

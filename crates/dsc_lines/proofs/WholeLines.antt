@@ -4,6 +4,7 @@ use Rattle.std.specs.List.{flat_map, All}
 use Rattle.std.proofs.lemmas.Bool.{and_from}
 use Rattle.std.proofs.lemmas.List.Elements.{All-append, All-cons, All-nil}
 use Rattle.ten_unit.specs.declared.character.Element.{Element}
+use Rattle.ten_unit.specs.Signs.{element_of}
 use Rattle.line_grammar.specs.Tokens.{run, free_number, value_after, IsNumber}
 use Rattle.line_grammar.specs.Grammar.{Grammar, finish, anything, word, field, either, Parts, none, part, first, second, Spells}
 use Rattle.line_grammar.specs.Repeats.{repeated}
@@ -15,7 +16,7 @@ use Rattle.line_grammar.proofs.Repeats.{IsLimit}
 use Rattle.line_grammar.proofs.Decimals.{number_text, decimal_number, decimal_value}
 use Rattle.line_grammar.proofs.Chains.{finished}
 use Rattle.dsc_lines.specs.JoinLine.{JoinLine, nothing, reception, evidence, sign_of, NamesGroup, body_text, IsPair, pair_text, IsLine}
-use Rattle.dsc_lines.specs.inside.Reading.{behind_blank, signs, grouped, pair, reception_line, evidence_line, join_lines, element_of}
+use Rattle.dsc_lines.specs.inside.Reading.{behind_blank, signs, grouped, pair, reception_line, evidence_line, join_lines}
 use Rattle.dsc_lines.proofs.Bodies.{body_of, are_signs, elements_again}
 use Rattle.dsc_lines.proofs.Pairs.{pairs_sound, pair_text_is}
 

@@ -29,7 +29,6 @@ pub use laws::{
 };
 pub use lines::{FileKind, Line, LineFault};
 pub use reading::line_of;
-pub use receptions::element_of;
 pub use sentences::{SentenceLine, sentence_line};
 pub use streams::stream_line;
 pub use traffic::{PointLine, joined_line, point_line};

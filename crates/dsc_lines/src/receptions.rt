@@ -1,6 +1,7 @@
 //! Lines of receptions.
-ghost use Rattle.std.specs.Prelude.{◌≡◌, ◌∷◌, ◌++◌, ℕ, List, map, codes, IfOk, IfErr, IfSome, Err};
+ghost use Rattle.std.specs.Prelude.{◌≡◌, ◌∷◌, ◌++◌, ℕ, true, List, map, codes, IfOk, IfErr, IfSome, Err};
 ghost use Rattle.std.specs.List.{list_all};
+ghost use Rattle.ten_unit.specs.Signs.{element_of, is_sign};
 ghost use Rattle.line_grammar.specs.Bytes.{letter_r};
 ghost use Rattle.line_grammar.specs.Tokens as tokens;
 ghost use Rattle.line_grammar.specs.Tokens.{is_one_of, IsToken};
@@ -16,7 +17,6 @@ use crate::lines::LineFault;
 use line_grammar::{Left, column, end, run, word};
 use slot_evidence::Reception;
 use std::alloc::{AllocError, Global};
-use ten_unit::Element;
 
 /// Whether all of these bytes are signs. It looks at each of them, so that the compiler takes many in a step.
 fn are_signs(bytes: &[u8]) -> bool
@@ -46,7 +46,8 @@ pub(crate) fn signs(bytes: &[u8]) -> Result<&[u8], Left>
 
 /// The signs of a body; none where the line ends.
 fn body(bytes: &[u8]) -> Result<&[u8], Left>
-    ensures signs { IfOk result (λ signs. bytes.now ≡ body_text (map reading.element_of signs.now)) }
+    ensures signs { IfOk result (λ signs. (list_all is_sign signs.now ≡ true)
+        × (bytes.now ≡ body_text (map element_of signs.now))) }
     ensures left { IfErr result (λ left. read (behind_blank reading.signs) bytes.now ≡ Err left) }
 {
     if bytes.is_empty() {
@@ -57,8 +58,9 @@ fn body(bytes: &[u8]) -> Result<&[u8], Left>
 
 /// The group and the signs of a reception, behind its `r`.
 fn group_and_signs(bytes: &[u8]) -> Result<(u32, &[u8]), Left>
+    ensures signs { IfOk result (λ parts. list_all is_sign parts.1.now ≡ true) }
     ensures line { IfOk result (λ parts. (name : List ℕ)
-        × (NamesGroup parts.0 name × (bytes.now ≡ name ++ body_text (map reading.element_of parts.1.now)))) }
+        × (NamesGroup parts.0 name × (bytes.now ≡ name ++ body_text (map element_of parts.1.now)))) }
     ensures left { IfErr result (λ left. read (grouped (behind_blank reading.signs)) bytes.now ≡ Err left) }
 {
     let (group, rest) = group(bytes)?;
@@ -66,30 +68,12 @@ fn group_and_signs(bytes: &[u8]) -> Result<(u32, &[u8]), Left>
     Ok((group, signs))
 }
 
-/// The element of a sign: `Y`, `B`, and a lost one for any other byte.
-pub fn element_of(sign: u8) -> Element
-    ensures { result ≡ reading.element_of sign }
-{
-    match sign {
-        b'Y' => Element::Y,
-        b'B' => Element::B,
-        _ => Element::Lost,
-    }
-}
-
-/// The list of the elements of signs.
-fn list_of(alloc: Global, signs: &[u8]) -> Result<Vec<Element>, AllocError>
-    ensures { IfOk result (λ elements. elements.items ≡ map reading.element_of signs.now) }
-{
-    signs.iter().map(|sign| element_of(*sign)).collect(alloc)
-}
-
 /// The elements of signs.
 pub(crate) fn elements_of(alloc: Global, signs: &[u8]) -> Result<Reception, AllocError>
-    ensures { IfOk result (λ elements. elements ≡ map reading.element_of signs.now) }
+    requires { list_all is_sign signs.now ≡ true }
+    ensures { IfOk result (λ elements. elements ≡ map element_of signs.now) }
 {
-    let list = list_of(alloc, signs)?;
-    Ok(Reception::of_elements(alloc, &list)?)
+    Ok(Reception::of_signs(alloc, signs)?.unwrap())
 }
 
 /// The elements of a body of at least one, read 64 signs at once. `None` comes where no such body stands there.

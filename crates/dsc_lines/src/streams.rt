@@ -1,9 +1,10 @@
 //! The lines of a stream.
-ghost use Rattle.std.specs.Prelude.{◌≡◌, ◌∷◌, map, MatchResult};
+ghost use Rattle.std.specs.Prelude.{◌≡◌, ◌∷◌, true, map, IfOk, MatchResult};
+ghost use Rattle.std.specs.List.{list_all};
+ghost use Rattle.ten_unit.specs.Signs.{element_of, is_sign};
 ghost use Rattle.line_grammar.specs.Columns.{IsColumn};
 ghost use Rattle.dsc_lines.specs.Lines.{ReadsStream};
 ghost use Rattle.dsc_lines.specs.StreamLine.{IsStreamLine};
-ghost use Rattle.dsc_lines.specs.inside.Reading as reading;
 
 use crate::lines::{Line, LineFault};
 use crate::receptions::{elements_of, signs};
@@ -13,7 +14,8 @@ use std::alloc::Global;
 /// Reads a line behind its `s`.
 fn elements_line<'a>(line: &[u8], rest: &'a [u8]) -> Result<&'a [u8], usize>
     requires { line.now ≡ 115 ∷ rest.now }
-    ensures { MatchResult result (λ signs. IsStreamLine (map reading.element_of signs.now) line.now)
+    ensures signs { IfOk result (λ signs. list_all is_sign signs.now ≡ true) }
+    ensures line { MatchResult result (λ signs. IsStreamLine (map element_of signs.now) line.now)
         (λ n. IsColumn IsStreamLine line.now n) }
 {
     grammars_are_read();
@@ -26,7 +28,8 @@ fn elements_line<'a>(line: &[u8], rest: &'a [u8]) -> Result<&'a [u8], usize>
 /// Reads one line of a stream: the signs of the elements that it adds, `Y`, `B`, and `-` for a lost one. An empty line and a comment add
 /// none. An error is the column of bytes that are no such line.
 pub fn stream_line(line: &[u8]) -> Result<&[u8], usize>
-    ensures { MatchResult result (λ signs. IsStreamLine (map reading.element_of signs.now) line.now)
+    ensures signs { IfOk result (λ signs. list_all is_sign signs.now ≡ true) }
+    ensures line { MatchResult result (λ signs. IsStreamLine (map element_of signs.now) line.now)
         (λ n. IsColumn IsStreamLine line.now n) }
 {
     let Some((first, rest)) = line.split_first() else {

@@ -1,16 +1,17 @@
 -- lost slots are overwritten in what was sent
-use Rattle.std.proofs.Common.{◌≡◌, ℕ, ◌+◌, ◌*◌, ◌<◌, ◌≤◌, ◌++◌, List, [], ◌∷◌, Option, Some, None, IfSome, IsSome, IsNone, map, flat_map, take, drop, length, slice_index, replicate, false, true, refl, sym, ap, subst, ◌∙◌, append_assoc, append-nil, length-append, arith}
+use Rattle.std.proofs.Common.{◌≡◌, ℕ, ◌+◌, ◌*◌, ◌<◌, ◌≤◌, ◌++◌, List, Option, Some, IfSome, IsSome, IsNone, map, flat_map, take, drop, length, slice_index, replicate, false, true, refl, sym, ap, ◌∙◌, append_assoc, append-nil, length-append, arith}
 use Rattle.std.specs.List.{range_with_len, list_all}
-use Rattle.std.proofs.lemmas.Bool.{cond-true, cond-false, and_from, both_ways}
+use Rattle.std.proofs.lemmas.Bool.{cond-true, cond-false}
 use Rattle.std.proofs.lemmas.List.{drop_all, drop_more, take_at, drop_at, take-map, drop-map, map-append, length-map}
 use Rattle.std.proofs.lemmas.List.FromFn.{length-map-range_with_len}
 use Rattle.ten_unit.specs.declared.character.Element.{Element}
-use Rattle.ten_unit.specs.declared.character.Element.TheVariants.{Y, B, Lost}
+use Rattle.ten_unit.specs.declared.character.Element.TheVariants.{B}
 use Rattle.ten_unit.specs.Word.{word_of}
 use Rattle.ten_unit.specs.Signs.{element_of, is_sign}
 use Rattle.ten_unit.proofs.PublicLaws.{length-word}
 use Rattle.phasing.specs.Sent.{dot, dots, sent}
 use Rattle.dsc_lines.specs.JoinLine.{sign_of}
+use Rattle.dsc_lines.proofs.PublicLaws.{elements_again, all_signs, packed_some, packed_are}
 use Rattle.generated_join.specs.Generator.{heard_of, is_lost, slot_heard}
 use Rattle.generated_join.proofs.Ranges.{flat_more}
 
@@ -127,33 +128,10 @@ signs_lost k j slots n signs new o inside h e =
 pub signs_all : (k j : ℕ) (slots : List ℕ) (n : ℕ) (signs : List ℕ) → SignsOverwritten k j slots n signs → n ≡ length slots → signs ≡ map sign_of (heard_of k j slots)
 signs_all k j slots n signs o all = o.are ∙ ap (map sign_of) (overwritten_all k j slots n o.elements o.overwritten all)
 
--- signs of elements are signs, and tell the elements
-element_again : (e : Element) → element_of (sign_of e) ≡ e
-element_again Y = refl
-element_again B = refl
-element_again Lost = refl
-
-pub elements_again : (e : List Element) → map element_of (map sign_of e) ≡ e
-elements_again [] = refl
-elements_again (x ∷ e) = ap (λ (y : Element). y ∷ map element_of (map sign_of e)) (element_again x) ∙ ap (λ (l : List Element). x ∷ l) (elements_again e)
-
-one_sign : (e : Element) → is_sign (sign_of e) ≡ true
-one_sign Y = refl
-one_sign B = refl
-one_sign Lost = refl
-
-pub are_signs : (e : List Element) → list_all is_sign (map sign_of e) ≡ true
-are_signs [] = refl
-are_signs (x ∷ e) = and_from (is_sign (sign_of x)) (list_all is_sign (map sign_of e)) (one_sign x) (are_signs e)
-
--- they are packed
+-- signs of elements are packed
 pub packed : (signs : List ℕ) (e : List Element) (read : Option (List Element)) → signs ≡ map sign_of e → (IsNone read → list_all is_sign signs ≡ false) → IsSome read
-packed signs e (Some x) are none = refl
-packed signs e None are none = absurd (both_ways (list_all is_sign signs) (none refl) (ap (list_all is_sign) are ∙ are_signs e))
+packed signs e read are none = packed_some signs read (ap (list_all is_sign) are ∙ all_signs e) none
 
 pub packed_elements : (signs : List ℕ) (e p : List Element) (read : Option (List Element)) → signs ≡ map sign_of e → read ≡ Some p
     → IfSome read (λ p. (list_all is_sign signs ≡ true) × (p ≡ map element_of signs)) → p ≡ e
-packed_elements signs e p read are is some =
-    (subst (λ (o : Option (List Element)). IfSome o (λ p. (list_all is_sign signs ≡ true) × (p ≡ map element_of signs))) is some).1
-    ∙ ap (map element_of) are
-    ∙ elements_again e
+packed_elements signs e p read are is some = packed_are signs p read is some ∙ ap (map element_of) are ∙ elements_again e

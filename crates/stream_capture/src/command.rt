@@ -1,7 +1,7 @@
 ghost use Rattle.std.specs.Prelude.{◌≡◌, ◌+◌, ◌-◌, ◌<◌, ◌≤◌, ◌^◌, ◌∷◌, ◌++◌, List, ℕ, [], map, length, take, IfOk, OnOk};
 ghost use Rattle.ten_unit.specs.declared.character.Element.{Element as Taken};
 ghost use Rattle.line_engine.specs.Commands.{StandsBelow};
-ghost use Rattle.dsc_lines.specs.inside.Reading.{element_of as element_at};
+ghost use Rattle.ten_unit.specs.Signs.{element_of as element_at};
 ghost use Rattle.long_capture.specs.Captures.{taken, IsOpen};
 ghost use Rattle.stream_capture.specs.Telling.{capture_meaning};
 ghost use Rattle.stream_capture.specs.inside.Progress.{HasTold, EndsTold, HasToldAll, TellsOne, HasRoom, StandsFor};

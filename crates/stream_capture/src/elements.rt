@@ -1,9 +1,8 @@
 ghost use Rattle.std.specs.Prelude.{◌≡◌, ◌≤◌, length, map, take};
-ghost use Rattle.dsc_lines.specs.inside.Reading.{element_of as element_at};
+ghost use Rattle.ten_unit.specs.Signs.{element_of as element_at};
 
-use dsc_lines::element_of;
 use line_engine::LONGEST_LINE;
-use ten_unit::Element;
+use ten_unit::{Element, element_of};
 
 /// The elements of these signs, and lost ones behind them. The compiler makes many in a step.
 pub(crate) fn elements_of(signs: &[u8]) -> [Element; LONGEST_LINE]

@@ -3,6 +3,7 @@ ghost use Rattle.ten_unit.specs.Word.{word_of, element, count_of_b};
 ghost use Rattle.ten_unit.specs.Word as characters;
 ghost use Rattle.ten_unit.specs.declared.character.Element.{Element};
 ghost use Rattle.ten_unit.specs.Errors.{IsOneWay};
+ghost use Rattle.ten_unit.specs.Signs as signs;
 ghost use Rattle.ten_unit.specs.inside.Number.{weight as weight_of, number_of};
 
 use crate::table::symbol_of;
@@ -14,6 +15,17 @@ pub enum Element {
     B,
     #[default]
     Lost,
+}
+
+/// The element of a sign: `Y`, `B`, and a lost one for any other byte (this project's profile).
+pub fn element_of(sign: u8) -> Element
+    ensures { result ≡ signs.element_of sign }
+{
+    match sign {
+        b'Y' => Element::Y,
+        b'B' => Element::B,
+        _ => Element::Lost,
+    }
 }
 
 /// The element of a number's last binary digit.

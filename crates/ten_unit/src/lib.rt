@@ -6,7 +6,8 @@ mod packing;
 mod table;
 
 pub use character::{
-    Element, is_same, is_word, one_way_errors_are_seen, symbol, word, words_tell_symbols_apart,
+    Element, element_of, is_same, is_word, one_way_errors_are_seen, symbol, word,
+    words_tell_symbols_apart,
 };
 pub use packing::{Planes, pack_elements, pack_signs, symbol_at};
 

@@ -1,7 +1,5 @@
 -- The grammars by which lines are read, and what their parts say: this project's profile.
-use Rattle.std.specs.Prelude.{◌≡◌, ℕ, suc, ◌==◌, true, if◌then◌else◌, List, ◌∷◌, length, codes, Err}
-use Rattle.ten_unit.specs.declared.character.Element.{Element}
-use Rattle.ten_unit.specs.declared.character.Element.TheVariants.{Y, B, Lost}
+use Rattle.std.specs.Prelude.{◌≡◌, ℕ, suc, true, List, ◌∷◌, length, codes, Err}
 use Rattle.line_grammar.specs.Tokens.{run, free_number}
 use Rattle.line_grammar.specs.Grammar.{Grammar, finish, anything, word, field, either}
 use Rattle.line_grammar.specs.Repeats.{repeated}
@@ -42,10 +40,6 @@ evidence_line n = word (codes "e") (grouped (repeated pair n))
 -- the lines of join's input whose evidence has so many pairs at most
 abbrev pub join_lines : ℕ → Grammar
 join_lines n = either finish (either (word (codes "#") anything) (either reception_line (evidence_line n)))
-
--- the element of a sign
-abbrev pub element_of : ℕ → Element
-element_of sign = if sign == 89 then Y else (if sign == 66 then B else Lost)
 
 -- the rest behind a blank can be told from a group: it stops at once at a g
 pub record IsBehindBlank (rest : Grammar) : Type 0 where

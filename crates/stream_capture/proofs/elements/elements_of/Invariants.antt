@@ -1,5 +1,5 @@
 use Rattle.std.proofs.Common.{◌≡◌, length, map, take}
-use Rattle.dsc_lines.specs.inside.Reading.{element_of}
+use Rattle.ten_unit.specs.Signs.{element_of}
 use Rattle.stream_capture.proofs.elements.elements_of.Given as goal
 
 -- the elements so far are written

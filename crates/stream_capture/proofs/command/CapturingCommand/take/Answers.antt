@@ -1,10 +1,10 @@
 use Rattle.std.proofs.Common.{◌++◌, map}
-use Rattle.dsc_lines.specs.inside.Reading.{element_of}
+use Rattle.ten_unit.specs.Signs.{element_of}
 use Rattle.stream_capture.specs.Telling.{stream_of}
 use Rattle.stream_capture.proofs.LinesTaken.{line_taken}
 use Rattle.stream_capture.proofs.command.CapturingCommand.take.Goals as goal
 
 pub returns-in_ok-take_signs-in-Ok-clause-stands : goal.returns-in_ok-take_signs-in-Ok-clause-stands
 returns-in_ok-take_signs-in-Ok-clause-stands c = λ lines written h.
-    line_taken c.args.self.now c.take_signs.new.self lines c.args.line.now (written ++ c.args.out.now.items) _ (map element_of c.in-Ok.signs.now) h c.in-Ok.ensures c.requires.short
+    line_taken c.args.self.now c.take_signs.new.self lines c.args.line.now (written ++ c.args.out.now.items) _ (map element_of c.in-Ok.signs.now) h c.in-Ok.ensures.line c.requires.short
     (c.in_ok-take_signs-in-Ok.ensures (stream_of h.said) written h.told)
