@@ -15,6 +15,7 @@ use call_values::bounds::{HF_CHANNELS, TENS, VHF_CHANNELS};
 use call_values::{Body, Call, Field, FieldKind, HourMinute, Kind, Message, Mmsi, Position, To};
 use dsc_symbols::messages::NO_INFORMATION;
 use dsc_symbols::{categories, formats, telecommands};
+use text_pieces::append;
 
 /// The DSC sentence of a call; an expansion follows it where the argument says so.
 #[tactic(auto, unfolding(crate::specs::Calls::of_call))]
@@ -191,7 +192,7 @@ fn append_position(out: &mut ArrayVec<u8, 16>, position: &Position)
         Some(fix) => position_digits(&fix),
         None => 9_999_999_999,
     };
-    append_decimals(out, 10, number);
+    append(out, &ten_digits(number));
 }
 
 /// Hour and minute in four digits, eights where they aren't known.

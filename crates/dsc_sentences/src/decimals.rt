@@ -27,10 +27,20 @@ pub fn ten_digits(number: u64) -> [u8; 10]
 }
 
 /// These digits in an array.
+#[tactic(auto, unfolding(crate::specs::Calls::decimals))]
 fn digits_array(number: u64) -> [u8; 10]
     ensures { result ≡ decimals 10 number }
 {
-    let mut digits = ArrayVec::<u8, 10>::new();
-    append_decimals(&mut digits, 10, number);
-    digits.into_inner().unwrap()
+    [
+        (number / 1_000_000_000 % 10) as u8,
+        (number / 100_000_000 % 10) as u8,
+        (number / 10_000_000 % 10) as u8,
+        (number / 1_000_000 % 10) as u8,
+        (number / 100_000 % 10) as u8,
+        (number / 10_000 % 10) as u8,
+        (number / 1_000 % 10) as u8,
+        (number / 100 % 10) as u8,
+        (number / 10 % 10) as u8,
+        (number % 10) as u8,
+    ]
 }

@@ -182,15 +182,18 @@ position_request rest = labelled (codes "askpos to=") identity (sender rest)
 abbrev pub position_answer : Grammar → Grammar
 position_answer rest = labelled (codes "pos to=") identity (sender (labelled (codes " pos=") position (labelled (codes " time=") time rest)))
 
--- a call of the last three forms, of the last seven, and of any form
+-- a call of the last three forms, of the last seven, of all but the first, and of any form
 abbrev pub services : Grammar → Grammar
 services rest = either (test rest) (either (position_request rest) (position_answer rest))
 
 abbrev pub other_calls : Grammar → Grammar
 other_calls rest = either (all_ships rest) (either (area_call rest) (either (group_call rest) (either (individual rest) (services rest))))
 
+abbrev pub all_but_alerts : Grammar → Grammar
+all_but_alerts rest = either (ack rest) (either (relay rest) (either (relay_ack rest) (other_calls rest)))
+
 abbrev pub calls : Grammar → Grammar
-calls rest = either (alert rest) (either (ack rest) (either (relay rest) (either (relay_ack rest) (other_calls rest))))
+calls rest = either (alert rest) (all_but_alerts rest)
 
 -- a set's value: none, or a number up to the most in so many digits
 abbrev pub set_shape : ℕ → ℕ → Shape

@@ -173,5 +173,9 @@ fn no_expansion(bytes: &[u8]) -> Result<Option<Expansion>, Left>
 pub fn expansion_or_end(bytes: &[u8]) -> Result<Option<Expansion>, Left>
     ensures { ReadsTail (perhaps grammar.expansion finish) inside.expansion_or_end bytes.now result }
 {
-    further(&no_expansion(bytes), &expansion(bytes))
+    let ended = no_expansion(bytes);
+    if ended.is_ok() {
+        return ended;
+    }
+    further(&ended, &expansion(bytes))
 }

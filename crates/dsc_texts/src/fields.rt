@@ -25,7 +25,9 @@ pub fn spelled<'a, T: Drop>(text: &[u8], value: T, bytes: &'a [u8]) -> Result<(T
     Ok((value, rest))
 }
 
-/// A number of at most this in so many digits at the front of these bytes, and what follows it.
+/// A number of at most this in so many digits at the front of these bytes, and what follows it. Where the width is a constant, the loop
+/// folds.
+#[inline(always)]
 fn up_to(width: usize, most: u8, bytes: &[u8]) -> Result<(u8, &[u8]), Left>
     requires width { width ≤ 3 }
     requires most { most < 10 ^ width }
@@ -40,6 +42,7 @@ fn up_to(width: usize, most: u8, bytes: &[u8]) -> Result<(u8, &[u8]), Left>
 
 /// Hours or degrees, at most so many and in so many digits, and two digits of minutes at the front of these bytes, and
 /// what follows them.
+#[inline(always)]
 fn with_minutes(width: usize, most: u8, bytes: &[u8]) -> Result<((u8, u8), &[u8]), Left>
     requires width { width ≤ 3 }
     requires most { most < 10 ^ width }
@@ -62,6 +65,9 @@ fn latitude(bytes: &[u8]) -> Result<((u8, u8), &[u8]), Left>
     ensures left { IfErr result (λ left. read_shape grammar.latitude bytes.now ≡ Err left) }
 {
     let below = with_minutes(2, 89, bytes);
+    if below.is_ok() {
+        return below;
+    }
     let pole = spelled(b"9000", (90, 0), bytes);
     further(&below, &pole)
 }
@@ -74,6 +80,9 @@ fn longitude(bytes: &[u8]) -> Result<((u8, u8), &[u8]), Left>
     ensures left { IfErr result (λ left. read_shape grammar.longitude bytes.now ≡ Err left) }
 {
     let below = with_minutes(3, 179, bytes);
+    if below.is_ok() {
+        return below;
+    }
     let line = spelled(b"18000", (180, 0), bytes);
     further(&below, &line)
 }
@@ -107,6 +116,9 @@ impl Token for Position {
 
     fn read(bytes: &[u8]) -> Result<(Position, &[u8]), Left> {
         let known = known_position(bytes);
+        if known.is_ok() {
+            return known;
+        }
         let unknown = spelled(b"9999999999", Position::unknown(), bytes);
         further(&known, &unknown)
     }
@@ -131,6 +143,9 @@ impl Token for HourMinute {
 
     fn read(bytes: &[u8]) -> Result<(HourMinute, &[u8]), Left> {
         let known = known_time(bytes);
+        if known.is_ok() {
+            return known;
+        }
         let unknown = spelled(b"8888", HourMinute::unknown(), bytes);
         further(&known, &unknown)
     }

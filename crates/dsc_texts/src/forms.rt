@@ -266,7 +266,9 @@ fn service<T: Tail>(bytes: &[u8]) -> Result<(Call, T), Left>
     further(&test(bytes), &positions)
 }
 
-/// Reads a call that is no distress call. The form that the bytes are of ends the search.
+/// Reads a call that is no distress call. The form that the bytes are of ends the search. It stands out of line, so that no other form
+/// clears the room of these.
+#[inline(never)]
 fn other_call<T: Tail>(bytes: &[u8]) -> Result<(Call, T), Left>
     ensures { ReadsForm (grammar.other_calls T.grammar) (last 4) (parts_with T.parts) bytes.now result }
 {
@@ -288,14 +290,11 @@ fn other_call<T: Tail>(bytes: &[u8]) -> Result<(Call, T), Left>
     further(&to_all, &to_others)
 }
 
-/// Reads a call of any form. The form that the bytes are of ends the search.
-pub fn any_call<T: Tail>(bytes: &[u8]) -> Result<(Call, T), Left>
-    ensures { ReadsForm (grammar.calls T.grammar) (λ p. p) (parts_with T.parts) bytes.now result }
+/// Reads a call that is no distress alert. It stands out of line for the same reason.
+#[inline(never)]
+fn all_but_alert<T: Tail>(bytes: &[u8]) -> Result<(Call, T), Left>
+    ensures { ReadsForm (grammar.all_but_alerts T.grammar) (last 1) (parts_with T.parts) bytes.now result }
 {
-    let told = alert(bytes);
-    if told.is_ok() {
-        return told;
-    }
     let answer = ack(bytes);
     if answer.is_ok() {
         return answer;
@@ -306,6 +305,16 @@ pub fn any_call<T: Tail>(bytes: &[u8]) -> Result<(Call, T), Left>
     }
     let others = further(&relay_ack(bytes), &other_call(bytes));
     let relays = further(&relayed, &others);
-    let answers = further(&answer, &relays);
-    further(&told, &answers)
+    further(&answer, &relays)
+}
+
+/// Reads a call of any form. The form that the bytes are of ends the search.
+pub fn any_call<T: Tail>(bytes: &[u8]) -> Result<(Call, T), Left>
+    ensures { ReadsForm (grammar.calls T.grammar) (λ p. p) (parts_with T.parts) bytes.now result }
+{
+    let told = alert(bytes);
+    if told.is_ok() {
+        return told;
+    }
+    further(&told, &all_but_alert(bytes))
 }

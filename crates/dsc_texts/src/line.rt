@@ -14,6 +14,16 @@ pub fn word(line: &mut Cursor, text: &[u8]) -> Result<(), Left>
     Ok(())
 }
 
+/// Reads a word that nearly always stands there.
+#[inline(always)]
+pub fn whole_word(line: &mut Cursor, text: &[u8]) -> Result<(), Left>
+    ensures read { OnOk result (after text.now line.old ≡ Ok line.new) }
+    ensures left { IfErr result (λ left. after text.now line.old ≡ Err left) }
+{
+    line.go_on(line_grammar::whole_word(text, line.rest())?);
+    Ok(())
+}
+
 /// Goes on behind a value that was read at the front of these bytes.
 pub fn take<'a, T: Copy>(
     line: &mut Cursor<'a>,

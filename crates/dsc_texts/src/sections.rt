@@ -5,7 +5,7 @@ ghost use Rattle.dsc_texts.specs.CallGrammar.{labelled};
 ghost use Rattle.dsc_texts.specs.CallParts.{casualty_parts, distress_parts, sender_parts, request_parts, frequencies_parts};
 ghost use Rattle.dsc_texts.specs.inside.Reading.{ReadsSection};
 
-use crate::line::{take, word};
+use crate::line::{take, whole_word};
 use crate::tokens::Token;
 use call_values::{
     Casualty, Category, Comm, Field, First, HourMinute, Mmsi, Nature, Position, Second,
@@ -14,10 +14,11 @@ use cursor::Cursor;
 use line_grammar::Left;
 
 /// Reads a value behind its label.
+#[inline(always)]
 pub fn field<T: Token>(line: &mut Cursor, label: &[u8]) -> Result<T, Left>
     ensures { ReadsSection (labelled label.now T.token) (λ v. part (T.text v)) line.old result line.new }
 {
-    word(line, label)?;
+    whole_word(line, label)?;
     take(line, &T::read(line.rest()))
 }
 

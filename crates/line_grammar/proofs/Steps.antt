@@ -1,8 +1,10 @@
 -- the steps of the readers in code
-use Rattle.std.proofs.Common.{◌≡◌, ℕ, suc, ◌+◌, ◌<◌, ◌≤◌, ◌==◌, List, [], ◌∷◌, length, take, drop, slice_index_or, Ok, Err, refl, sym, ◌∙◌, ap}
+use Rattle.std.proofs.Common.{◌≡◌, ℕ, suc, ◌+◌, ◌<◌, ◌≤◌, ◌==◌, true, List, [], ◌∷◌, ◌++◌, length, take, drop, slice_index_or, Ok, Err, refl, sym, ◌∙◌, ap}
 use Rattle.std.specs.List.{prefix_len}
+use Rattle.std.specs.Str.{bytes_eq}
 use Rattle.std.proofs.lemmas.Bool.{eq-eqb, ne_eqb, cond-true, cond-false}
-use Rattle.std.proofs.lemmas.List.{drop_more, drop_all, nil_from_length}
+use Rattle.std.proofs.lemmas.List.{drop_more, drop_all, nil_from_length, take-append-drop}
+use Rattle.std.proofs.lemmas.Slice.Eq.{bytes_eq-Decides}
 use Rattle.line_grammar.specs.Grammar.{none}
 use Rattle.line_grammar.specs.Tokens.{run, is_one_of}
 use Rattle.line_grammar.specs.inside.Reading.{ended, after, read_token}
@@ -32,6 +34,20 @@ after_more text rest back i b inside e same =
 pub after_done : (text rest : List ℕ) (i : ℕ) → length text ≤ i → after (drop i text) rest ≡ Ok rest
 unfolding after
 after_done text rest i past = ap (λ (t : List ℕ). after t rest) (drop_all i text past)
+
+-- a word that stands at the front as a whole
+after_whole : (text rest : List ℕ) → after text (text ++ rest) ≡ Ok rest
+unfolding after
+after_whole [] rest = refl
+after_whole (c ∷ text) rest = cond-true (c == c) (after text (text ++ rest)) (Err (suc (length (text ++ rest)))) (eq-eqb c c refl) ∙ after_whole text rest
+
+pub after_prefix : (text bytes rest : List ℕ) → bytes_eq (take (length text) bytes) text ≡ true → rest ≡ drop (length text) bytes → after text bytes ≡ Ok rest
+after_prefix text bytes rest same is =
+    let back = drop (length text) bytes in
+    ap (after text) (sym (take-append-drop (length text) bytes))
+    ∙ ap (λ (l : List ℕ). after text (l ++ back)) ((bytes_eq-Decides (take (length text) bytes) text).0 same)
+    ∙ after_whole text back
+    ∙ ap Ok (sym is)
 
 pub ended_here : (bytes : List ℕ) → length bytes ≡ 0 → ended bytes ≡ Ok none
 unfolding ended

@@ -26,6 +26,19 @@ pub fn word<'a>(text: &[u8], bytes: &'a [u8]) -> Result<&'a [u8], Left>
     Ok(rest)
 }
 
+/// The same as `word`, for a word that nearly always stands there. It compares the word whole, and goes byte by byte only where another
+/// stands there. Where the word is a constant, the comparison folds.
+#[inline(always)]
+pub fn whole_word<'a>(text: &[u8], bytes: &'a [u8]) -> Result<&'a [u8], Left>
+    ensures rest { IfOk result (λ rest. after text.now bytes.now ≡ Ok rest.now) }
+    ensures left { IfErr result (λ left. after text.now bytes.now ≡ Err left) }
+{
+    match bytes.strip_prefix(text) {
+        Some(rest) => Ok(rest),
+        None => word(text, bytes),
+    }
+}
+
 /// How many of the first bytes are such signs, one after the other.
 fn run_length(signs: &[u8], bytes: &[u8]) -> usize
     ensures length { result ≡ prefix_len (tokens.is_one_of signs.now) bytes.now }

@@ -1,7 +1,14 @@
-use Rattle.std.proofs.Common.{ℕ, ◌++◌, refl, rules}
-use Rattle.line_grammar.specs.Shapes.{digits}
-use Rattle.dsc_texts.proofs.FieldSteps.{choice_shows, letters_show}
+use Rattle.std.proofs.Common.{ℕ, ◌++◌, refl, sym, ◌∙◌, codes, rules}
+use Rattle.line_grammar.specs.Shapes.{letters, digits}
+use Rattle.dsc_texts.proofs.FieldSteps.{choice_shows, first_shows, letters_show}
 use Rattle.dsc_texts.proofs.fields.longitude.Goals as goal
+
+pub returns-then-is_ok : goal.returns-then-is_ok
+returns-then-is_ok c =
+    let below = c.with_minutes-below.ensures in
+    let shown = first_shows (λ (a : ℕ × ℕ). digits 3 a.0 ++ digits 2 a.1) (λ b. b.now) _ (letters (codes "18000")) c.args.bytes.now _ (sym c.is_ok.ensures.value ∙ c.if-is_ok.true)
+    (record { value = below.value; left = below.left }) in
+    record { range = search rules; value = shown.value; left = shown.left }
 
 pub returns : goal.returns
 unfolding digits

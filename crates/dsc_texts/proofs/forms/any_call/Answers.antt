@@ -1,30 +1,14 @@
 use Rattle.std.proofs.Common.{◌∙◌, sym}
-use Rattle.line_grammar.specs.Grammar.{either}
 use Rattle.dsc_texts.specs.CallGrammar as grammar
 use Rattle.dsc_texts.specs.inside.Places.{last}
 use Rattle.dsc_texts.specs.inside.Reading.{parts_with}
-use Rattle.dsc_texts.proofs.SectionSteps.{first_form, second_form, further_form}
+use Rattle.dsc_texts.proofs.SectionSteps.{first_form, further_form}
 use Rattle.dsc_texts.proofs.forms.any_call.Goals as goal
 
 pub returns-then-is_ok : goal.returns-then-is_ok
 returns-then-is_ok g c =
-    first_form (grammar.alert g.T.Tail.grammar) (either (grammar.ack g.T.Tail.grammar) (either (grammar.relay g.T.Tail.grammar) (either (grammar.relay_ack g.T.Tail.grammar) (either (grammar.all_ships g.T.Tail.grammar) (either (grammar.area_call g.T.Tail.grammar) (either (grammar.group_call g.T.Tail.grammar) (either (grammar.individual g.T.Tail.grammar) (either (grammar.test g.T.Tail.grammar) (either (grammar.position_request g.T.Tail.grammar) (grammar.position_answer g.T.Tail.grammar)))))))))) (last 0) (parts_with g.T.Tail.parts) _ _ (sym c.is_ok.ensures.value ∙ c.if-is_ok.true) c.alert-told.ensures
-
-pub returns-then-is_ok-2 : goal.returns-then-is_ok-2
-returns-then-is_ok-2 g c =
-    second_form (grammar.alert g.T.Tail.grammar) (either (grammar.ack g.T.Tail.grammar) (either (grammar.relay g.T.Tail.grammar) (either (grammar.relay_ack g.T.Tail.grammar) (either (grammar.all_ships g.T.Tail.grammar) (either (grammar.area_call g.T.Tail.grammar) (either (grammar.group_call g.T.Tail.grammar) (either (grammar.individual g.T.Tail.grammar) (either (grammar.test g.T.Tail.grammar) (either (grammar.position_request g.T.Tail.grammar) (grammar.position_answer g.T.Tail.grammar)))))))))) (last 0) (parts_with g.T.Tail.parts) _ _ _ (sym c.is_ok.ensures.value ∙ c.if-is_ok.false) (sym c.is_ok-2.ensures.value ∙ c.if-is_ok-2.true) c.alert-told.ensures
-    (first_form (grammar.ack g.T.Tail.grammar) (either (grammar.relay g.T.Tail.grammar) (either (grammar.relay_ack g.T.Tail.grammar) (either (grammar.all_ships g.T.Tail.grammar) (either (grammar.area_call g.T.Tail.grammar) (either (grammar.group_call g.T.Tail.grammar) (either (grammar.individual g.T.Tail.grammar) (either (grammar.test g.T.Tail.grammar) (either (grammar.position_request g.T.Tail.grammar) (grammar.position_answer g.T.Tail.grammar))))))))) (last 1) (parts_with g.T.Tail.parts) _ _ (sym c.is_ok-2.ensures.value ∙ c.if-is_ok-2.true) c.ack-answer.ensures)
-
-pub returns-then-is_ok-3 : goal.returns-then-is_ok-3
-returns-then-is_ok-3 g c =
-    second_form (grammar.alert g.T.Tail.grammar) (either (grammar.ack g.T.Tail.grammar) (either (grammar.relay g.T.Tail.grammar) (either (grammar.relay_ack g.T.Tail.grammar) (either (grammar.all_ships g.T.Tail.grammar) (either (grammar.area_call g.T.Tail.grammar) (either (grammar.group_call g.T.Tail.grammar) (either (grammar.individual g.T.Tail.grammar) (either (grammar.test g.T.Tail.grammar) (either (grammar.position_request g.T.Tail.grammar) (grammar.position_answer g.T.Tail.grammar)))))))))) (last 0) (parts_with g.T.Tail.parts) _ _ _ (sym c.is_ok.ensures.value ∙ c.if-is_ok.false) (sym c.is_ok-3.ensures.value ∙ c.if-is_ok-3.true) c.alert-told.ensures
-    (second_form (grammar.ack g.T.Tail.grammar) (either (grammar.relay g.T.Tail.grammar) (either (grammar.relay_ack g.T.Tail.grammar) (either (grammar.all_ships g.T.Tail.grammar) (either (grammar.area_call g.T.Tail.grammar) (either (grammar.group_call g.T.Tail.grammar) (either (grammar.individual g.T.Tail.grammar) (either (grammar.test g.T.Tail.grammar) (either (grammar.position_request g.T.Tail.grammar) (grammar.position_answer g.T.Tail.grammar))))))))) (last 1) (parts_with g.T.Tail.parts) _ _ _ (sym c.is_ok-2.ensures.value ∙ c.if-is_ok-2.false) (sym c.is_ok-3.ensures.value ∙ c.if-is_ok-3.true) c.ack-answer.ensures
-    (first_form (grammar.relay g.T.Tail.grammar) (either (grammar.relay_ack g.T.Tail.grammar) (either (grammar.all_ships g.T.Tail.grammar) (either (grammar.area_call g.T.Tail.grammar) (either (grammar.group_call g.T.Tail.grammar) (either (grammar.individual g.T.Tail.grammar) (either (grammar.test g.T.Tail.grammar) (either (grammar.position_request g.T.Tail.grammar) (grammar.position_answer g.T.Tail.grammar)))))))) (last 2) (parts_with g.T.Tail.parts) _ _ (sym c.is_ok-3.ensures.value ∙ c.if-is_ok-3.true) c.relay-relayed.ensures))
+    first_form (grammar.alert g.T.Tail.grammar) (grammar.all_but_alerts g.T.Tail.grammar) (last 0) (parts_with g.T.Tail.parts) _ _ (sym c.is_ok.ensures.value ∙ c.if-is_ok.true) c.alert-told.ensures
 
 pub returns : goal.returns
 returns g c =
-    further_form (grammar.alert g.T.Tail.grammar) (either (grammar.ack g.T.Tail.grammar) (either (grammar.relay g.T.Tail.grammar) (either (grammar.relay_ack g.T.Tail.grammar) (either (grammar.all_ships g.T.Tail.grammar) (either (grammar.area_call g.T.Tail.grammar) (either (grammar.group_call g.T.Tail.grammar) (either (grammar.individual g.T.Tail.grammar) (either (grammar.test g.T.Tail.grammar) (either (grammar.position_request g.T.Tail.grammar) (grammar.position_answer g.T.Tail.grammar)))))))))) (last 0) (parts_with g.T.Tail.parts) _ _ _ _ c.further.ensures c.alert-told.ensures
-    (further_form (grammar.ack g.T.Tail.grammar) (either (grammar.relay g.T.Tail.grammar) (either (grammar.relay_ack g.T.Tail.grammar) (either (grammar.all_ships g.T.Tail.grammar) (either (grammar.area_call g.T.Tail.grammar) (either (grammar.group_call g.T.Tail.grammar) (either (grammar.individual g.T.Tail.grammar) (either (grammar.test g.T.Tail.grammar) (either (grammar.position_request g.T.Tail.grammar) (grammar.position_answer g.T.Tail.grammar))))))))) (last 1) (parts_with g.T.Tail.parts) _ _ _ _ c.further-answers.ensures c.ack-answer.ensures
-    (further_form (grammar.relay g.T.Tail.grammar) (either (grammar.relay_ack g.T.Tail.grammar) (either (grammar.all_ships g.T.Tail.grammar) (either (grammar.area_call g.T.Tail.grammar) (either (grammar.group_call g.T.Tail.grammar) (either (grammar.individual g.T.Tail.grammar) (either (grammar.test g.T.Tail.grammar) (either (grammar.position_request g.T.Tail.grammar) (grammar.position_answer g.T.Tail.grammar)))))))) (last 2) (parts_with g.T.Tail.parts) _ _ _ _ c.further-relays.ensures c.relay-relayed.ensures
-    (further_form (grammar.relay_ack g.T.Tail.grammar) (either (grammar.all_ships g.T.Tail.grammar) (either (grammar.area_call g.T.Tail.grammar) (either (grammar.group_call g.T.Tail.grammar) (either (grammar.individual g.T.Tail.grammar) (either (grammar.test g.T.Tail.grammar) (either (grammar.position_request g.T.Tail.grammar) (grammar.position_answer g.T.Tail.grammar))))))) (last 3) (parts_with g.T.Tail.parts) _ _ _ _ c.further-others.ensures c.relay_ack.ensures
-    c.other_call.ensures)))
+    further_form (grammar.alert g.T.Tail.grammar) (grammar.all_but_alerts g.T.Tail.grammar) (last 0) (parts_with g.T.Tail.parts) _ _ _ _ c.further.ensures c.alert-told.ensures c.all_but_alert.ensures

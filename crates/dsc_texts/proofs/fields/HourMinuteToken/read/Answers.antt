@@ -1,8 +1,17 @@
-use Rattle.std.proofs.Common.{sym, ap}
+use Rattle.std.proofs.Common.{codes, sym, ap, ◌∙◌}
+use Rattle.line_grammar.specs.Shapes.{letters}
 use Rattle.line_grammar.specs.inside.Reading.{read_token}
 use Rattle.dsc_texts.specs.CallParts.{time_text}
-use Rattle.dsc_texts.proofs.FieldSteps.{choice_shows, letters_show}
+use Rattle.dsc_texts.proofs.FieldSteps.{choice_shows, first_shows, letters_show}
 use Rattle.dsc_texts.proofs.fields.HourMinuteToken.read.Goals as goal
+
+pub returns-then-is_ok : goal.returns-then-is_ok
+unfolding read_token
+returns-then-is_ok c =
+    let known = c.known_time-known.ensures in
+    let shown = first_shows time_text (λ b. b.now) _ (letters (codes "8888")) c.args.bytes.now _ (sym c.is_ok.ensures.value ∙ c.if-is_ok.true)
+    (record { value = known.value; left = known.left }) in
+    record { value = shown.value; left = shown.left }
 
 pub returns : goal.returns
 unfolding read_token
