@@ -36,7 +36,6 @@ pub signs_of_words : (slots : List ℕ) → flat_map (λ v. map sign_of (word_of
 signs_of_words [] = refl
 signs_of_words (v ∷ slots) = ap (λ l. map sign_of (word_of v) ++ l) (signs_of_words slots) ∙ sym (map-append sign_of (word_of v) (flat_map word_of slots))
 
-pub signs_of_sent : (slots : List ℕ) (long : Bool) → map sign_of (dots (dot_count long)) ++ flat_map (λ v. map sign_of (word_of v)) slots ≡ map sign_of (sent slots long)
+pub signs_of_sent : (slots : List ℕ) (long : Bool) → map sign_of (dots (dot_count long)) ++ map sign_of (flat_map word_of slots) ≡ map sign_of (sent slots long)
 unfolding sent
-signs_of_sent slots long =
-    ap (λ l. map sign_of (dots (dot_count long)) ++ l) (signs_of_words slots) ∙ sym (map-append sign_of (dots (dot_count long)) (flat_map word_of slots))
+signs_of_sent slots long = sym (map-append sign_of (dots (dot_count long)) (flat_map word_of slots))

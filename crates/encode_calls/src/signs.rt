@@ -1,5 +1,6 @@
 //! The signs of transmissions: those of the dots, and those of each symbol's word.
 ghost use Rattle.std.specs.Prelude.{◌≡◌, ◌<◌, ◌≤◌, ◌++◌, All, [], length, map, slice_index_or, OnOk};
+ghost use Rattle.std.specs.List.{flat_map};
 ghost use Rattle.phasing.specs.Sent.{dots, dot_count, sent};
 ghost use Rattle.ten_unit.specs.Word.{word_of};
 ghost use Rattle.dsc_lines.specs.JoinLine.{sign_of};
@@ -41,20 +42,36 @@ fn word_signs(symbol: u8) -> [u8; 10]
     row(symbol)
 }
 
-/// Appends the signs of a transmission, of which the slots show these symbols: at most 140, each below 128. They are those of the dot
-/// pattern, 200 where it is long, and else 20, and ten of each slot's word (ITU-R M.493, dot pattern and the ten-unit code). The error is
-/// want of memory.
+/// So many words are written together.
+const TOGETHER: usize = 64;
+
+/// Appends the signs of the words of symbols. The error is want of memory.
+#[inline(always)]
+fn append_words(out: &mut Vec<u8>, symbols: &[u8]) -> Result<(), AllocError>
+    requires length { length symbols.now ≤ TOGETHER }
+    requires symbols { All (λ v. v < 128) symbols.now }
+    ensures { OnOk result (out.new.items ≡ out.old.items ++ map sign_of (flat_map word_of symbols.now)) }
+{
+    let mut words = [[b'-'; 10]; TOGETHER];
+    for number in 0..symbols.len() {
+        words[number] = word_signs(symbols[number]);
+    }
+    out.extend_from_slice(words[..symbols.len()].as_flattened())?;
+    Ok(())
+}
+
+/// Appends the signs of a transmission, of which the slots show these symbols, each below 128. They are those of the dot pattern, 200
+/// where it is long, and else 20, and ten of each slot's word (ITU-R M.493, dot pattern and the ten-unit code). The error is want of
+/// memory.
+#[inline(always)]
 pub fn append_signs(out: &mut Vec<u8>, slots: &[u8], long: bool) -> Result<(), AllocError>
-    requires length { length slots.now ≤ 140 }
-    requires symbols { All (λ v. v < 128) slots.now }
+    requires { All (λ v. v < 128) slots.now }
     ensures { OnOk result (out.new.items ≡ out.old.items ++ map sign_of (sent slots.now long)) }
 {
     append_dots(out, long)?;
-    let mut words = [[b'-'; 10]; 140];
-    for number in 0..slots.len() {
-        words[number] = word_signs(slots[number]);
+    for symbols in slots.chunks(TOGETHER) {
+        append_words(out, symbols)?;
     }
-    out.extend_from_slice(words[..slots.len()].as_flattened())?;
     Ok(())
 }
 

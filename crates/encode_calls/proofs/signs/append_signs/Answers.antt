@@ -1,49 +1,62 @@
-use Rattle.std.proofs.Common.{◌≡◌, ℕ, suc, ◌+◌, List, ◌++◌, ◌∷◌, [], length, take, set, map, flat_map, get_or, ap, sym, ◌∙◌, append_assoc, take-suc, take-suc-set, arith}
-use Rattle.std.proofs.lemmas.List.{length-set, map-append, take_all}
-use Rattle.std.proofs.lemmas.List.Folds.{flat_map-map}
+use Rattle.std.proofs.Common.{◌≡◌, ℕ, ◌+◌, ◌-◌, ◌<◌, List, ◌++◌, length, get_or, map, flat_map, refl, sym, ap, subst, ◌∙◌, append_assoc, append-nil, length-append, arith, rules}
+use Rattle.std.specs.List.{All}
+use Rattle.std.proofs.lemmas.List.{nil_from_length, map-append, get_or-append_right}
+use Rattle.std.proofs.lemmas.List.Concat.{flat_map-append}
+use Rattle.std.specs.Slice.Iter.{chunks_rest}
 use Rattle.ten_unit.specs.Word.{word_of}
 use Rattle.phasing.specs.Sent.{dots, dot_count}
 use Rattle.dsc_lines.specs.JoinLine.{sign_of}
 use Rattle.encode_calls.proofs.SignTable.{signs_of_sent}
 use Rattle.encode_calls.proofs.signs.append_signs.Goals as goal
 
-pub loop-number-preserved : goal.loop-number-preserved
-loop-number-preserved c =
-    let n = c.loop-number.number in
-    let was = c.loop-number.invariant in
+abbrev words : List ℕ → List ℕ
+words symbols = map sign_of (flat_map word_of symbols)
+
+words_parts : (symbols front back : List ℕ) → symbols ≡ front ++ back → words front ++ words back ≡ words symbols
+words_parts symbols front back parts =
+    sym (map-append sign_of (flat_map word_of front) (flat_map word_of back))
+    ∙ ap (map sign_of) (sym (flat_map-append word_of front back))
+    ∙ ap words (sym parts)
+
+all_back : (front back : List ℕ) → All (λ v. v < 128) (front ++ back) → All (λ v. v < 128) back
+all_back front back all k d below =
+    let n = length front in
+    let is = get_or-append_right front back n (n + k) d refl (omega arith) in
+    let same : n + k - n ≡ k = omega arith in
+    subst (λ (v : ℕ). v < 128) (is ∙ ap (λ (i : ℕ). get_or back i d) same) (all (n + k) d (omega (arith, below, length-append front back)))
+
+pub loop-symbols-init : goal.loop-symbols-init
+loop-symbols-init c =
+    let out = c.args.out.now.items in
     let slots = c.args.slots.now in
-    let f : ℕ → List ℕ = λ v. map sign_of (word_of v) in
-    let next : n + 1 ≡ suc n = omega arith in
-    let more : take (suc n) slots ≡ take n slots ++ get_or slots n 0 ∷ [] = take-suc slots n 0 (omega arith) in
-    record {
-      long = length-set c.loop-number.words n c.word_signs.result ∙ was.long;
-      signs =
-          ap (λ (m : ℕ). take m (set c.loop-number.words n c.word_signs.result)) next
-          ∙ take-suc-set c.loop-number.words n c.word_signs.result (omega (arith, was.long))
-          ∙ ap (λ (l : List (List ℕ)). l ++ c.word_signs.result ∷ []) was.signs
-          ∙ ap (λ (w : List ℕ). map f (take n slots) ++ w ∷ []) c.word_signs.ensures
-          ∙ sym (map-append f (take n slots) (get_or slots n 0 ∷ []))
-          ∙ ap (map f) (sym more)
-          ∙ ap (λ (m : ℕ). map f (take m slots)) (sym next);
-    }
+    let rest : chunks_rest c.into_iter-symbols-iterator.result ≡ slots = search rules in (
+      search rules,
+      tt,
+      search rules,
+      search rules,
+      ap (λ (l : List ℕ). c.append_dots.new.out.items ++ words l) rest
+          ∙ ap (λ (l : List ℕ). l ++ words slots) c.in_ok-append_dots.ensures
+          ∙ append_assoc out (map sign_of (dots (dot_count c.args.long))) (words slots)
+          ∙ ap (λ (l : List ℕ). out ++ l) (signs_of_sent slots c.args.long),
+    )
+
+pub loop-symbols-preserved : goal.loop-symbols-preserved
+loop-symbols-preserved c =
+    let was = c.loop-symbols.invariant in
+    let steps = c.in-Some.ensures.steps in
+    let symbols = c.in-Some.symbols.now in
+    let rest = chunks_rest c.next.new.self in (
+      search rules,
+      tt,
+      steps.0 ∙ was.2,
+      all_back symbols rest (subst (All (λ v. v < 128)) steps.1.0 was.3),
+      ap (λ (l : List ℕ). l ++ words rest) c.in_ok-append_words.ensures
+          ∙ append_assoc c.loop-symbols.out.items (words symbols) (words rest)
+          ∙ ap (λ (l : List ℕ). c.loop-symbols.out.items ++ l) (words_parts _ symbols rest steps.1.0)
+          ∙ was.4,
+    )
 
 pub returns : goal.returns
 returns c =
-    let out = c.args.out.now.items in
-    let slots = c.args.slots.now in
-    let f : ℕ → List ℕ = λ v. map sign_of (word_of v) in
-    let front = map sign_of (dots (dot_count c.args.long)) in
-    let words = flat_map f slots in
-    let whole : c.loop-number.number ≡ length slots = omega arith in
-    let arrays : take (length slots) c.loop-number.words ≡ map f slots =
-    ap (λ (n : ℕ). take n c.loop-number.words) (sym whole)
-    ∙ c.loop-number.invariant.signs
-    ∙ ap (λ (n : ℕ). map f (take n slots)) whole
-    ∙ ap (map f) (take_all (length slots) slots (omega arith))
-    in
-    let flat = c.as_flattened.ensures.value ∙ ap (λ (l : List (List ℕ)). flat_map (λ x. x) l) arrays ∙ flat_map-map (λ x. x) f slots in
-    c.in_ok-extend_from_slice.ensures.items
-    ∙ ap (λ (l : List ℕ). c.append_dots.new.out.items ++ l) flat
-    ∙ ap (λ (l : List ℕ). l ++ words) c.in_ok-append_dots.ensures
-    ∙ append_assoc out front words
-    ∙ ap (λ (l : List ℕ). out ++ l) (signs_of_sent slots c.args.long)
+    let none = nil_from_length _ c.in-None.ensures.steps.1.0 in
+    sym (ap (λ (l : List ℕ). c.loop-symbols.out.items ++ words l) none ∙ append-nil c.loop-symbols.out.items) ∙ c.loop-symbols.invariant.4

@@ -1,10 +1,16 @@
-use Rattle.std.proofs.Common.{◌≡◌, length, take, map}
+use Rattle.std.proofs.Common.{◌≡◌, ◌<◌, ◌++◌, map, flat_map}
+use Rattle.std.specs.List.{All}
+use Rattle.std.specs.Slice.Iter.{chunks_rest, chunks_size}
 use Rattle.ten_unit.specs.Word.{word_of}
+use Rattle.phasing.specs.Sent.{sent}
 use Rattle.dsc_lines.specs.JoinLine.{sign_of}
 use Rattle.encode_calls.proofs.signs.append_signs.Given as goal
 
-abbrev pub invariant-loop-number : goal.invariant-loop-number
-invariant-loop-number l = record {
-  long : length l.words ≡ 140;
-  signs : take l.number l.words ≡ map (λ v. map sign_of (word_of v)) (take l.number l.slots);
-}
+-- with the signs of the symbols that are left, all signs are there
+abbrev pub invariant-loop-symbols : goal.invariant-loop-symbols
+invariant-loop-symbols l =
+    goal.iterator-loop-symbols.can_next l.symbols-iterator
+    × goal.iterator-loop-symbols.is_finite l.symbols-iterator
+    × (chunks_size l.symbols-iterator ≡ 64)
+    × All (λ v. v < 128) (chunks_rest l.symbols-iterator)
+    × (l.out.items ++ map sign_of (flat_map word_of (chunks_rest l.symbols-iterator)) ≡ l.fn.out.items ++ map sign_of (sent l.slots l.long))
