@@ -163,7 +163,7 @@ fn first_from<E: Elements>(
 /// It tests 64 leads at once, in place of each lead and slot in turn: a block of 64 elements is two words of bits, shifts
 /// and ands of them give the places at which each phasing symbol's word begins, and three words count at each lead the
 /// symbols that are right, as far as three. Four blocks of 64 places move over the reception, from lead 22 on, so that
-/// element 0 is the first of a block. It takes some six instructions an element and under 1 KB of stack at any length.
+/// element 0 is the first of a block. It takes under 1 KB of stack at any length.
 pub fn lead<E: Elements>(e: E) -> Option<u32>
     requires { length (E.list e) ≤ LONGEST }
     ensures least { result ≡ sequence.lead_of (E.list e) }

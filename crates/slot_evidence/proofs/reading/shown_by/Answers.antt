@@ -1,5 +1,4 @@
-use Rattle.std.proofs.Common.{List, ◌≡◌, sym, ap, subst, ◌∙◌, refl, None}
-use Rattle.ten_unit.specs.declared.character.Element.{Element}
+use Rattle.std.proofs.Common.{◌≡◌, sym, ap, subst, refl, None}
 use Rattle.phasing.specs.Origin.{lead_of}
 use Rattle.slot_evidence.specs.Facts.{Facts, facts_of, facts_at}
 use Rattle.slot_evidence.specs.Sheet.{IsEnds}

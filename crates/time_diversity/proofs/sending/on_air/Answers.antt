@@ -1,10 +1,10 @@
-use Rattle.std.proofs.Common.{◌≡◌, suc, ◌+◌, ◌*◌, ◌++◌, ◌∷◌, [], ◌<◌, All, length, ap, sym, ◌∙◌, subst, refl, List, ℕ, map, take, set, arith, take-suc-set}
+use Rattle.std.proofs.Common.{◌≡◌, suc, ◌+◌, ◌*◌, ◌++◌, ◌∷◌, [], ◌<◌, All, length, ap, sym, ◌∙◌, subst, List, ℕ, map, take, set, arith, take-suc-set}
 use Rattle.std.specs.List.{range_with_len}
 use Rattle.std.proofs.lemmas.List.{length-set}
 use Rattle.std.proofs.lemmas.Result.{MatchResult-at_ok}
 use Rattle.std.proofs.lemmas.List.FromFn.{map-range_with_len_more}
 use Rattle.time_diversity.specs.OnAir.{sent_symbol, on_air}
-use Rattle.time_diversity.proofs.Shows.{length-on_air, on_air_below}
+use Rattle.time_diversity.proofs.Shows.{on_air_below}
 use Rattle.time_diversity.proofs.sending.on_air.Goals as goal
 
 pub loop-number-preserved : goal.loop-number-preserved
