@@ -15,3 +15,4 @@ mod TooShort
 mod Words
 mod Padding
 mod PackedBits
+mod Pushes

@@ -27,7 +27,7 @@ decoded Y y b is_y is_b = ap (λ (n : ℕ). element_of_bits n b) is_y
 decoded B y b is_y is_b = ap (λ (n : ℕ). element_of_bits n b) is_y ∙ ap (λ (n : ℕ). element_of_bits 0 n) is_b
 decoded Lost y b is_y is_b = ap (λ (n : ℕ). element_of_bits n b) is_y ∙ ap (λ (n : ℕ). element_of_bits 0 n) is_b
 
-kept_element : (planes : List Planes) (e : List Element) (i : ℕ) → Keep planes e → i < length e → element_in planes i ≡ get_or e i Lost
+pub kept_element : (planes : List Planes) (e : List Element) (i : ℕ) → Keep planes e → i < length e → element_in planes i ≡ get_or e i Lost
 kept_element planes e i kept inside =
     let k = i / 64 in
     let j = i % 64 in
@@ -50,7 +50,7 @@ unfolding elements_in
 kept_count planes n e is = sym (length-map-range_with_len (element_in planes) 0 n) ∙ ap length is
 
 -- the elements of a place, from the reception's first on
-place_at : (e : List Element) (k i : ℕ) → element_at e (64 * k + 150 + i) ≡ get_or e (64 * k + i) Lost
+pub place_at : (e : List Element) (k i : ℕ) → element_at e (64 * k + 150 + i) ≡ get_or e (64 * k + i) Lost
 place_at e k i =
     let index : 64 * k + 150 + i - 150 ≡ 64 * k + i = omega arith in
     element_at-inside e (64 * k + 150 + i) (omega arith) ∙ ap (λ (n : ℕ). get_or e n Lost) index

@@ -1,6 +1,7 @@
 //! Elements that are kept as bits.
-ghost use Rattle.std.specs.Prelude.{◌≡◌, ℕ, ◌+◌, ◌*◌, ◌<◌, ◌≤◌, ◌++◌, true, false, length, map, take, drop, replicate, slice_index_or, IfOk, IfSome, IsNone};
+ghost use Rattle.std.specs.Prelude.{◌≡◌, ◌≢◌, ℕ, ◌+◌, ◌*◌, ◌<◌, ◌≤◌, [], ◌∷◌, ◌++◌, true, false, length, map, take, drop, replicate, slice_index_or, IfOk, IfErr, IfSome, IsNone};
 ghost use Rattle.std.specs.List.{list_all};
+ghost use Rattle.ten_unit.specs.declared.character.Element.{Element as AnElement};
 ghost use Rattle.ten_unit.specs.inside.Marks.{IsPlanes};
 ghost use Rattle.ten_unit.specs.Signs.{element_of, is_sign};
 ghost use Rattle.phasing.specs.Packed.{Keep, elements_in};
@@ -40,6 +41,44 @@ impl Reception {
         Reception { planes, count }
     }
 
+    /// No elements. It takes no memory.
+    pub fn new(alloc: Global) -> Reception
+        ensures { result ≡ [] }
+    {
+        Reception::of(Vec::new(alloc), 0)
+    }
+
+    /// Puts one element last. The error is want of memory, and then nothing changed.
+    pub fn push(&mut self, e: Element) -> Result<(), AllocError>
+        ensures pushed { IfOk result (λ _. self.new ≡ self.old ++ e ∷ []) }
+        ensures unchanged { IfErr result (λ _. self.new ≡ self.old) }
+    {
+        // More elements than a `usize` counts would be 4 EiB of words.
+        let Some(count) = self.count.checked_add(1) else {
+            return Err(AllocError);
+        };
+        let number = self.count / 64;
+        let here = with_element(self.words(number), (self.count % 64) as u32, e);
+        if number < self.planes.len() {
+            self.planes[number] = here;
+        } else {
+            self.planes.push(here)?;
+        }
+        self.count = count;
+        Ok(())
+    }
+
+    /// The elements as a list. They are kept as bits, so that no slice of them can be lent. The error is want of memory.
+    pub fn elements(&self, alloc: Global) -> Result<Vec<Element>, AllocError>
+        ensures { IfOk result (λ list. list.items ≡ self.now) }
+    {
+        let mut list = Vec::with_capacity(alloc, self.count)?;
+        for i in 0..self.count {
+            list.push(self.element(i))?;
+        }
+        Ok(list)
+    }
+
     /// The elements of these signs, which are `Y`, `B`, and `-` for a lost one (this project's profile), and `None` where a byte is no sign.
     /// The error is want of memory.
     pub fn of_signs(alloc: Global, signs: &[u8]) -> Result<Option<Reception>, AllocError>
@@ -70,6 +109,22 @@ impl Reception {
         Ok(Reception::of(planes, e.len()))
     }
 
+    /// The element with this number.
+    fn element(&self, number: usize) -> Element
+        requires { number < length self.now }
+        ensures { result ≡ slice_index_or self.now number Element.Lost }
+    {
+        let here = self.planes[number / 64];
+        let at = (number % 64) as u32;
+        if here.y >> at & 1 == 1 {
+            Element::Y
+        } else if here.b >> at & 1 == 1 {
+            Element::B
+        } else {
+            Element::Lost
+        }
+    }
+
     /// The words with this number, and lost elements past the last ones.
     #[inline(always)]
     fn words(&self, number: usize) -> Planes
@@ -98,6 +153,26 @@ impl Elements for &Reception {
             y: shifted(here.y, next.y, shift),
             b: shifted(here.b, next.b, shift),
         }
+    }
+}
+
+/// These 64 elements with this one at a place where one is lost.
+fn with_element(here: Planes, at: u32, element: Element) -> Planes
+    requires { at < 64 }
+    ensures { (base : ℕ) (e f : ℕ → AnElement) → IsPlanes here.y here.b base e → e (base + at) ≡ Element.Lost
+        → f (base + at) ≡ element → ((i : ℕ) → i < 64 → i ≢ at → f (base + i) ≡ e (base + i))
+        → IsPlanes result.y result.b base f }
+{
+    match element {
+        Element::Y => Planes {
+            y: here.y | 1 << at,
+            b: here.b,
+        },
+        Element::B => Planes {
+            y: here.y,
+            b: here.b | 1 << at,
+        },
+        Element::Lost => here,
     }
 }
 

@@ -1,4 +1,7 @@
-use crate::{LONGEST, first_phased, lead, origin, phased, plain, slot_symbol, transmission};
+use crate::{
+    Elements, LONGEST, Reception, first_phased, lead, origin, phased, plain, slot_symbol,
+    transmission,
+};
 use dsc_symbols::worked::ALERT_SLOTS;
 use std::alloc::{AllocError, Global};
 use std::test::Fail;
@@ -160,5 +163,47 @@ fn two_alerts_in_noise(rt: HostRuntime) -> Result<(), Fail> {
         assert!(rt; is_first_alike(&elements), "turn {turn}");
     }
     assert!(rt; is_found_alike(&noise(rt.alloc(), 4198, 1)?));
+    Ok(())
+}
+
+/// A reception that grows by one element at a time is at each length the one that is made of the list, bit by bit, up to
+/// and over the edges of two blocks.
+#[test]
+fn elements_one_by_one(rt: HostRuntime) -> Result<(), Fail> {
+    let elements = noise(rt.alloc(), 130, 1)?;
+    let mut pushed = Reception::new(rt.alloc());
+    assert_eq!(rt; pushed.elements(rt.alloc())?.len(), 0);
+    for (place, element) in elements.iter().enumerate() {
+        pushed.push(*element)?;
+        let list = &elements[..=place];
+        let made = Reception::of_elements(rt.alloc(), list)?;
+        assert_eq!(rt; (&pushed).count(), place + 1);
+        assert_eq!(rt; pushed.elements(rt.alloc())?.as_slice(), list);
+        assert_eq!(rt; made.elements(rt.alloc())?.as_slice(), list);
+        for begin in 0..200 {
+            let planes = (&pushed).planes_from(begin);
+            assert_eq!(rt; planes, (&made).planes_from(begin), "{place}, {begin}");
+            assert_eq!(rt; planes, list.planes_from(begin), "{place}, {begin}");
+        }
+    }
+    Ok(())
+}
+
+/// A call that comes element by element, behind one that was made of signs.
+#[test]
+fn a_call_element_by_element(rt: HostRuntime) -> Result<(), Fail> {
+    let elements = received(rt.alloc(), 0, &ALERT_SLOTS, &[])?;
+    let mut heard = Reception::of_signs(rt.alloc(), b"YB-YBYB")?.ok_or("signs")?;
+    for element in elements.iter() {
+        heard.push(*element)?;
+    }
+    assert_eq!(rt; (&heard).count(), 527);
+    assert_eq!(rt; lead(&heard), Some(157));
+    let list = heard.elements(rt.alloc())?;
+    assert_eq!(rt;
+        &list[..3],
+        [Element::Y, Element::B, Element::Lost].as_slice()
+    );
+    assert_eq!(rt; &list[7..], elements.as_slice());
     Ok(())
 }
