@@ -12,20 +12,10 @@ use Rattle.traffic_rules.specs.Holding.{Places, with_place, sent_at}
 use Rattle.traffic_rules.specs.Moments.{has_passed}
 use Rattle.traffic_rules.specs.HeldTold.{answer_wait, is_sent}
 use Rattle.traffic_rules.specs.Repeating.{repeated, ticked, repeats}
-use Rattle.traffic_rules.specs.Sendings.{sends, times_by, times_in}
+use Rattle.traffic_rules.specs.Sendings.{sends, times_by, times_in, waits_once, waiting}
 use Rattle.traffic_rules.specs.TrafficActs.{IsSentSuch, AreSentSuch}
 
 module _ (p : Call → Bool) where
-  -- such a call that was sent once is held
-  abbrev pub waits_once : Option Holding → ℕ
-  waits_once None = 0
-  waits_once (Some x) = if (x.times == 1) && (is_sent x.side && p x.call) then 1 else 0
-
-  -- how many such calls are held
-  abbrev pub waiting : Places → ℕ
-  waiting [] = 0
-  waiting (o ∷ places) = waits_once o + waiting places
-
   -- once a call is sent again it isn't one of them
   abbrev pub IsNoMore : (again once sent counted : Bool) → Type 0
   IsNoMore again once sent counted =
@@ -37,7 +27,7 @@ module _ (p : Call → Bool) where
 
   one_by : (n at : ℕ) (x : Holding) (sent passed once : Bool) → is_sent x.side ≡ sent → (x.times == 1) ≡ once
       → times_in p (if sent && passed then (if once then Send x.call 1 ∷ [] else GaveUp n ∷ []) else [])
-      + waits_once (if sent && passed then (if once then sent_at at (Some x) else None) else Some x) ≤ waits_once (Some x)
+      + waits_once p (if sent && passed then (if once then sent_at at (Some x) else None) else Some x) ≤ waits_once p (Some x)
   one_by n at x true true true sent once =
       let again : (x.times + 1 == 1) ≡ false = ap (λ (t : ℕ). t + 1 == 1) (eqb-true x.times 1 once) in
       subst (λ (b : Bool). IsNoMore b (x.times == 1) (is_sent x.side) (p x.call)) (sym again)
@@ -47,7 +37,7 @@ module _ (p : Call → Bool) where
   one_by n at x true false once sent is_once = omega arith
   one_by n at x false passed once sent is_once = omega arith
 
-  one_ticked : (at n : ℕ) (o : Option Holding) → times_in p (repeated at n o) + waits_once (ticked at o) ≤ waits_once o
+  one_ticked : (at n : ℕ) (o : Option Holding) → times_in p (repeated at n o) + waits_once p (ticked at o) ≤ waits_once p o
   one_ticked at n None = omega arith
   one_ticked at n (Some x) = one_by n at x (is_sent x.side) (has_passed answer_wait x.at at) (x.times == 1) refl refl
 
@@ -56,7 +46,7 @@ module _ (p : Call → Bool) where
   times_append (x ∷ xs) ys = let rest = times_append xs ys in omega arith
 
   -- at a tick each of them is sent again, or none of it
-  pub all_sent_again : (at n : ℕ) (places : Places) → times_in p (repeats at n places) + waiting (map (ticked at) places) ≤ waiting places
+  pub all_sent_again : (at n : ℕ) (places : Places) → times_in p (repeats at n places) + waiting p (map (ticked at) places) ≤ waiting p places
   all_sent_again at n [] = omega arith
   all_sent_again at n (o ∷ places) =
       let here = one_ticked at n o in
@@ -64,13 +54,13 @@ module _ (p : Call → Bool) where
       let sum = times_append (repeated at n o) (repeats at (suc n) places) in
       omega arith
 
-  set_waiting : (places : Places) (i : ℕ) (o : Option Holding) → waiting (slice_set places i o) ≤ waiting places + waits_once o
+  set_waiting : (places : Places) (i : ℕ) (o : Option Holding) → waiting p (slice_set places i o) ≤ waiting p places + waits_once p o
   set_waiting [] i o = omega arith
   set_waiting (x ∷ places) zero o = omega arith
   set_waiting (x ∷ places) (suc i) o = let rest = set_waiting places i o in omega arith
 
   -- a place that is set adds no more than what is put into it
-  pub placed : (places : Places) (n : ℕ) (o : Option Holding) → waiting (with_place places n o) ≤ waiting places + waits_once o
+  pub placed : (places : Places) (n : ℕ) (o : Option Holding) → waiting p (with_place places n o) ≤ waiting p places + waits_once p o
   placed places zero o = omega arith
   placed places (suc i) o = set_waiting places i o
 

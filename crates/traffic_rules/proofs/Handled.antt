@@ -25,10 +25,10 @@ use Rattle.traffic_rules.specs.Sending.{asks, acknowledges, is_sendable, held_un
 use Rattle.traffic_rules.specs.Answering.{reply_to, reply_due_to, answer_due}
 use Rattle.traffic_rules.specs.Repeating.{is_overdue, repeated, repeats}
 use Rattle.traffic_rules.specs.Hearing.{Whereabouts, is_question, is_got, distress_told, question_due, answered_number, answered_or_shown, position_told, due_at_once, heard_due}
-use Rattle.traffic_rules.specs.Sendings.{asking, sends, is_holding, times_in, sends_and_holds, times_held, times_sent, times_sent_again}
+use Rattle.traffic_rules.specs.Sendings.{asking, sends, is_holding, times_in, waiting, sends_and_holds, times_held, times_sent, times_sent_again}
 use Rattle.traffic_rules.specs.TrafficActs.{AreSentSuch}
 use Rattle.traffic_rules.specs.After.{held_at, freed_at, after_sending, after_answering, after_tick, after_question, after_hearing}
-use Rattle.traffic_rules.proofs.Counts.{waiting, times_append, all_sent_again, placed, none_in, placed_such, ticked_such}
+use Rattle.traffic_rules.proofs.Counts.{times_append, all_sent_again, placed, none_in, placed_such, ticked_such}
 use Rattle.traffic_rules.proofs.Plain.{may_be_sent, sendable}
 use Rattle.traffic_rules.proofs.HeldLists.{nothing_held}
 
@@ -236,6 +236,9 @@ sum_first t one tick sent held again here rest = omega arith
 sum_again : (tick after before one again held : ℕ) → tick + after ≤ before + one → again + before ≤ held → (tick + again) + after ≤ one + held
 sum_again tick after before one again held here rest = omega arith
 
+sum_window : (tick after before one again begin held : ℕ) → tick + after ≤ before + one → again + before ≤ begin + held → (tick + again) + after ≤ begin + (one + held)
+sum_window tick after before one again begin held here rest = omega arith
+
 module _ {What : Type 0} (occurs : What → Occurrence) (rules : Rules What) (own : ℕ) (is_such : Call → Bool)
     (each : (e : Entry What) (h : History What) → Follows rules e h → Handles own (asking is_such) (is_tick (occurs e.what)) e.acts (all_held occurs h) (all_held occurs (e ∷ h))) where
   -- what was sent again and what waits was held as it was sent
@@ -245,6 +248,18 @@ module _ {What : Type 0} (occurs : What → Occurrence) (rules : Rules What) (ow
       subst (λ (n : ℕ). times_sent_again occurs (asking is_such) (e ∷ h) + waiting (asking is_such) (all_held occurs (e ∷ h)) ≤ n)
       (sym (if_more (sends_and_holds (asking is_such) e) (times_held (asking is_such) h)))
       (sum_again _ _ _ _ _ (times_held (asking is_such) h) (each e h legal.0).again (sent_again_or_waits h legal.1))
+
+  -- what was sent again in a part of a history, and what waits behind it, waited before it or was held in it
+  pub again_in_part : (later earlier : History What) → Legal rules (later ++ earlier)
+      → times_sent_again occurs (asking is_such) later + waiting (asking is_such) (all_held occurs (later ++ earlier))
+      ≤ waiting (asking is_such) (all_held occurs earlier) + times_held (asking is_such) later
+  again_in_part [] earlier legal = omega arith
+  again_in_part (e ∷ later) earlier legal =
+      subst (λ (n : ℕ). times_sent_again occurs (asking is_such) (e ∷ later) + waiting (asking is_such) (all_held occurs (e ∷ (later ++ earlier)))
+      ≤ waiting (asking is_such) (all_held occurs earlier) + n)
+      (sym (if_more (sends_and_holds (asking is_such) e) (times_held (asking is_such) later)))
+      (sum_window _ _ _ _ _ (waiting (asking is_such) (all_held occurs earlier)) (times_held (asking is_such) later) (each e (later ++ earlier) legal.0).again
+      (again_in_part later earlier legal.1))
 
   -- each sending is the first of a call that is held, or at a tick
   pub sent_or_again : (h : History What) → Legal rules h

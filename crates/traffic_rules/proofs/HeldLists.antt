@@ -5,17 +5,22 @@ use Rattle.std.specs.Prelude.{[], map, replicate}
 use Rattle.std.proofs.lemmas.Bool.{eq-eqb, ne_eqb}
 use Rattle.traffic_rules.specs.declared.held.Holding.{Holding}
 use Rattle.traffic_rules.specs.Histories.{Entry, History}
-use Rattle.traffic_rules.specs.Holding.{with_place}
+use Rattle.traffic_rules.specs.Holding.{with_place, calls_held}
 use Rattle.traffic_rules.specs.Occurrences.{Occurrence, is_tick}
 use Rattle.traffic_rules.specs.HeldTold.{begun_by, begins, ends, held_told, all_held}
 use Rattle.traffic_rules.specs.Repeating.{ticked}
-use Rattle.traffic_rules.proofs.Places.{same_places, set_place, mapped}
+use Rattle.traffic_rules.proofs.Places.{same_places, set_place, mapped, held_at_most}
 use Rattle.traffic_rules.proofs.HeldAfter.{gives_up, silent, shuts, starts, passes}
 
 -- before its first event a station holds nothing
 pub nothing_held : {What : Type 0} (occurs : What → Occurrence) → all_held occurs [] ≡ replicate 16 None
 unfolding all_held
 nothing_held occurs = refl
+
+-- and it never holds more than sixteen calls
+pub sixteen_held : {What : Type 0} (occurs : What → Occurrence) (h : History What) → calls_held (all_held occurs h) ≤ 16
+unfolding all_held
+sixteen_held occurs h = held_at_most (held_told occurs h) 1 16
 
 module _ {What : Type 0} (occurs : What → Occurrence) (e : Entry What) (h : History What) where
   -- an entry that mentions no number, and is no tick, leaves all

@@ -1,11 +1,11 @@
 -- places of held calls under numbers from one on
 use native.Mathlib.Omega.{arith}
-use Rattle.std.proofs.Common.{◌≡◌, ℕ, zero, suc, ◌+◌, ◌<◌, ◌≤◌, Bool, Option, Some, None, ◌∷◌, length, slice_index_or, slice_set, refl, sym, ◌∙◌, ap}
-use Rattle.std.specs.Prelude.{map, is_none, position, unwrap_or}
+use Rattle.std.proofs.Common.{◌≡◌, ℕ, zero, suc, ◌+◌, ◌<◌, ◌≤◌, Bool, true, false, Option, Some, None, ◌∷◌, length, if◌then◌else◌, slice_index_or, slice_set, refl, sym, ◌∙◌, ap}
+use Rattle.std.specs.Prelude.{map, is_some, is_none, position, unwrap_or}
 use Rattle.std.specs.Option.{option_map}
 use Rattle.std.proofs.lemmas.List.Quantifiers.{position-Some}
 use Rattle.traffic_rules.specs.declared.held.Holding.{Holding}
-use Rattle.traffic_rules.specs.Holding.{Places, place_of, with_place, first_free}
+use Rattle.traffic_rules.specs.Holding.{Places, place_of, with_place, calls_held, first_free}
 use Rattle.traffic_rules.specs.HeldTold.{places_from}
 
 abbrev pub Told : Type 0
@@ -87,3 +87,12 @@ free_number f n is =
     let below = (position-Some is_none (places_from f 1 16) found.0 None found.1).0 in
     let many = so_many f 1 16 in
     (omega (arith, found.2), omega (arith, found.2, below, many))
+
+one_at_most : (b : Bool) → (if b then 1 else 0) ≤ 1
+one_at_most true = omega arith
+one_at_most false = omega arith
+
+-- in so many places no more calls are held
+pub held_at_most : (held : Told) (n c : ℕ) → calls_held (places_from held n c) ≤ c
+held_at_most held n zero = omega arith
+held_at_most held n (suc c) = let rest = held_at_most held (suc n) c in let one = one_at_most (is_some (held n)) in omega (arith, rest, one)

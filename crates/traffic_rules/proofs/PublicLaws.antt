@@ -10,8 +10,8 @@ pub use Rattle.traffic_rules.proofs.Steps.{follows_rules}
 pub use Rattle.traffic_rules.proofs.Steps.{legal_continued, legal_before}
 -- a step of a station, whatever its rules and whatever it keeps of its histories
 pub use Rattle.traffic_rules.proofs.Frame.{not_before, answer_on_time, goes_on}
--- before its first event a station holds nothing
-pub use Rattle.traffic_rules.proofs.HeldLists.{nothing_held}
+-- before its first event a station holds nothing, and it never holds more than sixteen calls
+pub use Rattle.traffic_rules.proofs.HeldLists.{nothing_held, sixteen_held}
 -- acts that mention no number, and what is held after an event of each kind
 pub use Rattle.traffic_rules.proofs.HeldRules.{AreQuiet, repeats_begin}
 pub use Rattle.traffic_rules.proofs.HeldRules.{after_nothing, after_hearing_nothing, after_send, after_answer, after_ticking, after_heard}
@@ -20,8 +20,9 @@ pub use Rattle.traffic_rules.proofs.HeldRules.{after_nothing, after_hearing_noth
 pub use Rattle.traffic_rules.proofs.Unmet.{Misses, none_sent, none_replied, none_repeated, none_heard, MissesSuch, none_such}
 -- what an event of each kind does with sent calls that wait, and with those that it sends
 pub use Rattle.traffic_rules.proofs.Handled.{Handles, handles_nothing, handles_tick, handles_heard, handles_answer, handles_send}
--- how often calls that ask for an acknowledgement are sent, and sent again; what is held as sent may be sent
-pub use Rattle.traffic_rules.proofs.Handled.{sent_or_again, again_at_most, held_sendable}
+-- how often calls that ask for an acknowledgement are sent, and sent again, in a whole history and in a part of one; what is held as sent may
+-- be sent
+pub use Rattle.traffic_rules.proofs.Handled.{sent_or_again, again_at_most, again_in_part, held_sendable}
 -- acts of sending, answering, repeating and hearing send such calls alone, and each once
 pub use Rattle.traffic_rules.proofs.Plain.{plain_send, plain_answer, plain_repeats, plain_heard}
 -- which calls are of traffic

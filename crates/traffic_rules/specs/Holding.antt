@@ -1,5 +1,5 @@
 -- Calls that a station holds until they are answered, 16 at most: this project's profile.
-use Rattle.std.specs.Prelude.{◌≡◌, ℕ, zero, suc, ◌+◌, ◌<◌, Option, Some, None, is_none, position, List, slice_index_or, slice_set}
+use Rattle.std.specs.Prelude.{◌≡◌, ℕ, zero, suc, ◌+◌, ◌<◌, Option, Some, None, is_some, is_none, position, List, [], ◌∷◌, slice_index_or, slice_set, if◌then◌else◌}
 use Rattle.std.specs.Option.{option_map}
 use Rattle.call_values.specs.declared.calls.Call.{Call}
 use Rattle.traffic_rules.specs.declared.held.Holding.{Holding}
@@ -33,6 +33,11 @@ held_under places number = numbered number (place_of places number)
 -- the least number whose place is empty
 abbrev pub first_free : Places → Option ℕ
 first_free places = option_map (λ index. index + 1) (position is_none places)
+
+-- how many calls are held
+abbrev pub calls_held : Places → ℕ
+calls_held [] = 0
+calls_held (held ∷ places) = (if is_some held then 1 else 0) + calls_held places
 
 -- how often a call was sent when it is first held
 abbrev pub first_times : Side → ℕ

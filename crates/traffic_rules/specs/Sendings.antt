@@ -1,10 +1,13 @@
 -- How often calls are sent and held: this project's profile.
-use Rattle.std.specs.Prelude.{ℕ, ◌+◌, ◌&&◌, Bool, true, false, List, [], ◌∷◌, if◌then◌else◌}
+use Rattle.std.specs.Prelude.{ℕ, ◌+◌, ◌==◌, ◌&&◌, Bool, true, false, Option, Some, None, List, [], ◌∷◌, if◌then◌else◌}
 use Rattle.call_values.specs.declared.calls.Call.{Call}
 use Rattle.call_values.specs.declared.calls.Call.TheVariants.{Alert}
 use Rattle.traffic_rules.specs.declared.acts.Act.{Act}
 use Rattle.traffic_rules.specs.declared.acts.Act.TheVariants.{Send, Held}
+use Rattle.traffic_rules.specs.declared.held.Holding.{Holding}
 use Rattle.traffic_rules.specs.Histories.{Entry, History, does, how_many}
+use Rattle.traffic_rules.specs.HeldTold.{is_sent}
+use Rattle.traffic_rules.specs.Holding.{Places}
 use Rattle.traffic_rules.specs.Occurrences.{Occurrence, is_tick}
 use Rattle.traffic_rules.specs.Sending.{asks}
 
@@ -36,6 +39,16 @@ times_by is_such _ = 0
 abbrev pub times_in : (Call → Bool) → List Act → ℕ
 times_in is_such [] = 0
 times_in is_such (act ∷ acts) = times_by is_such act + times_in is_such acts
+
+-- such a call is held as sent, and was sent once
+abbrev pub waits_once : (Call → Bool) → Option Holding → ℕ
+waits_once is_such None = 0
+waits_once is_such (Some x) = if (x.times == 1) && (is_sent x.side && is_such x.call) then 1 else 0
+
+-- how many such calls wait to be sent again: they are held as sent, and were sent once
+abbrev pub waiting : (Call → Bool) → Places → ℕ
+waiting is_such [] = 0
+waiting is_such (held ∷ places) = waits_once is_such held + waiting is_such places
 
 module _ {What : Type 0} where
   -- an entry sends such a call and begins to hold it

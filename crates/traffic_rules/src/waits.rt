@@ -4,7 +4,7 @@ ghost use Rattle.std.specs.Prelude.{◌≡◌};
 /// that (this project's profile).
 pub const ANSWER_WAIT: u64 = 300_000;
 
-/// The law that a sent call waits so long. It does nothing.
+/// The law that fixes this number. That sent calls wait so long is what the rules of held calls say. It does nothing.
 pub fn wait_for_answers()
     ensures { ANSWER_WAIT ≡ 300000 }
 {}
