@@ -1,7 +1,6 @@
 -- Events at a ship: this project's profile; the delays between attempts of an alert, 3.5 to 4.5 minutes, are those of ITU-R M.541.
 use Rattle.std.specs.Prelude.{◌≡◌, ℕ, Bool, Option, Some, None, is_some}
 use Rattle.call_values.specs.declared.calls.Call.TheVariants.{Ack}
-use Rattle.call_values.specs.Calls.{IsCall}
 use Rattle.call_values.specs.Clock.{IsHourMinute}
 use Rattle.call_values.specs.Delays.{IsAlertDelay}
 use Rattle.call_values.specs.Positions.{IsPosition}
@@ -14,16 +13,16 @@ use Rattle.ship_station.specs.declared.events.ShipWhat.{ShipWhat}
 use Rattle.ship_station.specs.declared.events.ShipWhat.TheVariants.{Position, Delay, Alert, Cancel, Tick, Send, Answer, Heard}
 use Rattle.ship_station.specs.declared.alerts.OwnAlert.{OwnAlert}
 
--- each part of an event is in its range
+-- each part of an event is in its range; of calls that are sent and heard nothing is asked
 abbrev pub IsShipWhat : ShipWhat → Type 0
 IsShipWhat (Position position time) = IsPosition position × IsHourMinute time
 IsShipWhat (Delay delay) = IsAlertDelay delay
 IsShipWhat (Alert nature comm) = IsNature nature × IsComm comm
 IsShipWhat Cancel = Unit {0}
 IsShipWhat Tick = Unit {0}
-IsShipWhat (Send call) = IsCall call
+IsShipWhat (Send call) = Unit {0}
 IsShipWhat (Answer number accepts) = Unit {0}
-IsShipWhat (Heard call) = IsCall call
+IsShipWhat (Heard call) = Unit {0}
 
 -- what an event is to the calls that the ship holds
 abbrev pub ship_occurs : ShipWhat → Occurrence

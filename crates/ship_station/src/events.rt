@@ -47,8 +47,11 @@ impl ShipWhat {
                 let _ = nature.number();
                 let _ = comm.number();
             }
-            ShipWhat::Cancel | ShipWhat::Tick | ShipWhat::Answer(..) => {}
-            ShipWhat::Send(call) | ShipWhat::Heard(call) => call.lawful(),
+            ShipWhat::Cancel
+            | ShipWhat::Tick
+            | ShipWhat::Send(_)
+            | ShipWhat::Answer(..)
+            | ShipWhat::Heard(_) => {}
         }
     }
 }

@@ -4,13 +4,17 @@ ghost use Rattle.call_values.specs.declared.calls.Call.{Call};
 ghost use Rattle.traffic_rules.specs.declared.acts.Act.{Act};
 ghost use Rattle.traffic_rules.specs.declared.acts.Act.TheVariants as act;
 ghost use Rattle.traffic_rules.specs.Histories.{Entry, History, does, NoneIs};
+ghost use Rattle.traffic_rules.specs.Holding.{calls_held};
+ghost use Rattle.traffic_rules.specs.Repeating.{repeats};
 ghost use Rattle.traffic_rules.specs.Rules.{Legal};
-ghost use Rattle.traffic_rules.specs.Sendings.{asking, is_alert, sends, times_held, times_sent, times_sent_again};
+ghost use Rattle.traffic_rules.specs.Sending.{is_sendable};
+ghost use Rattle.traffic_rules.specs.Sendings.{asking, is_alert, sends, times_held, times_sent, times_sent_again, waiting};
+ghost use Rattle.traffic_rules.specs.TrafficActs.{is_of_traffic, AreSentSuch, AreTrafficActs};
 ghost use Rattle.ship_station.specs.declared.events.ShipWhat.{ShipWhat};
 ghost use Rattle.ship_station.specs.Attempted.{IsAttempted};
 ghost use Rattle.ship_station.specs.Events.{ship_occurs, begins_alert, MayEndAlert};
 ghost use Rattle.ship_station.specs.Past.{is_attempt, is_end};
-ghost use Rattle.ship_station.specs.ShipRules.{Identities, ship_rules};
+ghost use Rattle.ship_station.specs.ShipRules.{Identities, held, ship_rules};
 
 use call_values::bounds::SHORTEST_ALERT_DELAY;
 
@@ -59,12 +63,31 @@ pub fn alerts_are_sent_as_attempts()
 {}
 
 /// The law that a call that asks for an acknowledgement is sent at most twice for each time that it is held: once as it begins to be
-/// held, and at ticks not more often than that, in every legal history. Of such calls any may be counted: one call alone, those to
-/// one station, or all of them.
+/// held, and at ticks not more often than that, in every legal history. And so in each part of one: what is sent again in it, and what
+/// then waits to be sent again, waited as the part began or was held in it; so a holding that was answered leaves its second sending to
+/// no other. Of such calls any may be counted: one call alone, those to one station, or all of them.
 pub fn held_calls_are_sent_at_most_twice()
     ensures first { (who : Identities) (h : History ShipWhat) (is_such : Call → Bool) → Legal (ship_rules who) h
         → times_sent (asking is_such) h
         ≡ times_held (asking is_such) h + times_sent_again ship_occurs (asking is_such) h }
     ensures again { (who : Identities) (h : History ShipWhat) (is_such : Call → Bool) → Legal (ship_rules who) h
         → times_sent_again ship_occurs (asking is_such) h ≤ times_held (asking is_such) h }
+    ensures parts { (who : Identities) (later earlier : History ShipWhat) (is_such : Call → Bool)
+        → Legal (ship_rules who) (later ++ earlier)
+        → times_sent_again ship_occurs (asking is_such) later + waiting (asking is_such) (held (later ++ earlier))
+        ≤ waiting (asking is_such) (held earlier) + times_held (asking is_such) later }
+{}
+
+/// The law that a ship holds sixteen calls at most, behind every history.
+pub fn sixteen_calls_are_held()
+    ensures { (h : History ShipWhat) → calls_held (held h) ≤ 16 }
+{}
+
+/// The law that an operator may send each call that a ship holds as sent, so that all that it repeats at a tick is of traffic, in every
+/// legal history.
+pub fn repeated_calls_are_sendable()
+    ensures held { (who : Identities) (h : History ShipWhat) → Legal (ship_rules who) h
+        → AreSentSuch (is_sendable who.own) (held h) }
+    ensures repeated { (who : Identities) (h : History ShipWhat) (at : ℕ) → Legal (ship_rules who) h
+        → AreTrafficActs (is_of_traffic who.own) (repeats at 1 (held h)) }
 {}
