@@ -12,3 +12,4 @@ mod Acknowledgements
 mod Places
 mod Keeping
 mod Traffic
+mod Few

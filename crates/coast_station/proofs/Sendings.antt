@@ -11,12 +11,13 @@ use Rattle.traffic_rules.specs.declared.acts.Act.TheVariants as act
 use Rattle.traffic_rules.specs.declared.refusals.StationRefusal.TheVariants.{NoCasualty}
 use Rattle.traffic_rules.specs.Histories.{Entry, History}
 use Rattle.traffic_rules.specs.Holding.{Places}
-use Rattle.traffic_rules.specs.Rules.{Follows}
+use Rattle.traffic_rules.specs.Rules.{Follows, Legal}
 use Rattle.traffic_rules.proofs.PublicLaws.{follows_rules}
 use Rattle.traffic_rules.specs.Occurrences.{is_tick}
-use Rattle.traffic_rules.specs.Sending.{refused_full}
+use Rattle.traffic_rules.specs.Sending.{is_sendable, refused_full}
 use Rattle.traffic_rules.specs.Sendings.{asking, sends, is_holding}
-use Rattle.traffic_rules.proofs.PublicLaws.{Handles, handles_nothing, handles_tick, handles_heard, handles_answer, handles_send}
+use Rattle.traffic_rules.specs.TrafficActs.{AreSentSuch}
+use Rattle.traffic_rules.proofs.PublicLaws.{Handles, handles_nothing, handles_tick, handles_heard, handles_answer, handles_send, held_sendable}
 use Rattle.coast_station.specs.declared.events.CoastWhat.{CoastWhat}
 use Rattle.coast_station.specs.declared.events.CoastWhat.TheVariants.{Accept, Tick, Relay, Send, Answer, Heard}
 use Rattle.coast_station.specs.declared.casualties.OpenCasualty.{OpenCasualty}
@@ -94,3 +95,7 @@ module _ (is_such : Call → Bool) where
   entry_handles who e h follows =
       subst (λ (acts : List Act). Handles who.own (asking is_such) (is_tick (coast_occurs e.what)) acts (held h) (held (record { at = e.at; what = e.what; acts = acts } ∷ h)))
       (sym follows.acts) (entry_due_handles who h e.at e.what (follows_rules (coast_rules who) e h follows))
+
+-- what the station holds as sent may be sent by its operator
+pub coast_held_sendable : (who : Station) (h : History CoastWhat) → Legal (coast_rules who) h → AreSentSuch (is_sendable who.own) (held h)
+coast_held_sendable who h legal = held_sendable coast_occurs (coast_rules who) who.own (λ c. true) (entry_handles (λ c. true) who) h legal

@@ -2,7 +2,6 @@
 use Rattle.std.specs.Prelude.{ℕ, ◌==◌, Option, Some, None, IfSome, if◌then◌else◌}
 use Rattle.call_values.specs.declared.calls.Casualty.{Casualty}
 use Rattle.call_values.specs.declared.calls.Call.TheVariants as call
-use Rattle.call_values.specs.Calls.{IsCall}
 use Rattle.call_values.specs.Delays.{IsCoastDelay}
 use Rattle.call_values.specs.Identity.{IsMmsi}
 use Rattle.call_values.specs.Parts.{IsTo}
@@ -10,14 +9,14 @@ use Rattle.traffic_rules.specs.Occurrences.{Occurrence, ticks, answers, hears, o
 use Rattle.coast_station.specs.declared.events.CoastWhat.{CoastWhat}
 use Rattle.coast_station.specs.declared.events.CoastWhat.TheVariants.{Accept, Tick, Relay, Send, Answer, Heard}
 
--- each part of an event is in its range
+-- each part of an event is in its range; of calls that are sent and heard nothing is asked
 abbrev pub IsCoastWhat : CoastWhat → Type 0
 IsCoastWhat (Accept mmsi delay) = IsMmsi mmsi × IfSome delay IsCoastDelay
 IsCoastWhat Tick = Unit {0}
 IsCoastWhat (Relay mmsi to ask) = IsMmsi mmsi × IsTo to
-IsCoastWhat (Send call) = IsCall call
+IsCoastWhat (Send call) = Unit {0}
 IsCoastWhat (Answer number accepts) = Unit {0}
-IsCoastWhat (Heard call) = IsCall call
+IsCoastWhat (Heard call) = Unit {0}
 
 -- an event as it concerns held calls
 abbrev pub coast_occurs : CoastWhat → Occurrence

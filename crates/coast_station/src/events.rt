@@ -33,8 +33,8 @@ impl CoastWhat {
         ensures { IsCoastWhat self.now }
     {
         match self {
-            CoastWhat::Tick | CoastWhat::Answer(_, _) => {}
-            CoastWhat::Send(call) | CoastWhat::Heard(call) => call.lawful(),
+            CoastWhat::Tick | CoastWhat::Send(_) | CoastWhat::Answer(_, _) | CoastWhat::Heard(_) =>
+                {}
             CoastWhat::Accept(mmsi, delay) => {
                 let _ = mmsi.number();
                 if let Some(delay) = delay {

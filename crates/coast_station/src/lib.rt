@@ -14,5 +14,5 @@ pub use events::{CoastEvent, CoastWhat};
 pub use laws::{
     acknowledgements_go_back_to_accepted_alerts, an_alert_is_heard_between_acknowledgements,
     an_identity_is_acknowledged_once, casualties_are_born, held_calls_are_sent_at_most_twice,
-    sixteen_casualties,
+    repeated_calls_are_sendable, sixteen_calls_are_held, sixteen_casualties,
 };
