@@ -1,4 +1,5 @@
 mod Moving
+mod Going
 mod Deliveries
 mod Splits
 mod Answered

@@ -7,9 +7,11 @@ use Rattle.traffic_rules.specs.Histories.{History}
 use Rattle.traffic_rules.specs.Rules.{Rules, Legal, answer_to}
 use Rattle.ship_station.specs.declared.events.ShipWhat.{ShipWhat}
 use Rattle.ship_station.specs.declared.events.ShipWhat.TheVariants as at_ship
+use Rattle.ship_station.specs.Events.{IsShipWhat}
 use Rattle.ship_station.specs.ShipRules.{Identities, ship_rules}
 use Rattle.coast_station.specs.declared.events.CoastWhat.{CoastWhat}
 use Rattle.coast_station.specs.declared.events.CoastWhat.TheVariants as at_coast
+use Rattle.coast_station.specs.Events.{IsCoastWhat}
 use Rattle.coast_station.specs.CoastRules.{Station, coast_rules}
 use Rattle.exchange.specs.declared.events.WorldEvent.{WorldEvent}
 use Rattle.exchange.specs.declared.events.WorldEvent.TheVariants as world
@@ -36,6 +38,13 @@ IsFromOutside (world.Ship e) = IsOwnOfShip e.what
 IsFromOutside (world.Coast e) = IsOwnOfCoast e.what
 IsFromOutside (world.ShipGets at number) = Unit {0}
 IsFromOutside (world.CoastGets at number) = Unit {0}
+
+-- the parts of an end's own event are in their ranges
+abbrev pub IsWorldEvent : WorldEvent → Type 0
+IsWorldEvent (world.Ship e) = IsShipWhat e.what
+IsWorldEvent (world.Coast e) = IsCoastWhat e.what
+IsWorldEvent (world.ShipGets at number) = Unit {0}
+IsWorldEvent (world.CoastGets at number) = Unit {0}
 
 -- what an end's answer gives
 abbrev pub given_by : Result (List Act) StationRefusal → Given

@@ -5,7 +5,8 @@ ghost use Rattle.traffic_rules.specs.Sendings.{is_alert, sends};
 ghost use Rattle.ship_station.specs.Past.{is_end};
 ghost use Rattle.exchange.specs.AlertEnds.{begins_alert, ship_does, MayEnd};
 ghost use Rattle.exchange.specs.WorldHistories.{WorldEntry, WorldHistory};
-ghost use Rattle.exchange.specs.WorldRules.{Parties, IsLegal};
+ghost use Rattle.exchange.specs.declared.events.WorldEvent.{WorldEvent as Happens};
+ghost use Rattle.exchange.specs.WorldRules.{Parties, IsFromOutside, IsWorldEvent, world_continued, IsLegal};
 
 use coast_station::acknowledgements_go_back_to_accepted_alerts;
 use ship_station::alerts_end_by_hand_or_acknowledgement;
@@ -32,3 +33,9 @@ pub fn no_alert_after_an_end()
 {
     ship_station::no_alert_after_an_end();
 }
+
+/// The law that an exchange goes on legally with each event from outside whose own parts are in their ranges, whatever it gives.
+pub fn exchanges_go_on_legally()
+    ensures { (who : Parties) (w : WorldHistory) (event : Happens) → IsFromOutside event → IsWorldEvent event
+        → IsLegal who w → IsLegal who (world_continued who w event) }
+{}

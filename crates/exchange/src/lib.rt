@@ -10,6 +10,8 @@ mod told;
 mod worlds;
 
 pub use events::WorldEvent;
-pub use laws::{alerts_end_by_cancel_or_acknowledgement, no_alert_after_an_end};
+pub use laws::{
+    alerts_end_by_cancel_or_acknowledgement, exchanges_go_on_legally, no_alert_after_an_end,
+};
 pub use told::{Outcome, Told};
 pub use worlds::World;
