@@ -24,7 +24,7 @@ use Rattle.evidence_board.proofs.Loads.{order_small}
 no_further : (a : Reach) → IsWithin a a
 no_further a = record { least = omega arith; past = omega arith }
 
-further_still : (a b c : Reach) → IsWithin a b → IsWithin b c → IsWithin a c
+pub further_still : (a b c : Reach) → IsWithin a b → IsWithin b c → IsWithin a c
 further_still a b c first last = let low = first.least in let lower = last.least in let high = first.past in let higher = last.past in record { least = omega arith; past = omega arith }
 
 both_within : (a b c d : Reach) → IsWithin a c → IsWithin b d → IsWithin (united a b) (united c d)
@@ -158,6 +158,12 @@ whole_gives facts words views id v kept at whole seated p below =
     place.greatest ∙ highest_alone p views id v at (λ j w apart there. ap (λ (c : Place). c.given.past) (empty j w apart there))
     in
     λ i. record { least = least i; past = past i }
+
+-- so it saw no more
+pub whole_sees : (facts : List (ℕ × ℕ)) (words : List ℕ) (views : List View) (id : ℕ) (v : View) → IsKept facts words views → get_elem? views id ≡ some v → v.share ≡ WHOLE → IsSeated v → (p : ℕ) → p < 64 → IsWithin (place_at v p).seen (place_at v p).given
+whole_sees facts words views id v kept at whole seated p below =
+    subst (λ (reach : Reach). IsWithin (place_at v p).seen reach) (whole_gives facts words views id v kept at whole seated p below)
+    ((kept.places p below).fits id v at).seen_within
 
 pub is_given_sheet : (sheet : List Seen) (v : View) → length sheet ≡ 64 → length v.places ≡ 64 → ((p : ℕ) → p < 64 → seen_at sheet p ≡ kept_of (place_at v p).given) → sheet ≡ given_sheet v
 is_given_sheet sheet v size places each =

@@ -1,6 +1,6 @@
 -- What a seat gave, as the sheet of a set of facts.
-use Rattle.std.proofs.Common.{◌≡◌, ℕ, ◌<◌, ◌≤◌, ◌||◌, Bool, true, cond, List, length, refl, arith, ap, sym, ◌∙◌, subst, inl, inr}
-use Rattle.std.proofs.lemmas.Bool.{cases_lt, eq-eqb, ne_eqb}
+use Rattle.std.proofs.Common.{◌≡◌, ℕ, zero, suc, ◌<◌, ◌≤◌, ◌||◌, Bool, true, cond, List, length, refl, arith, ap, sym, ◌∙◌, subst, inl, inr}
+use Rattle.std.proofs.lemmas.Bool.{cases_eq, cases_lt, eq-eqb, ne_eqb}
 use Rattle.std.proofs.lemmas.List.{get_or-map, get_or_past, length-map, ext_get_or}
 use Rattle.slot_evidence.specs.declared.places.Seen.{Seen}
 use Rattle.slot_evidence.specs.declared.places.Seen.TheVariants as seen
@@ -8,8 +8,10 @@ use Rattle.slot_evidence.specs.Facts.{Symbols, Facts, no_facts, union}
 use Rattle.slot_evidence.specs.Seen.{ShowsNone, IsSeen, IsLawful}
 use Rattle.slot_evidence.specs.Sheet.{IsSheet, IsEnds, seen_at}
 use Rattle.slot_evidence.specs.Allowed.{IsAllowed}
+use Rattle.slot_evidence.specs.TwoNumbers.{span_seen, seen_between, AreInOrder}
 use Rattle.slot_evidence.proofs.PublicLaws.{order_met, edges_met, seen_edges, edges_seen, or_none-seen}
 use Rattle.evidence_board.specs.Views.{Reach, united, reach_of, kept_of, Place, blank, View, place_at, fresh, given_sheet, seen_sheet}
+use Rattle.evidence_board.specs.Rule.{IsWithin}
 use Rattle.evidence_board.specs.Steps.{admitted, joined}
 use Rattle.evidence_board.specs.Seats.{IsResting, IsSeated}
 use Rattle.evidence_board.specs.inside.Through.{Through, LooksAt}
@@ -57,6 +59,24 @@ kept_back : (x : Seen) → IsLawful x → kept_of (reach_of x) ≡ x
 kept_back seen.None lawful = refl
 kept_back (seen.One v) lawful = ap (λ (b : Bool). cond b (seen.One v) (seen.Differ v v)) (eq-eqb v v refl)
 kept_back (seen.Differ a b) lawful = ap (λ (c : Bool). cond c (seen.One a) (seen.Differ a b)) (ne_eqb a b (λ e. omega (arith, lawful)))
+
+-- what is kept of a reach reaches as far
+span_within : (a b : ℕ) → IsWithin (record { least = a; past = suc b }) (reach_of (span_seen a b))
+span_within a b = elim (cases_eq a b) [
+  | inl same ↦
+      subst (λ (s : Seen). IsWithin (record { least = a; past = suc b }) (reach_of s)) (sym (ap (λ (c : Bool). cond c (seen.One a) (seen.Differ a b)) (eq-eqb a b same)))
+      (record { least = omega arith; past = omega (arith, same) })
+  | inr apart ↦
+      subst (λ (s : Seen). IsWithin (record { least = a; past = suc b }) (reach_of s)) (sym (ap (λ (c : Bool). cond c (seen.One a) (seen.Differ a b)) (ne_eqb a b apart)))
+      (record { least = omega arith; past = omega arith })
+]
+
+between_within : (least past : ℕ) → AreInOrder least past → IsWithin (record { least = least; past = past }) (reach_of (seen_between least past))
+between_within least zero order = record { least = omega (arith, order); past = omega arith }
+between_within least (suc greatest) order = span_within least greatest
+
+pub kept_within : (r : Reach) → IsResting r → IsWithin r (reach_of (kept_of r))
+kept_within r rest = let w = between_within r.least r.past rest in record { least = w.least; past = w.past }
 
 pub admit_ends : (sheet : List Seen) (before after : View) → IsSheet sheet → IsSeated before → length after.places ≡ 64 → ((p : ℕ) → p < 64 → place_at after p ≡ admitted (seen_at sheet p) (place_at before p))
     → (F G : Facts) → IsEnds F (given_sheet before) → IsEnds G sheet → IsEnds (union F G) (given_sheet after)

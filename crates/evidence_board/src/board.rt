@@ -3,9 +3,10 @@ ghost use Rattle.std.specs.Prelude.{◌≡◌, ℕ, ◌+◌, ◌<◌, ◌≤◌,
 ghost use Rattle.slot_evidence.specs.Facts.{Facts, no_facts, union};
 ghost use Rattle.slot_evidence.specs.Sheet.{IsEnds, seen_at};
 ghost use Rattle.slot_evidence.specs.Allowed.{IsAllowed, OnlyAllowed};
-ghost use Rattle.evidence_board.specs.Views.{place_at, fresh, given_sheet, seen_sheet};
+ghost use Rattle.evidence_board.specs.Views.{place_at, fresh, given_sheet, seen_sheet, reach_of};
 ghost use Rattle.evidence_board.specs.Steps.{admitted, uncounted, joined};
 ghost use Rattle.evidence_board.specs.Looks.{IsLooked};
+ghost use Rattle.evidence_board.specs.Rule.{IsWithin};
 
 use crate::allowed::Allowed;
 use crate::looking::{kept_sheet, look};
@@ -170,11 +171,13 @@ impl<A: Allowed> Board<A> {
         look(&self.words, &mut seat.token)
     }
 
-    /// Ends the board, and answers all that was admitted through the seats that were joined into this one. Condition: the seat has the whole share.
+    /// Ends the board, and answers all that was admitted through the seats that were joined into this one: none of them saw more. Condition:
+    /// the seat has the whole share.
     pub fn close(self, seat: Seat<A>) -> Sheet
         requires board { seat.table ≡ self }
         requires whole { seat.view.share ≡ WHOLE }
-        ensures { result ≡ given_sheet seat.view }
+        ensures sheet { result ≡ given_sheet seat.view }
+        ensures seen { (p : ℕ) → p < 64 → IsWithin (place_at seat.view p).seen (reach_of (seen_at result p)) }
     {
         let Board { words } = self;
         let Seat { token, .. } = seat;

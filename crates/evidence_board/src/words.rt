@@ -7,7 +7,7 @@ ghost use Rattle.atomic_table.specs.Table.{step};
 ghost use Rattle.slot_evidence.specs.Allowed.{IsAllowed};
 ghost use Rattle.evidence_board.specs.declared.seats.TheConstants.{WHOLE};
 ghost use Rattle.evidence_board.specs.Views.{no_reach, place_at, fresh, spent};
-ghost use Rattle.evidence_board.specs.Rule.{IsKept, words_of};
+ghost use Rattle.evidence_board.specs.Rule.{IsKept, IsWithin, words_of};
 ghost use Rattle.evidence_board.specs.Seats.{IsSeated};
 ghost use Rattle.evidence_board.specs.Steps.{posted_least, posted_past, loaded_least, loaded_past, kept_half, new_half, both};
 ghost use Rattle.evidence_board.specs.inside.May.{MayLower, MayRaise, MayLoadLeast, MayLoadPast};
@@ -290,6 +290,7 @@ impl<A: Allowed> Words<A> {
         requires seated { IsSeated token.view }
         ensures counts { (slots_len result.words ≡ 128) × IsFull result.words × (slots_len result.slots ≡ 0) }
         ensures words { (p : ℕ) → p < 64 → words_of (slots_items result.words) p ≡ (place_at token.view p).given }
+        ensures seen { (p : ℕ) → p < 64 → IsWithin (place_at token.view p).seen (place_at token.view p).given }
     {
         let Words { table } = self;
         let Token { seat } = token;
