@@ -88,6 +88,38 @@ counted_written {stands_for = stands_for} {command = command} {before = before} 
   count_is = was.count_is;
 }
 
+-- the command said more of the same lines
+pub on_paused : {Command Sink : Type 0} {meaning : Meaning} {stands_for : Command → Lines → List ℕ → Type 0} {written : Sink → Option (List ℕ)} {faults : Sink → ℕ} {start sink : Sink}
+    {taken left : List ℕ} {count : ℕ} {old new : Command} {before : List ℕ} (after : List ℕ)
+    → ((lines : Lines) (text : List ℕ) → stands_for old lines (text ++ before) → stands_for new lines (text ++ after))
+    → IsOn meaning stands_for written faults start taken left count old before sink → IsOn meaning stands_for written faults start taken left count new after sink
+on_paused after says on = record {
+  lines = on.lines;
+  text = on.text;
+  goes_on = on.goes_on;
+  count_is = on.count_is;
+  faultless = on.faultless;
+  stands = says on.lines on.text on.stands;
+  wrote = on.wrote;
+}
+
+-- and there was no memory for it
+pub stops_in_pause : {Command Sink : Type 0} {meaning : Meaning} {stands_for : Command → Lines → List ℕ → Type 0} {written : Sink → Option (List ℕ)} {faults : Sink → ℕ} {start sink : Sink}
+    {taken rest : List ℕ} {count : ℕ} {command : Command} {before : List ℕ} (after : List ℕ) (left : Option (List ℕ)) → GivesLaw meaning stands_for
+    → IsOn meaning stands_for written faults start taken rest count command before sink → (h : Halt) → h ≡ halt.Memory → Stops meaning written faults start left taken after sink h
+stops_in_pause {rest = rest} {command = command} {before = before} after left gives on halt.Memory is = record {
+  lines = on.lines;
+  text = on.text;
+  back = before;
+  first = λ more is. (lines_of (rest ++ more), on.goes_on more);
+  faultless = on.faultless;
+  gives = gives command on.lines (on.text ++ before) on.stands;
+  wrote = on.wrote;
+}
+stops_in_pause after left gives on (halt.Fault first) is = absurd (cc)
+stops_in_pause after left gives on halt.Read is = absurd (cc)
+stops_in_pause after left gives on halt.Write is = absurd (cc)
+
 -- a line stops a run
 pub stops_at_line : {Command Sink : Type 0} {meaning : Meaning} {stands_for : Command → Lines → List ℕ → Type 0} {written : Sink → Option (List ℕ)} {faults : Sink → ℕ} {start sink : Sink}
     {taken : List ℕ} {count : ℕ} {old : Command} {before : List ℕ} (line rest after : List ℕ) (left : Option (List ℕ)) → GivesLaw meaning stands_for → is_text line ≡ true

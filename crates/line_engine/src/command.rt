@@ -63,6 +63,18 @@ pub trait Command: Drop {
             → IsRefusedBehind meaning lines line.now refusal) }
         ensures unsaid { IfErr result (λ refusal. KeepsText refusal out.old.items out.new.items) };
 
+    /// Appends what may be said before more lines come. The engine asks for it behind the lines of each read, before it writes what is
+    /// pending and reads on. A command that has nothing to say there keeps this.
+    fn pause(&mut self, out: &mut Vec<u8>) -> Result<(), AllocError>
+        requires { StandsBelow stands_for self.old out.old.items (MOST_LINES + 1) }
+        ensures { OnOk result ((lines : Lines) (written : List ℕ)
+            → stands_for self.old lines (written ++ out.old.items)
+            → stands_for self.new lines (written ++ out.new.items)) }
+    {
+        let _text = out;
+        Ok(())
+    }
+
     /// Ends the input: appends what is still to be said, and answers the status, 0 or 1.
     fn finish(&mut self, out: &mut Vec<u8>) -> Result<Status, AllocError>
         requires { StandsBelow stands_for self.old out.old.items (MOST_LINES + 1) }

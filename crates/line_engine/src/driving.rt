@@ -11,7 +11,7 @@ use crate::command::Command;
 use crate::faults::{fault_status, put_fault};
 use crate::halts::Halt;
 use crate::telling::{tell, write_pending};
-use crate::walk::{check_open, take_last, take_lines};
+use crate::walk::{check_open, pause, take_last, take_lines};
 use crate::window::Window;
 use dsc_streams::{Failed, Sink, Source, Status};
 use std::alloc::{AllocError, Global};
@@ -44,9 +44,10 @@ fn take_input<C: Command, S: Source, K: Sink>(
             Err(Failed) => return Err(Halt::Read),
         }
         let walked = take_lines(command, count, window.bytes(), out, sink)?;
-        count = walked.count;
         window.keep_last(walked.left);
-        check_open(count, walked.left)?;
+        check_open(walked.count, walked.left)?;
+        pause(command, count, walked.count, out)?;
+        count = walked.count;
     }
 }
 
@@ -111,9 +112,9 @@ fn run_lines<C: Command, S: Source, K: Sink>(
 /// Reads a source to its end and gives its lines to a command, one after the other; writes what the command gives,
 /// and the line of the first fault; and ends with a status.
 ///
-/// What is given is written before each read, and as soon as 64 KiB of it are pending. A fault is told as soon as its line is known.
-/// One buffer of 128 KiB, an open line and the pending text are kept of an input, however long it is. Behind the run the command
-/// is done with.
+/// Behind the lines of a read the command may say more. What is given is written before each read, and as soon as 64 KiB of it are
+/// pending. A fault is told as soon as its line is known. One buffer of 128 KiB, an open line and the pending text are kept of an input,
+/// however long it is. Behind the run the command is done with.
 ///
 /// | Status | What it says |
 /// |---|---|

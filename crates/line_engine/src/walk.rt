@@ -132,6 +132,26 @@ fn take_and_write<C: Command, K: Sink>(
     write_pending(out, sink)
 }
 
+/// Has the command say what may be said before more lines come, where it was given some behind the first `before`.
+pub(crate) fn pause<C: Command>(
+    command: &mut C,
+    before: usize,
+    count: usize,
+    out: &mut Vec<u8>,
+) -> Result<(), Halt>
+    requires counted { IsCounted C.stands_for command.old out.old.items count }
+    requires few { count ≤ MOST_LINES }
+    ensures stands { OnOk result ((lines : Lines) (text : List ℕ)
+        → C.stands_for command.old lines (text ++ out.old.items)
+        → C.stands_for command.new lines (text ++ out.new.items)) }
+    ensures stopped { IfErr result (λ halt. halt ≡ Halt.Memory) }
+{
+    if count > before {
+        command.pause(out)?;
+    }
+    Ok(())
+}
+
 /// How many lines were given to the command, and how many bytes are left behind the last line feed.
 #[derive(Clone, Copy)]
 pub(crate) struct Walked {

@@ -4,7 +4,7 @@ use Rattle.dsc_streams.proofs.PublicLaws.{Loses-none}
 use Rattle.line_engine.specs.declared.halts.Halt.TheVariants as halt
 use Rattle.line_engine.specs.inside.Progress.{PassesLimit}
 use Rattle.line_engine.proofs.Cutting.{is_text}
-use Rattle.line_engine.proofs.Going.{on_start, on_written, on_left, on_counted, stopped, stops_in_write, stops_open, not_read}
+use Rattle.line_engine.proofs.Going.{on_start, on_written, on_left, on_paused, on_counted, stopped, stops_in_write, stops_in_pause, stops_open, not_read}
 use Rattle.line_engine.proofs.Pieces.{exit_is, no_window, read_on, stops_after, text_still, runs_through, runs_into_last, few_bytes}
 use Rattle.line_engine.proofs.Writing.{nothing_written, exit}
 use Rattle.line_engine.proofs.driving.take_input.Goals as goal
@@ -126,7 +126,7 @@ loop-window-preserved g c =
       some = λ is. omega arith;
       short = omega arith;
       is_open = ap is_text kept ∙ c.in_ok-walked.ensures.open_end;
-      on = on_left (sym kept) (c.in_ok-walked.ensures.on c.args.sink.now is.taken is.on);
+      on = on_paused c.pause.new.out.items c.in_ok-pause.ensures.stands (on_left (sym kept) (c.in_ok-walked.ensures.on c.args.sink.now is.taken is.on));
     }
 
 pub returns-in_err-check_open-clause-stopped : goal.returns-in_err-check_open-clause-stopped
@@ -146,3 +146,15 @@ returns-in_err-check_open-clause-stopped g c =
     exit c.from_residual-in_err-check_open.result h _ c.from_residual-in_err-check_open.ensures.1
     (stops_after c.take_lines.new.sink c.take_lines.new.out.items is h
     (stops_open source g.met.C.Command.gives c.in_ok-walked.ensures.open_end (omega (arith, passed.0)) on h (subst (λ (n : ℕ). PassesLimit walked.count n h) (sym len) passed.1)))
+
+pub returns-in_err-pause-clause-stopped : goal.returns-in_err-pause-clause-stopped
+returns-in_err-pause-clause-stopped g c =
+    let was = c.loop-window.invariant in
+    let given = c.in-Ok.ensures.given in
+    let is = read_on (g.S.Source.left c.args.source.now) (g.S.Source.left c.loop-window.source) (g.S.Source.left c.read.new.source) c.write_pending.new.out.items given.0 c.bytes-in-loop-window.result.now c.in-Ok.field-0 was.on was.lost was.most was.few
+    c.in_ok-write_pending.ensures.emptied (c.in_ok-write_pending.ensures.wrote c.args.sink.now was.on.text was.on.wrote) (c.bytes-in-loop-window.ensures ∙ given.1) given.2 c.in-Ok.ensures.most given.3 in
+    let on = c.in_ok-walked.ensures.on c.args.sink.now is.taken is.on in
+    let h = c.in_err-pause.field-0.0 in
+    exit c.from_residual-in_err-pause.result h _ c.from_residual-in_err-pause.ensures.1
+    (stops_after c.take_lines.new.sink c.pause.new.out.items is h
+    (stops_in_pause c.pause.new.out.items (g.S.Source.left c.read.new.source) g.met.C.Command.gives on h c.in_err-pause.ensures.stopped))
