@@ -8,3 +8,4 @@ mod Pieces
 mod Told
 mod FirstFaults
 mod Outputs
+mod HasOutputs
