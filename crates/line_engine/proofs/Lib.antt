@@ -2,6 +2,7 @@ pub mod PublicLaws
 mod Cutting
 mod Faultless
 mod Going
+mod RunsOver
 mod Writing
 mod Rooms
 mod Pieces

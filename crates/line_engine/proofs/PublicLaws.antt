@@ -1,5 +1,7 @@
 -- Laws that proofs of other crates may cite. The other files here are this crate's own.
 
+-- a run over a meaning is one over any with the same faults whose texts it implies
+pub use Rattle.line_engine.proofs.RunsOver.{runs_over}
 -- lines have one first fault
 pub use Rattle.line_engine.proofs.FirstFaults.{one_first}
 -- lines that determine their output have one, and whatever of it is written before the input's end begins it

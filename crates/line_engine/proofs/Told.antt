@@ -34,6 +34,7 @@ finished_cut {meaning = meaning} {written = written} {faults = faults} {left_aft
       text = text;
       asked = λ rest is. subst (λ (lines : Lines). Asks meaning lines text) (at_rest left_after runs.taken rest runs.ended is)
           (inl (status, inl (record { faultless = through.faultless; ends = ends (lines_of runs.taken) through.text through.stands })));
+      early = inl runs.ended;
       writes = subst (λ (t : List ℕ). WritesFront (written start) (written new) t) (append-nil text) cut.writes;
     }
 
@@ -89,6 +90,7 @@ fault_cut {written = written} {faults = faults} {start = start} {new = new} {pen
       lost = runs.lost;
       text = runs.stops.text ++ pending ++ fault_line first.line first.fault;
       asked = λ rest is. inl (fault_status first.fault, inr (faulty rest (fault_status first.fault) refl runs.stops is));
+      early = inr (λ rest is. inl (fault_status first.fault, faulty rest (fault_status first.fault) refl runs.stops is));
       writes = cut.writes;
     }
 
@@ -100,6 +102,7 @@ write_cut runs = record {
   lost = runs.lost;
   text = runs.stops.text;
   asked = λ rest is. inr (runs.stops.some, first_so_far (runs.stops.first rest is) runs.stops.faultless runs.stops.gives);
+  early = inr (λ rest is. inr (runs.stops.some, first_so_far (runs.stops.first rest is) runs.stops.faultless runs.stops.gives));
   writes = runs.stops.fails.writes;
 }
 

@@ -4,7 +4,7 @@ use Rattle.dsc_streams.specs.Streams.{Loses, Gains, IsEnded, IsFlushed}
 use Rattle.line_engine.specs.Lines.{Lines, lines_of, IsCutInto}
 use Rattle.line_engine.specs.Meaning.{Meaning}
 use Rattle.line_engine.specs.Faults.{IsFaultless}
-use Rattle.line_engine.specs.Output.{IsWhole, IsFaulty, IsSoFar, Asks}
+use Rattle.line_engine.specs.Output.{IsWhole, IsFaulty, IsSoFar, Asks, AsksEarly}
 
 -- the statuses of a run that took its whole input
 abbrev pub IsFinished : ℕ → Type 0
@@ -69,12 +69,14 @@ pub record TellsSoFar (meaning : Meaning) (left_before left_after before after :
   pub gives : meaning.Gives lines text
   pub appended : Gains before after text
 
--- 5: a front of a text that the input asks for was appended, whatever is left of the input
+-- 5: a front of a text that the input asks for was appended, whatever is left of the input; of the text of an input without a fault only
+-- where the source was read to its end
 pub record CutsOff (meaning : Meaning) (left_before left_after before after : Option (List ℕ)) : Type 0 where
   pub taken : List ℕ
   pub lost : Loses left_before left_after taken
   pub text : List ℕ
   pub asked : (rest : List ℕ) → IsRest left_after rest → Asks meaning (lines_of (taken ++ rest)) text
+  pub early : IsEnded left_after ⊎ ((rest : List ℕ) → IsRest left_after rest → AsksEarly meaning (lines_of (taken ++ rest)) text)
   pub writes : WritesFront before after text
 
 -- 6: a front of what first lines of the input gave was appended, whatever is left of it

@@ -35,3 +35,7 @@ IsOutput meaning lines text status = IsWhole meaning lines text status ⊎ IsFau
 -- a text that these lines ask for, in whole or, where it isn't empty, so far
 abbrev pub Asks : Meaning → Lines → (text : List ℕ) → Type 0
 Asks meaning lines text = ((status : ℕ) × IsOutput meaning lines text status) ⊎ ((text ≢ []) × IsSoFar meaning lines text)
+
+-- a text that these lines ask for before their end: that of their first fault or, where it isn't empty, so far
+abbrev pub AsksEarly : Meaning → Lines → (text : List ℕ) → Type 0
+AsksEarly meaning lines text = ((status : ℕ) × IsFaulty meaning lines text status) ⊎ ((text ≢ []) × IsSoFar meaning lines text)
