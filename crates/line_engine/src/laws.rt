@@ -6,13 +6,14 @@ ghost use Rattle.line_engine.specs.Output.{IsSoFar, IsOutput, Asks};
 ghost use Rattle.line_engine.specs.Determined.{HasOneColumn, IsDecided, IsDetermined, BeginsWith};
 ghost use Rattle.line_engine.specs.Said.{said};
 
-use crate::bounds::{LONGEST_LINE, MOST_LINES};
+use crate::bounds::{LONGEST_LINE, MOST_LINES, MOST_TAKEN};
 use crate::command::Command;
 
-/// The law that these are the limits of an input. It does nothing.
+/// The law that fixes the limits of an input, and the most bytes that a run takes from its source. It does nothing.
 pub fn limits()
     ensures lines { MOST_LINES ≡ 65536 }
     ensures bytes { LONGEST_LINE ≡ 4200 }
+    ensures taken { MOST_TAKEN ≡ 275447808 }
 {}
 
 /// Lines have one first fault, at one line, or none; and a fault of whole lines stays the first one, whatever follows.
