@@ -17,3 +17,4 @@ mod ShownCalls
 mod Tails
 mod HeardEnds
 mod Parts
+mod SomeAnswer

@@ -50,6 +50,15 @@ pub fn ends_give_the_answer()
     ends_are_kept();
 }
 
+/// The law that no set of facts lacks an answer, where its symbols are characters'.
+pub fn no_answer_is_lacking()
+    ensures { (F : Facts) → ((p v : ℕ) → F p v ≡ true → v < 128) → ((answer : Joined) → IsAnswer F answer → ⊥) → ⊥ }
+{
+    formats_begin_calls();
+    lists_are_short();
+    expansion::lists_are_short();
+}
+
 /// The law that facts which are alike at each place have the same answers.
 pub fn alike_facts_have_one_answer()
     ensures { (F G : Facts) (answer : Joined) → ((p : ℕ) → AreAlike (F p) (G p)) → IsAnswer F answer
