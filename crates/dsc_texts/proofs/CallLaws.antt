@@ -6,18 +6,19 @@ use Rattle.call_values.specs.declared.parts.Kind.TheVariants.{Test, AskPosition,
 use Rattle.call_values.specs.Calls.{IsCall}
 use Rattle.slot_join.specs.declared.joined.Extra.{Extra}
 use Rattle.slot_join.specs.declared.joined.Extra.TheVariants.{Absent, Whole, Broken}
-use Rattle.line_grammar.specs.Grammar.{Grammar, finish, none, written}
+use Rattle.line_grammar.specs.Grammar.{Grammar, finish, none, Spells, written}
 use Rattle.line_grammar.specs.inside.Reading.{fits}
 use Rattle.line_grammar.specs.inside.Soundness.{is_sound}
+use Rattle.line_grammar.proofs.Stops.{IsAlike}
 use Rattle.dsc_texts.specs.CallGrammar.{calls, expansion, perhaps}
 use Rattle.dsc_texts.specs.CallParts.{call_text, expansion_text}
-use Rattle.dsc_texts.specs.Texts.{IsWholeOrAbsent, extra_text, reported_text}
+use Rattle.dsc_texts.specs.Texts.{IsBareCallText, IsCallText, IsWholeOrAbsent, extra_text, reported_text}
 use Rattle.dsc_texts.specs.inside.Expansions.{extra_parts}
 use Rattle.dsc_texts.specs.inside.Places.{call_parts}
 use Rattle.dsc_texts.proofs.CallSections.{followed, closed}
 use Rattle.dsc_texts.proofs.CallTexts.{calls_section}
 use Rattle.dsc_texts.proofs.ExpansionTexts.{extra_section}
-use Rattle.dsc_texts.proofs.FormLaws.{Texts, one_value}
+use Rattle.dsc_texts.proofs.FormLaws.{Texts, one_value, texts_alike}
 
 -- the texts of calls with nothing behind them
 pub bare_is : (c : Call) → call_text c ≡ written (calls finish) (call_parts c none)
@@ -34,7 +35,7 @@ bare_is (Service to category from (Test reply)) = refl
 bare_is (Service to category from AskPosition) = refl
 bare_is (Service to category from (Position position time)) = refl
 
-bare_sound : is_sound (calls finish) ≡ true
+pub bare_sound : is_sound (calls finish) ≡ true
 unfolding fits
 bare_sound = refl
 
@@ -46,6 +47,10 @@ bare_texts = record {
   all = refl;
   text_is = λ c h. bare_is c;
 }
+
+-- the lines of the grammar are these texts
+pub bare_texts_alike : IsAlike (Spells (calls finish)) IsBareCallText
+bare_texts_alike = texts_alike bare_texts
 
 -- the texts of calls that an expansion may follow
 abbrev pub with_expansion : Grammar
@@ -62,14 +67,14 @@ text_is c x h k =
     ap (λ (l : List ℕ). l ++ extra_text x) (bare_is c) ∙ ap (λ (l : List ℕ). written (calls finish) (call_parts c none) ++ l) (extra_is x k)
     ∙ sym (calls_section.split c h (perhaps expansion finish) (extra_parts x none))
 
-sound : is_sound with_expansion ≡ true
+pub with_expansion_sound : is_sound with_expansion ≡ true
 unfolding fits
-sound = refl
+with_expansion_sound = refl
 
 pub texts : Texts {V = Call × Extra} with_expansion (λ w. IsCall w.0 × IsWholeOrAbsent w.1) (λ w. call_parts w.0 (extra_parts w.1 none)) (λ w. reported_text w.0 w.1)
 texts = record {
   form = closed (followed calls_section extra_section);
-  sound = sound;
+  sound = with_expansion_sound;
   plain = refl;
   all = refl;
   text_is = λ w h. text_is w.0 w.1 h.0 h.1;
@@ -80,3 +85,7 @@ pub one_call : (a b : Call) (x y : Extra) → IsCall a → IsCall b → IsWholeO
 one_call a b x y h k m n e =
     let same = one_value texts (a, x) (b, y) (h, m) (k, n) e in
     (ap (λ (w : Call × Extra). w.0) same, ap (λ (w : Call × Extra). w.1) same)
+
+-- the lines of the grammar are these texts
+pub call_texts_alike : IsAlike (Spells with_expansion) IsCallText
+call_texts_alike = texts_alike texts

@@ -36,7 +36,7 @@ one_value {G = G} {parts = parts} {text = text} t u v h k e =
     t.form.one u v h k (ok_is (parts u) (parts v) (read G (text u)) (text_parts t u h) (ap (read G) e ∙ text_parts t v k))
 
 -- the lines of the grammar are these texts
-texts_alike : {V : Type 0} {G : Grammar} {Lawful : V → Type 0} {parts : V → Parts} {text : V → List ℕ} → Texts G Lawful parts text → IsAlike (Spells G) (IsText Lawful text)
+pub texts_alike : {V : Type 0} {G : Grammar} {Lawful : V → Type 0} {parts : V → Parts} {text : V → List ℕ} → Texts G Lawful parts text → IsAlike (Spells G) (IsText Lawful text)
 texts_alike {G = G} {parts = parts} {text = text} t = record {
   to = λ p bytes h.
       let all = spelled_parts G p bytes t.all h in

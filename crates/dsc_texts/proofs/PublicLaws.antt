@@ -5,3 +5,6 @@ pub use Rattle.dsc_texts.proofs.SymbolTexts.{Told}
 -- such are the texts of identities, natures of distress, communications, positions and addresses
 pub use Rattle.dsc_texts.proofs.SymbolTexts.{identity_told, nature_told, comm_told}
 pub use Rattle.dsc_texts.proofs.FieldTexts.{position_told, address_told}
+-- the sound grammars whose lines are the texts of calls: with nothing behind them, and with an expansion or none
+pub use Rattle.dsc_texts.proofs.CallLaws.{bare_sound, bare_texts_alike}
+pub use Rattle.dsc_texts.proofs.CallLaws.{with_expansion, with_expansion_sound, call_texts_alike}
