@@ -8,6 +8,15 @@ use dsc_texts::{append_call, append_ship_in_distress};
 use text_pieces::{append, append_digits};
 use traffic_rules::Act;
 
+/// An act's line at a moment in milliseconds, without the line feed.
+pub fn put_act(at: u32, act: &Act) -> ArrayVec<u8, 288>
+    ensures { result.items ≡ act_text at act.now }
+{
+    let mut out = ArrayVec::new();
+    append_act_text(&mut out, at, act);
+    out
+}
+
 /// Appends an act's line at a moment in milliseconds, without the line feed, at most 158 bytes (this project's profile):
 /// `0 send 5 alert from=..`, `7 shown`, `0 held 1`, `9 answered 1`, `600000 gaveup 1`, `0 distress casualty=..`,
 /// `221000 ended` or `7000 closed 338040079`.

@@ -5,5 +5,5 @@ mod acts;
 mod moments;
 mod refusals;
 
-pub use acts::append_act_text;
-pub use refusals::append_refusal_text;
+pub use acts::{append_act_text, put_act};
+pub use refusals::{append_refusal_text, put_refused};

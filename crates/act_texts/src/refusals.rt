@@ -7,6 +7,15 @@ use arrayvec::ArrayVec;
 use text_pieces::{append, append_digits};
 use traffic_rules::StationRefusal;
 
+/// A refusal's line at a moment in milliseconds, without the line feed.
+pub fn put_refused(at: u32, refusal: &StationRefusal) -> ArrayVec<u8, 96>
+    ensures { result.items ≡ refusal_text at refusal.now }
+{
+    let mut out = ArrayVec::new();
+    append_refusal_text(&mut out, at, refusal);
+    out
+}
+
 /// Appends a refusal's line at a moment in milliseconds, without the line feed, at most 79 bytes (this project's profile):
 /// `0 refused ` and one of `alertactive`, `noalert`, `nosuchcall 3`, `full`, `needsdelay`, `notsendable`,
 /// `nocasualty 338158137` and `timeback 5 4`.
