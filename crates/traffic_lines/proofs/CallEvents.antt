@@ -75,7 +75,7 @@ pub some_hear : HasLine IsHear
 some_hear = record { value = some_text.value.0; text = codes "hear " ++ some_text.text; line = (some_text.value.1, some_text.text, some_text.line, refl) }
 
 -- a call that is to be sent
-send_behind : IsBehind (IsWord (codes "send ")) IsBareCallText IsSend
+pub send_behind : IsBehind (IsWord (codes "send ")) IsBareCallText IsSend
 unfolding IsWord
 send_behind = record {
   to = λ front back call is h. (call, (back, h, ap (λ (l : List ℕ). l ++ back) is));

@@ -95,7 +95,7 @@ some_coast_at : HasLine IsCoastAt
 some_coast_at = record { value = (0, of_coast.Own coast.Tick); text = decimal 0 ++ (codes " " ++ codes "tick"); line = (codes "tick", omega arith, refl, refl) }
 
 -- and behind the letter of its end
-ship_behind : IsBehind (IsWord (codes "s ")) IsShipAt IsAtShip
+pub ship_behind : IsBehind (IsWord (codes "s ")) IsShipAt IsAtShip
 unfolding IsWord
 ship_behind = record {
   to = λ front back v is h. (v, (h.0, h.1, h.2, ap (λ (l : List ℕ). l ++ back) is ∙ ap (λ (l : List ℕ). codes "s " ++ l) h.3));
@@ -103,7 +103,7 @@ ship_behind = record {
   one = one_word (codes "s ");
 }
 
-coast_behind : IsBehind (IsWord (codes "c ")) IsCoastAt IsAtCoast
+pub coast_behind : IsBehind (IsWord (codes "c ")) IsCoastAt IsAtCoast
 unfolding IsWord
 coast_behind = record {
   to = λ front back v is h. (v, (h.0, h.1, h.2, ap (λ (l : List ℕ). l ++ back) is ∙ ap (λ (l : List ℕ). codes "c " ++ l) h.3));

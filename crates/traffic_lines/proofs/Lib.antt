@@ -1,3 +1,4 @@
+pub mod PublicLaws
 mod Tokens
 mod Languages
 mod Steps
@@ -9,3 +10,4 @@ mod EntryTexts
 mod OtherIdentities
 mod WorldLines
 mod OneWorld
+mod Judged

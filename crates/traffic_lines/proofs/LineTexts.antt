@@ -95,7 +95,7 @@ base_back (Base s) bytes h = to_end_is (codes "base ") (free_number 0 9999999999
 base_back (Group m) bytes h = absurd h.0
 base_back (Event at what) bytes h = absurd h.0
 
-base_alike : IsAlike (Spells base) (IsTrafficLine point.Base)
+pub base_alike : IsAlike (Spells base) (IsTrafficLine point.Base)
 base_alike = record {
   to = λ parts bytes h.
       let v = to_end_of (codes "base ") (free_number 0 9999999999) (λ (n : ℕ). (0 ≤ n) × (n ≤ 9999999999)) decimal (number_told 0 9999999999 (omega arith)) parts bytes h in
@@ -103,7 +103,7 @@ base_alike = record {
   back = base_back;
 }
 
-base_sound : is_sound base ≡ true
+pub base_sound : is_sound base ≡ true
 base_sound = refl
 
 pub base_fault : (bytes : List ℕ) (left : ℕ) → read base bytes ≡ Err left → IsColumn (IsTrafficLine point.Base) bytes (length bytes + 1 - left)

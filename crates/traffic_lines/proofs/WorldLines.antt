@@ -51,13 +51,13 @@ ship_back (Coast m b) bytes h = absurd h.0
 ship_back (Base s) bytes h = absurd h.0
 ship_back (Entry entry) bytes h = absurd h.0
 
-ship_alike : IsAlike (Spells ship) (IsWorldLine point.Ship)
+pub ship_alike : IsAlike (Spells ship) (IsWorldLine point.Ship)
 ship_alike = record {
   to = λ parts bytes h. (let v = to_end_of (codes "station ship ") identity IsMmsi (digits 9) identity_told parts bytes h in (Ship v.0, (tt, (v.1, v.2))));
   back = ship_back;
 }
 
-ship_sound : is_sound ship ≡ true
+pub ship_sound : is_sound ship ≡ true
 unfolding fits
 ship_sound = refl
 
@@ -76,14 +76,14 @@ pub coast_column : (mmsi : ℕ) (bytes : List ℕ) (left n : ℕ) → IsMmsi mms
 coast_column mmsi bytes left n m e h = counted_by (other_coast mmsi) (IsWorldLine (point.Coast mmsi)) bytes left n (other_sound mmsi m) (other_alike mmsi m) e h
 
 -- the base
-base_to : (w : TrafficLine) (bytes : List ℕ) → IsTrafficLine of_station.Base w bytes → (v : WorldLine) × IsWorldLine point.Base v bytes
+pub base_to : (w : TrafficLine) (bytes : List ℕ) → IsTrafficLine of_station.Base w bytes → (v : WorldLine) × IsWorldLine point.Base v bytes
 base_to (line.Ship m) bytes h = absurd h.0
 base_to (line.Coast m b) bytes h = absurd h.0
 base_to (line.Base s) bytes h = (Base s, h)
 base_to (line.Group m) bytes h = absurd h.0
 base_to (line.Event at what) bytes h = absurd h.0
 
-base_back : (w : WorldLine) (bytes : List ℕ) → IsWorldLine point.Base w bytes → (v : TrafficLine) × IsTrafficLine of_station.Base v bytes
+pub base_back : (w : WorldLine) (bytes : List ℕ) → IsWorldLine point.Base w bytes → (v : TrafficLine) × IsTrafficLine of_station.Base v bytes
 base_back (Ship m) bytes h = absurd h.0
 base_back (Coast m b) bytes h = absurd h.0
 base_back (Base s) bytes h = (line.Base s, h)
@@ -99,7 +99,7 @@ entry_back (Coast m b) bytes h = absurd h.0
 entry_back (Base s) bytes h = absurd h.0
 entry_back (Entry entry) bytes h = (entry, h.1)
 
-entry_alike : IsAlike IsEntryText (IsWorldLine point.Events)
+pub entry_alike : IsAlike IsEntryText (IsWorldLine point.Events)
 entry_alike = record { to = λ v bytes h. (Entry v, (tt, h)); back = entry_back }
 
 pub entry_few : (bytes : List ℕ) (left : ℕ) → IsColumn IsEntryText bytes (length bytes + 1 - left) → left ≤ length bytes
