@@ -3,4 +3,5 @@ mod Posted
 mod Entries
 mod Turning
 mod SeatRows
+mod Naming
 mod Gathered

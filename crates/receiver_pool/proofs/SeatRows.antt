@@ -1,16 +1,19 @@
 -- A row of boards, and rows of their seats and sheets.
-use Rattle.std.proofs.Common.{◌≡◌, ℕ, ◌+◌, ◌-◌, ◌/◌, ◌<◌, ◌≤◌, List, [], length, set, slice_index_or, arith, sym, ◌∙◌, subst, inl, inr}
-use Rattle.std.proofs.lemmas.Bool.{cases_eq}
+use Rattle.std.proofs.Common.{◌≡◌, ℕ, ◌+◌, ◌-◌, ◌/◌, ◌<◌, ◌≤◌, ◌==◌, Bool, ◌&&◌, ◌||◌, List, [], length, set, slice_index_or, refl, arith, ap, sym, ◌∙◌, subst, inl, inr}
+use Rattle.std.proofs.lemmas.Bool.{cases_eq, eq-eqb, ne_eqb}
+use Rattle.std.proofs.Math.Bool.{or-false}
 use Rattle.std.proofs.lemmas.List.{length-set, get_or-set_same, get_or-set_other}
 use Rattle.atomic_table.specs.Seated.{TableId}
 use Rattle.slot_evidence.specs.Facts.{Facts, union}
 use Rattle.slot_evidence.specs.declared.places.Seen.{Seen}
-use Rattle.slot_evidence.specs.Sheet.{IsEnds}
+use Rattle.slot_evidence.specs.Sheet.{IsEnds, seen_at}
 use Rattle.slot_evidence.proofs.PublicLaws.{IsEnds-same}
-use Rattle.evidence_board.specs.Views.{given_sheet}
+use Rattle.evidence_board.specs.Views.{Reach, united, reach_of, Place, place_at, given_sheet}
+use Rattle.evidence_board.specs.Rule.{IsWithin}
+use Rattle.evidence_board.specs.Steps.{joined}
 use Rattle.receiver_pool.specs.Groups.{AreSheets}
 use Rattle.evidence_board.specs.Seats.{Held}
-use Rattle.receiver_pool.specs.Rows.{IsSeatOf, AreSeats, no_seat, table_at}
+use Rattle.receiver_pool.specs.Rows.{IsSeatOf, AreSeats, no_seat, seat_at, table_at}
 use Rattle.receiver_pool.proofs.Turning.{Row}
 
 -- what stands at each place
@@ -26,6 +29,44 @@ Any j sheet = sheet ≡ sheet
 
 abbrev pub Tables : List TableId → ℕ → TableId → Type 0
 Tables boards j board = board ≡ table_at boards j
+
+abbrev pub AnySeat : ℕ → Held → Type 0
+AnySeat j seat = seat ≡ seat
+
+-- the seat that stands there in a row
+abbrev pub Same : List Held → ℕ → Held → Type 0
+Same seats j seat = seat ≡ seat_at seats j
+
+-- a seat saw what that seat of a row saw, and a sheet reaches as far
+abbrev pub Covers : List Held → ℕ → Held → Type 0
+Covers seats j seat = (p : ℕ) → p < 64 → IsWithin (place_at (seat_at seats j).view p).seen (place_at seat.view p).seen
+
+abbrev pub SheetCovers : List Held → ℕ → List Seen → Type 0
+SheetCovers seats j sheet = (p : ℕ) → p < 64 → IsWithin (place_at (seat_at seats j).view p).seen (reach_of (seen_at sheet p))
+
+pub same_row : (seats : List Held) → Row (Same seats) no_seat seats (length seats)
+same_row seats = record { count = refl; each = λ j small. refl }
+
+united_right : (a b : Reach) → IsWithin b (united a b)
+united_right a b = record { least = omega arith; past = omega arith }
+
+pub within_both : (a b c : Reach) → IsWithin a b → IsWithin b c → IsWithin a c
+within_both a b c first last =
+    let low = first.least in
+    let lower = last.least in
+    let high = first.past in
+    let higher = last.past in
+    record { least = omega arith; past = omega arith }
+
+-- a seat that another was joined into saw what that one saw
+pub joined_covers : (seats : List Held) (j : ℕ) (old new other : Held) → other ≡ seat_at seats j → ((p : ℕ) → p < 64 → place_at new.view p ≡ joined (place_at old.view p) (place_at other.view p)) → Covers seats j new
+joined_covers seats j old new other is places = λ p below.
+    subst (λ (s : Held). IsWithin (place_at s.view p).seen (place_at new.view p).seen) is
+    (subst (λ (c : Place). IsWithin (place_at other.view p).seen c.seen) (sym (places p below)) (united_right (place_at old.view p).seen (place_at other.view p).seen))
+
+-- and a sheet that reaches as far as the seat
+pub sheet_covers : (seats : List Held) (j : ℕ) (seat : Held) (sheet : List Seen) → seat ≡ seat_at seats j → ((p : ℕ) → p < 64 → IsWithin (place_at seat.view p).seen (reach_of (seen_at sheet p))) → SheetCovers seats j sheet
+sheet_covers seats j seat sheet is covers = λ p below. subst (λ (s : Held). IsWithin (place_at s.view p).seen (reach_of (seen_at sheet p))) is (covers p below)
 
 pub seats_row : (share : ℕ) (F : ℕ → Facts) (boards : List TableId) (seats : List Held) → AreSeats share F boards seats → Row (Seats share F boards) no_seat seats (length boards)
 seats_row share F boards seats are = record { count = are.count; each = are.each }
@@ -86,6 +127,29 @@ looked share F board old new table shares given was = record {
   table = table;
   amount = shares ∙ was.amount;
   ends = subst (λ (s : List Seen). IsEnds F s) (sym given) was.ends;
+}
+
+same_seat : (share : ℕ) (F G : Facts) (board : TableId) (seat : Held) → ((p v : ℕ) → F p v ≡ G p v) → IsSeatOf board share F seat → IsSeatOf board share G seat
+same_seat share F G board seat alike was = record { table = was.table; amount = was.amount; ends = IsEnds-same F G _ alike was.ends }
+
+-- more was posted through one seat of a row
+pub seats_more : (share : ℕ) (F : ℕ → Facts) (G : Facts) (boards : List TableId) (seats : List Held) (k : ℕ) (new : Held) → k < length boards
+    → IsSeatOf (table_at boards k) share (union (F k) G) new → AreSeats share F boards seats
+    → AreSeats share (λ j. union (F j) (λ p v. k == j && G p v)) boards (set seats k new)
+seats_more share F G boards seats k new inside held are = record {
+  count = length-set seats k new ∙ are.count;
+  each = λ j below. elim (cases_eq j k) [
+    | inl here ↦
+        subst (λ (s : Held). IsSeatOf (table_at boards j) share (union (F j) (λ p v. k == j && G p v)) s)
+        (sym (ap (λ (i : ℕ). slice_index_or (set seats k new) i no_seat) here ∙ get_or-set_same seats k new no_seat (omega (arith, are.count))))
+        (same_seat share (union (F j) G) _ (table_at boards j) new (λ p v. ap (λ (b : Bool). F j p v || (b && G p v)) (sym (eq-eqb k j (sym here))))
+        (subst (λ (i : ℕ). IsSeatOf (table_at boards i) share (union (F i) G) new) (sym here) held))
+    | inr apart ↦
+        subst (λ (s : Held). IsSeatOf (table_at boards j) share (union (F j) (λ p v. k == j && G p v)) s) (sym (get_or-set_other seats k j new no_seat apart))
+        (same_seat share (F j) _ (table_at boards j) _
+        (λ p v. sym (ap (λ (b : Bool). F j p v || (b && G p v)) (ne_eqb k j (λ e. apart (sym e))) ∙ or-false (F j p v)))
+        (are.each j below))
+  ];
 }
 
 -- one seat of a row became another of its board

@@ -1,6 +1,6 @@
 -- The groups of a batch of receptions: this project's profile.
-use Rattle.std.specs.Prelude.{◌≡◌, ℕ, ◌<◌, ◌≤◌, ◌&&◌, ◌||◌, ◌==◌, false, List, [], ◌∷◌, All, length, slice_index_or}
-use Rattle.std.specs.List.{list_any}
+use Rattle.std.specs.Prelude.{◌≡◌, ℕ, ◌<◌, ◌≤◌, ◌&&◌, ◌||◌, ◌==◌, not, false, List, [], ◌∷◌, All, length, map, slice_index_or}
+use Rattle.std.specs.List.{filter, list_any}
 use Rattle.phasing.specs.declared.reception.TheConstants.{LONGEST}
 use Rattle.slot_evidence.specs.declared.places.Seen.{Seen}
 use Rattle.slot_evidence.specs.Facts.{Facts, facts_of}
@@ -43,7 +43,13 @@ AreShown F (entry ∷ entries) = ShowsFirst F entry (λ rest. AreShown rest entr
 abbrev pub IsOneOf : ℕ → GroupSheet → Type 0
 IsOneOf groups entry = entry.group < groups
 
--- the entries show these facts of each group, and belong to groups of the batch
+-- the groups that receptions name, each once, in the order in which they are first named
+abbrev pub groups_of : List GroupReception → List ℕ
+groups_of [] = []
+groups_of (heard ∷ batch) = heard.group ∷ filter (λ k. not (heard.group == k)) (groups_of batch)
+
+-- the entries show these facts of each group; there is one of each group that the batch names, in the order in which it first names them
 pub record Shows (F : ℕ → Facts) (batch : List GroupReception) (entries : List GroupSheet) : Type 0 where
   pub facts : AreShown F entries
   pub groups : (n : ℕ) → All (Belongs n) batch → All (IsOneOf n) entries
+  pub named : map (λ entry. entry.group) entries ≡ groups_of batch

@@ -1,5 +1,6 @@
 pub mod Posting
 pub mod Groups
 pub mod Rows
+pub mod Seeing
 pub mod Joining
 pub mod inside

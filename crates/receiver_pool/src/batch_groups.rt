@@ -1,14 +1,15 @@
 //! The groups of a batch: each has a number within it, by which workers find its sheet.
-ghost use Rattle.std.specs.Prelude.{◌≡◌, ℕ, ◌+◌, ◌<◌, ◌≤◌, All, IfOk, IfSome, length, slice_index};
+ghost use Rattle.std.specs.Prelude.{◌≡◌, ℕ, ◌+◌, ◌<◌, ◌≤◌, All, None, false, IfOk, IfSome, length, map, slice_index};
 ghost use Rattle.slot_evidence.specs.Facts.{Facts, no_facts};
 ghost use Rattle.receiver_pool.specs.Groups.{AreSheets, AreShown, IsOneOf, IsShort};
 ghost use Rattle.receiver_pool.specs.inside.Turns.{is_turn};
-ghost use Rattle.receiver_pool.specs.inside.Numbers.{AreNumbered, ArePlaces, AreTurns, IsBelow, IsPlaced, gathered, place_part, read_by};
+ghost use Rattle.receiver_pool.specs.inside.Numbers.{AreNumbered, ArePlaces, AreRemembered, AreTurns, IsBelow, IsPlaced, gathered, is_listed, place_part, read_by};
 
 use crate::boards::blank_sheets;
 use crate::gate::Entered;
 use crate::group_entries::{GroupReception, GroupSheet};
 use crate::pools::take_turn;
+use crate::posts::Posts;
 use slot_evidence::Sheet;
 use std::alloc::{AllocError, Global};
 
@@ -18,9 +19,10 @@ const REMEMBERED: usize = 512;
 /// In place of the number of a group: none stands here yet.
 const NOWHERE: usize = usize::MAX;
 
-/// Where a group stands in a list.
+/// Where a group stands in a list, if it does.
 fn find(groups: &[usize], group: usize) -> Option<usize>
-    ensures { IfSome result (λ place. (place < length groups.now) × (slice_index groups.now place ≡ group)) }
+    ensures some { IfSome result (λ place. (place < length groups.now) × (slice_index groups.now place ≡ group)) }
+    ensures none { result ≡ None → is_listed groups.now group ≡ false }
 {
     for (place, known) in groups.iter().enumerate() {
         if *known == group {
@@ -30,23 +32,35 @@ fn find(groups: &[usize], group: usize) -> Option<usize>
     None
 }
 
+/// The same where it is remembered of each remainder whether a group with it stands in the list, and where one does.
+fn known_place(groups: &[usize], remembered: &[usize; 512], group: usize) -> Option<usize>
+    requires { AreRemembered groups.now remembered.now }
+    ensures some { IfSome result (λ place. (place < length groups.now) × (slice_index groups.now place ≡ group)) }
+    ensures none { result ≡ None → is_listed groups.now group ≡ false }
+{
+    let place = remembered[group % REMEMBERED];
+    if place == NOWHERE {
+        return None;
+    }
+    if place < groups.len() && groups[place] == group {
+        return Some(place);
+    }
+    find(groups, group)
+}
+
 /// The number of a group within its batch. A new one gets the next.
 fn place_of(
     groups: &mut Vec<usize>,
     remembered: &mut [usize; 512],
     group: usize,
 ) -> Result<usize, AllocError>
-    ensures { IfOk result (λ place. IsPlaced group place groups.old.items groups.new.items) }
+    requires { AreRemembered groups.old.items remembered.old }
+    ensures placed { IfOk result (λ place. IsPlaced group place groups.old.items groups.new.items) }
+    ensures remembered { IfOk result (λ place. AreRemembered groups.new.items remembered.new) }
 {
-    let place = remembered[group % REMEMBERED];
-    if place < groups.len() && groups[place] == group {
+    if let Some(place) = known_place(groups, remembered, group) {
+        remembered[group % REMEMBERED] = place;
         return Ok(place);
-    }
-    if place != NOWHERE {
-        if let Some(place) = find(groups, group) {
-            remembered[group % REMEMBERED] = place;
-            return Ok(place);
-        }
     }
     let next = groups.len();
     groups.push(group)?;
@@ -70,13 +84,15 @@ pub(crate) fn number_groups(
     Ok((groups, places))
 }
 
-/// How workers share a batch: each reception is the turn of one of them, and goes into the sheet of its group.
+/// How workers share a batch: each reception is the turn of one of them, and goes into the sheet of its group. Where somebody looks at
+/// the boards, each is posted as soon as it was read.
 #[derive(Drop)]
 pub struct Turns {
     /// Of each reception where its group stands among those of the batch.
     pub places: Vec<usize>,
     /// How many workers there are: worker w takes the receptions whose index leaves w when divided by their number.
     pub workers: u32,
+    pub posts: Posts,
 }
 
 /// Reads a worker's receptions into the sheets of their groups.
@@ -127,7 +143,8 @@ pub(crate) fn entries_of(
     requires { length sheets.now ≡ length groups.now }
     ensures { IfOk result (λ v. ((F : ℕ → Facts) → AreSheets F sheets.now (length groups.now)
         → AreShown (gathered groups.now F (length groups.now)) v.items)
-        × ((n : ℕ) → All (IsBelow n) groups.now → All (IsOneOf n) v.items)) }
+        × ((n : ℕ) → All (IsBelow n) groups.now → All (IsOneOf n) v.items)
+        × (map (λ entry. entry.group) v.items ≡ groups.now)) }
 {
     let mut entries = Vec::new(alloc);
     for (k, group) in groups.iter().enumerate() {

@@ -7,10 +7,12 @@ ghost use Rattle.receiver_pool.specs.Groups.{facts_of_group, AreSheets, IsShort,
 ghost use Rattle.receiver_pool.specs.inside.Numbers.{AreTurns, HavePosted, read_by};
 ghost use Rattle.receiver_pool.specs.Rows.{Sit};
 
+use crate::at_once::post_turns;
 use crate::batch_groups::{Turns, entries_of, number_groups, shown_to};
-use crate::boards::{boards_for, close_each, join_each, post_each, split_each};
+use crate::boards::{blank_sheets, boards_for, close_each, join_each, post_each, split_each};
 use crate::gate::{Gate, enter};
 use crate::group_entries::{GroupReception, GroupSheet};
+use crate::posts::Posts;
 use evidence_board::{AllFacts, Board, Seat, WHOLE};
 use slot_evidence::Sheet;
 use std::alloc::{AllocError, Global};
@@ -37,7 +39,8 @@ pub fn take_at(sheets: &mut [Sheet], number: usize) -> Sheet
     sheet
 }
 
-/// One worker: it enters the gate, joins its receptions, and posts what they showed of each group.
+/// One worker: it enters the gate, joins its receptions, and posts what they showed of each group; where somebody looks at the boards, each
+/// reception at once.
 fn work<G: Gate>(
     alloc: Global,
     boards: &[Board<AllFacts>],
@@ -54,6 +57,21 @@ fn work<G: Gate>(
         boards.now seats.items v.items) }
 {
     let entered = enter(gate, worker);
+    if turns.posts.is_watched() {
+        let mut sheets = blank_sheets(alloc, boards.len())?;
+        post_turns(
+            &entered,
+            boards,
+            &mut seats,
+            &mut sheets,
+            batch,
+            &turns.places,
+            &turns.posts,
+            turns.workers,
+            worker,
+        );
+        return Ok(seats);
+    }
     let sheets = shown_to(&entered, alloc, batch, turns, boards.len(), worker)?;
     post_each(boards, &mut seats, &sheets);
     Ok(seats)
@@ -164,10 +182,10 @@ fn share_groups<R: Threads + Sync, G: Gate>(
     close_each(alloc, boards, seats)
 }
 
-/// What a batch of receptions shows: an entry for each group that it names, with what the batch showed of it. 1 to 64 workers read them
-/// with one fork: worker w takes the receptions whose index leaves w when divided by their number. Each enters the gate once, first
-/// thing, and posts what it read of each group on that group's board. With one worker nothing is forked, and there is no board. The error
-/// is want of memory.
+/// What a batch of receptions shows: one entry for each group that it names, in the order in which it first names them, with what it showed
+/// of the group. 1 to 64 workers read them with one fork: worker w takes the receptions whose index leaves w when divided by their number.
+/// Each enters the gate once, first thing, and posts what it read of each group on that group's board. With one worker nothing is forked,
+/// and there is no board. The error is want of memory.
 pub fn pool_groups<R: Threads + Sync, G: Gate>(
     rt: &R,
     alloc: Global,
@@ -180,7 +198,11 @@ pub fn pool_groups<R: Threads + Sync, G: Gate>(
     ensures { IfOk result (λ v. Shows (facts_of_group batch.now) batch.now v.items) }
 {
     let (groups, places) = number_groups(alloc, batch)?;
-    let turns = Turns { places, workers };
+    let turns = Turns {
+        places,
+        workers,
+        posts: Posts::none(alloc),
+    };
     let sheets = share_groups(rt, alloc, batch, &turns, groups.len(), gate)?;
     entries_of(alloc, &groups, &sheets)
 }

@@ -1,11 +1,13 @@
 //! A row of boards, one for each group of a batch, and a seat of each.
-ghost use Rattle.std.specs.Prelude.{◌≡◌, ℕ, ◌+◌, ◌-◌, ◌/◌, ◌<◌, IfOk, length};
+ghost use Rattle.std.specs.Prelude.{◌≡◌, ◌≢◌, ℕ, ◌+◌, ◌-◌, ◌/◌, ◌<◌, true, IfOk, length, slice_index_or, []};
 ghost use Rattle.slot_evidence.specs.Facts.{Facts, no_facts, union};
-ghost use Rattle.slot_evidence.specs.Sheet.{IsEnds};
-ghost use Rattle.slot_evidence.specs.Allowed.{OnlyAllowed};
-ghost use Rattle.evidence_board.specs.Views.{given_sheet};
+ghost use Rattle.slot_evidence.specs.Sheet.{IsEnds, seen_at};
+ghost use Rattle.slot_evidence.specs.Allowed.{IsAllowed, OnlyAllowed};
+ghost use Rattle.evidence_board.specs.Looks.{IsLooked};
+ghost use Rattle.evidence_board.specs.Rule.{IsWithin};
+ghost use Rattle.evidence_board.specs.Views.{given_sheet, place_at, reach_of, seen_sheet};
 ghost use Rattle.receiver_pool.specs.Groups.{AreSheets};
-ghost use Rattle.receiver_pool.specs.Rows.{AreAsBefore, AreSeats, Sit};
+ghost use Rattle.receiver_pool.specs.Rows.{AreAsBefore, AreSeats, Sit, seat_at};
 
 use evidence_board::{AllFacts, Allowed, Board, Seat, WHOLE, all_facts_may_be_posted};
 use slot_evidence::{Sheet, sheet_is_lawful};
@@ -78,7 +80,7 @@ pub(crate) fn split_each(
     Ok(others)
 }
 
-/// Joins another seat of each board into the first.
+/// Joins another seat of each board into the first, which then saw what that one saw.
 pub(crate) fn join_each(
     boards: &[Board<AllFacts>],
     seats: &mut [Seat<AllFacts>],
@@ -86,9 +88,11 @@ pub(crate) fn join_each(
 )
     requires seats { Sit 1 boards.now seats.old }
     requires others { Sit 1 boards.now others.items }
-    ensures { (share other : ℕ) (F G : ℕ → Facts) → AreSeats share F boards.now seats.old
+    ensures seats { (share other : ℕ) (F G : ℕ → Facts) → AreSeats share F boards.now seats.old
         → AreSeats other G boards.now others.items
         → AreSeats (share + other) (λ k. union (F k) (G k)) boards.now seats.new }
+    ensures seen { (k : ℕ) → k < length boards.now → (p : ℕ) → p < 64
+        → IsWithin (place_at (seat_at others.items k).view p).seen (place_at (seat_at seats.new k).view p).seen }
 {
     while let Some(other) = others.pop() {
         let k = others.len();
@@ -96,24 +100,34 @@ pub(crate) fn join_each(
     }
 }
 
-/// Looks at the board with this number through its seat: what the seat then saw of each place.
-pub fn look_at(boards: &[Board<AllFacts>], seats: &mut [Seat<AllFacts>], number: usize) -> Sheet
+/// Looks at the board with this number through its seat, as `Board::look_at` does: what the seat then saw of each place. The other seats
+/// stay as they are.
+pub fn look_at<A: Allowed>(boards: &[Board<A>], seats: &mut [Seat<A>], number: usize) -> Sheet
     requires seats { Sit 1 boards.now seats.old }
     requires number { number < length boards.now }
-    ensures { AreAsBefore boards.now seats.old seats.new }
+    ensures kept { AreAsBefore boards.now seats.old seats.new }
+    ensures others { (k : ℕ) → k ≢ number → seat_at seats.new k ≡ seat_at seats.old k }
+    ensures places { (p : ℕ) → p < 64
+        → IsLooked A.facts p (place_at (seat_at seats.old number).view p) (place_at (seat_at seats.new number).view p) }
+    ensures sheet { result ≡ seen_sheet (seat_at seats.new number).view }
+    ensures allowed { OnlyAllowed A.facts result }
+    ensures exact { (F : Facts) → ((p v : ℕ) → IsAllowed A.facts p v → F p v ≡ true)
+        → IsEnds F (given_sheet (seat_at seats.old number).view) → IsEnds F result }
 {
     boards[number].look_at(&mut seats[number])
 }
 
-/// Closes each board with its whole seat: the sheets of what was posted on them.
+/// Closes each board with its whole seat: the sheets of what was posted on them, and no seat saw more.
 pub(crate) fn close_each(
     alloc: Global,
     boards: Vec<Board<AllFacts>>,
     seats: Vec<Seat<AllFacts>>,
 ) -> Result<Vec<Sheet>, AllocError>
     requires { (F : ℕ → Facts) × AreSeats WHOLE F boards.items seats.items }
-    ensures { IfOk result (λ v. (F : ℕ → Facts) → AreSeats WHOLE F boards.items seats.items
+    ensures sheets { IfOk result (λ v. (F : ℕ → Facts) → AreSeats WHOLE F boards.items seats.items
         → AreSheets F v.items (length boards.items)) }
+    ensures seen { IfOk result (λ v. (k : ℕ) → k < length boards.items → (p : ℕ) → p < 64
+        → IsWithin (place_at (seat_at seats.items k).view p).seen (reach_of (seen_at (slice_index_or v.items k []) p))) }
 {
     let mut sheets = blank_sheets(alloc, boards.len())?;
     close_into(&mut sheets, boards, seats);
@@ -128,8 +142,10 @@ fn close_into(
 )
     requires seats { (F : ℕ → Facts) × AreSeats WHOLE F boards.items seats.items }
     requires sheets { length sheets.old ≡ length boards.items }
-    ensures { (F : ℕ → Facts) → AreSeats WHOLE F boards.items seats.items
+    ensures sheets { (F : ℕ → Facts) → AreSeats WHOLE F boards.items seats.items
         → AreSheets F sheets.new (length boards.items) }
+    ensures seen { (k : ℕ) → k < length boards.items → (p : ℕ) → p < 64
+        → IsWithin (place_at (seat_at seats.items k).view p).seen (reach_of (seen_at (slice_index_or sheets.new k []) p)) }
 {
     while let Some(board) = boards.pop() {
         let Some(seat) = seats.pop() else {

@@ -1,11 +1,13 @@
 -- The numbers that groups have within a batch. This project's own form.
-use Rattle.std.specs.Prelude.{◌≡◌, ℕ, ◌<◌, ◌≤◌, Bool, false, ◌&&◌, ◌||◌, ◌==◌, zero, suc, List, All, length, slice_index, slice_index_or}
+use Rattle.std.specs.Prelude.{◌≡◌, ◌≢◌, ℕ, ◌%◌, ◌<◌, ◌≤◌, Bool, false, ◌&&◌, ◌||◌, ◌==◌, if◌then◌else◌, zero, suc, List, [], ◌∷◌, ◌++◌, All, length, take, slice_index, slice_index_or}
+use Rattle.std.specs.List.{list_any}
 use Rattle.atomic_table.specs.Seated.{TableId}
 use Rattle.slot_evidence.specs.Facts.{Facts, facts_of, union}
 use Rattle.evidence_board.specs.Seats.{Held}
 use Rattle.receiver_pool.specs.declared.batch_groups.Turns.{Turns}
 use Rattle.receiver_pool.specs.declared.group_entries.GroupReception.{GroupReception}
-use Rattle.receiver_pool.specs.Groups.{Belongs, IsShort}
+use Rattle.receiver_pool.specs.declared.batch_groups.TheConstants.{NOWHERE, REMEMBERED}
+use Rattle.receiver_pool.specs.Groups.{Belongs, IsShort, groups_of}
 use Rattle.receiver_pool.specs.Rows.{AreSeats}
 use Rattle.receiver_pool.specs.inside.Turns.{is_turn, taken, nobody}
 
@@ -13,12 +15,30 @@ use Rattle.receiver_pool.specs.inside.Turns.{is_turn, taken, nobody}
 abbrev pub IsBelow : ℕ → ℕ → Type 0
 IsBelow n group = group < n
 
+-- whether a group is one of these
+abbrev pub is_listed : List ℕ → ℕ → Bool
+is_listed groups group = list_any (λ known. known == group) groups
+
+-- these groups, and this one behind them where it is none of them
+abbrev pub with_group : List ℕ → ℕ → List ℕ
+with_group groups group = if is_listed groups group then groups else groups ++ group ∷ []
+
+-- no group stands at two places
+abbrev pub AreApart : List ℕ → Type 0
+AreApart groups = (i j : ℕ) → i < length groups → j < length groups → slice_index groups i ≡ slice_index groups j → i ≡ j
+
+-- of each of these groups it is remembered that some group with its remainder stands in the list
+abbrev pub AreRemembered : List ℕ → List ℕ → Type 0
+AreRemembered groups remembered = (i : ℕ) → i < length groups → slice_index remembered (slice_index groups i % REMEMBERED) ≢ NOWHERE
+
 -- each of the first n receptions has a place, where its group stands, and no group stands there that the batch doesn't name
 pub record AreNumbered (batch : List GroupReception) (n : ℕ) (groups places : List ℕ) : Type 0 where
   pub count : length places ≡ n
   pub inside : (i : ℕ) → i < n → slice_index places i < length groups
   pub same : (i : ℕ) → i < n → slice_index groups (slice_index places i) ≡ (slice_index_or batch i nobody).group
   pub bounded : (m : ℕ) → All (Belongs m) batch → All (IsBelow m) groups
+  pub named : groups ≡ groups_of (take n batch)
+  pub apart : AreApart groups
 
 -- a group stands at a place, where those known before stay, and it alone may have come
 pub record IsPlaced (group place : ℕ) (old new : List ℕ) : Type 0 where
@@ -27,6 +47,7 @@ pub record IsPlaced (group place : ℕ) (old new : List ℕ) : Type 0 where
   pub longer : length old ≤ length new
   pub kept : (k : ℕ) → k < length old → slice_index new k ≡ slice_index old k
   pub bounded : (n : ℕ) → group < n → All (IsBelow n) old → All (IsBelow n) new
+  pub list : new ≡ with_group old group
 
 -- each of n receptions has a place below count
 pub record ArePlaces (n count : ℕ) (places : List ℕ) : Type 0 where

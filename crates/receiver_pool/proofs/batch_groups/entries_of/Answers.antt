@@ -1,5 +1,5 @@
-use Rattle.std.proofs.Common.{◌≡◌, ◌+◌, [], List, All, length, refl, arith, sym, subst}
-use Rattle.std.proofs.lemmas.List.{get_or_read}
+use Rattle.std.proofs.Common.{◌≡◌, ℕ, ◌+◌, [], ◌∷◌, ◌++◌, List, All, length, map, slice_index, refl, arith, ap, sym, ◌∙◌, subst}
+use Rattle.std.proofs.lemmas.List.{get_or_read, map-append, take_all, take_more}
 use Rattle.std.proofs.lemmas.List.Elements.{All-get_or, All-push}
 use Rattle.slot_evidence.specs.declared.places.Seen.{Seen}
 use Rattle.slot_evidence.specs.Sheet.{IsEnds}
@@ -22,10 +22,15 @@ loop-k-preserved c =
       groups = λ n below.
           subst (λ (s : List GroupSheet). All (IsOneOf n) s) (sym c.in_ok-push.ensures.items)
           (All-push (IsOneOf n) c.loop-k.entries.items _ (was.groups n below) (All-get_or (IsBelow n) groups k 0 (omega arith) below));
+      named =
+          ap (map (λ (e : GroupSheet). e.group)) c.in_ok-push.ensures.items
+          ∙ map-append (λ (e : GroupSheet). e.group) c.loop-k.entries.items _
+          ∙ ap (λ (l : List ℕ). l ++ slice_index groups k ∷ []) was.named
+          ∙ sym (take_more groups k 0 (omega arith));
     }
 
 pub returns : goal.returns
 returns c =
     let was = c.loop-k.invariant in
     let all : c.loop-k.k ≡ length c.args.groups.now = omega arith in
-    (λ F are. subst (λ m. AreShown (gathered c.args.groups.now F m) c.loop-k.entries.items) all (was.facts F are), was.groups)
+    (λ F are. subst (λ m. AreShown (gathered c.args.groups.now F m) c.loop-k.entries.items) all (was.facts F are), was.groups, was.named ∙ take_all c.loop-k.k c.args.groups.now (omega arith))

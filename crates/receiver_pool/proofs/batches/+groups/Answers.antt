@@ -95,7 +95,7 @@ returns g t c =
     let B : ℕ → Facts = λ k. union (F k) (read_by batch turns middle c.args.high k) in
     let first = IfOk-at_ok _ c.in_ok-joined.was c.join-first.ensures.first half F (subst (λ (s : List Held). AreSeats half F boards s) (sym whole) split.0) in
     let second = IfOk-at_ok _ c.in_ok-second.was c.join-first.ensures.second (share / 2) F split.1 in
-    let both = c.join_each.ensures half (share / 2) A B (subst (λ (s : List Held). AreSeats half A boards s) (sym c.deref_mut-2.ensures.value) first) second in
+    let both = c.join_each.ensures.seats half (share / 2) A B (subst (λ (s : List Held). AreSeats half A boards s) (sym c.deref_mut-2.ensures.value) first) second in
     let all = same_seats (half + share / 2) share (λ k. union (A k) (B k)) (λ k. union (F k) (read_by batch turns c.args.low c.args.high k)) boards c.join_each.new.seats (omega arith)
     (λ k p v. fold_twice (F k p v) _ _ ∙ ap (λ (b : Bool). F k p v || b) (sym (part_halves turns.workers c.args.low middle c.args.high (nth_at batch turns.places.items k) (length batch) p v (omega arith) (omega arith))))
     both in

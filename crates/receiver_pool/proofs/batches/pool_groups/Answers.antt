@@ -17,4 +17,4 @@ returns g c =
     let count : c.len.result ≡ length groups = omega (arith, c.len.ensures, c.in_ok-groups.groups.ok.0, ap (λ (gs : List ℕ). length gs) c.deref.ensures.value) in
     let sheets = subst (λ (n : ℕ). AreSheets part c.deref-2.result.now n) count
     (subst (λ (s : List (List Seen)). AreSheets part s c.len.result) (sym c.deref-2.ensures.value) c.in_ok-sheets.ensures) in
-    IfOk-weaker c.entries_of.result _ _ (λ v are. gathered_shown c.args.workers batch groups places v.items (omega (arith, c.requires.workers)) numbered (are.0 part sheets) are.1) c.entries_of.ensures
+    IfOk-weaker c.entries_of.result _ _ (λ v are. gathered_shown c.args.workers batch groups places v.items (omega (arith, c.requires.workers)) numbered (are.0 part sheets) are.1 are.2) c.entries_of.ensures

@@ -26,4 +26,4 @@ returns g c =
     (λ v closes.
     subst (λ (n : ℕ). AreSheets part v.items n) c.in_ok-boards.ensures.count
     (same_sheets (λ k. union no_facts (part k)) part v.items (length c.in_ok-boards.boards.items) (λ k p x. refl) (closes (λ k. union no_facts (part k)) seats)))
-    c.close_each.ensures
+    c.close_each.ensures.sheets

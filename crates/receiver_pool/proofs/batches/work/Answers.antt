@@ -1,10 +1,11 @@
-use Rattle.std.proofs.Common.{◌+◌, List, length, sym, ◌∙◌, subst}
+use Rattle.std.proofs.Common.{ℕ, ◌+◌, List, length, sym, ◌∙◌, subst}
 use Rattle.plain_laws.proofs.Lists.{lent_whole}
 use Rattle.slot_evidence.specs.declared.places.Seen.{Seen}
 use Rattle.slot_evidence.specs.Facts.{union}
 use Rattle.receiver_pool.specs.Groups.{AreSheets}
 use Rattle.evidence_board.specs.Seats.{Held}
-use Rattle.receiver_pool.specs.inside.Numbers.{read_by}
+use Rattle.receiver_pool.specs.inside.Turns.{is_turn}
+use Rattle.receiver_pool.specs.inside.Numbers.{place_part, read_by}
 use Rattle.receiver_pool.specs.Rows.{AreSeats}
 use Rattle.receiver_pool.proofs.batches.work.Goals as goal
 
@@ -13,8 +14,21 @@ returns g c =
     λ share F are.
     let boards = c.args.boards.now in
     let part = read_by c.args.batch.now c.args.turns.now c.args.worker (c.args.worker + 1) in
-    let shown = subst (λ (s : List (List Seen)). AreSheets part s (length boards)) (sym c.deref.ensures.value) c.in_ok-sheets.ensures in
-    let posted = c.post_each.ensures share F part (subst (λ (s : List Held). AreSeats share F boards s) (sym c.deref_mut.ensures.value) are) shown in
+    let shown = subst (λ (s : List (List Seen)). AreSheets part s (length boards)) (sym c.deref-2.ensures.value) c.in_ok-sheets-2.ensures in
+    let posted = c.post_each.ensures share F part (subst (λ (s : List Held). AreSeats share F boards s) (sym c.deref_mut-2.ensures.value) are) shown in
     subst (λ (s : List Held). AreSeats share (λ k. union (F k) (part k)) boards s)
     (sym (lent_whole Held c.args.seats.items c.post_each.new.seats c.args.seats.len c.args.seats.ok.0 (posted.count ∙ sym are.count)))
+    posted
+
+pub returns-then-is_watched : goal.returns-then-is_watched
+returns-then-is_watched g c =
+    λ share F are.
+    let boards = c.args.boards.now in
+    let batch = c.args.batch.now in
+    let worker = c.args.worker in
+    let part = read_by batch c.args.turns.now worker (worker + 1) in
+    let posted = subst (λ (ps : List ℕ). AreSeats share (λ k. union (F k) (place_part (is_turn c.args.turns.now.workers worker (worker + 1)) batch ps (length batch) k)) boards c.post_turns.new.seats) c.deref.ensures.value
+    (c.post_turns.ensures share F (subst (λ (s : List Held). AreSeats share F boards s) (sym c.deref_mut.ensures.value) are)) in
+    subst (λ (s : List Held). AreSeats share (λ k. union (F k) (part k)) boards s)
+    (sym (lent_whole Held c.args.seats.items c.post_turns.new.seats c.args.seats.len c.args.seats.ok.0 (posted.count ∙ sym are.count)))
     posted

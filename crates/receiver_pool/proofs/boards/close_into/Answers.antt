@@ -4,9 +4,9 @@ use Rattle.slot_evidence.specs.declared.places.Seen.{Seen}
 use Rattle.slot_evidence.specs.Sheet.{IsEnds}
 use Rattle.evidence_board.specs.Views.{given_sheet}
 use Rattle.evidence_board.specs.declared.seats.TheConstants.{WHOLE}
-use Rattle.receiver_pool.specs.Rows.{no_table, no_seat, table_at}
+use Rattle.receiver_pool.specs.Rows.{no_table, no_seat, seat_at, table_at}
 use Rattle.receiver_pool.proofs.Turning.{Row, turned_down, all_turned_down, row_length, row_shorter, row_last}
-use Rattle.receiver_pool.proofs.SeatRows.{Seats, row_sheets}
+use Rattle.receiver_pool.proofs.SeatRows.{Same, Seats, sheet_covers, row_sheets}
 use Rattle.receiver_pool.proofs.boards.close_into.Goals as goal
 
 pub returns-in_default-pop : goal.returns-in_default-pop
@@ -55,12 +55,24 @@ loop-board-preserved c =
       turned = λ F f.
           let last = row_last _ no_seat seats others (length boards) seat (was.seats F f) c.in-Some-pop.ensures.items in
           turned_down _ _ [] c.loop-board.sheets k (length rest) (length boards) (length c.args.boards.items) c.close.result (omega arith) (omega arith) (omega (arith, was.inside))
-          (subst (λ (s : List Seen). IsEnds (F k) s) (sym c.close.ensures) (subst (λ (j : ℕ). IsEnds (F j) (given_sheet seat.view)) (same ∙ sym here) last.ends))
+          (subst (λ (s : List Seen). IsEnds (F k) s) (sym c.close.ensures.sheet) (subst (λ (j : ℕ). IsEnds (F j) (given_sheet seat.view)) (same ∙ sym here) last.ends))
           (was.turned F f);
+      views = subst (λ (m : ℕ). Row (Same c.args.seats.items) no_seat others m) same (row_shorter _ no_seat seats others (length boards) seat was.views c.in-Some-pop.ensures.items);
+      seen =
+          turned_down _ _ [] c.loop-board.sheets k (length rest) (length boards) (length c.args.boards.items) c.close.result (omega arith) (omega arith) (omega (arith, was.inside))
+          (sheet_covers c.args.seats.items k seat c.close.result
+          (row_last _ no_seat seats others (length boards) seat was.views c.in-Some-pop.ensures.items ∙ ap (λ (j : ℕ). seat_at c.args.seats.items j) (same ∙ sym here)) c.close.ensures.seen)
+          was.seen;
     }
 
-pub returns : goal.returns
-returns c =
+pub returns-clause-seen : goal.returns-clause-seen
+returns-clause-seen c =
+    let n = length c.loop-board.boards.items in
+    let none : n ≡ 0 = omega (arith, c.in_default.ensures.cases.0, c.loop-board.boards.ok.0) in
+    (all_turned_down _ _ [] c.loop-board.sheets n (length c.args.boards.items) none c.loop-board.invariant.seen).each
+
+pub returns-clause-sheets : goal.returns-clause-sheets
+returns-clause-sheets c =
     λ F f.
     let n = length c.loop-board.boards.items in
     let none : n ≡ 0 = omega (arith, c.in_default.ensures.cases.0, c.loop-board.boards.ok.0) in

@@ -1,9 +1,9 @@
-use Rattle.std.proofs.Common.{◌≡◌, ℕ, ◌+◌, length, arith, ap, sym, ◌∙◌, subst}
+use Rattle.std.proofs.Common.{◌≡◌, ℕ, ◌+◌, length, slice_index_or, arith, ap, sym, ◌∙◌, subst}
 use Rattle.std.proofs.lemmas.List.{length-set, get_or_default, get_or_read}
 use Rattle.evidence_board.specs.Seats.{Held}
-use Rattle.receiver_pool.specs.Rows.{IsSeatOf, no_table, no_seat, table_at}
+use Rattle.receiver_pool.specs.Rows.{IsSeatOf, no_table, no_seat, seat_at, table_at}
 use Rattle.receiver_pool.proofs.Turning.{turned_down, all_turned_down, row_length, row_shorter, row_last}
-use Rattle.receiver_pool.proofs.SeatRows.{Seats, row_seats, both_seats}
+use Rattle.receiver_pool.proofs.SeatRows.{Seats, row_seats, both_seats, joined_covers}
 use Rattle.receiver_pool.proofs.boards.join_each.Goals as goal
 
 pub join_into-requires-clause-board : goal.join_into-requires-clause-board
@@ -52,10 +52,20 @@ loop-other-preserved c =
           (subst (λ (j : ℕ). Seats amount G boards j other) (sym here) last))
           turned;
       row = λ amount G g. row_shorter _ no_seat others rest (length others) other (was.row amount G g) c.in-Some.ensures.items;
+      rest = row_shorter _ no_seat others rest (length others) other was.rest c.in-Some.ensures.items;
+      seen =
+          turned_down _ _ no_seat c.loop-other.seats k (length rest) (length others) (length boards) new (omega arith) (omega arith) (omega (arith, was.inside))
+          (joined_covers c.args.others.items k (slice_index_or c.loop-other.seats k c.index-seats-k.result) new other (row_last _ no_seat others rest (length others) other was.rest c.in-Some.ensures.items ∙ ap (λ (j : ℕ). seat_at c.args.others.items j) (sym here)) c.join_into.ensures.places)
+          was.seen;
     }
 
-pub returns : goal.returns
-returns c =
+pub returns-clause-seen : goal.returns-clause-seen
+returns-clause-seen c =
+    let none : length c.loop-other.others.items ≡ 0 = omega (arith, c.in_default.ensures.cases.0, c.loop-other.others.ok.0) in
+    (all_turned_down _ _ no_seat c.loop-other.seats (length c.loop-other.others.items) (length c.args.boards.now) none c.loop-other.invariant.seen).each
+
+pub returns-clause-seats : goal.returns-clause-seats
+returns-clause-seats c =
     λ share other F G f g.
     let none : length c.loop-other.others.items ≡ 0 = omega (arith, c.in_default.ensures.cases.0, c.loop-other.others.ok.0) in
     row_seats (share + other) _ c.args.boards.now c.loop-other.seats

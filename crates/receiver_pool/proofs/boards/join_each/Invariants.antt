@@ -2,7 +2,7 @@ use Rattle.std.proofs.Common.{◌≡◌, ℕ, ◌+◌, ◌≤◌, length}
 use Rattle.slot_evidence.specs.Facts.{Facts, union}
 use Rattle.receiver_pool.specs.Rows.{AreSeats, no_seat}
 use Rattle.receiver_pool.proofs.Turning.{Turned, Row}
-use Rattle.receiver_pool.proofs.SeatRows.{Seats}
+use Rattle.receiver_pool.proofs.SeatRows.{AnySeat, Covers, Same, Seats}
 use Rattle.receiver_pool.proofs.boards.join_each.Given as goal
 
 abbrev pub invariant-loop-other : goal.invariant-loop-other
@@ -12,6 +12,8 @@ invariant-loop-other l = record {
   turned : (share amount : ℕ) (F G : ℕ → Facts) → AreSeats share F l.boards l.initial.seats → AreSeats amount G l.boards l.initial.others.items
       → Turned (Seats share F l.boards) (Seats (share + amount) (λ j. union (F j) (G j)) l.boards) no_seat l.seats (length l.others.items) (length l.boards);
   row : (amount : ℕ) (G : ℕ → Facts) → AreSeats amount G l.boards l.initial.others.items → Row (Seats amount G l.boards) no_seat l.others.items (length l.others.items);
+  rest : Row (Same l.initial.others.items) no_seat l.others.items (length l.others.items);
+  seen : Turned AnySeat (Covers l.initial.others.items) no_seat l.seats (length l.others.items) (length l.boards);
 }
 
 abbrev pub decreases-loop-other : goal.decreases-loop-other

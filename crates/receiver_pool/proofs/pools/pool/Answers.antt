@@ -11,7 +11,7 @@ returns-then-workers-eq1 g c = all_by_one 1 c.args.list.now c.heard_by.result (o
 
 pub returns : goal.returns
 returns g c =
-    subst (λ (s : List Seen). IsEnds (facts_of_all c.args.list.now) s) (sym c.close.ensures)
+    subst (λ (s : List Seen). IsEnds (facts_of_all c.args.list.now) s) (sym c.close.ensures.sheet)
     (all_joined c.args.list.now _ (c.post_all-seat.ensures.ends no_facts c.in_ok-board.ensures.empty))
 
 pub post_all-seat-requires-clause-may : goal.post_all-seat-requires-clause-may
