@@ -21,12 +21,12 @@ says_call b other line.Nothing rest (inr comment) = absurd (other (head-eq_of_co
 says_call b other (line.Call c x) rest is = ((c, extra_of x), is)
 
 -- the line that a call's text is
-line_of_text : Call × Extra → CallLine
+pub line_of_text : Call × Extra → CallLine
 line_of_text (c, Absent) = line.Call c None
 line_of_text (c, Whole x) = line.Call c (Some x)
 line_of_text (c, Broken n) = line.Call c None
 
-is_line_of_text : (w : Call × Extra) (text : List ℕ) → IsCallText w text → IsCallLine (line_of_text w) text
+pub is_line_of_text : (w : Call × Extra) (text : List ℕ) → IsCallText w text → IsCallLine (line_of_text w) text
 unfolding line_of_text
 is_line_of_text (c, Absent) text is = is
 is_line_of_text (c, Whole x) text is = is
