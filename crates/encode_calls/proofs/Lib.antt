@@ -2,3 +2,4 @@ mod SignTable
 mod Bodies
 mod Encoded
 mod Determined
+mod Complete

@@ -1,5 +1,5 @@
 ghost use Rattle.std.specs.Prelude.{Bool};
-ghost use Rattle.line_engine.specs.Determined.{IsDetermined};
+ghost use Rattle.line_engine.specs.Determined.{IsDetermined, HasOutputs};
 ghost use Rattle.encode_calls.specs.Encoding.{encode_meaning};
 
 use dsc_lines::one_call_line;
@@ -10,3 +10,8 @@ pub fn lines_determine_output()
 {
     one_call_line();
 }
+
+/// The law that each input of `encode` has an output. It does nothing.
+pub fn inputs_have_outputs()
+    ensures { (long : Bool) → HasOutputs (encode_meaning long) }
+{}

@@ -8,6 +8,6 @@ mod signs;
 mod transmissions;
 
 pub use command::{Dots, Encode, LongDots, ShortDots};
-pub use laws::lines_determine_output;
+pub use laws::{inputs_have_outputs, lines_determine_output};
 pub use signs::append_signs;
 pub use transmissions::slots_of;

@@ -1,9 +1,10 @@
 //! The signs of transmissions: those of the dots, and those of each symbol's word.
-ghost use Rattle.std.specs.Prelude.{◌≡◌, ◌<◌, ◌≤◌, ◌++◌, All, [], length, map, slice_index_or, OnOk};
+ghost use Rattle.std.specs.Prelude.{◌≡◌, ◌<◌, ◌≤◌, ◌++◌, All, [], length, map, slice_index_or, OnOk, OnErr};
 ghost use Rattle.std.specs.List.{flat_map};
 ghost use Rattle.phasing.specs.Sent.{dots, dot_count, sent};
 ghost use Rattle.ten_unit.specs.Word.{word_of};
 ghost use Rattle.dsc_lines.specs.JoinLine.{sign_of};
+ghost use Rattle.line_engine.specs.Determined.{BeginsWith};
 
 use std::alloc::AllocError;
 
@@ -14,9 +15,10 @@ static DOTS: [u8; 20] = *b"BYBYBYBYBYBYBYBYBYBY";
 static LONG_DOTS: [u8; 200] =
     *b"BYBYBYBYBYBYBYBYBYBYBYBYBYBYBYBYBYBYBYBYBYBYBYBYBYBYBYBYBYBYBYBYBYBYBYBYBYBYBYBYBYBYBYBYBYBYBYBYBYBYBYBYBYBYBYBYBYBYBYBYBYBYBYBYBYBYBYBYBYBYBYBYBYBYBYBYBYBYBYBYBYBYBYBYBYBYBYBYBYBYBYBYBYBYBYBYBYBYBYBY";
 
-/// Appends the signs of a dot pattern.
+/// Appends the signs of a dot pattern. The error is want of memory.
 fn append_dots(out: &mut Vec<u8>, long: bool) -> Result<(), AllocError>
-    ensures { OnOk result (out.new.items ≡ out.old.items ++ map sign_of (dots (dot_count long))) }
+    ensures signs { OnOk result (out.new.items ≡ out.old.items ++ map sign_of (dots (dot_count long))) }
+    ensures kept { OnErr result (out.new.items ≡ out.old.items) }
 {
     if long {
         out.extend_from_slice(&LONG_DOTS)?;
@@ -50,7 +52,8 @@ const TOGETHER: usize = 64;
 fn append_words(out: &mut Vec<u8>, symbols: &[u8]) -> Result<(), AllocError>
     requires length { length symbols.now ≤ TOGETHER }
     requires symbols { All (λ v. v < 128) symbols.now }
-    ensures { OnOk result (out.new.items ≡ out.old.items ++ map sign_of (flat_map word_of symbols.now)) }
+    ensures signs { OnOk result (out.new.items ≡ out.old.items ++ map sign_of (flat_map word_of symbols.now)) }
+    ensures kept { OnErr result (out.new.items ≡ out.old.items) }
 {
     let mut words = [[b'-'; 10]; TOGETHER];
     for number in 0..symbols.len() {
@@ -62,11 +65,12 @@ fn append_words(out: &mut Vec<u8>, symbols: &[u8]) -> Result<(), AllocError>
 
 /// Appends the signs of a transmission, of which the slots show these symbols, each below 128. They are those of the dot pattern, 200
 /// where it is long, and else 20, and ten of each slot's word (ITU-R M.493, dot pattern and the ten-unit code). The error is want of
-/// memory.
+/// memory: then what stood before stays, and a front of the signs may stand behind it.
 #[inline(always)]
 pub fn append_signs(out: &mut Vec<u8>, slots: &[u8], long: bool) -> Result<(), AllocError>
     requires { All (λ v. v < 128) slots.now }
-    ensures { OnOk result (out.new.items ≡ out.old.items ++ map sign_of (sent slots.now long)) }
+    ensures signs { OnOk result (out.new.items ≡ out.old.items ++ map sign_of (sent slots.now long)) }
+    ensures kept { OnErr result (BeginsWith out.new.items out.old.items) }
 {
     append_dots(out, long)?;
     for symbols in slots.chunks(TOGETHER) {

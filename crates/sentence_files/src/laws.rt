@@ -1,4 +1,4 @@
-ghost use Rattle.line_engine.specs.Determined.{IsDetermined};
+ghost use Rattle.line_engine.specs.Determined.{IsDetermined, HasOutputs};
 ghost use Rattle.sentence_files.specs.Telling.{sentences_meaning};
 
 use dsc_lines::one_sentence_line;
@@ -9,3 +9,8 @@ pub fn lines_determine_output()
 {
     one_sentence_line();
 }
+
+/// The law that each input of `sentences` has an output. It does nothing.
+pub fn inputs_have_outputs()
+    ensures { HasOutputs sentences_meaning }
+{}

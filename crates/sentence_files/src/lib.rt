@@ -5,4 +5,4 @@ mod command;
 mod laws;
 
 pub use command::Sentences;
-pub use laws::lines_determine_output;
+pub use laws::{inputs_have_outputs, lines_determine_output};

@@ -11,7 +11,7 @@ returns c =
     let first = c.in_ok-extend_from_slice.ensures.items in
     let number = c.in_ok-extend_from_slice-2.ensures.items ∙ ap (λ (l : List ℕ). l ++ c.as_bytes.result.now) first ∙ ap (λ (l : List ℕ). (out ++ codes "r g") ++ l) (c.as_bytes.ensures.value ∙ c.format.ensures.text) in
     let blank = c.in_ok-extend_from_slice-3.ensures.items ∙ ap (λ (l : List ℕ). l ++ codes " ") number in
-    let signs = c.in_ok-append_signs.ensures ∙ ap (λ (l : List ℕ). l ++ map sign_of (sent c.deref.result.now c.args.long)) blank in
+    let signs = c.in_ok-append_signs.ensures.signs ∙ ap (λ (l : List ℕ). l ++ map sign_of (sent c.deref.result.now c.args.long)) blank in
     let line = c.in_ok-extend_from_slice-4.ensures.items ∙ ap (λ (l : List ℕ). l ++ 10 ∷ []) signs in
     line
     ∙ ap (λ (slots : List ℕ). ((((out ++ codes "r g") ++ decimal c.args.group) ++ codes " ") ++ map sign_of (sent slots c.args.long)) ++ 10 ∷ []) (c.deref.ensures.0 ∙ c.slots_of.ensures.slots)

@@ -4,15 +4,15 @@ use Rattle.dsc_lines.specs.JoinLine.{sign_of}
 use Rattle.encode_calls.proofs.SignTable.{short_dots, long_dots}
 use Rattle.encode_calls.proofs.signs.append_dots.Goals as goal
 
-pub returns-in_ok-extend_from_slice : goal.returns-in_ok-extend_from_slice
-returns-in_ok-extend_from_slice c =
+pub returns-in_ok-extend_from_slice-clause-signs : goal.returns-in_ok-extend_from_slice-clause-signs
+returns-in_ok-extend_from_slice-clause-signs c =
     let out = c.args.out.now.items in
     c.in_ok-extend_from_slice.ensures.items
     ∙ ap (λ (l : List ℕ). out ++ l) long_dots
     ∙ ap (λ (long : Bool). out ++ map sign_of (dots (dot_count long))) (sym c.if-long.true)
 
-pub returns-in_ok-extend_from_slice-2 : goal.returns-in_ok-extend_from_slice-2
-returns-in_ok-extend_from_slice-2 c =
+pub returns-in_ok-extend_from_slice-2-clause-signs : goal.returns-in_ok-extend_from_slice-2-clause-signs
+returns-in_ok-extend_from_slice-2-clause-signs c =
     let out = c.args.out.now.items in
     c.in_ok-extend_from_slice-2.ensures.items
     ∙ ap (λ (l : List ℕ). out ++ l) short_dots

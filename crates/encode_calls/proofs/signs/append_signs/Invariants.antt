@@ -4,9 +4,10 @@ use Rattle.std.specs.Slice.Iter.{chunks_rest, chunks_size}
 use Rattle.ten_unit.specs.Word.{word_of}
 use Rattle.phasing.specs.Sent.{sent}
 use Rattle.dsc_lines.specs.JoinLine.{sign_of}
+use Rattle.line_engine.specs.Determined.{BeginsWith}
 use Rattle.encode_calls.proofs.signs.append_signs.Given as goal
 
--- with the signs of the symbols that are left, all signs are there
+-- with the signs of the symbols that are left, all signs are there, behind what stood before
 abbrev pub invariant-loop-symbols : goal.invariant-loop-symbols
 invariant-loop-symbols l =
     goal.iterator-loop-symbols.can_next l.symbols-iterator
@@ -14,3 +15,4 @@ invariant-loop-symbols l =
     × (chunks_size l.symbols-iterator ≡ 64)
     × All (λ v. v < 128) (chunks_rest l.symbols-iterator)
     × (l.out.items ++ map sign_of (flat_map word_of (chunks_rest l.symbols-iterator)) ≡ l.fn.out.items ++ map sign_of (sent l.slots l.long))
+    × BeginsWith l.out.items l.fn.out.items

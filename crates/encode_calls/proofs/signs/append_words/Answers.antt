@@ -26,8 +26,8 @@ loop-number-preserved c =
           ∙ ap (λ (m : ℕ). map f (take m symbols)) (sym next);
     }
 
-pub returns : goal.returns
-returns c =
+pub returns-clause-signs : goal.returns-clause-signs
+returns-clause-signs c =
     let symbols = c.args.symbols.now in
     let f : ℕ → List ℕ = λ v. map sign_of (word_of v) in
     let whole : c.loop-number.number ≡ length symbols = omega arith in
