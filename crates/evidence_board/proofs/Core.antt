@@ -15,16 +15,16 @@ no_event : {P : Type 0} (x : Event) → Contains [] x → P
 no_event x (k, below, at) = absurd (omega arith)
 
 -- one event, at a place that it speaks of and at another
-least_here : (p q v : ℕ) (w : Reach) → p ≡ q → word_after p (as_least q v) w ≡ record w { least = min w.least v }
+pub least_here : (p q v : ℕ) (w : Reach) → p ≡ q → word_after p (as_least q v) w ≡ record w { least = min w.least v }
 least_here p q v w same = ap (λ (b : Bool). cond b (record w { least = min w.least v }) w) (eq-eqb p q same)
 
-least_apart : (p q v : ℕ) (w : Reach) → (p ≡ q → ⊥) → word_after p (as_least q v) w ≡ w
+pub least_apart : (p q v : ℕ) (w : Reach) → (p ≡ q → ⊥) → word_after p (as_least q v) w ≡ w
 least_apart p q v w apart = ap (λ (b : Bool). cond b (record w { least = min w.least v }) w) (ne_eqb p q apart)
 
-greatest_here : (p q v : ℕ) (w : Reach) → p ≡ q → word_after p (as_greatest q v) w ≡ record w { past = max w.past (suc v) }
+pub greatest_here : (p q v : ℕ) (w : Reach) → p ≡ q → word_after p (as_greatest q v) w ≡ record w { past = max w.past (suc v) }
 greatest_here p q v w same = ap (λ (b : Bool). cond b (record w { past = max w.past (suc v) }) w) (eq-eqb p q same)
 
-greatest_apart : (p q v : ℕ) (w : Reach) → (p ≡ q → ⊥) → word_after p (as_greatest q v) w ≡ w
+pub greatest_apart : (p q v : ℕ) (w : Reach) → (p ≡ q → ⊥) → word_after p (as_greatest q v) w ≡ w
 greatest_apart p q v w apart = ap (λ (b : Bool). cond b (record w { past = max w.past (suc v) }) w) (ne_eqb p q apart)
 
 -- what one event makes of the least word

@@ -7,4 +7,5 @@ mod Changes
 mod Loads
 mod Rests
 mod Core
+mod Boards
 mod Unions

@@ -1,0 +1,70 @@
+-- words that the rule keeps are those that some events leave
+use native.Mathlib.Omega.{arith}
+use Rattle.std.proofs.Common.{◌≡◌, ℕ, zero, suc, ◌<◌, ◌≤◌, min, max, List, [], ◌∷◌, ◌++◌, refl, ◌∙◌, ap, subst, inl, inr}
+use Rattle.std.proofs.lemmas.Bool.{cases_eq}
+use Rattle.evidence_board.specs.Views.{Reach, no_reach, View}
+use Rattle.evidence_board.specs.Rule.{words_of, lowest, IsKept}
+use Rattle.evidence_board.specs.Events.{Event, as_least, as_greatest, words_behind, words_after}
+use Rattle.evidence_board.proofs.Core.{least_here, least_apart, greatest_here, greatest_apart}
+
+lowest_bound : (p : ℕ) (views : List View) → lowest p views ≤ 128
+lowest_bound p [] = omega arith
+lowest_bound p (view ∷ views) = let rest = lowest_bound p views in omega (arith, rest)
+
+abbrev past_event : (place past : ℕ) → List Event
+past_event place zero = []
+past_event place (suc v) = as_greatest place v ∷ []
+
+past_here : (p past : ℕ) (rest : List Event) (l : ℕ) → words_behind p (past_event p past ++ rest) (record { least = l; past = 0 }) ≡ words_behind p rest (record { least = l; past = past })
+past_here p zero rest l = refl
+past_here p (suc v) rest l =
+    let most : max 0 (suc v) ≡ suc v = omega arith in
+    ap (words_behind p rest) (greatest_here p p v (record { least = l; past = 0 }) refl ∙ ap (λ (n : ℕ). record { least = l; past = n }) most)
+
+past_apart : (p n past : ℕ) (rest : List Event) (w : Reach) → (p ≡ n → ⊥) → words_behind p (past_event n past ++ rest) w ≡ words_behind p rest w
+past_apart p n zero rest w apart = refl
+past_apart p n (suc v) rest w apart = ap (words_behind p rest) (greatest_apart p n v w apart)
+
+module _ (f : ℕ → Reach) where
+  -- a place saw its least symbol and its greatest one
+  abbrev events_at : ℕ → List Event
+  events_at place = as_least place (f place).least ∷ past_event place (f place).past
+
+  -- and so did all places below this one
+  abbrev events_below : ℕ → List Event
+  events_below zero = []
+  events_below (suc n) = events_at n ++ events_below n
+
+  event_here : (p : ℕ) (rest : List Event) → (f p).least ≤ 128 → words_behind p (events_at p ++ rest) no_reach ≡ words_behind p rest (f p)
+  event_here p rest low =
+      let least : min 128 (f p).least ≡ (f p).least = omega (arith, low) in
+      ap (words_behind p (past_event p (f p).past ++ rest)) (least_here p p (f p).least no_reach refl ∙ ap (λ (n : ℕ). record { least = n; past = 0 }) least)
+      ∙ past_here p (f p).past rest (f p).least
+
+  event_apart : (p n : ℕ) (rest : List Event) (w : Reach) → (p ≡ n → ⊥) → words_behind p (events_at n ++ rest) w ≡ words_behind p rest w
+  event_apart p n rest w apart =
+      ap (words_behind p (past_event n (f n).past ++ rest)) (least_apart p n (f n).least w apart) ∙ past_apart p n (f n).past rest w apart
+
+  untouched : (n p : ℕ) (w : Reach) → n ≤ p → words_behind p (events_below n) w ≡ w
+  untouched zero p w few = refl
+  untouched (suc n) p w few = event_apart p n (events_below n) w (λ same. omega (arith, few, same)) ∙ untouched n p w (omega (arith, few))
+
+  left_behind : (n p : ℕ) → p < n → (f p).least ≤ 128 → words_after (events_below n) p ≡ f p
+  left_behind zero p below low = absurd (omega (arith, below))
+  left_behind (suc n) p below low =
+      elim (cases_eq p n) [
+        | inl same ↦
+            subst (λ (k : ℕ). words_behind p (events_at k ++ events_below n) no_reach ≡ f p) same
+            (event_here p (events_below n) low ∙ untouched n p (f p) (omega (arith, same)))
+        | inr apart ↦ event_apart p n (events_below n) no_reach apart ∙ left_behind n p (omega (arith, below, apart)) low
+      ]
+
+pub kept_words : (facts : List (ℕ × ℕ)) (words : List ℕ) (views : List View) → IsKept facts words views
+    → (events : List Event) × ((p : ℕ) → p < 64 → words_after events p ≡ words_of words p)
+kept_words facts words views kept = (
+  events_below (words_of words) 64,
+  λ p below.
+      let at = (kept.places p below).least in
+      let low = lowest_bound p views in
+      left_behind (words_of words) 64 p below (omega (arith, at, low)),
+)
