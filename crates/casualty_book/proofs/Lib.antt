@@ -1,6 +1,8 @@
 mod Sets
 mod Orders
 mod Unions
+mod Insertions
+mod Lawful
 mod Pieces
 mod BookTexts
 mod Numbers

@@ -48,7 +48,7 @@ module _ {K : Type 0} {R : K → K → Ordering} (o : IsTotalOrder R) (exact : C
   has s k = btree_set_contains_iff o exact s k
 
   -- a key behind the first of a rising list is above it
-  above : (x : K) (xs : List K) (k : K) → IsStrictlySortedBy R (x ∷ xs) → Contains xs k → R x k ≡ Less
+  pub above : (x : K) (xs : List K) (k : K) → IsStrictlySortedBy R (x ∷ xs) → Contains xs k → R x k ≡ Less
   above x xs k h there = All-contains (λ q. R x q ≡ Less) xs k (All-after_first R x xs h) there
 
   not_itself : (x y : K) → x ≡ y → R x y ≡ Less → ⊥

@@ -1,8 +1,12 @@
 //! Laws: each function here does nothing, and its contract is a theorem over definitions.
-ghost use Rattle.std.specs.Prelude.{◌≡◌, List, IfOk};
+ghost use Rattle.std.specs.Prelude.{◌≡◌, List, IfSome};
+ghost use Rattle.std.specs.List.{All};
 ghost use Rattle.casualty_book.specs.declared.rows.BookRow.{BookRow as Row};
-ghost use Rattle.casualty_book.specs.Rows.{row_order};
+ghost use Rattle.casualty_book.specs.Rows.{row_order, IsLawful};
 ghost use Rattle.casualty_book.specs.Books.{IsBook, IsUnion, HaveSameRows};
+ghost use Rattle.casualty_book.specs.Sentences.{row_of};
+ghost use Rattle.dsc_sentences.specs.Dsc.{IsDsc};
+ghost use Rattle.dsc_sentences.specs.declared.dsc.DscFields.{DscFields};
 
 use crate::rows::BookRow;
 
@@ -19,4 +23,10 @@ pub fn union_is_of_sets()
     ensures associates { (a b c ab bc left right : List Row) → IsBook left → IsBook right
         → IsUnion a b ab → IsUnion ab c left → IsUnion b c bc → IsUnion a bc right → left ≡ right }
     ensures itself { (a both : List Row) → IsBook a → IsBook both → IsUnion a a both → both ≡ a }
+{}
+
+/// The law that any lawful rows have a book, and that the row of a lawful sentence is lawful.
+pub fn rows_have_a_book()
+    ensures book { (rows : List Row) → All IsLawful rows → (book : List Row) × IsBook book × HaveSameRows book rows }
+    ensures lawful { (s : DscFields) → IsDsc s → IfSome (row_of s) IsLawful }
 {}

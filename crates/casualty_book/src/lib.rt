@@ -9,7 +9,7 @@ mod sentences;
 mod texts;
 
 pub use books::Book;
-pub use laws::{books_with_the_same_rows_are_one_list, union_is_of_sets};
+pub use laws::{books_with_the_same_rows_are_one_list, rows_have_a_book, union_is_of_sets};
 pub use rows::{BookKind, BookRow};
 pub use sentences::row_of;
 pub use texts::put_row;
