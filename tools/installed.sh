@@ -15,7 +15,8 @@ list_installed() (
     cd "$top" || exit
     echo "man/dsc.1 $prefix/share/man/man1"
     for file in README.md VERSION CHANGELOG.md docs/*.md docs/pictures/*.svg examples/* examples/slurm/* \
-        tools/split_groups tools/explain tools/draw_receptions tools/soft_bits tools/make_exchange tools/pictures.py tools/shared.py; do
+        tools/split_groups tools/explain tools/draw_receptions tools/soft_bits tools/make_exchange \
+        tools/pictures.py tools/shared.py tools/symbols.py; do
         [ -f "$file" ] || continue
         folder=$documents/$file
         echo "$file ${folder%/*}"

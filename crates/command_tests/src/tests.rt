@@ -3,5 +3,6 @@ mod engine;
 mod made;
 mod replays;
 mod streams;
+mod usage;
 mod watching;
 mod words;

@@ -2,6 +2,7 @@
 #![tactic(auto)]
 
 use dsc_cmd::{StdSink, StdSource, run};
+use dsc_usage::{USAGE, nearest_command};
 use receiver_pool::Open;
 use std::alloc::{AllocError, Global};
 use std::io::Eprint;
@@ -24,10 +25,22 @@ fn words<R: Env + AllocGlobal>(rt: &R, alloc: Global) -> Result<Vec<String>, All
     Ok(words)
 }
 
-/// Says on the standard error what failed, for the statuses that leave no line on the standard output. Where that can't be
-/// written either, the status alone tells.
+/// Says on the standard error which command was meant, where the first word nearly is one, and how the program is used.
+#[inline(never)]
+fn tell_usage(rt: &impl Eprint, alloc: Global, words: &[String]) {
+    if let Some(word) = words.get(1) {
+        if let Ok(Some(command)) = nearest_command(alloc, word.as_str()) {
+            let _ = eprintln!(rt; "dsc: did you mean {command}?");
+        }
+    }
+    let _ = eprintln!(rt; "{USAGE}");
+}
+
+/// Says on the standard error what failed, or what the line on the standard output means for whoever doesn't see it. Where that can't be
+/// written, the status alone tells.
 fn tell(rt: &impl Eprint, status: u8) {
     let line = match status {
+        3 | 7 => "dsc: the input was refused: the output's last line says where",
         4 => "dsc: the input failed",
         5 => "dsc: the output failed",
         6 => "dsc: out of memory",
@@ -44,6 +57,9 @@ fn main(rt: HostRuntime) -> ExitCode {
     let mut source = StdSource::new(rt.reader());
     let mut sink = StdSink::new(io::writer(&rt));
     let status = run(&rt, rt.alloc(), &words, &mut source, &mut sink, &Open).number();
+    if status == 2 {
+        tell_usage(&rt, rt.alloc(), &words);
+    }
     tell(&rt, status);
     ExitCode::from(status)
 }
