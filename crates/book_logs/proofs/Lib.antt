@@ -1,3 +1,4 @@
 mod Taken
 mod Heard
 mod Determined
+mod NotLacking

@@ -1,10 +1,11 @@
 //! Laws: each function here does nothing, and its contract is a theorem over definitions.
 ghost use Rattle.std.specs.Prelude.{◌≡◌, ℕ, List};
 ghost use Rattle.line_engine.specs.Lines.{Lines};
-ghost use Rattle.line_engine.specs.Determined.{IsDetermined};
+ghost use Rattle.line_engine.specs.Determined.{IsDetermined, LacksNoOutput};
 ghost use Rattle.book_logs.specs.Telling.{HaveSameSentences, IsBookText, book_meaning};
 
-use casualty_book::books_with_the_same_rows_are_one_list;
+use casualty_book::{books_with_the_same_rows_are_one_list, rows_have_a_book};
+use dsc_sentences::texts_tell_sentences_apart;
 
 /// The law that lines determine what `book` writes.
 pub fn lines_determine_output()
@@ -19,4 +20,12 @@ pub fn accepted_sentences_determine_text()
         → text ≡ other }
 {
     books_with_the_same_rows_are_one_list();
+}
+
+/// The law that no input of `book` lacks an output.
+pub fn no_output_is_lacking()
+    ensures { LacksNoOutput book_meaning }
+{
+    rows_have_a_book();
+    texts_tell_sentences_apart();
 }

@@ -5,4 +5,4 @@ mod command;
 mod laws;
 
 pub use command::Logs;
-pub use laws::{accepted_sentences_determine_text, lines_determine_output};
+pub use laws::{accepted_sentences_determine_text, lines_determine_output, no_output_is_lacking};
