@@ -62,7 +62,7 @@ same_all tells once said (s ∷ a) (t ∷ b) groups x y =
     let same : s ≡ t = same_parts s t heads.0 (once (group_facts said s.group) s t heads.0 x.0 there) in
     ap (λ (u : Told). u ∷ a) same ∙ ap (λ (l : List Told). t ∷ l) (same_all tells once said a b heads.1 x.1 y.1)
 
-same_text : (tells : Telling) → TellsOnce tells → (said : List JoinLine) (a b : List ℕ) (s t : ℕ) → IsGroupsText tells said a s → IsGroupsText tells said b t → (a ≡ b) × (s ≡ t)
+pub same_text : (tells : Telling) → TellsOnce tells → (said : List JoinLine) (a b : List ℕ) (s t : ℕ) → IsGroupsText tells said a s → IsGroupsText tells said b t → (a ≡ b) × (s ≡ t)
 same_text tells once said a b s t x y =
     let groups =
     same_rising (map (λ (told : Told). told.group) x.all) (map (λ (told : Told). told.group) y.all) x.groups.rising y.groups.rising (λ k. x.groups.named k ∙ sym (y.groups.named k)) in

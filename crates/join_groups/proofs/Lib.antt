@@ -7,3 +7,6 @@ mod TellingLemmas
 mod LinesTaken
 mod TextLaws
 mod Determined
+mod FactsLaws
+mod NotLacking
+mod NotLackingEnds

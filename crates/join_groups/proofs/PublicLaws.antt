@@ -19,5 +19,5 @@ pub use Rattle.join_groups.proofs.LinesTaken.{lines_push, same_said}
 pub use Rattle.join_groups.proofs.Keeping.{full_brings, brings_full}
 -- what a line says, once it is read
 pub use Rattle.join_groups.proofs.Keeping.{says_reception, says_evidence, short_read}
-
--- what holds of an answer where another thing does
+-- the groups that lines name can be listed, and facts of lines are symbols of characters
+pub use Rattle.join_groups.proofs.NotLacking.{groups_of, AreSome, some_lines, group_small, AnswerLaw}

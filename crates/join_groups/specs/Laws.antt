@@ -1,8 +1,14 @@
--- Lines of one group: this project's profile.
+-- Lines of one group, and lines with alike facts: this project's profile.
 use Rattle.std.specs.Prelude.{◌≡◌, ℕ, ◌==◌, List}
 use Rattle.dsc_lines.specs.JoinLine.{JoinLine}
-use Rattle.join_groups.specs.Groups.{is_named}
+use Rattle.slot_evidence.specs.Alike.{AreAlike}
+use Rattle.join_groups.specs.Groups.{is_named, group_facts}
 
 -- these lines name this group and no other
 abbrev pub AreOfGroup : ℕ → List JoinLine → Type 0
 AreOfGroup k lines = (j : ℕ) → is_named lines j ≡ (k == j)
+
+-- lines name the same groups, and the facts of each group are alike: at each place each symbol of the one stands between two of the other
+pub record HaveAlikeFacts (said other : List JoinLine) : Type 0 where
+  pub named : (k : ℕ) → is_named said k ≡ is_named other k
+  pub alike : (k place : ℕ) → AreAlike (group_facts said k place) (group_facts other k place)

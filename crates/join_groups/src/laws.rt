@@ -2,19 +2,20 @@
 ghost use Rattle.std.specs.Prelude.{◌≡◌, ℕ, ◌<◌, ◌^◌, ◌↔◌, ◌++◌, ◌∷◌, List, Contains};
 ghost use Rattle.slot_evidence.specs.declared.places.Seen.{Seen};
 ghost use Rattle.slot_evidence.specs.Sheet.{IsSheet, IsEnds};
-ghost use Rattle.line_engine.specs.Determined.{IsDetermined};
+ghost use Rattle.line_engine.specs.Determined.{IsDetermined, LacksNoOutput};
 ghost use Rattle.dsc_lines.specs.JoinLine.{JoinLine, IsLine, evidence};
 ghost use Rattle.evidence_texts.specs.Evidence.{pairs_below, evidence_text};
-ghost use Rattle.join_groups.specs.Groups.{group_facts};
+ghost use Rattle.line_engine.specs.Lines.{Lines};
+ghost use Rattle.join_groups.specs.Groups.{AreLines, group_facts};
 ghost use Rattle.join_groups.specs.Output.{TellsAnswer, TellsEvidence, IsJoinText, IsEvidenceText};
-ghost use Rattle.join_groups.specs.Meanings.{groups_meaning};
-ghost use Rattle.join_groups.specs.Laws.{AreOfGroup};
+ghost use Rattle.join_groups.specs.Meanings.{EndsTelling, groups_meaning};
+ghost use Rattle.join_groups.specs.Laws.{AreOfGroup, HaveAlikeFacts};
 
 use crate::groups::{MOST_GROUPS, MOST_IN_BATCH};
 use dsc_lines::one_line;
 use evidence_texts::evidence_is_read;
 use slot_evidence::{ends_are_kept, one_sheet};
-use slot_join::{alike_facts_have_one_answer, one_answer};
+use slot_join::{alike_facts_have_one_answer, no_answer_is_lacking, one_answer};
 
 /// The law that these are the limits of groups.
 pub fn limits()
@@ -62,4 +63,34 @@ pub fn evidence_stands_for_lines()
     alike_facts_have_one_answer();
     ends_are_kept();
     evidence_is_read();
+}
+
+/// The law that facts determine texts: lines that name the same groups, each with alike facts, have one text and status, whatever
+/// else they say.
+pub fn facts_determine_texts()
+    ensures join { (said other : List JoinLine) (text : List ℕ) (status : ℕ) → HaveAlikeFacts said other
+        → IsJoinText said text status → IsJoinText other text status }
+    ensures evidence { (said other : List JoinLine) (text : List ℕ) (status : ℕ) → HaveAlikeFacts said other
+        → IsEvidenceText said text status → IsEvidenceText other text status }
+    ensures join_ends { (first second : Lines) (said other : List JoinLine) → AreLines said first → AreLines other second
+        → HaveAlikeFacts said other → (a b : List ℕ) (s t : ℕ) → EndsTelling TellsAnswer first a s
+        → EndsTelling TellsAnswer second b t → (a ≡ b) × (s ≡ t) }
+    ensures evidence_ends { (first second : Lines) (said other : List JoinLine) → AreLines said first → AreLines other second
+        → HaveAlikeFacts said other → (a b : List ℕ) (s t : ℕ) → EndsTelling TellsEvidence first a s
+        → EndsTelling TellsEvidence second b t → (a ≡ b) × (s ≡ t) }
+{
+    one_line();
+    one_answer();
+    one_sheet();
+    alike_facts_have_one_answer();
+    ends_are_kept();
+    evidence_is_read();
+}
+
+/// The law that no input of `join` and of `evidence` lacks an output.
+pub fn no_output_is_lacking()
+    ensures join { LacksNoOutput (groups_meaning TellsAnswer) }
+    ensures evidence { LacksNoOutput (groups_meaning TellsEvidence) }
+{
+    no_answer_is_lacking();
 }

@@ -11,4 +11,7 @@ mod telling;
 
 pub use command::Exchanging;
 pub use exchanging::exchange;
-pub use laws::lines_determine_output;
+pub use laws::{
+    alerts_end_by_cancel_or_acknowledgement, histories_are_legal, inputs_have_outputs,
+    lines_determine_output,
+};

@@ -1,0 +1,77 @@
+-- the history of the exchange that lines tell is legal
+use Rattle.std.proofs.Common.{◌≡◌, ℕ, Some, None, List, [], ◌∷◌, refl, sym, subst}
+use Rattle.call_values.specs.declared.choices.Band.{Band}
+use Rattle.traffic_lines.specs.declared.worlds.ShipEntry.TheVariants as of_ship
+use Rattle.traffic_lines.specs.declared.worlds.CoastEntry.TheVariants as of_coast
+use Rattle.traffic_lines.specs.declared.worlds.Entry as entries
+use Rattle.traffic_lines.specs.declared.worlds.Entry.TheVariants.{AtShip, AtCoast}
+use Rattle.traffic_lines.specs.declared.worlds.ExchangePoint.{ExchangePoint}
+use Rattle.traffic_lines.specs.declared.worlds.ExchangePoint.TheVariants as point
+use Rattle.traffic_lines.specs.declared.worlds.WorldLine.TheVariants.{Ship, Coast, Base, Entry}
+use Rattle.traffic_lines.specs.Worlds.{IsEntryText, MayStandInWorld}
+use Rattle.line_engine.specs.Lines.{Lines}
+use Rattle.station_lines.proofs.PublicLaws.{own_ship_lawful, own_coast_lawful}
+use Rattle.exchange.specs.declared.events.WorldEvent.{WorldEvent}
+use Rattle.exchange.specs.WorldHistories.{WorldHistory}
+use Rattle.exchange.specs.WorldRules.{Parties, IsFromOutside, IsWorldEvent, world_continued, IsLegal}
+use Rattle.station_exchange.specs.Events.{event_of}
+use Rattle.station_exchange.specs.Said.{Said, point_of, base_of, parties_of, world_of, AreSaid}
+use Rattle.station_exchange.proofs.Happened.{outside}
+
+-- a legal exchange goes on legally
+abbrev pub GoesOn : Type 0
+GoesOn = (who : Parties) (w : WorldHistory) (event : WorldEvent) → IsFromOutside event → IsWorldEvent event → IsLegal who w → IsLegal who (world_continued who w event)
+
+-- the parts of the event of an event line are in their ranges
+entry_lawful : (base : ℕ) (entry : entries.Entry) (text : List ℕ) → IsEntryText entry text → IsWorldEvent (event_of base entry)
+entry_lawful base (AtShip at (of_ship.Own own)) text is = own_ship_lawful base at own is.0 is.2
+entry_lawful base (AtShip at (of_ship.Get number)) text is = tt
+entry_lawful base (AtCoast at (of_coast.Own own)) text is = own_coast_lawful own is.0 is.2
+entry_lawful base (AtCoast at (of_coast.Get number)) text is = tt
+
+-- in front of the events
+abbrev IsEarly : ExchangePoint → Type 0
+IsEarly point.Events = ⊥
+IsEarly _ = Unit {0}
+
+ship_early : (p : ExchangePoint) (mmsi : ℕ) → MayStandInWorld p (Ship mmsi) → IsEarly p
+ship_early point.Ship mmsi may = tt
+ship_early (point.Coast ship) mmsi may = tt
+ship_early point.Base mmsi may = tt
+ship_early point.Events mmsi may = may
+
+coast_early : (p : ExchangePoint) (mmsi : ℕ) (band : Band) → MayStandInWorld p (Coast mmsi band) → IsEarly p
+coast_early point.Ship mmsi band may = tt
+coast_early (point.Coast ship) mmsi band may = tt
+coast_early point.Base mmsi band may = tt
+coast_early point.Events mmsi band may = may
+
+base_early : (p : ExchangePoint) (second : ℕ) → MayStandInWorld p (Base second) → IsEarly p
+base_early point.Ship second may = tt
+base_early (point.Coast ship) second may = tt
+base_early point.Base second may = tt
+base_early point.Events second may = may
+
+-- nothing happened there
+none_early : (said : Said) (lines : Lines) → AreSaid said lines → IsEarly (point_of said) → world_of said ≡ []
+none_early [] lines are early = refl
+none_early (None ∷ said) lines are early = none_early said are.0 are.4 early
+none_early (Some (Ship mmsi) ∷ said) lines are early = none_early said are.0 are.4 (ship_early (point_of said) mmsi are.3.0)
+none_early (Some (Coast mmsi band) ∷ said) lines are early = none_early said are.0 are.4 (coast_early (point_of said) mmsi band are.3.0)
+none_early (Some (Base second) ∷ said) lines are early = none_early said are.0 are.4 (base_early (point_of said) second are.3.0)
+none_early (Some (Entry entry) ∷ said) lines are early = absurd early
+
+nothing_legal : (who : Parties) (w : WorldHistory) → w ≡ [] → IsLegal who w
+nothing_legal who w none = subst (IsLegal who) (sym none) (record { ship = tt; coast = tt; answered = tt })
+
+pub said_legal : GoesOn → (said : Said) (lines : Lines) → AreSaid said lines → IsLegal (parties_of said) (world_of said)
+said_legal goes [] lines are = nothing_legal (parties_of []) [] refl
+said_legal goes (None ∷ said) lines are = said_legal goes said are.0 are.4
+said_legal goes (Some (Ship mmsi) ∷ said) lines are =
+    nothing_legal (parties_of (Some (Ship mmsi) ∷ said)) (world_of said) (none_early said are.0 are.4 (ship_early (point_of said) mmsi are.3.0))
+said_legal goes (Some (Coast mmsi band) ∷ said) lines are =
+    nothing_legal (parties_of (Some (Coast mmsi band) ∷ said)) (world_of said) (none_early said are.0 are.4 (coast_early (point_of said) mmsi band are.3.0))
+said_legal goes (Some (Base second) ∷ said) lines are = said_legal goes said are.0 are.4
+said_legal goes (Some (Entry entry) ∷ said) lines are =
+    goes (parties_of said) (world_of said) (event_of (base_of said) entry) (outside (base_of said) entry) (entry_lawful (base_of said) entry are.1 are.3.1)
+    (said_legal goes said are.0 are.4)
