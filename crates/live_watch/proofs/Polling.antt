@@ -1,5 +1,5 @@
 -- What a look tells.
-use Rattle.std.proofs.Common.{◌≡◌, ℕ, zero, suc, ◌<◌, ◌≤◌, true, List, Option, None, length, refl, sym, ap, subst, ◌∙◌, inl, inr, [], ◌∷◌, length-append, arith}
+use Rattle.std.proofs.Common.{◌≡◌, ℕ, zero, suc, ◌<◌, ◌≤◌, true, List, Option, None, Some, length, refl, sym, ap, subst, ◌∙◌, inl, inr, [], ◌∷◌, length-append, arith}
 use Rattle.std.proofs.lemmas.Bool.{eq-eqb, or_right}
 use Rattle.std.proofs.lemmas.List.{get_or-map}
 use Rattle.call_values.specs.declared.calls.Call.{Call}
@@ -83,3 +83,14 @@ carries facts call before after (news.Not joined) short size looked saw is =
   where
     ends_behind : length (through_check call) ≤ length (spell call)
     ends_behind = omega (arith, length-append (through_check call) (end_of call ∷ end_of call ∷ []))
+
+-- a call that was told is told, and where none is told the look reports none
+pub news_told : (sheet : List Seen) (before after : Option Call) (told : News) → IsNews sheet before after told → (call : Call) → before ≡ Some call → after ≡ Some call
+news_told sheet before after (news.Same other) is call was = is.1 ∙ sym is.0 ∙ was
+news_told sheet before after (news.New other) is call was = absurd (cc (is.0, was))
+news_told sheet before after (news.Not joined) is call was = absurd (cc (is.0, was))
+
+pub news_untold : (sheet : List Seen) (before after : Option Call) (told : News) → IsNews sheet before after told → after ≡ None → (call : Call) → Reports sheet call → ⊥
+news_untold sheet before after (news.Same other) is none = absurd (cc (is.1, none))
+news_untold sheet before after (news.New other) is none = absurd (cc (is.1, none))
+news_untold sheet before after (news.Not joined) is none = is.3

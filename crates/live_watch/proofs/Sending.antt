@@ -227,3 +227,7 @@ module _ (formats : FormatsBegin) (F : Facts) (d : Call) (told : IsTold F d) whe
 
     pub sent_call : CallOrMissing → IsCall c → d ≡ c
     sent_call law lawful = same_call only_own (law only_own c (Reported d Absent) lawful no_other answer)
+
+-- two ends follow the error check character
+pub spelled_long : (c : Call) → length (spell c) ≡ length (through_check c) + 2
+spelled_long c = omega (arith, length_push (through_check c ++ end_of c ∷ []) (end_of c), length_push (through_check c) (end_of c), ap length (append_assoc (through_check c) (end_of c ∷ []) (end_of c ∷ [])))

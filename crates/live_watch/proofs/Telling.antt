@@ -1,5 +1,5 @@
 -- A call that facts report may be told of them.
-use Rattle.std.proofs.Common.{◌≡◌, ℕ, ◌+◌, ◌<◌, true, ◌||◌, List, [], ◌∷◌, ◌++◌, length, get_or, take, drop, sym, ap, subst, ◌∙◌, inl, inr, append_assoc, arith}
+use Rattle.std.proofs.Common.{◌≡◌, ℕ, ◌+◌, ◌<◌, true, ◌||◌, List, [], ◌∷◌, ◌++◌, Option, Some, None, length, get_or, take, drop, sym, ap, subst, ◌∙◌, inl, inr, append_assoc, arith}
 use Rattle.std.proofs.lemmas.Bool.{cases_lt, or_cases, or_left, or_right}
 use Rattle.std.proofs.lemmas.List.{take-append-drop, length-take-le, drop_more, get_or_push, length_push}
 use Rattle.plain_laws.proofs.Lists.{divide}
@@ -15,7 +15,7 @@ use Rattle.slot_join.specs.declared.joined.Extra.{Extra}
 use Rattle.slot_join.specs.Shown.{head_of, late_of, IsLate, Gives, IsShown}
 use Rattle.slot_join.specs.Answer.{IsAnswer, IsReported, StopsAt, StopsWith, BehindFormat, BehindHead}
 use Rattle.slot_join.specs.OneCall.{IsEndPlace}
-use Rattle.live_watch.specs.Told.{IsShownAt, IsTold}
+use Rattle.live_watch.specs.Told.{IsReport, IsShownAt, IsTold, IsWatched}
 
 -- up to its first end of sequence no call's list begins another's
 abbrev pub OneCheckPlace : Type 0
@@ -114,6 +114,11 @@ module _ (one : OneCheckPlace) (ends : OneEndPlace) (F : Facts) where
 
     pub answered : IsAnswer F (Reported call extra) → IsTold F call
     answered a = behind_head a.head a.answers
+
+-- a call that is reported may be told
+pub report_watched : ((G : Facts) (call : Call) (extra : Extra) → IsAnswer G (Reported call extra) → IsTold G call) → (F : Facts) (o : Option Call) → IsReport F o → IsWatched F o
+report_watched law F None report = report
+report_watched law F (Some call) report = law F call report.0 report.1
 
 -- what is told of facts may be told of more
 module _ (F G : Facts) (among : (p v : ℕ) → F p v ≡ true → G p v ≡ true) where

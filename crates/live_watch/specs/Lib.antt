@@ -1,4 +1,5 @@
 pub mod Joining
 pub mod Told
+pub mod Batches
 pub mod Watching
 pub mod inside

@@ -1,9 +1,11 @@
 -- A call that is told before all facts of a group are known: this project's profile, over the places of ITU-R M.493.
-use Rattle.std.specs.Prelude.{◌≡◌, ℕ, ◌<◌, ◌≤◌, true, ◌⊎◌, Option, Some, None, length, slice_index}
+use Rattle.std.specs.Prelude.{◌≡◌, ℕ, ◌<◌, ◌≤◌, true, ◌⊎◌, List, Option, Some, None, length, slice_index}
 use Rattle.call_values.specs.declared.calls.Call.{Call}
 use Rattle.call_values.specs.Calls.{IsCall}
 use Rattle.call_grammar.specs.Spelling.{format_of, through_check, end_of}
+use Rattle.slot_evidence.specs.declared.places.Seen.{Seen}
 use Rattle.slot_evidence.specs.Facts.{Facts}
+use Rattle.slot_evidence.specs.Sheet.{IsEnds}
 use Rattle.slot_join.specs.declared.joined.Joined.TheVariants.{Reported}
 use Rattle.slot_join.specs.declared.joined.Extra.{Extra}
 use Rattle.slot_join.specs.Shown.{head_of, late_of}
@@ -25,3 +27,17 @@ pub record IsTold (F : Facts) (call : Call) : Type 0 where
 abbrev pub IsWatched : Facts → Option Call → Type 0
 IsWatched F None = (call : Call) (extra : Extra) → IsAnswer F (Reported call extra) → ⊥
 IsWatched F (Some call) = IsTold F call
+
+-- the call that facts report, or none where they report none
+abbrev pub IsReport : Facts → Option Call → Type 0
+IsReport F None = (call : Call) (extra : Extra) → IsAnswer F (Reported call extra) → ⊥
+IsReport F (Some call) = (extra : Extra) × IsAnswer F (Reported call extra)
+
+-- the same of any facts whose ends a sheet keeps
+abbrev pub IsReportOf : List Seen → Option Call → Type 0
+IsReportOf sheet call = (F : Facts) → IsEnds F sheet → IsReport F call
+
+-- what is to be told of facts where this call was seen, or none: that call where they show it, and else the one that they report, if any
+abbrev pub IsToTell : Facts → Option Call → Option Call → Type 0
+IsToTell F None told = IsReport F told
+IsToTell F (Some call) told = (IsTold F call × (told ≡ Some call)) ⊎ ((IsTold F call → ⊥) × IsReport F told)

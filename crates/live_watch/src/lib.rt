@@ -9,6 +9,6 @@ mod watching;
 
 pub use batches::{BatchWatcher, WatchedJoiner, WatchedWorkers, watch_batch};
 pub use laws::told_calls;
-pub use showing::{call_to_tell, shows_call};
+pub use showing::{Unreported, call_to_tell, judge, shows_call};
 pub use watchers::{News, Watcher};
 pub use watching::watch;

@@ -90,13 +90,14 @@ impl<A: Allowed> Watcher<A> {
         )
     }
 
-    /// The watcher with another seat of its board joined into its own.
+    /// The watcher with another seat of its board joined into its own. It has told what it told.
     pub(crate) fn with_seat(self, board: &Board<A>, other: Seat<A>) -> Watcher<A>
         requires { (self.seat.table ≡ board.now) × (other.table ≡ board.now) }
         ensures board { result.seat.table ≡ board.now }
         ensures share { result.seat.view.share ≡ self.seat.view.share + other.view.share }
         ensures union { (F G : Facts) → IsEnds F (given_sheet self.seat.view) → IsEnds G (given_sheet other.view)
             → IsEnds (union F G) (given_sheet result.seat.view) }
+        ensures told { result.told ≡ self.told }
     {
         let Watcher { seat, told } = self;
         Watcher {

@@ -1,5 +1,6 @@
 //! A watch: workers post what receptions show on a board, and a watcher beside them polls it.
-ghost use Rattle.std.specs.Prelude.{◌≡◌, ◌↔◌, ℕ, ◌≤◌, true, All, IfOk, length};
+ghost use Rattle.std.specs.Prelude.{◌≡◌, ◌↔◌, ℕ, ◌+◌, ◌≤◌, true, All, None, Some, IfOk, length};
+ghost use Rattle.call_values.specs.declared.calls.Call.{Call as Sent};
 ghost use Rattle.std.specs.Thread.{IsSync, IsSend};
 ghost use Rattle.slot_evidence.specs.Facts.{Facts, facts_of_all, union};
 ghost use Rattle.slot_evidence.specs.Sheet.{IsEnds};
@@ -8,12 +9,13 @@ ghost use Rattle.evidence_board.specs.Views.{given_sheet, seen_sheet};
 ghost use Rattle.slot_evidence.specs.Allowed.{IsAllowed};
 ghost use Rattle.live_watch.specs.Told.{IsWatched};
 ghost use Rattle.live_watch.specs.inside.Known.{known_facts, AreAllAllowed};
-ghost use Rattle.live_watch.specs.inside.Posted.{IsUnreported};
+ghost use Rattle.live_watch.specs.Watching.{Reports};
+ghost use Rattle.live_watch.specs.inside.Posted.{IsToldOn, IsUnreported};
 
 use crate::laws::told_calls;
-use crate::watchers::{News, Watcher};
+use crate::watchers::Watcher;
 use call_values::Call;
-use evidence_board::{Allowed, Board, Seat, all_facts_may_be_posted};
+use evidence_board::{Allowed, Board, Seat, WHOLE, all_facts_may_be_posted};
 use phasing::LONGEST;
 use receiver_pool::{Gate, post_all};
 use slot_evidence::{Reception, Sheet, ends_are_kept, sheet_has_facts, sheet_is_lawful};
@@ -23,21 +25,24 @@ use std::marker::Brand;
 use std::thread::{Threads, join};
 
 /// A watcher polls at most so often while workers post.
-pub(crate) const MOST_POLLS: u32 = 64;
+const MOST_POLLS: u32 = 64;
 
-/// Polls until a call is told, at most 64 times.
-fn poll_meanwhile<A: Allowed>(mut watcher: Watcher<A>, board: &Board<A>) -> Watcher<A>
+/// Polls until a call is told, at most 64 times. Where none is told, the last poll showed none.
+fn poll_meanwhile<A: Allowed>(watcher: Watcher<A>, board: &Board<A>) -> Watcher<A>
     requires { watcher.seat.table ≡ board.now }
     ensures board { result.seat.table ≡ board.now }
     ensures share { result.seat.view.share ≡ watcher.seat.view.share }
     ensures given { given_sheet result.seat.view ≡ given_sheet watcher.seat.view }
+    ensures told { (call : Sent) → watcher.told ≡ Some call → result.told ≡ Some call }
+    ensures untold { result.told ≡ None → (call : Sent) → Reports (seen_sheet result.seat.view) call → ⊥ }
 {
-    for _ in 0..MOST_POLLS {
-        let (next, news) = watcher.poll(board);
-        watcher = next;
-        if let News::New(_) = news {
+    let (mut watcher, _news) = watcher.poll(board);
+    for _ in 1..MOST_POLLS {
+        if watcher.told().is_some() {
             return watcher;
         }
+        let (next, _news) = watcher.poll(board);
+        watcher = next;
     }
     watcher
 }
@@ -60,6 +65,8 @@ fn post_beside<A: Allowed, R: Threads + Sync, G: Gate>(
     ensures board { (result.0.seat.table ≡ board.now) × (result.1.table ≡ board.now) }
     ensures share { (result.0.seat.view.share ≡ watcher.seat.view.share) × (result.1.view.share ≡ seat.view.share) }
     ensures given { given_sheet result.0.seat.view ≡ given_sheet watcher.seat.view }
+    ensures told { (call : Sent) → watcher.told ≡ Some call → result.0.told ≡ Some call }
+    ensures untold { result.0.told ≡ None → (call : Sent) → Reports (seen_sheet result.0.seat.view) call → ⊥ }
     ensures ends { (F : Facts) → IsEnds F (given_sheet seat.view)
         → IsEnds (union F (facts_of_all list.now)) (given_sheet result.1.view) }
 {
@@ -68,7 +75,9 @@ fn post_beside<A: Allowed, R: Threads + Sync, G: Gate>(
         move || -> Watcher<A>
             requires { IsSync G.row × (watcher.seat.table ≡ board.now) }
             ensures { (result.seat.table ≡ board.entry.now) × (result.seat.view.share ≡ watcher.seat.view.share)
-                × (given_sheet result.seat.view ≡ given_sheet watcher.seat.view) }
+                × (given_sheet result.seat.view ≡ given_sheet watcher.seat.view)
+                × ((call : Sent) → watcher.told ≡ Some call → result.told ≡ Some call)
+                × (result.told ≡ None → (call : Sent) → Reports (seen_sheet result.seat.view) call → ⊥) }
         {
             gate.enter(workers);
             poll_meanwhile(watcher, board)
@@ -90,6 +99,7 @@ fn poll_last<A: Allowed>(watcher: Watcher<A>, board: &Board<A>) -> Watcher<A>
     ensures board { result.seat.table ≡ board.now }
     ensures share { result.seat.view.share ≡ watcher.seat.view.share }
     ensures given { given_sheet result.seat.view ≡ given_sheet watcher.seat.view }
+    ensures told { (call : Sent) → watcher.told ≡ Some call → result.told ≡ Some call }
     ensures last { (F : Facts) → ((p v : ℕ) → IsAllowed A.facts p v → F p v ≡ true)
         → IsEnds F (given_sheet watcher.seat.view) → IsUnreported F result.told }
 {
@@ -100,6 +110,27 @@ fn poll_last<A: Allowed>(watcher: Watcher<A>, board: &Board<A>) -> Watcher<A>
     ends_are_kept();
     let (watcher, _news) = watcher.poll(board);
     watcher
+}
+
+/// Ends a watch behind its workers: the sheet of all that was posted, and the call that was told. A call that the watcher told before is told;
+/// where it told none, it polls once more.
+fn end_watch<A: Allowed>(
+    board: Board<A>,
+    watcher: Watcher<A>,
+    seat: Seat<A>,
+) -> (Sheet, Option<Call>)
+    requires board { (watcher.seat.table ≡ board) × (seat.table ≡ board) }
+    requires whole { watcher.seat.view.share + seat.view.share ≡ WHOLE }
+    ensures sheet { (F G : Facts) → IsEnds F (given_sheet watcher.seat.view) → IsEnds G (given_sheet seat.view)
+        → IsEnds (union F G) result.0 }
+    ensures told { (call : Sent) → watcher.told ≡ Some call → result.1 ≡ Some call }
+    ensures posted { IsToldOn A.facts result.1 }
+    ensures last { (F : Facts) → ((p v : ℕ) → IsAllowed A.facts p v → F p v ≡ true) → IsEnds F result.0
+        → IsUnreported F result.1 }
+{
+    let watcher = poll_last(watcher.with_seat(&board, seat), &board);
+    let told = watcher.told();
+    (board.close(watcher.leave()), told)
 }
 
 /// `watch` on a board on which the facts of the sheet and of the receptions, and no others, may be posted.
@@ -127,9 +158,7 @@ fn watch_on<A: Allowed, R: Threads + Sync, G: Gate>(
     let seat = board.admit(seat, so_far);
     let (seat, other) = board.split(seat);
     let (watcher, seat) = post_beside(rt, &board, Watcher::new(other), seat, list, workers, gate);
-    let watcher = poll_last(watcher.with_seat(&board, seat), &board);
-    let told = watcher.told();
-    Ok((board.close(watcher.leave()), told))
+    Ok(end_watch(board, watcher, seat))
 }
 
 /// Joins receptions as `pool` does, on a board that begins with a sheet, while a watcher polls it beside 1 to 64 workers: until it has told

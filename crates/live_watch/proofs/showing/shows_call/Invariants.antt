@@ -1,8 +1,7 @@
 use Rattle.std.proofs.Common.{◌<◌, ◌≤◌, ℕ}
-use Rattle.slot_evidence.specs.Facts.{Facts}
-use Rattle.slot_evidence.specs.Sheet.{IsEnds}
+use Rattle.slot_evidence.specs.Sheet.{facts_in}
 use Rattle.live_watch.specs.Told.{IsShownAt}
 use Rattle.live_watch.proofs.showing.shows_call.Given as goal
 
 abbrev pub invariant-loop-place : goal.invariant-loop-place
-invariant-loop-place l = (F : Facts) → IsEnds F l.sheet → (p : ℕ) → 2 ≤ p → p < l.place → IsShownAt F l.call p
+invariant-loop-place l = (p : ℕ) → 2 ≤ p → p < l.place → IsShownAt (facts_in l.sheet) l.call p
