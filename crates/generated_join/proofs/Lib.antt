@@ -5,3 +5,4 @@ mod Counting
 mod LineTexts
 mod JoinTexts
 mod OneSummary
+mod NotLacking

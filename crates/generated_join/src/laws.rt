@@ -8,7 +8,7 @@ ghost use Rattle.generated_join.specs.declared.summary.Summary.{Summary as Numbe
 ghost use Rattle.generated_join.specs.Generator.{generated, generated_texts};
 ghost use Rattle.generated_join.specs.Summary.{IsSummary, IsMade};
 
-use slot_join::one_answer;
+use slot_join::{no_answer_is_lacking, one_answer};
 
 /// The law that the generated lines are lines of join's input, each of these bytes.
 pub fn generated_lines_are_read()
@@ -26,4 +26,12 @@ pub fn made_text_is_one()
     ensures { (n : ℕ) (a b : List ℕ) (s t : ℕ) → IsMade n a s → IsMade n b t → (a ≡ b) × (s ≡ t) }
 {
     one_answer();
+}
+
+/// The law that `make n` doesn't lack a text and a status.
+pub fn made_text_is_there()
+    ensures { (n : ℕ) → n ≤ 2 ^ 32 → ((text : List ℕ) (status : ℕ) → IsMade n text status → ⊥) → ⊥ }
+{
+    generated_lines_are_read();
+    no_answer_is_lacking();
 }

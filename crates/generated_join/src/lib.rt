@@ -9,5 +9,5 @@ mod summary;
 
 pub use hearing::RECEPTIONS;
 pub use joining::{MOST_MADE, summary_of};
-pub use laws::{generated_lines_are_read, joins_end_so, made_text_is_one};
+pub use laws::{generated_lines_are_read, joins_end_so, made_text_is_one, made_text_is_there};
 pub use summary::Summary;

@@ -4,3 +4,4 @@ mod Ready
 mod Fronts
 mod Determined
 mod LinesTaken
+mod NotLacking

@@ -7,4 +7,4 @@ mod laws;
 mod lines;
 
 pub use command::Capturing;
-pub use laws::{lines_determine_output, streams_determine_output};
+pub use laws::{lines_determine_output, no_output_is_lacking, streams_determine_output};
