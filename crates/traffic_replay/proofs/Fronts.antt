@@ -21,14 +21,14 @@ use Rattle.traffic_replay.specs.Meaning.{Tells, StationTells}
 use Rattle.traffic_replay.specs.inside.Progress.{IsBeforeEvents}
 use Rattle.traffic_replay.proofs.Told.{no_more_early}
 
-ship_early : (p : Point) (mmsi : ℕ) → MayStand p (line.Ship mmsi) → IsBeforeEvents p
+pub ship_early : (p : Point) (mmsi : ℕ) → MayStand p (line.Ship mmsi) → IsBeforeEvents p
 ship_early point.Station mmsi may = tt
 ship_early point.Base mmsi may = absurd may
 ship_early (point.Groups held) mmsi may = absurd may
 ship_early point.Ship mmsi may = absurd may
 ship_early point.Coast mmsi may = absurd may
 
-coast_early : (p : Point) (mmsi : ℕ) (band : Band) → MayStand p (line.Coast mmsi band) → IsBeforeEvents p
+pub coast_early : (p : Point) (mmsi : ℕ) (band : Band) → MayStand p (line.Coast mmsi band) → IsBeforeEvents p
 coast_early point.Station mmsi band may = tt
 coast_early point.Base mmsi band may = absurd may
 coast_early (point.Groups held) mmsi band may = absurd may
@@ -50,7 +50,7 @@ group_early point.Ship mmsi may = absurd may
 group_early point.Coast mmsi may = absurd may
 
 -- in front of the first event nothing happened
-none_early : {What : Type 0} (taking : Taking What) (said : Said) (lines : Lines) → AreSaid said lines → IsBeforeEvents (point_of said) → AreHappenings taking said []
+pub none_early : {What : Type 0} (taking : Taking What) (said : Said) (lines : Lines) → AreSaid said lines → IsBeforeEvents (point_of said) → AreHappenings taking said []
 none_early taking [] lines are early = refl
 none_early taking (joined nothing ∷ said) lines are early = none_early taking said are.0 are.4 early
 none_early taking (joined (reception group e) ∷ said) lines are early = absurd (no_more_early (kind_of said) early)

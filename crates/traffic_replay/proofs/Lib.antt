@@ -8,3 +8,5 @@ mod Receivers
 mod Fronts
 mod Determined
 mod Bodies
+mod Legal
+mod NotLacking

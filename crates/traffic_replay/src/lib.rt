@@ -11,5 +11,8 @@ mod steps;
 
 pub use civil_time::civil_minute;
 pub use command::Replay;
-pub use laws::lines_determine_output;
+pub use laws::{
+    alerts_end_by_hand_or_acknowledgement, histories_are_legal, lines_determine_output,
+    no_output_is_lacking,
+};
 pub use replaying::replay;

@@ -1,0 +1,184 @@
+-- no traffic file lacks an output
+use Rattle.std.proofs.Common.{◌≡◌, ℕ, ◌<◌, Bool, true, false, if◌then◌else◌, Result, Ok, List, [], ◌∷◌, ◌++◌, refl, sym, subst, append_assoc, append-nil}
+use Rattle.call_values.specs.declared.choices.Band.{Band}
+use Rattle.line_engine.specs.Lines.{Lines}
+use Rattle.line_engine.specs.Faults.{IsFaultless}
+use Rattle.line_engine.specs.Determined.{IsNeverStuck}
+use Rattle.line_engine.proofs.PublicLaws.{sound_line_of}
+use Rattle.ship_station.specs.ShipRules.{ship_rules}
+use Rattle.ship_station.specs.declared.events.ShipWhat.{ShipWhat}
+use Rattle.ship_station.specs.declared.events.ShipWhat.TheVariants as at_ship
+use Rattle.coast_station.specs.CoastRules.{coast_rules}
+use Rattle.coast_station.specs.declared.events.CoastWhat.{CoastWhat}
+use Rattle.coast_station.specs.declared.events.CoastWhat.TheVariants as at_coast
+use Rattle.station_lines.specs.Events.{time_of}
+use Rattle.traffic_lines.specs.declared.lines.EventLine.{EventLine}
+use Rattle.traffic_lines.specs.declared.lines.EventLine.TheVariants.{Position, Delay, Alert, Cancel, Tick, Send, Answer, Hear, Heard, Accept, Relay}
+use Rattle.traffic_lines.specs.declared.lines.Point.{Point}
+use Rattle.traffic_lines.specs.declared.lines.Point.TheVariants as point
+use Rattle.traffic_lines.specs.declared.lines.TrafficLine.TheVariants as line
+use Rattle.traffic_lines.specs.Lines.{IsShipEvent, IsCoastEvent, MayStand}
+use Rattle.dsc_lines.specs.JoinLine.{nothing, reception, evidence}
+use Rattle.dsc_lines.specs.PointLine.{PointLine, joined, traffic, IsPointLine}
+use Rattle.dsc_lines.proofs.PublicLaws.{line_there}
+use Rattle.join_groups.proofs.PublicLaws.{AreSome, group_small, AnswerLaw}
+use Rattle.traffic_replay.specs.declared.outcomes.Unreported.{Unreported}
+use Rattle.traffic_replay.specs.Said.{Said, Kind, ship, coast, kind_of, base_of, identities_of, station_of, among_events, behind_base, point_of, AreSaid}
+use Rattle.traffic_replay.specs.HeardGroups.{of_receivers, hears, since_heard, facts_since_heard}
+use Rattle.traffic_replay.specs.Happenings.{heard_as, taking_ship, taking_coast, Taking, ComesOf, Happening, AreHappenings}
+use Rattle.traffic_replay.specs.Output.{text_of, all_accepted}
+use Rattle.traffic_replay.specs.Meaning.{StationTells, Replays, replay_meaning}
+use Rattle.traffic_replay.specs.inside.Progress.{IsPointOf}
+use Rattle.traffic_replay.proofs.Fronts.{ship_early, coast_early, none_early}
+
+-- it can't be that there is none
+abbrev IsThere : Type 0 → Type 0
+IsThere A = (A → ⊥) → ⊥
+
+-- ---- what the receivers of a group showed since it was heard
+
+some_if : (k : ℕ) (here : PointLine) (said : Said) (lines : Lines) (b : Bool) → AreSaid (here ∷ said) lines → AreSome (of_receivers (since_heard k said))
+    → AreSome (of_receivers (if b then [] else here ∷ since_heard k said))
+some_if k here said lines true are rest = tt
+some_if k (joined l) said lines false are rest = ((are.1, are.3.1), rest)
+some_if k (traffic l) said lines false are rest = rest
+
+some_since : (k : ℕ) (said : Said) (lines : Lines) → AreSaid said lines → AreSome (of_receivers (since_heard k said))
+some_since k [] lines are = tt
+some_since k (here ∷ said) lines are = some_if k here said lines (hears k here) are (some_since k said are.0 are.4)
+
+since_small : (k : ℕ) (said : Said) (lines : Lines) → AreSaid said lines → (p v : ℕ) → facts_since_heard k said p v ≡ true → v < 128
+unfolding facts_since_heard
+since_small k said lines are p v = group_small (of_receivers (since_heard k said)) k p v (some_since k said lines are)
+
+-- ---- the point behind lines is one of their kind of station
+
+among : (kind : Kind) → IsPointOf (among_events kind) kind
+among ship = refl
+among (coast band) = tt
+
+behind : (kind : Kind) → IsPointOf (behind_base kind) kind
+behind ship = refl
+behind (coast band) = tt
+
+group_kind : (p : Point) (kind : Kind) (mmsi : ℕ) → IsPointOf p kind → MayStand p (line.Group mmsi) → kind ≡ ship
+group_kind point.Station kind mmsi of may = absurd may
+group_kind point.Base kind mmsi of may = absurd may
+group_kind (point.Groups held) kind mmsi of may = of
+group_kind point.Ship kind mmsi of may = absurd may
+group_kind point.Coast kind mmsi of may = absurd may
+
+point_kind : (said : Said) (lines : Lines) → AreSaid said lines → IsPointOf (point_of said) (kind_of said)
+point_kind [] lines are = tt
+point_kind (joined nothing ∷ said) lines are = point_kind said are.0 are.4
+point_kind (joined (reception group e) ∷ said) lines are = among (kind_of said)
+point_kind (joined (evidence group pairs) ∷ said) lines are = among (kind_of said)
+point_kind (traffic (line.Ship mmsi) ∷ said) lines are = tt
+point_kind (traffic (line.Coast mmsi band) ∷ said) lines are = tt
+point_kind (traffic (line.Base second) ∷ said) lines are = behind (kind_of said)
+point_kind (traffic (line.Group mmsi) ∷ said) lines are = group_kind (point_of said) (kind_of said) mmsi (point_kind said are.0 are.4) are.3.0
+point_kind (traffic (line.Event at what) ∷ said) lines are = among (kind_of said)
+
+ship_event_of : (p : Point) (at : ℕ) (what : EventLine) → IsPointOf p ship → MayStand p (line.Event at what) → IsShipEvent what
+ship_event_of point.Station at what of may = absurd may
+ship_event_of point.Base at what of may = absurd may
+ship_event_of (point.Groups held) at what of may = may
+ship_event_of point.Ship at what of may = may
+ship_event_of point.Coast at what of may = absurd of
+
+not_ship : (band : Band) → coast band ≡ ship → ⊥
+not_ship band h = cc
+
+coast_event_of : (p : Point) (band : Band) (at : ℕ) (what : EventLine) → IsPointOf p (coast band) → MayStand p (line.Event at what) → IsCoastEvent what
+coast_event_of point.Station band at what of may = absurd may
+coast_event_of point.Base band at what of may = absurd may
+coast_event_of (point.Groups held) band at what of may = absurd (not_ship band of)
+coast_event_of point.Ship band at what of may = absurd (not_ship band of)
+coast_event_of point.Coast band at what of may = may
+
+-- ---- what comes of event lines
+
+module _ (law : AnswerLaw) where
+  comes_ship : (said : Said) (lines : Lines) → AreSaid said lines → (at : ℕ) (what : EventLine) → IsShipEvent what → IsThere ((outcome : Result ShipWhat Unreported) × ComesOf taking_ship said at what outcome)
+  comes_ship said lines are at (Position p) is k = let e = at_ship.Position p (time_of (base_of said) at p) in k (Ok e, (e, refl, refl))
+  comes_ship said lines are at (Delay ms) is k = k (Ok (at_ship.Delay ms), (at_ship.Delay ms, refl, refl))
+  comes_ship said lines are at (Alert nature comm) is k = k (Ok (at_ship.Alert nature comm), (at_ship.Alert nature comm, refl, refl))
+  comes_ship said lines are at Cancel is k = k (Ok at_ship.Cancel, (at_ship.Cancel, refl, refl))
+  comes_ship said lines are at Tick is k = k (Ok at_ship.Tick, (at_ship.Tick, refl, refl))
+  comes_ship said lines are at (Send call) is k = k (Ok (at_ship.Send call), (at_ship.Send call, refl, refl))
+  comes_ship said lines are at (Answer number accepts) is k = k (Ok (at_ship.Answer number accepts), (at_ship.Answer number accepts, refl, refl))
+  comes_ship said lines are at (Hear call) is k = k (Ok (at_ship.Heard call), (at_ship.Heard call, refl, refl))
+  comes_ship said lines are at (Heard group) is k =
+      law (facts_since_heard group said) (since_small group said lines are) (λ answer of. k (heard_as at_ship.Heard group answer, (answer, of, refl)))
+  comes_ship said lines are at (Accept mmsi delay) is k = is
+  comes_ship said lines are at (Relay mmsi to ask) is k = is
+
+  comes_coast : (said : Said) (lines : Lines) → AreSaid said lines → (at : ℕ) (what : EventLine) → IsCoastEvent what → IsThere ((outcome : Result CoastWhat Unreported) × ComesOf taking_coast said at what outcome)
+  comes_coast said lines are at (Accept mmsi delay) is k = k (Ok (at_coast.Accept mmsi delay), (at_coast.Accept mmsi delay, refl, refl))
+  comes_coast said lines are at (Relay mmsi to ask) is k = k (Ok (at_coast.Relay mmsi to ask), (at_coast.Relay mmsi to ask, refl, refl))
+  comes_coast said lines are at Tick is k = k (Ok at_coast.Tick, (at_coast.Tick, refl, refl))
+  comes_coast said lines are at (Send call) is k = k (Ok (at_coast.Send call), (at_coast.Send call, refl, refl))
+  comes_coast said lines are at (Answer number accepts) is k = k (Ok (at_coast.Answer number accepts), (at_coast.Answer number accepts, refl, refl))
+  comes_coast said lines are at (Hear call) is k = k (Ok (at_coast.Heard call), (at_coast.Heard call, refl, refl))
+  comes_coast said lines are at (Heard group) is k =
+      law (facts_since_heard group said) (since_small group said lines are) (λ answer of. k (heard_as at_coast.Heard group answer, (answer, of, refl)))
+  comes_coast said lines are at (Position p) is k = is
+  comes_coast said lines are at (Delay ms) is k = is
+  comes_coast said lines are at (Alert nature comm) is k = is
+  comes_coast said lines are at Cancel is k = is
+
+  abbrev Happened : {What : Type 0} → Taking What → Said → Type 0
+  Happened {What} taking said = (happened : List (Happening What)) × AreHappenings taking said happened
+
+  happened_ship : (said : Said) (lines : Lines) → AreSaid said lines → kind_of said ≡ ship → IsThere (Happened taking_ship said)
+  happened_ship [] lines are kind k = k ([], refl)
+  happened_ship (joined l ∷ said) lines are kind k = happened_ship said are.0 are.4 kind k
+  happened_ship (traffic (line.Ship mmsi) ∷ said) lines are kind k = k ([], none_early taking_ship said are.0 are.4 (ship_early (point_of said) mmsi are.3.0))
+  happened_ship (traffic (line.Coast mmsi band) ∷ said) lines are kind k = k ([], none_early taking_ship said are.0 are.4 (coast_early (point_of said) mmsi band are.3.0))
+  happened_ship (traffic (line.Base second) ∷ said) lines are kind k = happened_ship said are.0 are.4 kind k
+  happened_ship (traffic (line.Group mmsi) ∷ said) lines are kind k = happened_ship said are.0 are.4 kind k
+  happened_ship (traffic (line.Event at what) ∷ said) lines are kind k =
+      let of = subst (IsPointOf (point_of said)) kind (point_kind said are.0 are.4) in
+      comes_ship said are.0 are.4 at what (ship_event_of (point_of said) at what of are.3.0) (λ comes.
+      happened_ship said are.0 are.4 kind (λ rest. k (record { at = at; outcome = comes.0 } ∷ rest.0, (refl, comes.1, rest.1))))
+
+  happened_coast : (band : Band) (said : Said) (lines : Lines) → AreSaid said lines → kind_of said ≡ coast band → IsThere (Happened taking_coast said)
+  happened_coast band [] lines are kind k = k ([], refl)
+  happened_coast band (joined l ∷ said) lines are kind k = happened_coast band said are.0 are.4 kind k
+  happened_coast band (traffic (line.Ship mmsi) ∷ said) lines are kind k = k ([], none_early taking_coast said are.0 are.4 (ship_early (point_of said) mmsi are.3.0))
+  happened_coast band (traffic (line.Coast mmsi other) ∷ said) lines are kind k = k ([], none_early taking_coast said are.0 are.4 (coast_early (point_of said) mmsi other are.3.0))
+  happened_coast band (traffic (line.Base second) ∷ said) lines are kind k = happened_coast band said are.0 are.4 kind k
+  happened_coast band (traffic (line.Group mmsi) ∷ said) lines are kind k = happened_coast band said are.0 are.4 kind k
+  happened_coast band (traffic (line.Event at what) ∷ said) lines are kind k =
+      let of = subst (IsPointOf (point_of said)) kind (point_kind said are.0 are.4) in
+      comes_coast said are.0 are.4 at what (coast_event_of (point_of said) band at what of are.3.0) (λ comes.
+      happened_coast band said are.0 are.4 kind (λ rest. k (record { at = at; outcome = comes.0 } ∷ rest.0, (refl, comes.1, rest.1))))
+
+  tells_there : (kind : Kind) (said : Said) (lines : Lines) → AreSaid said lines → kind_of said ≡ kind → IsThere ((text : List ℕ) × (is_well : Bool) × StationTells kind said text is_well)
+  tells_there ship said lines are kind k =
+      let rules = ship_rules (identities_of said) in
+      happened_ship said lines are kind (λ h. k (text_of rules h.0, all_accepted rules h.0, record { happened = h.0; are_happenings = h.1; text_is = refl; well_is = refl }))
+  tells_there (coast band) said lines are kind k =
+      let rules = coast_rules (station_of band said) in
+      happened_coast band said lines are kind (λ h. k (text_of rules h.0, all_accepted rules h.0, record { happened = h.0; are_happenings = h.1; text_is = refl; well_is = refl }))
+
+  -- lines without a fault say something
+  said_there : (earlier : Lines) (said : Said) → AreSaid said earlier → (lines : Lines) → IsFaultless replay_meaning (earlier ++ lines) → IsThere ((all : Said) × AreSaid all (earlier ++ lines))
+  said_there earlier said are [] none k = k (said, subst (AreSaid said) (sym (append-nil earlier)) are)
+  said_there earlier said are (text ∷ lines) none k =
+      line_there (IsPointLine (point_of said)) text
+      (λ n column. sound_line_of replay_meaning (earlier ++ text ∷ lines) earlier text lines none refl n (record { said = said; are_said = are; is_column = column })) (λ w is.
+      said_there (earlier ++ text ∷ []) (w ∷ said) (earlier, text, refl, is, are) lines (subst (IsFaultless replay_meaning) (sym (append_assoc earlier (text ∷ []) lines)) none) (λ all.
+      k (all.0, subst (AreSaid all.0) (append_assoc earlier (text ∷ []) lines) all.1)))
+
+  replays_there : (lines : Lines) → IsFaultless replay_meaning lines → IsThere ((text : List ℕ) × (is_well : Bool) × Replays lines text is_well)
+  replays_there lines none k =
+      said_there [] [] refl lines none (λ said.
+      tells_there (kind_of said.0) said.0 lines said.1 refl (λ told.
+      k (told.0, told.1, record { said = said.0; are_said = said.1; tells = told.2 })))
+
+  pub replay_never_stuck : IsNeverStuck replay_meaning
+  replay_never_stuck = record {
+    gives = λ lines none k. replays_there lines none (λ r. k r.0 (r.1, r.2));
+    ends = λ lines none k. replays_there lines none (λ r. k r.0 (if r.1 then 0 else 1) (r.1, r.2, refl));
+  }
