@@ -1,9 +1,14 @@
 mod Behind
 mod SentGroups
+mod SentJoins
 mod ToldCalls
 mod SentWatches
+mod StartRuns
+mod LegalRuns
 mod EncodedCalls
 mod PlanRuns
+mod Promised
 mod MadeEndings
 mod OneOutput
 mod FrontsOfOutput
+mod SomeOutput

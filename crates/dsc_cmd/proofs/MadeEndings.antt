@@ -47,6 +47,7 @@ made_cut n before after w = record {
   text = w.text;
   asked = λ rest is.
       subst (λ (r : List ℕ). Asks (made_meaning n) (lines_of r) w.text) (sym (rest_is rest is)) (inl (w.status, inl (whole_of n w.text w.status w.is_made)));
+  early = inl (λ rest is. nothing_left is);
   writes = w.writes;
 }
 

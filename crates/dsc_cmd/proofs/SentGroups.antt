@@ -1,5 +1,5 @@
 -- Of a group whose receptions are all of one call the text tells this call, or a lost place of it.
-use Rattle.std.proofs.Common.{◌≡◌, ℕ, true, ◌==◌, suc, List, [], ◌∷◌, ◌++◌, All, Option, refl, ap, subst, ◌∙◌, inl, inr, arith}
+use Rattle.std.proofs.Common.{◌≡◌, ℕ, true, ◌==◌, suc, List, [], ◌∷◌, ◌++◌, All, refl, ap, subst, ◌∙◌, inl, inr, arith}
 use Rattle.std.specs.Prelude.{map, Contains}
 use Rattle.std.specs.List.{AllByRecursion}
 use Rattle.std.proofs.lemmas.Bool.{or_cases, eqb-true}
@@ -13,13 +13,11 @@ use Rattle.slot_join.specs.declared.joined.Joined.{Joined}
 use Rattle.slot_join.specs.Answer.{IsAnswer}
 use Rattle.slot_join.specs.Heard.{IsHeard}
 use Rattle.slot_join.specs.Intact.{IsSent, IsSentOrLostPlace, ArrivesInParts}
-use Rattle.line_engine.specs.Endings.{TellsWhole}
 use Rattle.dsc_lines.specs.JoinLine.{JoinLine}
 use Rattle.join_groups.specs.Groups.{is_among, group_facts}
 use Rattle.join_groups.specs.Output.{Told, TellsAnswer, answer_line, IsJoinText}
-use Rattle.join_groups.specs.Meanings.{groups_meaning}
 use Rattle.dsc_cmd.specs.Heard.{IsOfCall}
-use Rattle.dsc_cmd.specs.Sent.{TellsSent, ReportsSent}
+use Rattle.dsc_cmd.specs.Sent.{TellsSent}
 use Rattle.dsc_cmd.proofs.Behind as behind
 
 abbrev pub AlikeLaw : Type 0
@@ -77,20 +75,4 @@ tells_sent laws said text status is_text k call tail receptions of =
       tells = record { group = one.group; line_is = tells.line_is ∙ ap (λ (n : ℕ). answer_line n tells.answer) one.group; well_is = tells.well_is };
       sent = laws.sent receptions call tail tells.answer of.lawful of.heard answers;
       whole = λ arrives. laws.whole receptions call tail tells.answer of.lawful of.heard arrives answers;
-    }
-
--- a run that answers its input tells the calls that were sent
-pub reports_sent : Laws → (left_before left_after before after : Option (List ℕ)) (flushed status : ℕ)
-    → TellsWhole (groups_meaning TellsAnswer) left_before left_after before after flushed status → ReportsSent left_before left_after before after flushed status
-reports_sent laws left_before left_after before after flushed status w =
-    let ends = w.whole.ends in record {
-      input = w.input;
-      lost = w.lost;
-      ended = w.ended;
-      said = ends.said;
-      are_lines = ends.are_lines;
-      text = w.text;
-      is_text = ends.is_text;
-      writes = w.writes;
-      sent = tells_sent laws ends.said w.text status ends.is_text;
     }

@@ -1,5 +1,9 @@
 pub mod Plans
+pub mod Promises
 pub mod Heard
 pub mod Sent
 pub mod ToldSent
+pub mod StartsHeard
+pub mod LegalExchanges
+pub mod LegalReplays
 pub mod Encoded

@@ -50,6 +50,13 @@ abbrev pub HasOneOutput : Plan → Type 0
 HasOneOutput (Watch workers) = ⊥
 HasOneOutput _ = Unit {0}
 
+-- the commands of which an output of each input is found from its lines, by reading them as the grammars do
+abbrev pub HasSomeOutput : Plan → Type 0
+HasSomeOutput (Encode long) = Unit {0}
+HasSomeOutput Sentences = Unit {0}
+HasSomeOutput Exchange = Unit {0}
+HasSomeOutput _ = ⊥
+
 -- the input that a command has where this is left of the source: all of it, and no byte for `make`, which leaves the source alone
 abbrev pub input_of : Plan → Option (List ℕ) → Option (List ℕ)
 input_of (Make n) left = Some []

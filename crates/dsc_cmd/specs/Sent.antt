@@ -5,11 +5,13 @@ use Rattle.call_values.specs.declared.calls.Call.{Call}
 use Rattle.slot_join.specs.declared.joined.Joined.{Joined}
 use Rattle.slot_join.specs.Intact.{IsSent, IsSentOrLostPlace, ArrivesInParts}
 use Rattle.dsc_streams.specs.Streams.{Loses, IsEnded}
-use Rattle.line_engine.specs.Lines.{lines_of}
+use Rattle.line_engine.specs.Lines.{Lines, lines_of}
+use Rattle.line_engine.specs.Meaning.{Meaning}
 use Rattle.line_engine.specs.Endings.{Writes}
 use Rattle.dsc_lines.specs.JoinLine.{JoinLine}
 use Rattle.join_groups.specs.Groups.{AreLines}
-use Rattle.join_groups.specs.Output.{Told, answer_line, is_reported, IsJoinText}
+use Rattle.join_groups.specs.Output.{Told, TellsAnswer, answer_line, is_reported, IsJoinText}
+use Rattle.join_groups.specs.Meanings.{EndsTelling, groups_meaning}
 use Rattle.dsc_cmd.specs.Heard.{IsOfCall}
 
 -- the group's line tells this answer
@@ -39,3 +41,14 @@ pub record ReportsSent (left_before left_after before after : Option (List ℕ))
   pub is_text : IsJoinText said text status
   pub writes : Writes before after flushed text
   pub sent : (k : ℕ) (call : Call) (tail : List ℕ) (receptions : List (List Element)) → IsOfCall said k call tail receptions → TellsSent is_text.all k call tail receptions
+
+-- an input of these lines has this text and status, and of each group whose receptions are all of one call it tells this call, or a lost place
+-- of it
+pub record EndsJoin (lines : Lines) (text : List ℕ) (status : ℕ) : Type 0 where
+  pub ends : EndsTelling TellsAnswer lines text status
+  pub sent : (k : ℕ) (call : Call) (tail : List ℕ) (receptions : List (List Element)) → IsOfCall ends.said k call tail receptions
+      → TellsSent ends.is_text.all k call tail receptions
+
+-- what the lines of `join` mean, and what is told of the calls that were sent
+abbrev pub sent_join : Meaning
+sent_join = record (groups_meaning TellsAnswer) { Ends = EndsJoin }

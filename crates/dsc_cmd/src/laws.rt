@@ -3,19 +3,24 @@ ghost use Rattle.std.specs.Prelude.{◌≡◌, ℕ, ◌<◌, ◌^◌, Bool, Opti
 ghost use Rattle.call_values.specs.Calls.{IsCall};
 ghost use Rattle.call_values.specs.declared.calls.Call.{Call};
 ghost use Rattle.dsc_cmd.specs.Encoded.{IsHeardWhole, IsOfEncoded, TellsCall};
-ghost use Rattle.dsc_cmd.specs.Plans.{meaning_of, HasOneOutput};
+ghost use Rattle.dsc_cmd.specs.Plans.{meaning_of, HasOneOutput, HasSomeOutput};
 ghost use Rattle.dsc_lines.specs.JoinLine.{JoinLine};
+ghost use Rattle.dsc_words.specs.Words.{IsInRange};
 ghost use Rattle.dsc_words.specs.declared.plans.Plan.{Plan};
+ghost use Rattle.dsc_words.specs.declared.plans.Plan.TheVariants.{Join, Evidence};
 ghost use Rattle.expansion.specs.Expansions.{IsExpansion};
 ghost use Rattle.expansion.specs.declared.values.Sets.{Sets};
+ghost use Rattle.join_groups.specs.Groups.{AreLines};
+ghost use Rattle.join_groups.specs.Laws.{HaveAlikeFacts};
 ghost use Rattle.join_groups.specs.Output.{IsJoinText};
-ghost use Rattle.line_engine.specs.Determined.{IsDetermined};
+ghost use Rattle.line_engine.specs.Determined.{IsDetermined, HasOutputs, LacksNoOutput};
 ghost use Rattle.line_engine.specs.Faults.{IsFirstFault};
 ghost use Rattle.line_engine.specs.Lines.{Lines};
-ghost use Rattle.line_engine.specs.Output.{IsOutput};
+ghost use Rattle.line_engine.specs.Output.{IsWhole, IsOutput};
 ghost use Rattle.line_engine.specs.declared.faults.Fault.{Fault};
 
-use generated_join::made_text_is_one;
+use generated_join::{made_text_is_one, made_text_is_there};
+use join_groups::facts_determine_texts;
 use slot_join::{alike_facts_have_one_answer, transmissions_are_answered};
 
 /// The law that `join` gives back what `encode` wrote: the line that `encode` writes of a call is a line of join's input, and of a group
@@ -48,4 +53,39 @@ pub fn inputs_have_one_output()
     station_exchange::lines_determine_output();
     book_logs::lines_determine_output();
     made_text_is_one();
+}
+
+/// The law that facts determine what `join` and `evidence` write, whatever the number of workers: two inputs without a fault whose
+/// lines name the same groups, each with alike facts, have one text and status.
+pub fn facts_determine_outputs()
+    ensures join { (m n : ℕ) (first second : Lines) (said other : List JoinLine) → AreLines said first
+        → AreLines other second → HaveAlikeFacts said other → (a b : List ℕ) (s t : ℕ)
+        → IsWhole (meaning_of (Join m)) first a s → IsWhole (meaning_of (Join n)) second b t → (a ≡ b) × (s ≡ t) }
+    ensures evidence { (m n : ℕ) (first second : Lines) (said other : List JoinLine) → AreLines said first
+        → AreLines other second → HaveAlikeFacts said other → (a b : List ℕ) (s t : ℕ)
+        → IsWhole (meaning_of (Evidence m)) first a s → IsWhole (meaning_of (Evidence n)) second b t
+        → (a ≡ b) × (s ≡ t) }
+{
+    facts_determine_texts();
+}
+
+/// The law that each input of `encode`, `sentences` and `exchange` has an output. By `inputs_have_one_output` it has exactly one.
+pub fn inputs_have_an_output()
+    ensures { (plan : Plan) → HasSomeOutput plan → HasOutputs (meaning_of plan) }
+{
+    encode_calls::inputs_have_outputs();
+    sentence_files::inputs_have_outputs();
+    station_exchange::inputs_have_outputs();
+}
+
+/// The law that no input of a command but `watch` lacks an output: what `run` promises of whole inputs is never empty.
+pub fn no_output_is_lacking()
+    ensures { (plan : Plan) → HasOneOutput plan → IsInRange plan → LacksNoOutput (meaning_of plan) }
+{
+    inputs_have_an_output();
+    join_groups::no_output_is_lacking();
+    traffic_replay::no_output_is_lacking();
+    stream_capture::no_output_is_lacking();
+    book_logs::no_output_is_lacking();
+    made_text_is_there();
 }

@@ -3,6 +3,7 @@
 
 mod laws;
 mod making;
+mod promises;
 mod running;
 
 pub use dsc_streams::{
@@ -10,7 +11,11 @@ pub use dsc_streams::{
     SureSource,
 };
 pub use dsc_words::Plan;
-pub use laws::{encoded_calls_are_reported, inputs_have_one_output};
+pub use laws::{
+    encoded_calls_are_reported, facts_determine_outputs, inputs_have_an_output,
+    inputs_have_one_output, no_output_is_lacking,
+};
+pub use promises::runs_of_words;
 pub use running::run;
 pub use slot_join::{
     alike_facts_have_one_answer, intact_copies_report_the_call, sent_call_is_answered,

@@ -1,14 +1,18 @@
-ghost use Rattle.std.specs.Prelude.{◌≡◌, ◌⊎◌, ◌≤◌, ◌≢◌, ℕ, [], map, string_bytes, OnOk, OnErr};
+ghost use Rattle.std.specs.Prelude.{◌≡◌, ◌⊎◌, ℕ, [], OnOk, OnErr};
 ghost use Rattle.dsc_streams.specs.Streams.{Rises, Told};
-ghost use Rattle.line_engine.specs.Endings.{IsFinished, IsOfFault, IsBrokenOff, Writes, WritesFront, TellsWhole, TellsFault, TellsSoFar, TellsFront, CutsOff, TakesAtMost};
+ghost use Rattle.line_engine.specs.Endings.{IsFinished, IsBrokenOff, Writes, WritesFront, TakesAtMost};
 ghost use Rattle.line_engine.specs.Runs.{IsRun};
 ghost use Rattle.dsc_words.specs.Words.{IsInRange, IsPlan};
-ghost use Rattle.dsc_words.specs.declared.plans.Plan.TheVariants.{Join as joins, Make as makes, Watch as watches};
+ghost use Rattle.dsc_words.specs.declared.plans.Plan.TheVariants.{Join as joins, Replay as replays, Make as makes, Capture as captures, Watch as watches, Exchange as exchanges};
 ghost use Rattle.dsc_words.specs.declared.plans.Plan.{Plan as Planned};
-ghost use Rattle.dsc_cmd.specs.Plans.{meaning_of, input_of, source_of, words_refused, HasOneOutput, IsQuietPlan, IsUnplanned, CutsOffWords, CutsOffPlan, TellsPlanFront, WritesSummary, WritesFrontOfOutput};
+ghost use Rattle.dsc_cmd.specs.Plans.{meaning_of, input_of, source_of, words_refused, HasOneOutput, WritesSummary, WritesFrontOfOutput};
+ghost use Rattle.dsc_cmd.specs.Promises.{spoken, KeepsWords, Runs};
 ghost use Rattle.stream_capture.specs.Telling.{capture_meaning};
-ghost use Rattle.dsc_cmd.specs.Sent.{ReportsSent};
+ghost use Rattle.dsc_cmd.specs.Sent.{sent_join};
 ghost use Rattle.dsc_cmd.specs.ToldSent.{sent_meaning};
+ghost use Rattle.dsc_cmd.specs.StartsHeard.{heard_meaning};
+ghost use Rattle.dsc_cmd.specs.LegalExchanges.{legal_exchange};
+ghost use Rattle.dsc_cmd.specs.LegalReplays.{legal_replay};
 
 use crate::laws::inputs_have_one_output;
 use crate::making::make;
@@ -19,6 +23,7 @@ use encode_calls::{Encode, LongDots, ShortDots};
 use join_groups::{Answers, Ends, tell_groups};
 use line_engine::{Command, MOST_TAKEN, drive};
 use live_watch::told_calls;
+use long_capture::start_reports_the_call;
 use receiver_pool::Gate;
 use sentence_files::Sentences;
 use slot_evidence::ends_are_kept;
@@ -174,67 +179,41 @@ pub fn run<R: Threads + Sync, S: Source, K: Sink, G: Gate>(
     sink: &mut K,
     gate: &G,
 ) -> Status
-    // Exactly what the lines of the whole input ask for, and its status: for `join` the answers that the facts of each group determine.
-    ensures answered { (plan : Planned) → IsPlan (map string_bytes words.now) plan → IsFinished result
-        → TellsWhole (meaning_of plan) (input_of plan (S.left source.old)) (input_of plan (S.left source.new))
-        (K.written sink.old) (K.written sink.new) (K.flushed sink.new) result }
-
-    // Where all receptions of a group heard one call, truly phased and wrong in one sense alone: this call, or a place of it no copy of which
-    // came intact; and the call, where each of its places came intact at some receiver.
-    ensures sent { (n : ℕ) → IsPlan (map string_bytes words.now) (joins n) → IsFinished result
-        → ReportsSent (S.left source.old) (S.left source.new) (K.written sink.old) (K.written sink.new)
-        (K.flushed sink.new) result }
-
-    // Of `watch`, however it ends: of such a group no other call than this one is told, and behind the told calls stands what join tells of it. Only
-    // where there was no memory for the words was nothing begun.
-    ensures told_sent { (n : ℕ) → IsPlan (map string_bytes words.now) (watches n)
-        → IsRun sent_meaning S.Source K.Sink source.old source.new sink.old sink.new result
-        ⊎ ((result ≡ 6) × (source.new ≡ source.old) × (sink.new ≡ sink.old)) }
-
-    // Exactly the summary of the answers that the generated groups determine; of the source nothing is read.
-    ensures made { (n : ℕ) → IsPlan (map string_bytes words.now) (makes n) → IsFinished result
-        → WritesSummary n (K.written sink.old) (K.written sink.new) (K.flushed sink.new) result }
-    ensures unread_made { (n : ℕ) → IsPlan (map string_bytes words.now) (makes n)
-        → (source.new ≡ source.old) × (IsFinished result ⊎ (result ≡ 5) ⊎ (result ≡ 6)) }
-
-    // The cause of each status, and what it leaves.
-    ensures planned { IsFinished result ⊎ IsOfFault result ⊎ (result ≡ 4)
-        → (plan : Planned) × IsPlan (map string_bytes words.now) plan }
-    ensures unplanned { result ≡ 2 → IsUnplanned (map string_bytes words.now) }
-    ensures words { result ≡ 2 → Writes (K.written sink.old) (K.written sink.new) (K.flushed sink.new) words_refused }
-    ensures unread { result ≡ 2 → source.new ≡ source.old }
-    ensures faulty { (plan : Planned) → IsPlan (map string_bytes words.now) plan → IsOfFault result
-        → TellsFault (meaning_of plan) (input_of plan (S.left source.old)) (input_of plan (S.left source.new))
-        (K.written sink.old) (K.written sink.new) (K.flushed sink.new) result }
-    ensures stopped { (plan : Planned) → IsPlan (map string_bytes words.now) plan → result ≡ 4
-        → TellsSoFar (meaning_of plan) (input_of plan (S.left source.old)) (input_of plan (S.left source.new))
-        (K.written sink.old) (K.written sink.new) }
-    ensures front { (plan : Planned) → IsPlan (map string_bytes words.now) plan → HasOneOutput plan → IsBrokenOff result
-        → WritesFrontOfOutput (meaning_of plan) (input_of plan (S.left source.old)) (input_of plan (S.left source.new))
-        (K.written sink.old) (K.written sink.new) }
-    ensures read_fault { result ≡ 4 → Rises (S.faults source.old) (S.faults source.new) }
-    ensures write_fault { result ≡ 5 → Rises (K.faults sink.old) (K.faults sink.new) }
-    ensures cut { result ≡ 5 → CutsOffWords (map string_bytes words.now) (K.written sink.old) (K.written sink.new)
-        ⊎ CutsOffPlan (map string_bytes words.now) (S.left source.old) (S.left source.new) (K.written sink.old)
-        (K.written sink.new) }
-    ensures memory { result ≡ 6 → (sink.new ≡ sink.old)
-        ⊎ TellsPlanFront (map string_bytes words.now) (S.left source.old) (S.left source.new) (K.written sink.old)
-        (K.written sink.new) }
-    ensures unwritten { (plan : Planned) → IsPlan (map string_bytes words.now) plan → IsQuietPlan plan
-        → (result ≡ 4) ⊎ (result ≡ 6) → sink.new ≡ sink.old }
-    ensures unflushed { IsBrokenOff result → K.flushed sink.new ≡ K.flushed sink.old }
+    // The words are a plan, and this was a run of its command over the lines of the source: of whole inputs exactly what they ask for was
+    // written, for `join` the answers that the facts of each group determine. Or they are no plan, and were refused; or there was no memory for
+    // them, and nothing was begun. `runs_of_words` says it status by status.
+    ensures run { KeepsWords (spoken words.now) S.Source K.Sink source.old source.new sink.old sink.new result }
     ensures bounded { TakesAtMost (S.left source.old) (S.left source.new) MOST_TAKEN }
-    ensures read_sound { result ≢ 4 → S.faults source.new ≡ S.faults source.old }
-    ensures write_sound { result ≢ 5 → K.faults sink.new ≡ K.faults sink.old }
     ensures told { Told (S.left source.old) (S.left source.new) × Told (K.written sink.old) (K.written sink.new) }
 
-    // Without a fault of the streams there is no other ending than these.
-    ensures range { result ≤ 7 }
-    ensures refuses_words { IsUnplanned (map string_bytes words.now)
-        → (Rises (K.faults sink.old) (K.faults sink.new) → ⊥) → (result ≡ 2) ⊎ (result ≡ 6) }
-    ensures completes { (plan : Planned) → IsPlan (map string_bytes words.now) plan
-        → (Rises (S.faults source.old) (S.faults source.new) → ⊥)
-        → (Rises (K.faults sink.old) (K.faults sink.new) → ⊥) → IsFinished result ⊎ IsOfFault result ⊎ (result ≡ 6) }
+    // Where all receptions of a group heard one call, truly phased and wrong in one sense alone: `join` tells this call, or a place of it no copy
+    // of which came intact, and the call where each of its places came intact at some receiver; and `watch`, however it ends, tells no other.
+    ensures sent { (n : ℕ) → IsPlan (spoken words.now) (joins n)
+        → Runs sent_join S.Source K.Sink source.old source.new sink.old sink.new result }
+    ensures told_sent { (n : ℕ) → IsPlan (spoken words.now) (watches n)
+        → Runs sent_meaning S.Source K.Sink source.old source.new sink.old sink.new result }
+
+    // At a start at which a call was received, in each character wrong in one sense alone, `capture` tells this call, or a place of it that
+    // showed nothing.
+    ensures starts { IsPlan (spoken words.now) captures
+        → Runs heard_meaning S.Source K.Sink source.old source.new sink.old sink.new result }
+
+    // The histories that the lines of `replay` and `exchange` tell are legal, so that the laws of stations and of exchanges hold of them.
+    ensures legal_replay { (n : ℕ) → IsPlan (spoken words.now) (replays n)
+        → Runs legal_replay S.Source K.Sink source.old source.new sink.old sink.new result }
+    ensures legal_exchange { IsPlan (spoken words.now) exchanges
+        → Runs legal_exchange S.Source K.Sink source.old source.new sink.old sink.new result }
+
+    // `make` writes exactly the summary of the answers that the generated groups determine, and reads nothing.
+    ensures made { (n : ℕ) → IsPlan (spoken words.now) (makes n) → IsFinished result
+        → WritesSummary n (K.written sink.old) (K.written sink.new) (K.flushed sink.new) result }
+    ensures unread_made { (n : ℕ) → IsPlan (spoken words.now) (makes n)
+        → (source.new ≡ source.old) × (IsFinished result ⊎ (result ≡ 5) ⊎ (result ≡ 6)) }
+
+    // What was written of a run that was broken off is a front of the output that the whole input asks for.
+    ensures front { (plan : Planned) → IsPlan (spoken words.now) plan → HasOneOutput plan → IsBrokenOff result
+        → WritesFrontOfOutput (meaning_of plan) (input_of plan (S.left source.old)) (input_of plan (S.left source.new))
+        (K.written sink.old) (K.written sink.new) }
 {
     match plan_of(alloc, words) {
         Ok(plan) => {
@@ -246,6 +225,9 @@ pub fn run<R: Threads + Sync, S: Source, K: Sink, G: Gate>(
             heard_calls_show_no_other();
             told_calls();
             inputs_have_one_output();
+            start_reports_the_call();
+            traffic_replay::histories_are_legal();
+            station_exchange::histories_are_legal();
             execute(rt, alloc, plan, source, sink, gate)
         }
         Err(PlanError::Refused) => refuse(sink),
