@@ -1,6 +1,6 @@
 -- What is held after each step.
 use Rattle.std.proofs.Common.{◌≡◌, ℕ, ◌+◌, ◌<◌, ◌≤◌, Bool, true, false, not, cond, ◌&&◌, ◌||◌, ◌==◌, nat_lt, List, [], ◌∷◌, ◌++◌, length, slice_index_or, Option, Some, None, refl, sym, ap, subst, ◌∙◌, inl, inr, arith, All}
-use Rattle.std.specs.Prelude.{is_some}
+use Rattle.std.specs.Prelude.{◌↔◌, is_some}
 use Rattle.std.specs.List.{list_any}
 use Rattle.std.specs.Map.{keys_of}
 use Rattle.std.specs.Ordering.{nat_cmp, is_eq}
@@ -351,3 +351,8 @@ holds_nothing at sheets batch none no_sheets no_batch = record {
 -- the number of a group that got one
 pub number_given : (next at : ℕ → Option ℕ) (group n : ℕ) → ((k : ℕ) → next k ≡ cond (is_eq (nat_cmp group k)) (Some n) (at k)) → next group ≡ Some n
 number_given next at group n is = is group ∙ ap (λ (b : Bool). cond b (Some n) (at group)) (at_test group group ∙ eq-eqb group group refl)
+
+-- a group without a number is one that isn't named
+pub number_none : (named : Bool) (F : Facts) (closed : ℕ → Facts) (n : ℕ) (batch : List GroupReception) (number : Option ℕ) → IsHeld named F closed n batch number → (number ≡ None ↔ named ≡ false)
+number_none named F closed n batch None held = (λ none. held.0, λ unnamed. refl)
+number_none named F closed n batch (Some k) held = (λ none. absurd (cc none), λ unnamed. absurd (cc (held.0, unnamed)))

@@ -1,6 +1,7 @@
-ghost use Rattle.std.specs.Prelude.{◌≡◌, ◌≢◌, ◌⊎◌, ℕ, ◌+◌, ◌<◌, ◌≤◌, Bool, false, nat_le, length, [], Some, IfOk, IfErr, OnOk};
+ghost use Rattle.std.specs.Prelude.{◌≡◌, ◌≢◌, ◌⊎◌, ◌↔◌, ℕ, ◌+◌, ◌<◌, ◌≤◌, Bool, false, nat_le, length, [], None, Some, IfOk, IfErr, OnOk};
 ghost use Rattle.slot_evidence.specs.Facts.{Facts, facts_of, no_facts};
 ghost use Rattle.slot_evidence.specs.Sheet.{IsEnds};
+ghost use Rattle.live_watch.specs.Batches.{HasWatched};
 ghost use Rattle.join_groups.specs.Holds.{Holds, HoldsSome, IsFull, named_with, facts_with, facts_without, number_in};
 
 use line_engine::Refusal;
@@ -197,7 +198,7 @@ impl NamedGroups {
         Ok(())
     }
 
-    /// Ends the batch as `close_batch` does, with workers whom a watcher looks on.
+    /// Ends the batch as `close_batch` does, with workers at whom a watcher looks, and gives the watcher back.
     pub fn close_watched<W: WatchedJoiner>(
         &mut self,
         workers: &W,
@@ -208,6 +209,7 @@ impl NamedGroups {
         ensures holds { OnOk result ((named : ℕ → Bool) (F : ℕ → Facts) → Holds self.old named F
             → Holds self.new named F) }
         ensures empty { OnOk result (self.new.batch.items ≡ []) }
+        ensures watched { IfOk result (λ after. HasWatched watcher after self.old.sheets.items self.old.batch.items) }
     {
         if self.batch.is_empty() {
             return Ok(watcher);
@@ -218,8 +220,12 @@ impl NamedGroups {
         Ok(watcher)
     }
 
-    /// The number of a group, if it has one.
-    pub fn number(&self, group: u32) -> Option<usize> {
+    /// The number of a group; none, exactly where no line named it.
+    pub fn number(&self, group: u32) -> Option<usize>
+        ensures number { result ≡ number_in self.now group }
+        ensures named { (named : ℕ → Bool) (F : ℕ → Facts) → Holds self.now named F
+            → (result ≡ None ↔ named group ≡ false) }
+    {
         self.numbers.get(&group).copied()
     }
 
