@@ -108,7 +108,7 @@ pub record CutsOffSummary (n : ℕ) (before after : Option (List ℕ)) : Type 0 
   pub is_made : IsMade n text status
   pub writes : WritesFront before after text
 
--- 4, 5 and 6: a front of the output that the whole input asks for was appended, whatever is left of the input
+-- 4, 5 and 6: what was appended is a front of whatever output the whole input asks for, and whatever is left of the input
 pub record WritesFrontOfOutput (meaning : Meaning) (left_before left_after before after : Option (List ℕ)) : Type 0 where
   pub taken : List ℕ
   pub lost : Loses left_before left_after taken

@@ -76,6 +76,7 @@ fn lines_of_acts(rt: HostRuntime) -> Result<(), Fail> {
         let mut line: ArrayVec<u8, 160> = ArrayVec::new();
         append_act_text(&mut line, *at, act);
         assert_eq!(rt; line.as_slice(), text.as_bytes(), "{text}");
+        assert_eq!(rt; put_act(*at, act).as_slice(), text.as_bytes(), "{text}");
     }
     Ok(())
 }
@@ -113,6 +114,7 @@ fn lines_of_refusals(rt: HostRuntime) -> Result<(), Fail> {
         let mut line: ArrayVec<u8, 80> = ArrayVec::new();
         append_refusal_text(&mut line, *at, refusal);
         assert_eq!(rt; line.as_slice(), text.as_bytes(), "{text}");
+        assert_eq!(rt; put_refused(*at, refusal).as_slice(), text.as_bytes(), "{text}");
     }
     Ok(())
 }
