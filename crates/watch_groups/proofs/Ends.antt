@@ -23,7 +23,7 @@ use Rattle.join_groups.specs.Groups.{is_among, group_facts}
 use Rattle.join_groups.specs.inside.Kept.{Keeps}
 use Rattle.watch_groups.proofs.Calls.{none_shown, nothing_reported}
 use Rattle.watch_groups.proofs.Batches.{no_end_at_first}
-use Rattle.watch_groups.proofs.Kept.{all_done}
+use Rattle.watch_groups.proofs.Kept.{all_done, after_pause}
 
 -- a line says one thing
 abbrev pub OneLine : Type 0
@@ -67,6 +67,18 @@ module _ {groups : NamedGroups} {named : List ℕ} {told : List Told} {heard : �
     is_join = subst (IsGroupsText TellsAnswer stands.said answers) (sym same) join;
     text_is = ap (λ (l : List ℕ). written ++ l) is ∙ sym (append_assoc written mid answers) ∙ ap (λ (l : List ℕ). l ++ answers) (looks.tells.text written stands.text_is);
   }
+
+-- a watch paused: it stands for the same lines
+pub stands_paused : {groups : NamedGroups} {named : List ℕ} {told : List Told} {heard : ℕ} {lines : Lines} (written out : List ℕ) (stands : StandsFor groups named told heard lines (written ++ out))
+    → (new : NamedGroups) (more : List ℕ) (now : List Told) (count : ℕ) (after : List ℕ) → more ≡ [] → count ≡ heard → Keeps new stands.said → LooksThrough stands.said named [] told out now after
+    → StandsFor new more now count lines (written ++ after)
+stands_paused {groups} {named} {told} {heard} {lines} written out stands new more now count after none same keeps looks = record {
+  said = stands.said;
+  are_lines = stands.are_lines;
+  watches = subst (λ (n : List ℕ). Watches new n now count stands.said) (sym none)
+      (subst (λ (h : ℕ). Watches new [] now h stands.said) (sym same) (after_pause groups new named told now heard stands.said out after stands.watches keeps looks));
+  text_is = looks.tells.text written stands.text_is;
+}
 
 -- before the first line
 never_named : {P : Type 0} (k : ℕ) → is_among [] k ≡ true → P

@@ -1,7 +1,6 @@
 -- What a watch keeps behind one line more.
 use Rattle.std.proofs.Common.{◌≡◌, ℕ, ◌+◌, ◌<◌, Bool, true, false, ◌||◌, ◌==◌, List, [], ◌∷◌, ◌++◌, refl, sym, subst, ◌∙◌, arith, inl, inr}
-use Rattle.std.proofs.lemmas.Bool.{or_cases, or_left, or_right, or_parts}
-use Rattle.std.proofs.Math.Bool.{or-false}
+use Rattle.std.proofs.lemmas.Bool.{cases_eq, ne_eqb, or_cases, or_left, or_right, or_parts}
 use Rattle.ten_unit.specs.declared.character.Element.{Element}
 use Rattle.slot_evidence.specs.Facts.{Facts}
 use Rattle.slot_join.specs.declared.joined.Joined.TheVariants.{Reported}
@@ -14,23 +13,42 @@ use Rattle.join_groups.specs.inside.Kept.{Keeps}
 use Rattle.join_groups.proofs.PublicLaws.{named_push, facts_of_others}
 use Rattle.watch_groups.specs.declared.telling.Told.{Told}
 use Rattle.watch_groups.specs.Telling.{is_told, TellsReported, EndsBatch}
-use Rattle.watch_groups.specs.inside.Kept.{IsOpen, AreOthersDone, Watches, LooksThrough}
+use Rattle.watch_groups.specs.inside.Kept.{Notes, IsOpen, AreOthersDone, Watches, LooksThrough}
 use Rattle.watch_groups.proofs.Calls.{More, are_more}
 use Rattle.watch_groups.proofs.Batches.{no_end_nothing, no_end_evidence, no_end_open, open_nothing, open_evidence, open_more, open_anew, each_more}
 
 -- the groups that a line names are noted
-abbrev pub Notes : List ℕ → JoinLine → List ℕ → Type 0
-Notes named line more = (k : ℕ) → is_among more k ≡ (is_among named k || names k line)
+abbrev pub LineNotes : List Told → List ℕ → JoinLine → List ℕ → Type 0
+LineNotes told named line more = Notes told named (λ k. names k line) more
 
-others_more : (said : List JoinLine) (line : JoinLine) (named more : List ℕ) (told : List Told) → Notes named line more → AreOthersDone said named told → AreOthersDone (said ++ line ∷ []) more told
+-- those of which a call was told are done
+others_more : (said : List JoinLine) (line : JoinLine) (named more : List ℕ) (told : List Told) → LineNotes told named line more → AreOthersDone said named told → AreOthersDone (said ++ line ∷ []) more told
 others_more said line named more told notes done = record {
-  named_by = λ k is. elim (or_cases (is_among named k) (names k line) (sym (notes k) ∙ is)) [
+  named_by = λ k is. elim (or_cases (is_among named k) (names k line) (notes.among k is)) [
     | inl before ↦ named_push said line k ∙ or_left _ _ (done.named_by k before)
     | inr here ↦ named_push said line k ∙ or_right (is_named said k) _ here
   ];
   others = λ k is.
-      let parts = or_parts (is_among named k) (names k line) (sym (notes k) ∙ is) in
-      λ call extra answer. done.others k parts.0 call extra (subst (λ (F : Facts). IsAnswer F (Reported call extra)) (facts_of_others said line k parts.1) answer);
+      let parts = notes.others k is in
+      λ call extra answer. elim parts.1 [
+        | inl apart ↦ done.others k parts.0 call extra (subst (λ (F : Facts). IsAnswer F (Reported call extra)) (facts_of_others said line k apart) answer)
+        | inr known ↦ known
+      ];
+}
+
+pub notes_told : (told : List Told) (named : List ℕ) (group : ℕ) → is_told told group ≡ true → Notes told named (λ k. group == k) named
+notes_told told named group known = record {
+  among = λ k is. or_left _ _ is;
+  others = λ k is. elim (cases_eq group k) [
+    | inl same ↦ (is, inr (subst (λ (j : ℕ). is_told told j ≡ true) same known))
+    | inr apart ↦ (is, inl (ne_eqb group k apart))
+  ];
+}
+
+pub notes_more : (told : List Told) (named more : List ℕ) (group : ℕ) → ((k : ℕ) → is_among more k ≡ (is_among named k || group == k)) → Notes told named (λ k. group == k) more
+notes_more told named more group same = record {
+  among = λ k is. sym (same k) ∙ is;
+  others = λ k is. let parts = or_parts (is_among named k) (group == k) (sym (same k) ∙ is) in (parts.0, inl parts.1);
 }
 
 stay : (told : List Told) (S : List JoinLine) → TellsReported S told → TellsReported S told
@@ -38,7 +56,7 @@ stay told S tells = tells
 
 module _ (law : More) (groups new : NamedGroups) (named more : List ℕ) (told : List Told) (heard : ℕ) (said : List JoinLine) (was : Watches groups named told heard said) where
   -- no batch ends behind the line
-  goes_on : (line : JoinLine) (now : ℕ) → Notes named line more → Keeps new (said ++ line ∷ []) → IsOpen (said ++ line ∷ []) now → (EndsBatch (said ++ line ∷ []) → ⊥) → Watches new more told now (said ++ line ∷ [])
+  goes_on : (line : JoinLine) (now : ℕ) → LineNotes told named line more → Keeps new (said ++ line ∷ []) → IsOpen (said ++ line ∷ []) now → (EndsBatch (said ++ line ∷ []) → ⊥) → Watches new more told now (said ++ line ∷ [])
   goes_on line now notes keeps open_ never = record {
     keeps = keeps;
     open_batch = open_;
@@ -47,13 +65,13 @@ module _ (law : More) (groups new : NamedGroups) (named more : List ℕ) (told :
     done = others_more said line named more told notes was.done;
   }
 
-  pub after_nothing : Notes named nothing more → Keeps new (said ++ nothing ∷ []) → Watches new more told heard (said ++ nothing ∷ [])
+  pub after_nothing : LineNotes told named nothing more → Keeps new (said ++ nothing ∷ []) → Watches new more told heard (said ++ nothing ∷ [])
   after_nothing notes keeps = goes_on nothing heard notes keeps (open_nothing said heard was.open_batch) (no_end_nothing said)
 
-  pub after_evidence : (group : ℕ) (pairs : List (ℕ × ℕ)) → Notes named (evidence group pairs) more → Keeps new (said ++ evidence group pairs ∷ []) → Watches new more told heard (said ++ evidence group pairs ∷ [])
+  pub after_evidence : (group : ℕ) (pairs : List (ℕ × ℕ)) → LineNotes told named (evidence group pairs) more → Keeps new (said ++ evidence group pairs ∷ []) → Watches new more told heard (said ++ evidence group pairs ∷ [])
   after_evidence group pairs notes keeps = goes_on (evidence group pairs) heard notes keeps (open_evidence said group pairs heard was.open_batch) (no_end_evidence said group pairs)
 
-  pub after_reception : (group : ℕ) (e : List Element) (now : ℕ) → now ≡ heard + 1 → now < MOST_IN_BATCH → Notes named (reception group e) more → Keeps new (said ++ reception group e ∷ [])
+  pub after_reception : (group : ℕ) (e : List Element) (now : ℕ) → now ≡ heard + 1 → now < MOST_IN_BATCH → LineNotes told named (reception group e) more → Keeps new (said ++ reception group e ∷ [])
       → Watches new more told now (said ++ reception group e ∷ [])
   after_reception group e now is few notes keeps =
       goes_on (reception group e) now notes keeps (open_more said group e heard now was.open_batch is few) (no_end_open said group e heard was.open_batch (omega arith))
@@ -68,7 +86,7 @@ all_done said named told out now after done looks k call extra answer = by_named
 
 -- a batch ended
 module _ (law : More) (groups new : NamedGroups) (named more : List ℕ) (told now : List Told) (heard : ℕ) (said : List JoinLine) (out after : List ℕ) (was : Watches groups named told heard said) where
-  pub after_batch : (group : ℕ) (e : List Element) → heard + 1 ≡ MOST_IN_BATCH → Notes named (reception group e) more → Keeps new (said ++ reception group e ∷ [])
+  pub after_batch : (group : ℕ) (e : List Element) → heard + 1 ≡ MOST_IN_BATCH → LineNotes told named (reception group e) more → Keeps new (said ++ reception group e ∷ [])
       → LooksThrough (said ++ reception group e ∷ []) more [] told out now after → Watches new [] now 0 (said ++ reception group e ∷ [])
   after_batch group e full notes keeps looks =
       let line : JoinLine = reception group e in
@@ -82,38 +100,51 @@ module _ (law : More) (groups new : NamedGroups) (named more : List ℕ) (told n
         done = record { named_by = λ k is. absurd cc; others = λ k is. all k };
       }
 
+-- and where it ends behind no line more
+pub after_pause : (groups new : NamedGroups) (named : List ℕ) (told now : List Told) (heard : ℕ) (said : List JoinLine) (out after : List ℕ) → Watches groups named told heard said → Keeps new said
+    → LooksThrough said named [] told out now after → Watches new [] now heard said
+after_pause groups new named told now heard said out after was keeps looks =
+    let all = all_done said named told out now after was.done looks in
+    record {
+      keeps = keeps;
+      open_batch = was.open_batch;
+      are_told = looks.tells.are_told was.are_told;
+      each_batch = λ n le ends k call extra answer. looks.tells.stays k (was.each_batch n le ends k call extra answer);
+      done = record { named_by = λ k is. absurd cc; others = λ k is. all k };
+    }
+
 -- the same of a line that names so
-nothing_more : (named : List ℕ) → Notes named nothing named
-nothing_more named k = sym (or-false (is_among named k))
+nothing_more : (told : List Told) (named : List ℕ) → LineNotes told named nothing named
+nothing_more told named = record { among = λ k is. or_left _ _ is; others = λ k is. (is, inl refl) }
 
 pub stands_nothing : More → (groups new : NamedGroups) (named : List ℕ) (told : List Told) (heard : ℕ) (said : List JoinLine) (line : JoinLine) → line ≡ nothing → Watches groups named told heard said
     → Keeps new (said ++ line ∷ []) → Watches new named told heard (said ++ line ∷ [])
 stands_nothing law groups new named told heard said line is was =
     subst (λ (l : JoinLine). Keeps new (said ++ l ∷ []) → Watches new named told heard (said ++ l ∷ [])) (sym is)
-    (after_nothing law groups new named named told heard said was (nothing_more named))
+    (after_nothing law groups new named named told heard said was (nothing_more told named))
 
 pub stands_evidence : More → (groups new : NamedGroups) (named more : List ℕ) (told : List Told) (heard : ℕ) (said : List JoinLine) (line : JoinLine) (group : ℕ) (pairs : List (ℕ × ℕ)) → line ≡ evidence group pairs
-    → ((k : ℕ) → is_among more k ≡ (is_among named k || group == k)) → Watches groups named told heard said → Keeps new (said ++ line ∷ []) → Watches new more told heard (said ++ line ∷ [])
+    → Notes told named (λ k. group == k) more → Watches groups named told heard said → Keeps new (said ++ line ∷ []) → Watches new more told heard (said ++ line ∷ [])
 stands_evidence law groups new named more told heard said line group pairs is notes was =
     subst (λ (l : JoinLine). Keeps new (said ++ l ∷ []) → Watches new more told heard (said ++ l ∷ [])) (sym is)
     (after_evidence law groups new named more told heard said was group pairs notes)
 
 pub stands_open : More → (groups new : NamedGroups) (named more : List ℕ) (told : List Told) (heard now : ℕ) (said : List JoinLine) (line : JoinLine) (group : ℕ) (e : List Element) → line ≡ reception group e
     → now ≡ heard + 1 → now < MOST_IN_BATCH
-    → ((k : ℕ) → is_among more k ≡ (is_among named k || group == k)) → Watches groups named told heard said → Keeps new (said ++ line ∷ []) → Watches new more told now (said ++ line ∷ [])
+    → Notes told named (λ k. group == k) more → Watches groups named told heard said → Keeps new (said ++ line ∷ []) → Watches new more told now (said ++ line ∷ [])
 stands_open law groups new named more told heard now said line group e is next few notes was =
     subst (λ (l : JoinLine). Keeps new (said ++ l ∷ []) → Watches new more told now (said ++ l ∷ [])) (sym is)
     (after_reception law groups new named more told heard said was group e now next few notes)
 
 pub stands_anew : More → (groups new : NamedGroups) (named more : List ℕ) (told now : List Told) (heard : ℕ) (said : List JoinLine) (line : JoinLine) (group : ℕ) (e : List Element) (out after : List ℕ) → line ≡ reception group e
-    → heard + 1 ≡ MOST_IN_BATCH → ((k : ℕ) → is_among more k ≡ (is_among named k || group == k)) → Watches groups named told heard said → Keeps new (said ++ line ∷ [])
+    → heard + 1 ≡ MOST_IN_BATCH → Notes told named (λ k. group == k) more → Watches groups named told heard said → Keeps new (said ++ line ∷ [])
     → LooksThrough (said ++ line ∷ []) more [] told out now after → Watches new [] now 0 (said ++ line ∷ [])
 stands_anew law groups new named more told now heard said line group e out after is full notes was =
     subst (λ (l : JoinLine). Keeps new (said ++ l ∷ []) → LooksThrough (said ++ l ∷ []) more [] told out now after → Watches new [] now 0 (said ++ l ∷ [])) (sym is)
     (after_batch law groups new named more told now heard said out after was group e full notes)
 
 -- the groups that were named behind one line more
-pub named_more : (said : List JoinLine) (line : JoinLine) (named more : List ℕ) (told : List Told) (group : ℕ) (e : List Element) → line ≡ reception group e → ((k : ℕ) → is_among more k ≡ (is_among named k || group == k))
+pub named_more : (said : List JoinLine) (line : JoinLine) (named more : List ℕ) (told : List Told) (group : ℕ) (e : List Element) → line ≡ reception group e → Notes told named (λ k. group == k) more
     → AreOthersDone said named told → (k : ℕ) → is_among more k ≡ true → is_named (said ++ line ∷ []) k ≡ true
 named_more said line named more told group e is notes done =
     subst (λ (l : JoinLine). (k : ℕ) → is_among more k ≡ true → is_named (said ++ l ∷ []) k ≡ true) (sym is) (others_more said (reception group e) named more told notes done).named_by

@@ -3,3 +3,4 @@ mod Looks
 mod Batches
 mod Kept
 mod Ends
+mod Begun

@@ -15,7 +15,7 @@ ghost use Rattle.watch_groups.specs.inside.Names.{Names};
 ghost use Rattle.watch_groups.specs.inside.Kept.{Watches, StandsFor, LooksThrough};
 ghost use Rattle.watch_groups.specs.inside.Gives.{gives_told};
 
-use crate::telling::{Told, look_through, note, watcher_of};
+use crate::telling::{Judged, ToldCalls, look_through, note_untold, watcher_of};
 use dsc_lines::{JoinLine, LineFault, join_line, one_line};
 use dsc_streams::Status;
 use join_groups::{Answers, MOST_IN_BATCH, NamedGroups, take_waiting, tell_all};
@@ -23,18 +23,19 @@ use line_engine::{Command, Refusal};
 use live_watch::{WatchedJoiner, told_calls};
 use std::alloc::{AllocError, Global};
 
-/// The command that tells a call of each group as soon as a batch ends that reports it, and at the input's end answers as `join` does.
-/// Workers join its receptions while a watcher looks on.
+/// The command that tells a call of each group as soon as a batch ends that reports it, and at the input's end answers as `join` does. A batch
+/// ends at each 256th reception, and where the engine pauses, before it reads on. Workers join its receptions while a watcher looks on.
 #[derive(Drop)]
 pub struct WatchGroups<W: WatchedJoiner> {
     alloc: Global,
     workers: W,
     groups: NamedGroups,
-    /// How many receptions the open batch has.
+    /// How many receptions came since the last 256th one. A pause ends the batch too, and leaves this as it is.
     heard: usize,
-    /// The groups that its lines named.
+    /// The groups that the lines of the open batch named, but for those of which a call was told.
     named: Vec<u32>,
-    told: Vec<Told>,
+    told: ToldCalls,
+    judged: Judged,
 }
 
 /// What a line names.
@@ -61,7 +62,7 @@ fn named_by(read: &JoinLine) -> Named
 impl<W: WatchedJoiner> WatchGroups<W> {
     /// The command before its first line.
     pub fn new(alloc: Global, workers: W) -> WatchGroups<W>
-        ensures stands { StandsFor result.groups result.named.items result.told.items result.heard [] [] }
+        ensures stands { StandsFor result.groups result.named.items result.told result.heard [] [] }
         ensures workers { result.workers ≡ workers }
     {
         told_calls();
@@ -71,7 +72,8 @@ impl<W: WatchedJoiner> WatchGroups<W> {
             groups: NamedGroups::new(alloc),
             heard: 0,
             named: Vec::new(alloc),
-            told: Vec::new(alloc),
+            told: ToldCalls::new(alloc),
+            judged: Judged::new(alloc),
         }
     }
 
@@ -81,17 +83,24 @@ impl<W: WatchedJoiner> WatchGroups<W> {
         requires ready { HoldsSome self.old.groups }
         ensures workers { OnOk result (self.new.workers ≡ self.old.workers) }
         ensures ended { OnOk result ((self.new.groups.batch.items ≡ []) × (self.new.named.items ≡ [])
-            × (self.new.heard ≡ 0)) }
+            × (self.new.heard ≡ self.old.heard)) }
         ensures keeps { OnOk result ((said : List Line) → Keeps self.old.groups said → Keeps self.new.groups said) }
         ensures told { OnOk result ((said : List Line) → Keeps self.old.groups said
             → ((k : ℕ) → is_among self.old.named.items k ≡ true → is_named said k ≡ true)
-            → LooksThrough said self.old.named.items [] self.old.told.items out.old.items self.new.told.items
+            → LooksThrough said self.old.named.items [] self.old.told out.old.items self.new.told
             out.new.items) }
     {
-        let begun = watcher_of(self.alloc, &self.groups, &self.named, &self.told)?;
+        let begun = watcher_of(self.alloc, &self.groups, &self.named, &self.judged)?;
         let watcher = self.groups.close_watched(&self.workers, begun)?;
-        look_through(&self.groups, &watcher, &mut self.named, &mut self.told, out)?;
-        self.heard = 0;
+        look_through(
+            &self.groups,
+            &watcher,
+            &self.named,
+            &mut self.told,
+            &mut self.judged,
+            out,
+        )?;
+        self.named.clear();
         Ok(())
     }
 
@@ -102,23 +111,24 @@ impl<W: WatchedJoiner> WatchGroups<W> {
         requires few { self.old.heard < MOST_IN_BATCH }
         ensures workers { OnOk result (self.new.workers ≡ self.old.workers) }
         ensures stands { OnOk result ((before : Held) (said : List Line) (line : Line) (written : List ℕ)
-            → Watches before self.old.named.items self.old.told.items self.old.heard said
+            → Watches before self.old.named.items self.old.told self.old.heard said
             → Keeps self.old.groups (said ++ line ∷ []) → Names line named
-            → written ++ out.old.items ≡ told_text self.old.told.items
-            → Watches self.new.groups self.new.named.items self.new.told.items self.new.heard (said ++ line ∷ [])
-            × (written ++ out.new.items ≡ told_text self.new.told.items)) }
+            → written ++ out.old.items ≡ told_text self.old.told
+            → Watches self.new.groups self.new.named.items self.new.told self.new.heard (said ++ line ∷ [])
+            × (written ++ out.new.items ≡ told_text self.new.told)) }
     {
         told_calls();
         match named {
             Named::Nothing => Ok(()),
             Named::Evidence(group) => {
-                note(&mut self.named, group)?;
+                note_untold(&mut self.named, &self.told, group)?;
                 Ok(())
             }
             Named::Reception(group) => {
-                note(&mut self.named, group)?;
+                note_untold(&mut self.named, &self.told, group)?;
                 self.heard += 1;
                 if self.heard == MOST_IN_BATCH {
+                    self.heard = 0;
                     self.end_batch(out)?;
                 }
                 Ok(())
@@ -135,11 +145,11 @@ impl<W: WatchedJoiner> WatchGroups<W> {
         requires few { self.old.heard < MOST_IN_BATCH }
         ensures workers { OnOk result (self.new.workers ≡ self.old.workers) }
         ensures stands { OnOk result ((said : List Line) (line : Line) (written : List ℕ)
-            → Watches self.old.groups self.old.named.items self.old.told.items self.old.heard said
-            → Says line read → written ++ out.old.items ≡ told_text self.old.told.items
+            → Watches self.old.groups self.old.named.items self.old.told self.old.heard said
+            → Says line read → written ++ out.old.items ≡ told_text self.old.told
             → (BringsTooMany said line → ⊥)
-            × Watches self.new.groups self.new.named.items self.new.told.items self.new.heard (said ++ line ∷ [])
-            × (written ++ out.new.items ≡ told_text self.new.told.items)) }
+            × Watches self.new.groups self.new.named.items self.new.told self.new.heard (said ++ line ∷ [])
+            × (written ++ out.new.items ≡ told_text self.new.told)) }
         ensures refused { IfErr result (λ refusal. (refusal ≡ Refusal.Memory)
             ⊎ ((said : List Line) (line : Line) → Keeps self.old.groups said
             → Says line read → (refusal ≡ Refusal.TooManyGroups) × BringsTooMany said line)) }
@@ -160,7 +170,7 @@ impl<W: WatchedJoiner> Command for WatchGroups<W> {
     ghost meaning = { watch_meaning };
 
     ghost stands_for = { λ command lines text. W.can_join command.workers
-        × StandsFor command.groups command.named.items command.told.items command.heard lines text };
+        × StandsFor command.groups command.named.items command.told command.heard lines text };
 
     fn take(&mut self, line: &[u8], out: &mut Vec<u8>) -> Result<(), Refusal> {
         one_line();
@@ -169,6 +179,13 @@ impl<W: WatchedJoiner> Command for WatchGroups<W> {
             Err(LineFault::Column(n)) => Err(Refusal::Column(n)),
             Err(LineFault::NoMemory) => Err(Refusal::Memory),
         }
+    }
+
+    fn pause(&mut self, out: &mut Vec<u8>) -> Result<(), AllocError> {
+        if !self.named.is_empty() {
+            self.end_batch(out)?;
+        }
+        Ok(())
     }
 
     fn finish(&mut self, out: &mut Vec<u8>) -> Result<Status, AllocError> {

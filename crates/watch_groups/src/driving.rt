@@ -1,6 +1,7 @@
 ghost use Rattle.std.specs.Prelude.{◌≤◌, All, IfOk};
 ghost use Rattle.line_engine.specs.Runs.{IsRun};
 ghost use Rattle.receiver_pool.specs.Groups.{facts_of_group, IsShort, Shows};
+ghost use Rattle.live_watch.specs.Batches.{HasWatched};
 ghost use Rattle.watch_groups.specs.Meaning.{watch_meaning};
 
 use crate::command::WatchGroups;
@@ -12,10 +13,11 @@ use slot_evidence::Sheet;
 use std::alloc::{AllocError, Global};
 use std::thread::Threads;
 
-/// Reads lines of receptions and evidence to their end. As soon as a batch of 256 receptions ends, a call is told of each group that
-/// the lines so far report and of which none was told; so it is at the input's end, and the answer of each group follows, by rising
-/// number. So many workers, 1 to 64, read the receptions of a batch, and a watcher beside them goes round their boards, with one fork: it may
-/// see a group's call while they still post.
+/// Reads lines of receptions and evidence to their end. As soon as a batch ends, a call is told of each group that the lines so far report and
+/// of which none was told; so it is at the input's end, and the answer of each group follows, by rising number. A batch ends at each 256th
+/// reception, and behind the lines of each read: so a call is told before more is read. Told lines of one batch come in the order in which its
+/// lines first named their groups. So many workers, 1 to 64, read the receptions of a batch, and a watcher beside them goes round their
+/// boards, with one fork: it may see a group's call while they still post.
 ///
 /// | Status | What it says |
 /// |---|---|
@@ -43,7 +45,8 @@ pub fn watch_groups<R: Threads + Sync, S: Source, K: Sink, G: Gate>(
         AllocError,
     >
         requires { (1 ≤ workers) × (workers ≤ 64) × All IsShort batch.now }
-        ensures { IfOk result (λ v. Shows (facts_of_group batch.now) batch.now v.0.items) }
+        ensures { IfOk result (λ v. Shows (facts_of_group batch.now) batch.now v.0.items
+            × HasWatched watcher v.1 known.now batch.now) }
     { watch_batch(rt, alloc, known, batch, workers, gate, watcher) };
     let mut command = WatchGroups::new(alloc, WatchedWorkers { join });
     drive(alloc, &mut command, source, sink)

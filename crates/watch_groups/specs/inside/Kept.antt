@@ -1,5 +1,5 @@
 -- What a watch of an input keeps. This project's own form.
-use Rattle.std.specs.Prelude.{◌≡◌, ℕ, ◌+◌, ◌*◌, ◌<◌, true, false, List, ◌++◌}
+use Rattle.std.specs.Prelude.{◌≡◌, ◌⊎◌, ℕ, ◌+◌, ◌*◌, ◌<◌, ◌||◌, Bool, true, false, List, ◌++◌}
 use Rattle.call_values.specs.declared.calls.Call.{Call}
 use Rattle.slot_join.specs.declared.joined.Joined.TheVariants.{Reported}
 use Rattle.slot_join.specs.declared.joined.Extra.{Extra}
@@ -27,6 +27,11 @@ pub record IsOpen (said : List JoinLine) (heard : ℕ) : Type 0 where
 pub record AreOthersDone (said : List JoinLine) (named : List ℕ) (told : List Told) : Type 0 where
   pub named_by : (k : ℕ) → is_among named k ≡ true → is_named said k ≡ true
   pub others : (k : ℕ) → is_among named k ≡ false → IsDone said told k
+
+-- groups that are named are noted beside others, but for those of which a call was told
+pub record Notes (told : List Told) (named : List ℕ) (names : ℕ → Bool) (more : List ℕ) : Type 0 where
+  pub among : (k : ℕ) → is_among more k ≡ true → (is_among named k || names k) ≡ true
+  pub others : (k : ℕ) → is_among more k ≡ false → (is_among named k ≡ false) × ((names k ≡ false) ⊎ (is_told told k ≡ true))
 
 -- what is kept of these lines
 pub record Watches (groups : NamedGroups) (named : List ℕ) (told : List Told) (heard : ℕ) (said : List JoinLine) : Type 0 where

@@ -1,33 +1,29 @@
-use Rattle.std.proofs.Common.{◌≡◌, false, List, Option, sym, ap, subst, ◌∙◌}
-use Rattle.call_values.specs.declared.calls.Call.{Call}
-use Rattle.live_watch.specs.Told.{IsWatched}
+use Rattle.std.proofs.Common.{List, sym, subst}
+use Rattle.std.proofs.lemmas.Result.{on_ok_weaker}
 use Rattle.join_groups.specs.Groups.{is_named, group_facts}
 use Rattle.watch_groups.specs.declared.telling.Told.{Told}
-use Rattle.watch_groups.specs.Telling.{is_told}
 use Rattle.watch_groups.specs.inside.Kept.{LooksAt}
 use Rattle.watch_groups.proofs.Calls.{tells_none, tells_one, one_is_told}
 use Rattle.watch_groups.proofs.telling.look_at.Goals as goal
 
-pub returns-in_ok-push : goal.returns-in_ok-push
-returns-in_ok-push c = λ said keeps named.
+pub returns-in_ok-append_told-in-Ok : goal.returns-in_ok-append_told-in-Ok
+returns-in_ok-append_told-in-Ok c = on_ok_weaker c.push.result
+    (λ more. λ said keeps named.
     let group = c.args.group in
-    let told = c.args.told.now.items in
-    let one : Told = record { group = group; call = c.in-Some.call } in
-    let watched = c.call_to_tell.ensures (group_facts said group) (c.sheet_of.ensures (is_named said) (group_facts said) keeps) in
-    let shown = subst (λ (o : Option Call). IsWatched (group_facts said group) o) c.in-Some.is watched in
-    let new : is_told told group ≡ false = ap (λ (l : List Told). is_told l group) (sym c.deref.ensures.value) ∙ sym c.if-is_told.ensures in
-    subst (λ (l : List Told). LooksAt said group told c.args.out.now.items l c.append_told.new.out.items) (sym c.in_ok-push.ensures.items)
+    let told = c.args.told.now in
+    let one : Told = record { group = group; call = c.in-Ok.call } in
+    let shown = c.in-Ok.ensures.call (group_facts said group) (c.sheet_of.ensures (is_named said) (group_facts said) keeps) in
+    subst (λ (l : List Told). LooksAt said group told c.args.out.now.items l c.append_told.new.out.items) (sym more)
     record {
-      tells = tells_one said told one c.args.out.now.items c.append_told.new.out.items (record { named = named; call = shown }) new c.in_ok-append_told.ensures;
+      tells = tells_one said told one c.args.out.now.items c.append_told.new.out.items (record { named = named; call = shown }) (sym c.if-has.ensures) c.in_ok-append_told-in-Ok.ensures;
       done = λ call extra is. one_is_told told one;
-    }
+    })
+    c.push.ensures
 
-pub returns-in_default : goal.returns-in_default
-returns-in_default c = λ said keeps named.
-    let group = c.args.group in
-    let watched = c.call_to_tell.ensures (group_facts said group) (c.sheet_of.ensures (is_named said) (group_facts said) keeps) in
-    let none = subst (λ (o : Option Call). IsWatched (group_facts said group) o) c.in_default.is watched in
+pub returns-in_ok-keep-in-Err : goal.returns-in_ok-keep-in-Err
+returns-in_ok-keep-in-Err c = λ said keeps named.
+    let none = c.in-Err.ensures.none (group_facts said c.args.group) (c.sheet_of.ensures (is_named said) (group_facts said) keeps) in
     record {
-      tells = tells_none said c.args.told.now.items c.args.out.now.items;
+      tells = tells_none said c.args.told.now c.args.out.now.items;
       done = λ call extra is. absurd (none call extra is);
     }

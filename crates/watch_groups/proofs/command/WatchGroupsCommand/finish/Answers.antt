@@ -6,7 +6,7 @@ pub returns-then-branch-clause-ends : goal.returns-then-branch-clause-ends
 returns-then-branch-clause-ends g c = λ lines written stands.
     let kept = stands.1.watches in
     let told = c.in_ok-tell_all.ensures stands.1.said (c.in_ok-end_batch.ensures.keeps stands.1.said kept.keeps) c.in_ok-end_batch.ensures.ended.0 in
-    ends_watch written c.args.out.now.items stands.1 c.end_batch.new.self.told.items c.end_batch.new.out.items c.tell_all.new.out.items told.0 c.in_ok-tell_all.field-0 c.new.result
+    ends_watch written c.args.out.now.items stands.1 c.end_batch.new.self.told c.end_batch.new.out.items c.tell_all.new.out.items told.0 c.in_ok-tell_all.field-0 c.new.result
     (c.in_ok-end_batch.ensures.told stands.1.said kept.keeps kept.done.named_by) told.1.0 told.1.1
     (c.new.ensures ∙ sym (ap (λ (b : Bool). cond {A = ℕ} b 0 1) c.if-branch.true))
 
@@ -14,6 +14,6 @@ pub returns-else-branch-clause-ends : goal.returns-else-branch-clause-ends
 returns-else-branch-clause-ends g c = λ lines written stands.
     let kept = stands.1.watches in
     let told = c.in_ok-tell_all.ensures stands.1.said (c.in_ok-end_batch.ensures.keeps stands.1.said kept.keeps) c.in_ok-end_batch.ensures.ended.0 in
-    ends_watch written c.args.out.now.items stands.1 c.end_batch.new.self.told.items c.end_batch.new.out.items c.tell_all.new.out.items told.0 c.in_ok-tell_all.field-0 c.new-else-branch.result
+    ends_watch written c.args.out.now.items stands.1 c.end_batch.new.self.told c.end_batch.new.out.items c.tell_all.new.out.items told.0 c.in_ok-tell_all.field-0 c.new-else-branch.result
     (c.in_ok-end_batch.ensures.told stands.1.said kept.keeps kept.done.named_by) told.1.0 told.1.1
     (c.new-else-branch.ensures ∙ sym (ap (λ (b : Bool). cond {A = ℕ} b 0 1) c.if-branch.false))

@@ -11,7 +11,7 @@ returns-in-Ok-clause-stands g c = on_ok_both c.take_line.result
     let new = c.take_line.new.self in
     let taken = ok stands.1.said line.0 written stands.1.watches line.1.1 stands.1.text_is in (
       subst g.W.WatchedJoiner.can_join (sym same) stands.0,
-      stands_after stands.1 line.0 c.args.line.now new.groups new.named.items new.told.items new.heard (written ++ c.take_line.new.out.items) line.1.0 taken.1 taken.2,
+      stands_after stands.1 line.0 c.args.line.now new.groups new.named.items new.told new.heard (written ++ c.take_line.new.out.items) line.1.0 taken.1 taken.2,
     ))
     c.take_line.ensures.workers
     c.take_line.ensures.stands
