@@ -13,8 +13,18 @@ documents=$prefix/share/doc/dsc
 # other, so that their links hold.
 list_installed() (
     cd "$top" || exit
-    echo "man/dsc.1 $prefix/share/man/man1"
-    for file in README.md VERSION CHANGELOG.md docs/*.md docs/pictures/*.svg examples/* examples/slurm/* \
+    for file in man/*.1; do
+        echo "$file $prefix/share/man/man1"
+    done
+    echo "tools/dsc-listen $prefix/bin"
+    echo "tools/dsc-json $prefix/bin"
+    for file in tools/listen/*.py tools/json_lines/*.py; do
+        folder=${file#tools/}
+        echo "$file $prefix/share/dsc/${folder%/*}"
+    done
+    echo "tools/symbols.py $prefix/share/dsc"
+    echo "tools/completion.bash $prefix/share/bash-completion/completions"
+    for file in README.md VERSION CHANGELOG.md docs/*.md docs/*.json docs/pictures/*.svg examples/* examples/slurm/* \
         tools/split_groups tools/explain tools/draw_receptions tools/soft_bits tools/make_exchange \
         tools/pictures.py tools/shared.py tools/symbols.py; do
         [ -f "$file" ] || continue

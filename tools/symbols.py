@@ -36,6 +36,8 @@ TABLES = {
     "messages": MESSAGES, "phasing": PHASING,
 }
 NO_INFORMATION, UNKNOWN_POSITION, UNKNOWN_TIME, VHF_CHANNEL = 126, 99, 88, 90
+# The last symbol that there is.
+LAST = 127
 # The documents of some constants begin with a name of the symbol, or go on after what it is.
 NAMED = re.compile(r"^(?:Acknowledge [RB]Q|EOS): ")
 USED = re.compile(r", in (?:place of a telecommand|a message|a frequency)\b.*$")

@@ -1,0 +1,1 @@
+"""`dsc-json`: the lines that `dsc` writes, and DSC and DSE sentences, as JSON objects, one a line."""
