@@ -114,7 +114,11 @@ fn lines_of_refusals(rt: HostRuntime) -> Result<(), Fail> {
         let mut line: ArrayVec<u8, 80> = ArrayVec::new();
         append_refusal_text(&mut line, *at, refusal);
         assert_eq!(rt; line.as_slice(), text.as_bytes(), "{text}");
-        assert_eq!(rt; put_refused(*at, refusal).as_slice(), text.as_bytes(), "{text}");
+        assert_eq!(rt;
+            put_refused(*at, refusal).as_slice(),
+            text.as_bytes(),
+            "{text}"
+        );
     }
     Ok(())
 }
