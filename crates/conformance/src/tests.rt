@@ -18,3 +18,4 @@ mod streams;
 mod streams_captured;
 mod watches;
 mod workers;
+mod written;

@@ -154,10 +154,21 @@ fn the_open_gate_lets_pass(rt: HostRuntime) -> Result<(), Fail> {
 
 /// A reception of the worked alert that begins with slot 0, in which these slots are lost.
 fn reception(alloc: Global, lost: &[usize]) -> Result<Reception, AllocError> {
+    reception_with(alloc, lost, &[])
+}
+
+/// A whole reception of it, in which both slots of place 7 have another symbol.
+pub(crate) fn one_that_differs(alloc: Global) -> Result<Reception, AllocError> {
+    reception_with(alloc, &[], &[26, 31])
+}
+
+/// A reception of it in which these slots are lost, and those have the symbol 120.
+fn reception_with(alloc: Global, lost: &[usize], other: &[usize]) -> Result<Reception, AllocError> {
     let mut elements = Vec::new(alloc);
     for (slot, symbol) in ALERT_SLOTS.iter().enumerate() {
         let is_lost = lost.contains(&slot);
-        let sent = word(*symbol % 128);
+        let symbol = if other.contains(&slot) { 120 } else { *symbol };
+        let sent = word(symbol % 128);
         let heard = if is_lost { [Element::Lost; 10] } else { sent };
         elements.extend_from_slice(&heard)?;
     }

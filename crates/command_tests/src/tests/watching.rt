@@ -4,7 +4,8 @@ ghost use Rattle.evidence_board.specs.Facts.{all_facts};
 ghost use Rattle.receiver_pool.specs.Groups.{IsShort};
 
 use crate::tests::board::{
-    are_all_short, are_short, one_by_one, sheet_of_group, two_groups, two_receptions,
+    are_all_short, are_short, one_by_one, one_that_differs, sheet_of_group, two_groups,
+    two_receptions,
 };
 use call_grammar::spell;
 use call_values::Call;
@@ -13,7 +14,7 @@ use evidence_board::{AllFacts, Board, all_facts_may_be_posted};
 use live_watch::{BatchWatcher, News, Watcher, watch, watch_batch};
 use phasing::LONGEST;
 use receiver_pool::{Gate, GroupReception, Open};
-use slot_evidence::{Reception, Sheet, sheet_is_lawful};
+use slot_evidence::{Reception, Seen, Sheet, sheet_is_lawful};
 use std::alloc::{AllocError, Global};
 use std::sync::atomic::{AtomicBool, Ordering};
 use std::test::Fail;
@@ -175,12 +176,12 @@ fn watch_two_boards<R: Threads + Sync, G: Gate>(
     requires short { All IsShort batch.now }
 {
     let mut watcher = BatchWatcher::new(alloc);
-    watcher.add(1)?;
-    watcher.add(513)?;
+    watcher.add(1, None)?;
+    watcher.add(513, None)?;
     let (entries, watcher) = watch_batch(rt, alloc, known, batch, workers, gate, watcher)?;
-    let is_first_seen = watcher.seen_of(1).is_some();
-    let is_alert_seen = is_alert(watcher.seen_of(1));
-    let is_other_seen = watcher.seen_of(513).is_some();
+    let is_first_seen = watcher.seen_of(0, 1).is_some();
+    let is_alert_seen = is_alert(watcher.seen_of(0, 1));
+    let is_other_seen = watcher.seen_of(0, 513).is_some();
     Ok((
         sheet_of_group(&entries, 1),
         is_alert_seen,
@@ -220,6 +221,78 @@ fn what_was_known_of_a_group_counts_in_a_watch(rt: HostRuntime) -> Result<(), Fa
     let (_sheet, is_alert, is_other) = watch_two_boards(&rt, rt.alloc(), 2, &Open, &known, &batch)?;
     assert!(rt; is_alert);
     assert!(rt; !is_other);
+    Ok(())
+}
+
+/// A gate in which worker 1 waits for the watcher, and then lets it look for a while.
+#[derive(Drop)]
+struct LastWorkerWaits {
+    entered: AtomicBool,
+    met: AtomicBool,
+}
+
+impl Gate for LastWorkerWaits {
+    fn enter(&self, worker: u32) {
+        if worker == 2 {
+            self.entered.store(true, Ordering::SeqCst);
+        }
+        if worker == 1 && wait_for(&self.entered) {
+            self.met.store(true, Ordering::SeqCst);
+            for _ in 0..1_000 {
+                yield_now();
+            }
+        }
+    }
+}
+
+/// A batch of groups 1 and 513. Of two workers the first reads the two receptions of group 1 that tell the alert together; the second reads
+/// one of group 513, which tells no call alone, and one of group 1 that differs.
+fn batch_that_differs(alloc: Global) -> Result<Vec<GroupReception>, AllocError> {
+    let mut batch = Vec::new(alloc);
+    for reception in two_receptions(alloc)? {
+        batch.push(GroupReception {
+            group: 1,
+            reception,
+        })?;
+    }
+    batch.insert(
+        1,
+        GroupReception {
+            group: 1,
+            reception: one_that_differs(alloc)?,
+        },
+    )?;
+    if let Some(reception) = two_receptions(alloc)?.pop() {
+        batch.push(GroupReception {
+            group: 513,
+            reception,
+        })?;
+    }
+    Ok(batch)
+}
+
+// The facts of group 1 report no call in the end. Worker 1 stands in the gate while worker 0 posts what reports one: the watcher sees it, in
+// some of so many tries at the least.
+#[test]
+fn a_call_is_seen_that_facts_report_for_a_while(rt: HostRuntime) -> Result<(), Fail> {
+    let batch = batch_that_differs(rt.alloc())?;
+    assert!(rt; are_all_short(&batch));
+    let mut seen = 0u32;
+    for _ in 0..100 {
+        let gate = LastWorkerWaits {
+            entered: AtomicBool::new(false),
+            met: AtomicBool::new(false),
+        };
+        let (sheet, is_alert, is_other) = watch_two_boards(&rt, rt.alloc(), 2, &gate, &[], &batch)?;
+        assert!(rt; gate.met.load(Ordering::SeqCst));
+        assert_eq!(rt; sheet.at(7), Seen::Differ(106, 120));
+        assert!(rt; !is_other);
+        if is_alert {
+            seen += 1;
+            break;
+        }
+    }
+    assert_eq!(rt; seen, 1);
     Ok(())
 }
 

@@ -199,10 +199,10 @@ fn devices_fail_in_join_and_evidence(rt: HostRuntime) -> Result<(), Fail> {
     try_failures(&rt, alloc, "dsc evidence", "e 0:1\nr \n", 3, true)
 }
 
-// No batch ends before the input does, and so nothing is told before.
+// A call is told before the input's end.
 #[test]
 fn devices_fail_in_watch(rt: HostRuntime) -> Result<(), Fail> {
-    try_failures(&rt, rt.alloc(), "dsc watch", HEARD, 1, true)
+    try_failures(&rt, rt.alloc(), "dsc watch", HEARD, 1, false)
 }
 
 // Each kind of line of calls: with an expansion, and without one or a line feed.

@@ -104,11 +104,12 @@ const ROWS: [(&str, u32, Entries); 9] = [
     (" --workers 64", 300, (128, 126, 0)),
 ];
 
-// Those of a watch: in each batch of receptions all workers enter once, and a watcher beside them.
+// Those of a watch: in each batch of receptions all workers enter once, and a watcher beside them. The source gives eight lines a read, behind
+// which a batch ends: 300 lines are 38 batches.
 const WATCHED: [(&str, u32, Entries); 4] = [
     ("dsc watch", 0, (0, 0, 0)),
     ("dsc watch", 2, (2, 1, 0)),
-    ("dsc watch --workers 2", 300, (6, 4, 0)),
+    ("dsc watch --workers 2", 300, (114, 76, 0)),
     ("dsc watch --workers 64", 2, (65, 64, 0)),
 ];
 

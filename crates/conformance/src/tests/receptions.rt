@@ -93,15 +93,31 @@ pub(crate) fn heard_at_a_ship(alloc: Global, events: &str) -> Result<Vec<u8>, Al
     Ok(file)
 }
 
-// Two receptions of one alert, neither of which tells it alone.
-pub(crate) fn two_damaged(alloc: Global) -> Result<Vec<u8>, AllocError> {
-    let mut input = line(alloc, &ALERT_SLOTS, &WITHOUT_DX)?;
+// The first or the second of two receptions of one alert, neither of which tells it alone.
+pub(crate) fn damaged(alloc: Global, is_second: bool) -> Result<Vec<u8>, AllocError> {
     let late = Row {
         lost: &LOST_BUT_PLACE_7,
         ..WHOLE
     };
-    input.extend_from_slice(&line(alloc, &ALERT_SLOTS, &late)?)?;
+    line(
+        alloc,
+        &ALERT_SLOTS,
+        if is_second { &late } else { &WITHOUT_DX },
+    )
+}
+
+// Both of them.
+pub(crate) fn two_damaged(alloc: Global) -> Result<Vec<u8>, AllocError> {
+    let mut input = damaged(alloc, false)?;
+    input.extend_from_slice(&damaged(alloc, true)?)?;
     Ok(input)
+}
+
+// The line of a reception, in which it is one of this group.
+pub(crate) fn of_group(alloc: Global, group: u32, line: &[u8]) -> Result<Vec<u8>, AllocError> {
+    let mut text = Vec::from_slice(alloc, format!(in alloc; "r g{group}")?.as_bytes())?;
+    text.extend_from_slice(line.strip_prefix(b"r").unwrap_or(line))?;
+    Ok(text)
 }
 
 // The words of a command line, parted by blanks.

@@ -1,8 +1,12 @@
-use crate::tests::receptions::{THREE_DX, compare, line, two_damaged, words_of};
-use dsc_cmd::{ByteSource, SureSink, run};
+use crate::tests::receptions::{
+    Row, THREE_DX, WHOLE, compare, damaged, line, of_group, two_damaged, words_of,
+};
+use dsc_cmd::{ByteSource, SureSink, SureSource, run};
 use dsc_symbols::worked::ALERT_SLOTS;
 use receiver_pool::Open;
 use std::test::Fail;
+
+const CALL: &str = "alert from=338040079 nature=106 pos=1423108312 time=2019 then=100\n";
 
 const TOLD: &str = "told g0 alert from=338040079 nature=106 pos=1423108312 time=2019 then=100\n";
 
@@ -27,21 +31,75 @@ fn no_call_is_told_of_three_phasing_symbols(rt: HostRuntime) -> Result<(), Fail>
     compare(&rt, alloc, "dsc watch", input, b"g0 missing 0\n", 1)
 }
 
-// The first batch ends with the last reception, and the source fails behind the comment: the call was told by then.
+// The source gives a byte a read, and fails behind the second reception's line: the call was told by then.
 #[test]
-fn a_call_is_told_at_the_end_of_its_batch(rt: HostRuntime) -> Result<(), Fail> {
+fn a_call_is_told_before_the_next_read(rt: HostRuntime) -> Result<(), Fail> {
     let alloc = rt.alloc();
-    let words = words_of(alloc, "dsc watch")?;
-    let mut input = two_damaged(alloc)?;
-    for _ in 0..254 {
-        input.extend_from_slice(b"r\n")?;
+    for words in ["dsc watch", "dsc watch --workers 2"] {
+        let words = words_of(alloc, words)?;
+        let input = two_damaged(alloc)?;
+        let behind = input.len() as u64 + 1;
+        let mut source = ByteSource::new(input, 1, vec![in alloc; behind]?);
+        let mut sink = SureSink::new(alloc, 4096, 4096)?;
+        let status = run(&rt, alloc, &words, &mut source, &mut sink, &Open);
+        assert_eq!(rt; sink.bytes(), TOLD.as_bytes());
+        assert_eq!(rt; status.number(), 4);
     }
-    input.extend_from_slice(b"#\n")?;
-    let behind = input.len() as u64 + 1;
-    let mut source = ByteSource::new(input, 1, vec![in alloc; behind]?);
+    Ok(())
+}
+
+// Three alerts, each of two receptions, neither of which tells it alone. Their groups are first named in another order than that in which
+// they are reported, and than that of their numbers.
+const NAMED: [(u32, bool); 6] = [
+    (5, false),
+    (9, true),
+    (2, false),
+    (2, true),
+    (9, false),
+    (5, true),
+];
+
+// In one batch calls are told in the order in which its lines first named their groups; where each line is a batch, as they are reported.
+#[test]
+fn told_calls_come_in_the_order_of_their_groups(rt: HostRuntime) -> Result<(), Fail> {
+    let alloc = rt.alloc();
+    let mut input = Vec::new(alloc);
+    for (group, is_second) in NAMED {
+        input.extend_from_slice(&of_group(alloc, group, &damaged(alloc, is_second)?)?)?;
+    }
+    for (piece, order) in [(65_536, [5, 9, 2]), (1, [2, 9, 5])] {
+        for words in ["dsc watch", "dsc watch --workers 3"] {
+            let mut source = SureSource::new(input.to_vec(alloc)?, piece);
+            let mut sink = SureSink::new(alloc, 4096, 4096)?;
+            let words = words_of(alloc, words)?;
+            let status = run(&rt, alloc, &words, &mut source, &mut sink, &Open);
+            assert_eq!(rt; status.number(), 0);
+            let mut want = Vec::new(alloc);
+            for group in order {
+                want.extend_from_slice(format!(in alloc; "told g{group} {CALL}")?.as_bytes())?;
+            }
+            assert!(rt; sink.bytes().starts_with(&want), "{piece}");
+        }
+    }
+    Ok(())
+}
+
+// A group whose call was told hears more, which differs; it is told once, and the answer at the end is that to all.
+#[test]
+fn a_told_call_stays_told(rt: HostRuntime) -> Result<(), Fail> {
+    let alloc = rt.alloc();
+    let other = Row {
+        other: &[(26, 120), (31, 120)],
+        ..WHOLE
+    };
+    let mut input = two_damaged(alloc)?;
+    input.extend_from_slice(&line(alloc, &ALERT_SLOTS, &other)?)?;
+    let want = format!(in alloc; "{TOLD}g0 differ 7 106 120\n")?;
+    let words = words_of(alloc, "dsc watch")?;
+    let mut source = SureSource::new(input, 1);
     let mut sink = SureSink::new(alloc, 4096, 4096)?;
     let status = run(&rt, alloc, &words, &mut source, &mut sink, &Open);
-    assert_eq!(rt; sink.bytes(), TOLD.as_bytes());
-    assert_eq!(rt; status.number(), 4);
+    assert_eq!(rt; sink.bytes(), want.as_bytes());
+    assert_eq!(rt; status.number(), 1);
     Ok(())
 }
