@@ -152,7 +152,7 @@ fn execute<R: Threads + Sync, S: Source, K: Sink, G: Gate>(
 /// | `sentences` | for each line of a call its DSC sentence, and the DSE sentence of its expansion; for each sentence a verdict |
 /// | `replay [--workers N]` | for each event line of a traffic file what the station does, or why it refuses the event |
 /// | `capture` | for each start of a stream of elements its origin and the answer to its facts |
-/// | `watch [--workers N]` | a call of each group as soon as a batch of 256 receptions ends that reports it, and at the end what `join` writes |
+/// | `watch [--workers N]` | a call of each group as soon as the lines so far report it, before each read and at each 256 receptions, and at the end what `join` writes |
 /// | `exchange` | for each event line of a file of an exchange what it gives at its end, the ship or the coast station: what the end does, or why it refuses the event, or that no such call was sent |
 /// | `book` | each row that the DSC sentences of logs give, once, by rising order: who was in distress, who acknowledged and relayed it |
 /// | `make N` | the summary of the join of N generated groups, of four receptions each; nothing is read |
