@@ -99,11 +99,15 @@ class Listening:
         self.came[source.name] = now
         self.station.take(source.name, exchanged(elements) if source.name in self.options.invert else elements, now)
 
+    def silent_now(self, now):
+        """The receivers that became silent."""
+        found = [name for name, came in self.came.items() if came is not None and now - came >= SILENT and name not in self.silent]
+        self.silent.update(found)
+        return found
+
     def tell_silence(self, now):
-        for name, came in self.came.items():
-            if self.is_live and came is not None and now - came >= SILENT and name not in self.silent:
-                self.silent.add(name)
-                self.tell_source(name, f"silent for {SILENT:.0f} s", now)
+        for name in self.silent_now(now) if self.is_live else ():
+            self.tell_source(name, f"silent for {SILENT:.0f} s", now)
 
     # ---- ticks
 
