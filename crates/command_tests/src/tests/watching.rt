@@ -249,19 +249,25 @@ impl Gate for LastWorkerWaits {
 /// one of group 513, which tells no call alone, and one of group 1 that differs.
 fn batch_that_differs(alloc: Global) -> Result<Vec<GroupReception>, AllocError> {
     let mut batch = Vec::new(alloc);
-    for reception in two_receptions(alloc)? {
+    let mut both = two_receptions(alloc)?;
+    let second = both.pop();
+    let differing = one_that_differs(alloc)?;
+    for reception in both {
         batch.push(GroupReception {
             group: 1,
             reception,
         })?;
     }
-    batch.insert(
-        1,
-        GroupReception {
+    batch.push(GroupReception {
+        group: 1,
+        reception: differing,
+    })?;
+    if let Some(reception) = second {
+        batch.push(GroupReception {
             group: 1,
-            reception: one_that_differs(alloc)?,
-        },
-    )?;
+            reception,
+        })?;
+    }
     if let Some(reception) = two_receptions(alloc)?.pop() {
         batch.push(GroupReception {
             group: 513,
