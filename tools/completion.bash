@@ -1,4 +1,4 @@
-# Completion of dsc, dsc-listen and dsc-json for bash.
+# Completion of dsc, dsc-listen, dsc-json and dsc-report for bash.
 
 _dsc() {
     local word=${COMP_WORDS[COMP_CWORD]}
@@ -30,3 +30,4 @@ _dsc_listen() {
 complete -F _dsc dsc
 complete -F _dsc_listen dsc-listen
 complete -f dsc-json
+complete -f dsc-report

@@ -16,15 +16,16 @@ list_installed() (
     for file in man/*.1; do
         echo "$file $prefix/share/man/man1"
     done
-    echo "tools/dsc-listen $prefix/bin"
-    echo "tools/dsc-json $prefix/bin"
-    for file in tools/listen/*.py tools/json_lines/*.py; do
+    for file in dsc-listen dsc-json dsc-report; do
+        echo "tools/$file $prefix/bin"
+    done
+    for file in tools/listen/*.py tools/json_lines/*.py tools/report_pages/*.py; do
         folder=${file#tools/}
         echo "$file $prefix/share/dsc/${folder%/*}"
     done
     echo "tools/symbols.py $prefix/share/dsc"
     echo "tools/completion.bash $prefix/share/bash-completion/completions"
-    for file in README.md VERSION CHANGELOG.md docs/*.md docs/*.json docs/pictures/*.svg examples/* examples/slurm/* \
+    for file in README.md VERSION CHANGELOG.md docs/*.md docs/*.json docs/pictures/*.svg examples/* examples/slurm/* examples/night/* \
         tools/split_groups tools/explain tools/draw_receptions tools/soft_bits tools/make_exchange \
         tools/pictures.py tools/shared.py tools/symbols.py; do
         [ -f "$file" ] || continue
