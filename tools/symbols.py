@@ -36,6 +36,8 @@ TABLES = {
     "messages": MESSAGES, "phasing": PHASING,
 }
 NO_INFORMATION, UNKNOWN_POSITION, UNKNOWN_TIME, VHF_CHANNEL = 126, 99, 88, 90
+# The sets of an expansion by their names in call texts, each with its specifier, as crates/expansion has them.
+SPECIFIERS = {"enh": 100, "speed": 102, "course": 103}
 # The last symbol that there is.
 LAST = 127
 # The documents of some constants begin with a name of the symbol, or go on after what it is.

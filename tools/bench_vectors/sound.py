@@ -1,0 +1,80 @@
+"""Sound of elements: two tones, one phase that goes on, silence where an element was lost, and white noise where it is asked for.
+
+The phase is a whole number, and samples are rounded, so that a seed gives the same bytes on each machine. Pre-emphasis, fading and a
+receiver's filters aren't modelled.
+"""
+
+import array
+import math
+import sys
+
+RATE = 8000
+# Of each band: elements a second, and the tones of Y and of B in hertz.
+BANDS = {"MF": (100, 1615, 1785), "VHF": (1200, 1300, 2100)}
+LOUDNESS, LOUDEST = 3276, 32767
+# Silence in front of the sound and behind it, in samples.
+SILENCE = RATE // 8
+# The phase counts the parts of a turn, so that a tone goes on by its hertz at each sample.
+SINE = [round(LOUDNESS * math.sin(2 * math.pi * phase / RATE)) for phase in range(RATE)]
+NOISE_BAND = 3000
+# Samples of noise that all sounds are given parts of, from a place by chance on: more than the longest sound has.
+NOISE_LENGTH = 2**17
+BYTES, HEAD = 2, 44
+
+
+class Tones:
+    """Makes samples of elements; the pieces of an element are kept, since few phases come."""
+
+    def __init__(self, band):
+        self.baud, tone_y, tone_b = BANDS[band]
+        self.hertz = {"Y": tone_y, "B": tone_b}
+        self.pieces = {}
+
+    def piece(self, sign, phase, count):
+        """So many samples of an element from this phase on."""
+        if sign == "-":
+            return array.array("h", bytes(BYTES * count))
+        key = sign, phase, count
+        if key not in self.pieces:
+            self.pieces[key] = array.array("h", [SINE[(phase + at * self.hertz[sign]) % RATE] for at in range(count)])
+        return self.pieces[key]
+
+    def samples(self, elements):
+        """The samples of elements, with silence on both sides. An element begins at the first sample that isn't before it."""
+        made, phase, first = array.array("h", bytes(BYTES * SILENCE)), 0, 0
+        for at, sign in enumerate(elements):
+            after = -(-(at + 1) * RATE // self.baud)
+            made += self.piece(sign, phase, after - first)
+            phase = (phase + (after - first) * self.hertz.get(sign, 0)) % RATE
+            first = after
+        return made + array.array("h", bytes(BYTES * SILENCE))
+
+
+class Noise:
+    """White noise from one long piece of it, which is much quicker than noise of its own for each sound."""
+
+    def __init__(self, chance):
+        self.chance = chance
+        self.normal = [chance.normal() for _ in range(NOISE_LENGTH)]
+        self.scaled = {}
+
+    def over(self, samples, level):
+        """The samples in noise: the level is that of the signal above the noise in 3 kHz, in decibels."""
+        if level not in self.scaled:
+            power = LOUDNESS**2 / 2 / 10 ** (level / 10) * (RATE / 2) / NOISE_BAND
+            self.scaled[level] = [round(math.sqrt(power) * it) for it in self.normal]
+        noise = self.scaled[level]
+        first = self.chance.below(NOISE_LENGTH - len(samples))
+        return array.array("h", [max(-LOUDEST, min(LOUDEST, a + b)) for a, b in zip(samples, noise[first : first + len(samples)])])
+
+
+def wav(samples):
+    """The bytes of a WAV file of 16 bits and one channel: its head has neither a date nor a name."""
+    data = array.array("h", samples)
+    if sys.byteorder == "big":
+        data.byteswap()
+    body = data.tobytes()
+    numbers = ((1, 2), (1, 2), (RATE, 4), (BYTES * RATE, 4), (BYTES, 2), (8 * BYTES, 2))
+    form = b"".join(number.to_bytes(size, "little") for number, size in numbers)
+    head = b"RIFF" + (HEAD - 8 + len(body)).to_bytes(4, "little") + b"WAVEfmt " + len(form).to_bytes(4, "little") + form
+    return head + b"data" + len(body).to_bytes(4, "little") + body
