@@ -2,15 +2,16 @@
 
 import random
 
-# A normal number is made of so many uniform ones, whose sum has this variance: sums are the same everywhere.
-UNIFORM = 12
+# A normal number is made of so many bytes by chance: their sum has this mean and, nearly, this deviation, and is the same everywhere.
+BYTES, MEAN, DEVIATION = 12, 1530, 256
 
 
 class Chance:
-    """Uses of `random()` alone, whose stream Python keeps: its other methods may draw otherwise in another version."""
+    """Uses of `random()` and `getrandbits()` alone, whose streams Python keeps: its other methods may draw otherwise in another version."""
 
     def __init__(self, seed):
-        self.random = random.Random(seed).random
+        source = random.Random(seed)
+        self.random, self.bits = source.random, source.getrandbits
 
     def below(self, count):
         """A whole number from 0 to below the count."""
@@ -32,4 +33,4 @@ class Chance:
 
     def normal(self):
         """A number from nearly the normal distribution with mean 0 and variance 1."""
-        return sum(self.random() for _ in range(UNIFORM)) - UNIFORM / 2
+        return (sum(self.bits(8 * BYTES).to_bytes(BYTES, "little")) - MEAN) / DEVIATION

@@ -8,7 +8,7 @@ import subprocess
 from . import damage, on_air, premises, sound
 from .calls import Call, calls_by_chance
 from .chance import Chance
-from .refusals import Contradicted, Refused, RefusedWords, Unwritable
+from .refusals import Contradicted, RefusedWords, Unwritable
 from .wrong import no_calls_by_chance
 
 LAST_SEED = 2**32 - 1
@@ -168,59 +168,35 @@ def seed_of(text):
     return int(text)
 
 
-def new_folder(folder):
-    """Makes the folder. One that has something in it is refused, so that nothing is lost and nothing is mixed."""
+def refuse_full(folder):
+    """Refuses a folder that has something in it, so that nothing is lost and nothing is mixed."""
+    if os.path.isdir(folder) and os.listdir(folder):
+        raise RefusedWords(f"{folder} isn't empty")
+
+
+def write_files(folder, files):
+    """Writes the files, and says how many they are and how many bytes they have."""
+    count = size = 0
+    path = folder
     try:
-        os.makedirs(folder, exist_ok=True)
-        if os.listdir(folder):
-            raise RefusedWords(f"{folder} isn't empty")
-        for band in sound.BANDS:
-            os.mkdir(os.path.join(folder, band.lower()))
+        for name, data in files:
+            path = os.path.join(folder, *name.split("/"))
+            os.makedirs(os.path.dirname(path), exist_ok=True)
+            with open(path, "wb") as file:
+                file.write(data)
+            count, size = count + 1, size + len(data)
     except OSError as cause:
-        raise Unwritable(f"{folder} can't be written: {cause.strerror}") from cause
+        raise Unwritable(f"{path} can't be written: {cause.strerror}") from cause
+    return count, size
 
 
 def make(program, seed, folder):
     """Makes the vectors of a seed, and says how many cases and files there are. Nothing is written of what `dsc` contradicts."""
     chance = Chance(seed_of(seed))
-    if os.path.isdir(folder) and os.listdir(folder):
-        raise RefusedWords(f"{folder} isn't empty")
+    refuse_full(folder)
     cases = cases_of(chance)
     spell_alike(program, [it.subject for it in cases if it.damage == damage.CLEAN and it.calls])
     add_sentences(program, cases)
     add_answers(program, cases)
-    new_folder(folder)
-    count = size = 0
-    for name, data in files_of(seed, chance, cases):
-        path = os.path.join(folder, *name.split("/"))
-        try:
-            with open(path, "wb") as file:
-                file.write(data)
-        except OSError as cause:
-            raise Unwritable(f"{path} can't be written: {cause.strerror}") from cause
-        count, size = count + 1, size + len(data)
+    count, size = write_files(folder, files_of(seed, chance, cases))
     return f"{len(cases)} cases in {count} files, {size / 1e6:.0f} MB: {os.path.join(folder, EXPECTED)}"
-
-
-# ---- raw
-
-
-MOST_SYMBOLS = 64
-
-
-def symbols_of(name, number, line):
-    """The symbols of a line, or the refusal of its first word that is none."""
-    from .refusals import at
-
-    symbols, column = [], 1
-    for word in line.split(" "):
-        if not word.isascii() or not word.isdigit() or str(int(word)) != word or int(word) > 127:
-            raise at(name, number, column, "a symbol is a number from 0 to 127")
-        if len(symbols) == MOST_SYMBOLS:
-            raise at(name, number, column, f"a list has {MOST_SYMBOLS} symbols at most")
-        symbols.append(int(word))
-        column += len(word) + 1
-    return symbols
-
-
-__all__ = ["Refused", "make", "symbols_of"]

@@ -1,6 +1,7 @@
 """Transmissions, and what a reception shows of one: dots, phasing symbols, and two copies of each character, by M.493."""
 
 from shared import word
+from symbols import LAST
 
 from . import names
 
@@ -12,8 +13,8 @@ EARLIEST = 150
 ELEMENTS = 10
 # How many phasing symbols are enough: of DX and of RX.
 ENOUGH = ((2, 1), (1, 2), (0, 3))
-DX_WORD = word(names.DX)
-RX_WORDS = [word(symbol) for symbol in names.RX]
+WORDS = [word(symbol) for symbol in range(LAST + 1)]
+DX_WORD, RX_WORDS = WORDS[names.DX], [WORDS[symbol] for symbol in names.RX]
 
 
 def dots(count):
@@ -33,7 +34,7 @@ def slot_symbols(symbols):
 
 def transmission(symbols, count=DOTS):
     """The elements of the transmission of a list behind so many dots."""
-    return dots(count) + "".join(map(word, slot_symbols(symbols)))
+    return dots(count) + "".join(WORDS[symbol] for symbol in slot_symbols(symbols))
 
 
 def slot(elements, origin, number):

@@ -4,10 +4,8 @@ The premises are those that docs/PROOFS.md names at `sent`, as crates/slot_join/
 `IsSentOrLostPlace`). They are worked out of what was sent and what came, and of nothing that `dsc` says.
 """
 
-from shared import word as word_of
-
 from . import names
-from .on_air import ELEMENTS, EARLIEST, FIRST_DX, FIRST_RX, origin_of, slot, slot_symbols
+from .on_air import ELEMENTS, FIRST_DX, FIRST_RX, WORDS, origin_of, slot, slot_symbols
 
 MUST, MAY, NOT = "must", "may", "not"
 # The calls of which both places of the format specifier are needed.
@@ -26,7 +24,7 @@ class Reception:
         if self.origin is None:
             return None
         for number, symbol in enumerate(self.slots):
-            turned = {sent for sent, came in zip(word_of(symbol), slot(self.elements, self.origin, number)) if came not in ("-", sent)}
+            turned = {sent for sent, came in zip(WORDS[symbol], slot(self.elements, self.origin, number)) if came not in ("-", sent)}
             if len(turned) == 2:
                 return number
         return None
@@ -40,7 +38,7 @@ class Reception:
         if self.origin is None:
             return False
         numbers = [FIRST_DX + 2 * place] + ([FIRST_RX + 2 * place] if place + 2 < len(self.symbols) else [])
-        return any(slot(self.elements, self.origin, number) == word_of(self.symbols[place]) for number in numbers)
+        return any(slot(self.elements, self.origin, number) == WORDS[self.symbols[place]] for number in numbers)
 
 
 class Verdict:

@@ -6,6 +6,7 @@ receiver's filters aren't modelled.
 
 import array
 import math
+import operator
 import sys
 
 RATE = 8000
@@ -27,27 +28,25 @@ class Tones:
 
     def __init__(self, band):
         self.baud, tone_y, tone_b = BANDS[band]
-        self.hertz = {"Y": tone_y, "B": tone_b}
+        self.hertz = {"Y": tone_y, "B": tone_b, "-": 0}
         self.pieces = {}
 
     def piece(self, sign, phase, count):
         """So many samples of an element from this phase on."""
-        if sign == "-":
-            return array.array("h", bytes(BYTES * count))
-        key = sign, phase, count
-        if key not in self.pieces:
-            self.pieces[key] = array.array("h", [SINE[(phase + at * self.hertz[sign]) % RATE] for at in range(count)])
-        return self.pieces[key]
+        hertz = self.hertz[sign]
+        return array.array("h", [SINE[(phase + at * hertz) % RATE] if hertz else 0 for at in range(count)])
 
     def samples(self, elements):
         """The samples of elements, with silence on both sides. An element begins at the first sample that isn't before it."""
-        made, phase, first = array.array("h", bytes(BYTES * SILENCE)), 0, 0
-        for at, sign in enumerate(elements):
-            after = -(-(at + 1) * RATE // self.baud)
-            made += self.piece(sign, phase, after - first)
-            phase = (phase + (after - first) * self.hertz.get(sign, 0)) % RATE
-            first = after
-        return made + array.array("h", bytes(BYTES * SILENCE))
+        silence, made, phase, first = array.array("h", bytes(BYTES * SILENCE)), [], 0, 0
+        for at, sign in enumerate(elements, 1):
+            after = -(-at * RATE // self.baud)
+            key = sign, phase, after - first
+            if key not in self.pieces:
+                self.pieces[key] = self.piece(*key).tobytes()
+            made.append(self.pieces[key])
+            phase, first = (phase + (after - first) * self.hertz[sign]) % RATE, after
+        return silence + array.array("h", b"".join(made)) + silence
 
 
 class Noise:
@@ -63,9 +62,12 @@ class Noise:
         if level not in self.scaled:
             power = LOUDNESS**2 / 2 / 10 ** (level / 10) * (RATE / 2) / NOISE_BAND
             self.scaled[level] = [round(math.sqrt(power) * it) for it in self.normal]
-        noise = self.scaled[level]
         first = self.chance.below(NOISE_LENGTH - len(samples))
-        return array.array("h", [max(-LOUDEST, min(LOUDEST, a + b)) for a, b in zip(samples, noise[first : first + len(samples)])])
+        noise = self.scaled[level][first : first + len(samples)]
+        try:
+            return array.array("h", map(operator.add, samples, noise))
+        except OverflowError:
+            return array.array("h", [max(-LOUDEST, min(LOUDEST, both)) for both in map(operator.add, samples, noise)])
 
 
 def wav(samples):

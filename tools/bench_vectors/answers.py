@@ -1,0 +1,144 @@
+"""What another decoder answered to the cases: its calls as texts, or as the objects of dsc-json(1)."""
+
+import csv
+import json
+import re
+
+from json_lines.reading import call as object_of
+
+from .calls import DIGITS, FIELDS
+from .refusals import Unreadable, at
+
+HEADER = "case,call"
+RESULTS = ("reported", "missing", "differ", "outside", "check")
+# Of each field the form of its value.
+IDENTITY, SYMBOL = r"\d{9}", r"\d{3}"
+VALUES = {
+    "from": IDENTITY, "casualty": IDENTITY, "nature": SYMBOL, "then": SYMBOL, "cat": SYMBOL, "first": SYMBOL, "second": SYMBOL, "end": SYMBOL,
+    "pos": r"\d{10}", "at": r"\d{10}", "time": r"\d{4}", "f1": r"none|\d{6}|\d{8}", "f2": r"none|\d{6}|\d{8}",
+    **{name: rf"none|\d{{{count}}}" for name, count in DIGITS.items()},
+}
+TO = {"relay": rf"all|area:\d{{10}}|(?:group|one):{IDENTITY}", "area": r"\d{10}"}
+TO["relayack"] = TO["relay"]
+
+
+class Told:
+    """A call that was told: its text, or its object."""
+
+    def __init__(self, text="", made=None):
+        self.base, _, self.sets = text.partition(" broken ")[0].partition(" exp ")
+        self.made = made
+
+    def is_call(self, base, sets):
+        """Whether it is this call. An expansion needn't be told, but if it is, it is the one that was sent."""
+        if self.made is None:
+            return self.base == base and self.sets in ("", sets)
+        told = {name: value for name, value in self.made.items() if name != "broken"}
+        return told == object_of(base.split()) or (bool(sets) and told == object_of(f"{base} exp {sets}".split()))
+
+    def has_expansion(self):
+        return bool(self.sets) or (self.made is not None and "expansion" in self.made)
+
+
+def names_of(words):
+    """The names that the fields of a call with these words have, one after the other."""
+    names = FIELDS[words[0]]
+    if words[0] == "one" and any(word.startswith("at=") for word in words):
+        names = names[: names.index("f1")] + ("at", "end")
+    return names
+
+
+def fits(word, name, form):
+    """Whether a word is the field of this name."""
+    said, _, value = word.partition("=")
+    return said == name and re.fullmatch(TO.get(form, IDENTITY) if name == "to" else VALUES[name], value) is not None
+
+
+def first_odd(words):
+    """The first word at which words are no text of a call any more; None where they are one."""
+    if words[0] not in FIELDS:
+        return 0
+    names = names_of(words)
+    for number, name in enumerate(names, 1):
+        if number >= len(words) or not fits(words[number], name, words[0]):
+            return number
+    number, rest = len(names) + 1, words[len(names) + 1 :]
+    if not rest or (rest[0] == "broken" and len(rest) == 2 and rest[1].isdigit()):
+        return None
+    sets = [name for word in rest[1:] for name in DIGITS if fits(word, name, "")]
+    is_expansion = rest[0] == "exp" and sets and len(sets) == len(rest) - 1 and sets == [name for name in DIGITS if name in sets]
+    return None if is_expansion else number
+
+
+def told_text(name, number, column, text):
+    """The call of a text that begins at this column."""
+    words = text.split(" ")
+    odd = first_odd(words)
+    if odd is not None:
+        raise at(name, number, column + sum(len(word) + 1 for word in words[:odd]), "no call's text goes on so")
+    return Told(text)
+
+
+def of_object(name, number, line):
+    """The case and the call of a line of JSON."""
+    try:
+        made = json.loads(line)
+    except ValueError as cause:
+        raise at(name, number, getattr(cause, "colno", 1), "no JSON goes on so") from cause
+    kind, call = made.get("class"), made.get("call")
+    if kind not in ("answer", "told") or not isinstance(made.get("group"), int) or not isinstance(call, (dict, type(None))):
+        raise at(name, number, 1, "the object is neither an answer nor a told call of a group")
+    return made["group"], 2, [Told(made=call)] if call else []
+
+
+def of_line(name, number, line):
+    """The case of a line, the column at which it stands, and the calls that are told of it: one or none."""
+    if line.startswith("{"):
+        return of_object(name, number, line)
+    found = re.fullmatch(r"(told |)g(\d+) (.+)", line)
+    if found:
+        is_told, case, said = found[1] != "", found[2], found[3]
+        column, kind = found.start(3) + 1, said.split(" ")[0]
+        if not is_told and kind not in RESULTS:
+            raise at(name, number, column, "no answer begins so")
+        text = said if is_told else said[len("reported ") :]
+        is_call = is_told or kind == "reported"
+        column += 0 if is_told else len("reported ")
+        return int(case), found.start(2) + 1, [told_text(name, number, column, text)] if is_call else []
+    found = re.fullmatch(r"(\d+)(?:([ ,])(.*))?", line)
+    if not found:
+        raise at(name, number, 1, "a line is a case's number and a call, an answer of dsc, or an object of dsc-json")
+    text = found[3] or ""
+    if found[2] == ",":
+        fields = next(csv.reader([text]), [""])
+        if len(fields) > 1:
+            raise at(name, number, found.start(3) + len(fields[0]) + 1, "a row has a case and a call")
+        text = fields[0] if fields else ""
+    return int(found[1]), 1, [told_text(name, number, found.start(3) + 1, text)] if text else []
+
+
+def lines_of(name, data):
+    """The lines of a file's bytes."""
+    try:
+        text = data.decode("utf-8")
+    except UnicodeDecodeError as cause:
+        before = data[: cause.start]
+        raise at(name, before.count(b"\n") + 1, cause.start - before.rfind(b"\n"), "bytes are no text") from cause
+    return [line.rstrip("\r") for line in text.split("\n")]
+
+
+def read_answers(path, file, cases):
+    """The calls that were told of each case. A case of which no line speaks has none."""
+    try:
+        data = file.read()
+    except OSError as cause:
+        raise Unreadable(f"{path} can't be read: {cause.strerror}") from cause
+    told = {case: [] for case in cases}
+    for number, line in enumerate(lines_of(path, data), 1):
+        if not line or line.startswith("#") or (number == 1 and line == HEADER):
+            continue
+        case, column, calls = of_line(path, number, line)
+        if case not in told:
+            raise at(path, number, column, f"there is no case {case}")
+        told[case] += calls
+    return told
