@@ -13,8 +13,8 @@ RATE = 8000
 # Of each band: elements a second, and the tones of Y and of B in hertz.
 BANDS = {"MF": (100, 1615, 1785), "VHF": (1200, 1300, 2100)}
 LOUDNESS, LOUDEST = 3276, 32767
-# Silence in front of the sound and behind it, in samples.
-SILENCE = RATE // 8
+# Silence in front of the sound and behind it, in elements: demodulators that take 50 at once lose no end of a call.
+SILENCE = 60
 # The phase counts the parts of a turn, so that a tone goes on by its hertz at each sample.
 SINE = [round(LOUDNESS * math.sin(2 * math.pi * phase / RATE)) for phase in range(RATE)]
 NOISE_BAND = 3000
@@ -38,7 +38,7 @@ class Tones:
 
     def samples(self, elements):
         """The samples of elements, with silence on both sides. An element begins at the first sample that isn't before it."""
-        silence, made, phase, first = array.array("h", bytes(BYTES * SILENCE)), [], 0, 0
+        silence, made, phase, first = bytes(BYTES * (SILENCE * RATE // self.baud)), [], 0, 0
         for at, sign in enumerate(elements, 1):
             after = -(-at * RATE // self.baud)
             key = sign, phase, after - first
@@ -46,7 +46,7 @@ class Tones:
                 self.pieces[key] = self.piece(*key).tobytes()
             made.append(self.pieces[key])
             phase, first = (phase + (after - first) * self.hertz[sign]) % RATE, after
-        return silence + array.array("h", b"".join(made)) + silence
+        return array.array("h", silence + b"".join(made) + silence)
 
 
 class Noise:

@@ -57,7 +57,7 @@ def cut(chance, form):
 
 def wrong_end(chance, _form):
     """A call three times with an end of sequence that its form never has; the check is right."""
-    form = chance.one_of(("alert", "ack", "relayack", "all", "area", "group", "askpos", "pos"))
+    form = chance.one_of(("alert", "ack", "all", "area", "group", "askpos", "pos"))
     call = Call(text_by_chance(chance, form))
     others = [end for end in ENDS if end != call.list[-1]]
     end = chance.one_of(others)
