@@ -53,9 +53,8 @@ class Case:
         )
 
 
-def cases_of(chance):
-    """All cases, those of one subject after the other."""
-    calls = calls_by_chance(chance)
+def cases_of(chance, calls):
+    """All cases, those of one subject after the other: the calls, and lists that are none."""
     made = []
     for subject in calls + no_calls_by_chance(chance):
         for name, strength in [(damage.CLEAN, 0)] + [(name, strength) for name in damage.DAMAGES for strength in damage.STRENGTHS]:
@@ -86,14 +85,14 @@ def spell_alike(program, calls):
             raise Contradicted(f"dsc encode sends other symbols of {call.text}")
 
 
-def add_sentences(program, cases):
-    """Adds the sentences of each call to its clean case. An expanded call has two of them."""
-    clean = [it for it in cases if it.damage == damage.CLEAN and it.calls]
-    lines = iter(said(program, ("sentences",), "".join(f"{it.subject.text}\n" for it in clean)))
-    for it in clean:
-        it.sentences = [next(lines, "") for _ in range(2 if it.subject.tail else 1)]
-        if not all(line.startswith("$CDDS") for line in it.sentences):
-            raise Contradicted(f"dsc sentences writes no sentence of {it.subject.text}")
+def sentences_of(program, calls):
+    """The sentences of each call. An expanded call has two of them."""
+    lines = iter(said(program, ("sentences",), "".join(f"{it.text}\n" for it in calls)))
+    made = [[next(lines, "") for _ in range(2 if it.tail else 1)] for it in calls]
+    for call, sentences in zip(calls, made):
+        if not all(line.startswith("$CDDS") for line in sentences):
+            raise Contradicted(f"dsc sentences writes no sentence of {call.text}")
+    return made
 
 
 def element_lines(cases):
@@ -194,9 +193,13 @@ def make(program, seed, folder):
     """Makes the vectors of a seed, and says how many cases and files there are. Nothing is written of what `dsc` contradicts."""
     chance = Chance(seed_of(seed))
     refuse_full(folder)
-    cases = cases_of(chance)
-    spell_alike(program, [it.subject for it in cases if it.damage == damage.CLEAN and it.calls])
-    add_sentences(program, cases)
+    calls = calls_by_chance(chance)
+    spell_alike(program, calls)
+    sentences = sentences_of(program, calls)
+    cases = cases_of(chance, calls)
+    clean = [it for it in cases if it.damage == damage.CLEAN]
+    for it, lines in zip(clean, sentences):
+        it.sentences = lines
     add_answers(program, cases)
     count, size = write_files(folder, files_of(seed, chance, cases))
     return f"{len(cases)} cases in {count} files, {size / 1e6:.0f} MB: {os.path.join(folder, EXPECTED)}"
