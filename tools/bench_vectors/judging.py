@@ -13,7 +13,6 @@ MEDIA = ("elements", "mf", "vhf")
 PASS, FAIL, FALSE = "pass", "fail", "false"
 # What is counted of cases: how they were judged, how many sent a call, of how many of these one came, and of how many one came that dsc can't tell.
 COUNTS = ("cases", PASS, FAIL, FALSE, "sent", "came", "beyond")
-# Words that show the order of damages in a table: that of the folder.
 
 
 class Expected:

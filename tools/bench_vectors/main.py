@@ -89,9 +89,9 @@ def run(options, beside):
     return 0
 
 
-def main(beside):
-    """Runs the words of the command line. The programs are those `dsc` that may stand beside this one."""
-    options = parser_of_words().parse_args()
+def main(beside, words=None):
+    """Runs these words, or those of the command line. The programs are those `dsc` that may stand beside this one."""
+    options = parser_of_words().parse_args(words)
     try:
         status = run(options, beside)
         sys.stdout.flush()

@@ -24,8 +24,8 @@ class Reception:
         if self.origin is None:
             return None
         for number, symbol in enumerate(self.slots):
-            turned = {sent for sent, came in zip(WORDS[symbol], slot(self.elements, self.origin, number)) if came not in ("-", sent)}
-            if len(turned) == 2:
+            heard = slot(self.elements, self.origin, number)
+            if heard != WORDS[symbol] and len({sent for sent, came in zip(WORDS[symbol], heard) if came not in ("-", sent)}) == 2:
                 return number
         return None
 

@@ -5,6 +5,7 @@ receiver's filters aren't modelled.
 """
 
 import array
+import itertools
 import math
 import operator
 import sys
@@ -29,23 +30,26 @@ class Tones:
     def __init__(self, band):
         self.baud, tone_y, tone_b = BANDS[band]
         self.hertz = {"Y": tone_y, "B": tone_b, "-": 0}
+        # An element begins at the first sample that isn't before it, so that some have a sample more, in turn.
+        begins = [-(-at * RATE // self.baud) for at in range(self.baud // math.gcd(RATE, self.baud) + 1)]
+        self.counts = [after - first for first, after in zip(begins, begins[1:])]
         self.pieces = {}
 
     def piece(self, sign, phase, count):
-        """So many samples of an element from this phase on."""
+        """So many samples of an element from this phase on, and the phase behind them."""
         hertz = self.hertz[sign]
-        return array.array("h", [SINE[(phase + at * hertz) % RATE] if hertz else 0 for at in range(count)])
+        samples = array.array("h", [SINE[(phase + at * hertz) % RATE] if hertz else 0 for at in range(count)])
+        return samples.tobytes(), (phase + count * hertz) % RATE
 
     def samples(self, elements):
-        """The samples of elements, with silence on both sides. An element begins at the first sample that isn't before it."""
-        silence, made, phase, first = bytes(BYTES * (SILENCE * RATE // self.baud)), [], 0, 0
-        for at, sign in enumerate(elements, 1):
-            after = -(-at * RATE // self.baud)
-            key = sign, phase, after - first
+        """The samples of elements, with silence on both sides."""
+        silence, made, phase = bytes(BYTES * (SILENCE * RATE // self.baud)), [], 0
+        for sign, count in zip(elements, itertools.cycle(self.counts)):
+            key = sign, phase, count
             if key not in self.pieces:
-                self.pieces[key] = self.piece(*key).tobytes()
-            made.append(self.pieces[key])
-            phase, first = (phase + (after - first) * self.hertz[sign]) % RATE, after
+                self.pieces[key] = self.piece(*key)
+            piece, phase = self.pieces[key]
+            made.append(piece)
         return array.array("h", silence + b"".join(made) + silence)
 
 
