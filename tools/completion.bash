@@ -1,4 +1,4 @@
-# Completion of dsc, dsc-listen, dsc-json and dsc-report for bash.
+# Completion of dsc, dsc-listen, dsc-json, dsc-report and dsc-bench for bash.
 
 _dsc() {
     local word=${COMP_WORDS[COMP_CWORD]}
@@ -27,7 +27,32 @@ _dsc_listen() {
     esac
 }
 
+_dsc_bench() {
+    local word=${COMP_WORDS[COMP_CWORD]}
+    local before=${COMP_WORDS[COMP_CWORD - 1]}
+    local words=
+    if [ "$COMP_CWORD" = 1 ]; then
+        words="make raw judge --help"
+    elif [ "$before" = --of ]; then
+        words="elements mf vhf"
+    elif [ "$before" = --dots ]; then
+        words="20 200"
+    else
+        case ${COMP_WORDS[1]}$word in
+        make-*) words="--dsc --help" ;;
+        raw-*) words="--dots --help" ;;
+        judge-*) words="--json --of --help" ;;
+        *)
+            mapfile -t COMPREPLY < <(compgen -f -- "$word")
+            return
+            ;;
+        esac
+    fi
+    mapfile -t COMPREPLY < <(compgen -W "$words" -- "$word")
+}
+
 complete -F _dsc dsc
 complete -F _dsc_listen dsc-listen
 complete -f dsc-json
 complete -f dsc-report
+complete -F _dsc_bench dsc-bench

@@ -16,14 +16,16 @@ list_installed() (
     for file in man/*.1; do
         echo "$file $prefix/share/man/man1"
     done
-    for file in dsc-listen dsc-json dsc-report; do
+    for file in dsc-listen dsc-json dsc-report dsc-bench; do
         echo "tools/$file $prefix/bin"
     done
-    for file in tools/listen/*.py tools/json_lines/*.py tools/report_pages/*.py; do
+    for file in tools/listen/*.py tools/json_lines/*.py tools/report_pages/*.py tools/bench_vectors/*.py; do
         folder=${file#tools/}
         echo "$file $prefix/share/dsc/${folder%/*}"
     done
-    echo "tools/symbols.py $prefix/share/dsc"
+    for file in tools/symbols.py tools/shared.py; do
+        echo "$file $prefix/share/dsc"
+    done
     echo "tools/completion.bash $prefix/share/bash-completion/completions"
     for file in README.md VERSION CHANGELOG.md docs/*.md docs/*.json docs/pictures/*.svg examples/* examples/slurm/* examples/night/* \
         tools/split_groups tools/explain tools/draw_receptions tools/soft_bits tools/make_exchange \
