@@ -11,33 +11,40 @@ from .refusals import Unreadable, at
 
 HEADER = "case,call"
 RESULTS = ("reported", "missing", "differ", "outside", "check")
+# A case's number, of no more digits than a group's.
+CASE = "[0-9]{1,10}"
 # Of each field the form of its value.
-IDENTITY, SYMBOL = r"\d{9}", r"\d{3}"
+IDENTITY, SYMBOL = r"[0-9]{9}", r"[0-9]{3}"
 VALUES = {
     "from": IDENTITY, "casualty": IDENTITY, "nature": SYMBOL, "then": SYMBOL, "cat": SYMBOL, "first": SYMBOL, "second": SYMBOL, "end": SYMBOL,
-    "pos": r"\d{10}", "at": r"\d{10}", "time": r"\d{4}", "f1": r"none|\d{6}|\d{8}", "f2": r"none|\d{6}|\d{8}",
-    **{name: rf"none|\d{{{count}}}" for name, count in DIGITS.items()},
+    "pos": r"[0-9]{10}", "at": r"[0-9]{10}", "time": r"[0-9]{4}", "f1": r"none|[0-9]{6}|[0-9]{8}", "f2": r"none|[0-9]{6}|[0-9]{8}",
+    **{name: rf"none|[0-9]{{{count}}}" for name, count in DIGITS.items()},
 }
-TO = {"relay": rf"all|area:\d{{10}}|(?:group|one):{IDENTITY}", "area": r"\d{10}"}
+TO = {"relay": rf"all|area:[0-9]{{10}}|(?:group|one):{IDENTITY}", "area": r"[0-9]{10}"}
 TO["relayack"] = TO["relay"]
 
 
+class Sent:
+    """A call that was sent: its texts and its objects, without its expansion and with it."""
+
+    def __init__(self, text):
+        words = text.split(" ")
+        if first_odd(words) is not None:
+            raise ValueError(text)
+        self.texts = (text.partition(" exp ")[0], text)
+        self.objects = [object_of(it.split(" ")) for it in self.texts]
+
+
 class Told:
-    """A call that was told: its text, or its object."""
+    """A call that was told: its text, or its object. What `dsc` says of a broken expansion is left out."""
 
     def __init__(self, text="", made=None):
-        self.base, _, self.sets = text.partition(" broken ")[0].partition(" exp ")
-        self.made = made
+        self.text = text.partition(" broken ")[0]
+        self.made = made and {name: value for name, value in made.items() if name != "broken"}
 
-    def is_call(self, base, sets):
+    def is_call(self, sent):
         """Whether it is this call. An expansion needn't be told, but if it is, it is the one that was sent."""
-        if self.made is None:
-            return self.base == base and self.sets in ("", sets)
-        told = {name: value for name, value in self.made.items() if name != "broken"}
-        return told == object_of(base.split()) or (bool(sets) and told == object_of(f"{base} exp {sets}".split()))
-
-    def has_expansion(self):
-        return bool(self.sets) or (self.made is not None and "expansion" in self.made)
+        return self.text in sent.texts if self.made is None else self.made in sent.objects
 
 
 def names_of(words):
@@ -63,7 +70,7 @@ def first_odd(words):
         if number >= len(words) or not fits(words[number], name, words[0]):
             return number
     number, rest = len(names) + 1, words[len(names) + 1 :]
-    if not rest or (rest[0] == "broken" and len(rest) == 2 and rest[1].isdigit()):
+    if not rest or (rest[0] == "broken" and len(rest) == 2 and re.fullmatch("[0-9]+", rest[1])):
         return None
     sets = [name for word in rest[1:] for name in DIGITS if fits(word, name, "")]
     is_expansion = rest[0] == "exp" and sets and len(sets) == len(rest) - 1 and sets == [name for name in DIGITS if name in sets]
@@ -83,7 +90,7 @@ def of_object(name, number, line):
     """The case and the call of a line of JSON."""
     try:
         made = json.loads(line)
-    except ValueError as cause:
+    except (ValueError, RecursionError) as cause:
         raise at(name, number, getattr(cause, "colno", 1), "no JSON goes on so") from cause
     kind, call = made.get("class"), made.get("call")
     if kind not in ("answer", "told") or not isinstance(made.get("group"), int) or not isinstance(call, (dict, type(None))):
@@ -95,7 +102,7 @@ def of_line(name, number, line):
     """The case of a line, the column at which it stands, and the calls that are told of it: one or none."""
     if line.startswith("{"):
         return of_object(name, number, line)
-    found = re.fullmatch(r"(told |)g(\d+) (.+)", line)
+    found = re.fullmatch(rf"(told |)g({CASE}) (.+)", line)
     if found:
         is_told, case, said = found[1] != "", found[2], found[3]
         column, kind = found.start(3) + 1, said.split(" ")[0]
@@ -105,12 +112,15 @@ def of_line(name, number, line):
         is_call = is_told or kind == "reported"
         column += 0 if is_told else len("reported ")
         return int(case), found.start(2) + 1, [told_text(name, number, column, text)] if is_call else []
-    found = re.fullmatch(r"(\d+)(?:([ ,])(.*))?", line)
+    found = re.fullmatch(rf"({CASE})(?:([ ,])(.*))?", line)
     if not found:
         raise at(name, number, 1, "a line is a case's number and a call, an answer of dsc, or an object of dsc-json")
     text = found[3] or ""
     if found[2] == ",":
-        fields = next(csv.reader([text]), [""])
+        try:
+            fields = next(csv.reader([text], strict=True), [""])
+        except csv.Error as cause:
+            raise at(name, number, found.start(3) + 1, "no row of a CSV file goes on so") from cause
         if len(fields) > 1:
             raise at(name, number, found.start(3) + len(fields[0]) + 1, "a row has a case and a call")
         text = fields[0] if fields else ""

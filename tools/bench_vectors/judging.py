@@ -4,6 +4,7 @@ import csv
 import json
 import os
 
+from .answers import Sent
 from .making import COLUMNS, EXPECTED
 from .premises import MUST, NOT
 from .refusals import Unreadable, at
@@ -20,7 +21,7 @@ class Expected:
 
     def __init__(self, row, medium):
         self.number, self.form, self.damage, self.strength = int(row["case"]), row["form"], row["damage"], int(row["strength"])
-        self.calls = [tuple(text.partition(" exp ")[::2]) for text in row["calls"].split(" / ") if text]
+        self.calls = [Sent(text) for text in row["calls"].split(" / ") if text]
         self.has_medium = medium != "mf" or row["mf"] == "yes"
         self.must, self.why = row["must" if medium == "elements" else "sound_must"], row["why"]
 
@@ -30,7 +31,7 @@ class Judged:
 
     def __init__(self, case, told):
         self.case = case
-        came = [[it.is_call(*call) for call in case.calls] for it in told]
+        came = [[it.is_call(call) for call in case.calls] for it in told]
         self.is_sent, self.has_come = bool(case.calls), any(map(any, came))
         self.is_beyond = case.must == NOT and self.has_come
         must_come = case.must == MUST and not any(it[0] for it in came)
@@ -56,8 +57,8 @@ def read_expected(folder, medium):
                     cases.append(Expected(row, medium))
                 except (TypeError, ValueError, AttributeError, KeyError) as cause:
                     raise at(path, rows.line_num, 1, "the row isn't one of dsc-bench") from cause
-    except (OSError, UnicodeDecodeError) as cause:
-        raise Unreadable(f"{path} can't be read: {getattr(cause, 'strerror', None) or 'it is no text'}") from cause
+    except (OSError, UnicodeDecodeError, csv.Error) as cause:
+        raise Unreadable(f"{path} can't be read: {getattr(cause, 'strerror', None) or 'it is no table'}") from cause
     return [it for it in cases if it.has_medium]
 
 

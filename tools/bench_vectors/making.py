@@ -169,7 +169,11 @@ def seed_of(text):
 
 def refuse_full(folder):
     """Refuses a folder that has something in it, so that nothing is lost and nothing is mixed."""
-    if os.path.isdir(folder) and os.listdir(folder):
+    try:
+        is_full = os.path.isdir(folder) and os.listdir(folder)
+    except OSError as cause:
+        raise Unwritable(f"{folder} can't be looked into: {cause.strerror}") from cause
+    if is_full:
         raise RefusedWords(f"{folder} isn't empty")
 
 
