@@ -82,7 +82,9 @@ def told_text(name, number, column, text):
     words = text.split(" ")
     odd = first_odd(words)
     if odd is not None:
-        raise at(name, number, column + sum(len(word) + 1 for word in words[:odd]), "no call's text goes on so")
+        # Where the text ends too early, this is one past its end.
+        column += min(sum(len(word) + 1 for word in words[:odd]), len(text))
+        raise at(name, number, column, "no call's text goes on so")
     return Told(text)
 
 
@@ -108,10 +110,10 @@ def of_line(name, number, line):
         column, kind = found.start(3) + 1, said.split(" ")[0]
         if not is_told and kind not in RESULTS:
             raise at(name, number, column, "no answer begins so")
-        text = said if is_told else said[len("reported ") :]
-        is_call = is_told or kind == "reported"
-        column += 0 if is_told else len("reported ")
-        return int(case), found.start(2) + 1, [told_text(name, number, column, text)] if is_call else []
+        if not is_told and kind != "reported":
+            return int(case), found.start(2) + 1, []
+        first = 0 if is_told else min(len("reported "), len(said))
+        return int(case), found.start(2) + 1, [told_text(name, number, column + first, said[first:])]
     found = re.fullmatch(rf"({CASE})(?:([ ,])(.*))?", line)
     if not found:
         raise at(name, number, 1, "a line is a case's number and a call, an answer of dsc, or an object of dsc-json")
