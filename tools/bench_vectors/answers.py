@@ -10,7 +10,8 @@ from .calls import DIGITS, FIELDS
 from .refusals import Unreadable, at
 
 HEADER = "case,call"
-RESULTS = ("reported", "missing", "differ", "outside", "check")
+REPORTED = "reported"
+RESULTS = (REPORTED, "missing", "differ", "outside", "check")
 # A case's number, of no more digits than a group's.
 CASE = "[0-9]{1,10}"
 # Of each field the form of its value.
@@ -40,7 +41,7 @@ class Told:
 
     def __init__(self, text="", made=None):
         self.text = text.partition(" broken ")[0]
-        self.made = made and {name: value for name, value in made.items() if name != "broken"}
+        self.made = None if made is None else {name: value for name, value in made.items() if name != "broken"}
 
     def is_call(self, sent):
         """Whether it is this call. An expansion needn't be told, but if it is, it is the one that was sent."""
@@ -97,7 +98,30 @@ def of_object(name, number, line):
     kind, call = made.get("class"), made.get("call")
     if kind not in ("answer", "told") or not isinstance(made.get("group"), int) or not isinstance(call, (dict, type(None))):
         raise at(name, number, 1, "the object is neither an answer nor a told call of a group")
-    return made["group"], 2, [Told(made=call)] if call else []
+    return made["group"], 2, [] if call is None else [Told(made=call)]
+
+
+def of_answer(name, number, found):
+    """The case and the call of a line that `dsc` writes: a told call, or an answer."""
+    is_told, case, said = found[1] != "", int(found[2]), found[3]
+    column, kind = found.start(3) + 1, said.split(" ")[0]
+    if not is_told and kind not in RESULTS:
+        raise at(name, number, column, "no answer begins so")
+    if not is_told and kind != REPORTED:
+        return case, found.start(2) + 1, []
+    first = 0 if is_told else min(len(REPORTED) + 1, len(said))
+    return case, found.start(2) + 1, [told_text(name, number, column + first, said[first:])]
+
+
+def text_of_row(name, number, column, text):
+    """What stands in the second column of a row, from this column of the line on."""
+    try:
+        fields = next(csv.reader([text], strict=True), [""])
+    except csv.Error as cause:
+        raise at(name, number, column, "no row of a CSV file goes on so") from cause
+    if len(fields) > 1:
+        raise at(name, number, column + len(fields[0]), "a row has a case and a call")
+    return fields[0] if fields else ""
 
 
 def of_line(name, number, line):
@@ -106,27 +130,14 @@ def of_line(name, number, line):
         return of_object(name, number, line)
     found = re.fullmatch(rf"(told |)g({CASE}) (.+)", line)
     if found:
-        is_told, case, said = found[1] != "", found[2], found[3]
-        column, kind = found.start(3) + 1, said.split(" ")[0]
-        if not is_told and kind not in RESULTS:
-            raise at(name, number, column, "no answer begins so")
-        if not is_told and kind != "reported":
-            return int(case), found.start(2) + 1, []
-        first = 0 if is_told else min(len("reported "), len(said))
-        return int(case), found.start(2) + 1, [told_text(name, number, column + first, said[first:])]
+        return of_answer(name, number, found)
     found = re.fullmatch(rf"({CASE})(?:([ ,])(.*))?", line)
     if not found:
         raise at(name, number, 1, "a line is a case's number and a call, an answer of dsc, or an object of dsc-json")
-    text = found[3] or ""
+    text, column = found[3] or "", found.start(3) + 1
     if found[2] == ",":
-        try:
-            fields = next(csv.reader([text], strict=True), [""])
-        except csv.Error as cause:
-            raise at(name, number, found.start(3) + 1, "no row of a CSV file goes on so") from cause
-        if len(fields) > 1:
-            raise at(name, number, found.start(3) + len(fields[0]) + 1, "a row has a case and a call")
-        text = fields[0] if fields else ""
-    return int(found[1]), 1, [told_text(name, number, found.start(3) + 1, text)] if text else []
+        text = text_of_row(name, number, column, text)
+    return int(found[1]), 1, [told_text(name, number, column, text)] if text else []
 
 
 def lines_of(name, data):
@@ -139,8 +150,8 @@ def lines_of(name, data):
     return [line.rstrip("\r") for line in text.split("\n")]
 
 
-def read_answers(path, file, cases):
-    """The calls that were told of each case. A case of which no line speaks has none."""
+def read_answers(path, file, cases, medium):
+    """The calls that were told of each case of a medium. A case of which no line speaks has none."""
     try:
         data = file.read()
     except OSError as cause:
@@ -151,6 +162,6 @@ def read_answers(path, file, cases):
             continue
         case, column, calls = of_line(path, number, line)
         if case not in told:
-            raise at(path, number, column, f"there is no case {case}")
+            raise at(path, number, column, f"{case} is no case of {medium}")
         told[case] += calls
     return told

@@ -172,7 +172,8 @@ def relay_to(chance):
 
 def end(chance, form):
     """An end of sequence that the form may have."""
-    return chance.one_of({"relay": (names.ASKS, names.NEITHER), "test": (names.ASKS, names.ANSWERS)}.get(form, (names.ASKS, names.ANSWERS, names.NEITHER)))
+    ends = {"relay": (names.ASKS, names.NEITHER), "test": (names.ASKS, names.ANSWERS)}
+    return chance.one_of(ends.get(form, (names.ASKS, names.ANSWERS, names.NEITHER)))
 
 
 # The categories of calls that are none of distress.
@@ -216,4 +217,8 @@ def sets_by_chance(chance):
 
 def calls_by_chance(chance):
     """A call of each form, without an expansion and with one."""
-    return [Call(text_by_chance(chance, form), sets_by_chance(chance) if is_expanded else ()) for form in FIELDS for is_expanded in (False, True)]
+    made = []
+    for form in FIELDS:
+        made.append(Call(text_by_chance(chance, form)))
+        made.append(Call(text_by_chance(chance, form), sets_by_chance(chance)))
+    return made

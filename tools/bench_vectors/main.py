@@ -20,12 +20,15 @@ OUTPUT_FAILED = 5
 def parser_of_words():
     parser = argparse.ArgumentParser(prog=NAME, description="Makes test vectors for decoders of DSC, and judges what a decoder made of them.")
     commands = parser.add_subparsers(dest="command", metavar="COMMAND", required=True)
-    making = commands.add_parser("make", help="make the vectors of a seed", description="Makes the vectors of a seed in a folder that is new or empty.")
+    making = commands.add_parser(
+        "make", help="make the vectors of a seed", description="Makes the vectors of a seed in a folder that is new or empty."
+    )
     making.add_argument("--dsc", metavar="PROGRAM", help="the program dsc; the one that was installed with this, or the one on PATH")
     making.add_argument("seed", metavar="SEED", help="a number from 0 to 4294967295")
     making.add_argument("folder", metavar="FOLDER")
     sending = commands.add_parser(
-        "raw", help="write the transmissions of lists of symbols", description="Writes the transmission of each line of symbols, 0 to 127, as dsc join reads it."
+        "raw", help="write the transmissions of lists of symbols",
+        description="Writes the transmission of each line of symbols, 0 to 127, as dsc join reads it.",
     )
     sending.add_argument("--dots", type=int, choices=(DOTS, LONG_DOTS), default=DOTS, help="elements of the dot pattern; 20")
     sending.add_argument("file", nargs="?", default="-", metavar="FILE", help="the lists; the standard input if none is named")
@@ -74,7 +77,7 @@ def judge(options):
     """Writes how a decoder's answers are judged."""
     cases = read_expected(options.folder, options.of)
     with opened(options.answers) as (name, file):
-        found = judged(cases, read_answers(name, file, [it.number for it in cases]))
+        found = judged(cases, read_answers(name, file, [it.number for it in cases], options.of))
     print(as_json(options.of, found) if options.json else "\n".join(as_text(found)))
     return int(any(it.result != PASS for it in found))
 

@@ -12,7 +12,10 @@ from .refusals import Contradicted, RefusedWords, Unwritable
 from .wrong import no_calls_by_chance
 
 LAST_SEED = 2**32 - 1
-COLUMNS = ("case", "form", "expansion", "damage", "strength", "how", "symbols", "calls", "answer", "must", "expansion_must", "why", "sound_must", "mf", "sentences")
+COLUMNS = (
+    "case", "form", "expansion", "damage", "strength", "how", "symbols", "calls", "answer", "must", "expansion_must", "why", "sound_must", "mf",
+    "sentences",
+)
 EXPECTED, ELEMENTS, SENTENCES, READ_ME = "expected.csv", "elements.txt", "sentences.txt", "README.txt"
 # Damage over MF that has sound at each strength; of the others the middle one has, since 100 elements a second make long sounds.
 FULL_OVER_MF, MIDDLE = (damage.CLEAN, damage.NOISY), 2
@@ -47,9 +50,9 @@ class Case:
         symbols = " / ".join(" ".join(map(str, it.symbols)) for it in self.heard.sent)
         has_expansion = isinstance(self.subject, Call) and self.subject.tail
         return (
-            self.number, self.subject.form, sets, self.damage, self.strength, self.how(), symbols, " / ".join(it.text for it in self.calls), self.answer,
-            self.verdict.word, self.verdict.expansion if has_expansion else "", self.verdict.why, self.sound_word(), "yes" if self.has_mf() else "no",
-            " ".join(self.sentences),
+            self.number, self.subject.form, sets, self.damage, self.strength, self.how(), symbols, " / ".join(it.text for it in self.calls),
+            self.answer, self.verdict.word, self.verdict.expansion if has_expansion else "", self.verdict.why, self.sound_word(),
+            "yes" if self.has_mf() else "no", " ".join(self.sentences),
         )
 
 
