@@ -43,6 +43,10 @@ class Told:
         self.text = text.partition(" broken ")[0]
         self.made = None if made is None else {name: value for name, value in made.items() if name != "broken"}
 
+    def said(self):
+        """What was told, as it was."""
+        return self.text if self.made is None else self.made
+
     def is_call(self, sent):
         """Whether it is this call. An expansion needn't be told, but if it is, it is the one that was sent."""
         return self.text in sent.texts if self.made is None else self.made in sent.objects

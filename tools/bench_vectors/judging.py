@@ -30,7 +30,7 @@ class Judged:
     """A case with what was told of it."""
 
     def __init__(self, case, told):
-        self.case = case
+        self.case, self.told = case, [it.said() for it in told]
         came = [[it.is_call(call) for call in case.calls] for it in told]
         self.is_sent, self.has_come = bool(case.calls), any(map(any, came))
         self.is_beyond = case.must == NOT and self.has_come
@@ -92,7 +92,7 @@ def as_json(medium, found):
         "by_form_and_damage": rows_of(("form", "damage", "strength"), summed(found, lambda it: (it.form, it.damage, it.strength))),
         "wrong": [
             {"case": it.case.number, "form": it.case.form, "damage": it.case.damage, "strength": it.case.strength, "result": it.result,
-             "must": it.case.must, "why": it.case.why} for it in wrong
+             "must": it.case.must, "why": it.case.why, "sent": [call.texts[-1] for call in it.case.calls], "told": it.told} for it in wrong
         ],
     }, indent=1)
 
@@ -108,7 +108,7 @@ def table(head, rows):
 
 
 def as_text(found):
-    """The tables: by damage, by form, and the pairs of both of which a case failed or is a false report; and the sum."""
+    """The tables: by damage, by form, and the pairs of both of which a case failed or is a false report; what these were; and the sum."""
     by_damage = summed(found, lambda it: (it.damage, it.strength))
     yield from table(("damage", "strength", *COUNTS), [(*key, *counts) for key, counts in by_damage.items()])
     yield ""
@@ -119,6 +119,11 @@ def as_text(found):
     if bad:
         yield ""
         yield from table(("form", "damage", *COUNTS), bad)
+    reports = [it for it in found if it.result == FALSE]
+    if reports:
+        yield ""
+    for it in reports:
+        yield f"false report of case {it.case.number}, {it.case.damage} {it.case.strength}: {' / '.join(map(str, it.told))}"
     sums = dict(zip(COUNTS, summed(found, lambda it: ())[()]))
     yield ""
     yield f"{sums['cases']} cases: {sums[PASS]} pass, {sums[FAIL]} fail, {sums[FALSE]} false reports; {sums['came']} of {sums['sent']} calls came"
