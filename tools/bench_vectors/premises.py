@@ -100,6 +100,11 @@ def of_no_call(no_call, bodies):
     return Verdict(NOT, "no call was sent")
 
 
+def is_lost(verdict, place):
+    """Whether a place that an answer names came nowhere."""
+    return place.isdecimal() and int(place) in verdict.lost
+
+
 def contradiction(verdict, answer):
     """What is wrong with an answer of `dsc` by what is proved of it, or nothing."""
     kind, _, rest = answer.partition(" ")
@@ -107,7 +112,7 @@ def contradiction(verdict, answer):
     if kind != "reported":
         if verdict.word == MUST:
             return "the call must come"
-        if verdict.is_heard and (kind != "missing" or int(rest) not in verdict.lost):
+        if verdict.is_heard and not (kind == "missing" and is_lost(verdict, rest)):
             return "it names no place that came nowhere"
         return ""
     if verdict.word == NOT:
@@ -119,7 +124,7 @@ def contradiction(verdict, answer):
         return "another call comes"
     if verdict.expansion == MUST and text != call.text:
         return "the expansion must come"
-    if broken and call.tail and int(broken) not in verdict.lost:
+    if broken and call.tail and not is_lost(verdict, broken):
         return f"place {broken} of the expansion came"
     if broken and not call.tail and verdict.has_end:
         return "nothing follows the call"
