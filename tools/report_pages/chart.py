@@ -96,4 +96,4 @@ def chart(casualties):
     for (casualty, _), (x, y), (label_x, label_y) in zip(marks, where, label_places(where)):
         kind = "waits" if casualty.waits() else "answered"
         parts.append(f'<circle class="{kind}" cx="{x}" cy="{y}" r="6"/><text x="{label_x}" y="{label_y}">{escape(casualty.identity)}</text>')
-    return f'<svg viewBox="0 0 {WIDE} {HIGH}" role="img" aria-label="Chart of the positions"><rect class="sea" width="{WIDE}" height="{HIGH}"/>{"".join(parts)}</svg>'
+    return f'<svg viewBox="0 0 {WIDE} {HIGH}" role="img" aria-label="Chart of the positions of the casualties"><rect class="sea" width="{WIDE}" height="{HIGH}"/>{"".join(parts)}</svg>'

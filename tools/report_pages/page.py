@@ -19,9 +19,14 @@ svg { width: 100%; height: auto; } svg text { font: 12px Helvetica, Arial, sans-
 svg .sea { fill: var(--pale); } svg .grid { stroke: var(--line); stroke-width: 1; } svg .area { fill: none; stroke: var(--ink); stroke-dasharray: 5 4; }
 svg circle { stroke: var(--paper); stroke-width: 1.5; } svg .waits { fill: var(--waits); } svg .answered { fill: var(--done); }
 code { overflow-wrap: anywhere; }
-@media print { body { font-size: 10pt; max-width: none; padding: 0; } article { margin: .3rem 0; padding: .3rem .5rem; } svg { max-height: 7cm; } }
+@page { size: A4; margin: 12mm; }
+@media print {
+  html { font-size: 9pt; } body { font-size: 1rem; line-height: 1.3; max-width: none; padding: 0; } h1 { font-size: 1.3rem; margin: 0; } h2 { margin: .7rem 0 .3rem; break-after: avoid; }
+  .casualties { columns: 2; column-gap: 5mm; } article { margin: 0 0 .3rem; padding: .25rem .5rem; } h3 { margin: 0; font-size: 1rem; } ul { margin: 0; }
+  svg { max-height: 8cm; break-inside: avoid; }
+}
 """
-STATES = {"waits": "no acknowledgement fits it", "again": "heard again behind its acknowledgement", "acknowledged": "acknowledged"}
+STATES = {"waits": "no acknowledgement fits it", "again": "heard again after its acknowledgement", "acknowledged": "acknowledged"}
 
 
 def place_text(alert):
@@ -87,13 +92,14 @@ def page(report):
     waiting = [it for it in report.casualties if it.waits()]
     refused = [it for it in report.heard if it.verdict != "accepted"]
     counts = f"{len(report.casualties)} casualties, {len(waiting)} of them wait; {len(report.heard)} DSC and DSE sentences, {len(refused)} refused; {report.sentences} other sentences and {report.lines} other lines left out."
+    casualties = "".join(map(casualty_part, report.casualties)) or "<p>None.</p>"
     parts = [
         "<!DOCTYPE html>", '<html lang="en"><head><meta charset="utf-8"><meta name="viewport" content="width=device-width, initial-scale=1">',
         f"<title>Distress calls in {escape(', '.join(report.logs))}</title><style>{STYLE}</style></head><body>",
         f"<h1>Distress calls in {escape(', '.join(report.logs))}</h1><p>{counts}</p>",
         "<p class=\"small\">Rows are those of <code>dsc book</code>. An acknowledgement fits an alert of the same casualty, nature and time; whether it "
         "answered it is this report's reading. Sentences have an hour and no day: days are those of the stamps.</p>",
-        "<main>", "<h2>Casualties</h2>", "".join(map(casualty_part, report.casualties)) or "<p>None.</p>",
+        "<main>", "<h2>Casualties</h2>", f'<div class="casualties">{casualties}</div>',
     ]
     drawn = chart(report.casualties)
     parts.append(f"<h2>Positions</h2>{drawn}" if drawn else "<h2>Positions</h2><p>None is known.</p>")
