@@ -100,6 +100,14 @@ same_given v w size long same =
     let inside : p < 64 = omega (arith, given_long w long) in
     given_at w p long inside ∙ ap kept_of (same p inside) ∙ sym (given_at v p size inside))
 
+pub same_seen : (v w : View) → length v.places ≡ 64 → length w.places ≡ 64 → ((p : ℕ) → p < 64 → (place_at w p).seen ≡ (place_at v p).seen) → seen_sheet w ≡ seen_sheet v
+same_seen v w size long same =
+    ext_get_or seen.None (seen_sheet w) (seen_sheet v)
+    (length-map w.places (λ place. kept_of place.seen) ∙ long ∙ sym (length-map v.places (λ place. kept_of place.seen) ∙ size))
+    (λ p below.
+    let inside : p < 64 = omega (arith, length-map w.places (λ place. kept_of place.seen), long) in
+    seen_at_view w p (omega (arith, long, inside)) ∙ ap kept_of (same p inside) ∙ sym (seen_at_view v p (omega (arith, size, inside))))
+
 -- a look leaves what was posted
 pub looked_given : (facts : List (ℕ × ℕ)) (before after : View) → IsSeated before → Through (LooksAt facts) before after 64 → given_sheet after ≡ given_sheet before
 looked_given facts before after seated through =
@@ -140,3 +148,16 @@ nothing_given share =
     ends_given no_facts (fresh share) blanks_long
     (λ p below. subst (λ (c : Place). IsSeen (no_facts p) (kept_of c.given)) (sym (place_blank p)) (λ v. refl))
     (λ p above v. refl)
+
+pub nothing_seen : (share : ℕ) → IsEnds no_facts (seen_sheet (fresh share))
+nothing_seen share =
+    let long : length (seen_sheet (fresh share)) ≡ 64 = length-map (fresh share).places (λ place. kept_of place.seen) ∙ blanks_long in
+    record {
+      places = long;
+      each = λ p. elim (cases_lt p 64) [
+        | inl below ↦
+            subst (λ (x : Seen). IsSeen (no_facts p) x) (sym (seen_at_view (fresh share) p (omega (arith, blanks_long, below))))
+            (subst (λ (c : Place). IsSeen (no_facts p) (kept_of c.seen)) (sym (place_blank p)) (λ v. refl))
+        | inr above ↦ subst (λ (x : Seen). IsSeen (no_facts p) x) (sym (get_or_past (seen_sheet (fresh share)) p seen.None (omega (arith, long, above)))) (λ v. refl)
+      ];
+    }

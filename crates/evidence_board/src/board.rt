@@ -39,6 +39,7 @@ impl<A: Allowed> Board<A> {
     pub fn new(alloc: Global) -> Result<(Board<A>, Seat<A>), AllocError>
         ensures seat { IfOk result (λ made. (made.1.table ≡ made.0) × (made.1.view ≡ fresh WHOLE)) }
         ensures empty { IfOk result (λ made. IsEnds no_facts (given_sheet made.1.view)) }
+        ensures unseen { IfOk result (λ made. IsEnds no_facts (seen_sheet made.1.view)) }
     {
         let (words, token) = Words::new(alloc)?;
         Ok((Board { words }, Seat::first(token)))
@@ -103,6 +104,7 @@ impl<A: Allowed> Board<A> {
         ensures new { (p : ℕ) → p < 64 → place_at result.view p ≡ uncounted (place_at seat.old.view p) }
         ensures given { (given_sheet seat.new.view ≡ given_sheet seat.old.view)
             × (given_sheet result.view ≡ given_sheet seat.old.view) }
+        ensures seen { seen_sheet result.view ≡ seen_sheet seat.old.view }
     {
         let token = self.words.split(&mut seat.token);
         let half = seat.share / 2;

@@ -135,9 +135,15 @@ impl NamedGroups {
         }
     }
 
-    /// Takes what a receiver heard of a group, at most 1,000,000 elements, into the batch, and leaves the batch open. A group too many
-    /// leaves all as it was.
-    pub fn wait(&mut self, group: u32, heard: Reception) -> Result<(), Refusal>
+    /// Takes what a receiver heard of a group, at most 1,000,000 elements, into the batch, and leaves the batch open. Where nobody watches the
+    /// group any more, one worker who works alone reads it at once. A group too many leaves all as it was.
+    pub fn wait<W: WatchedJoiner>(
+        &mut self,
+        workers: &W,
+        is_watched: bool,
+        group: u32,
+        heard: Reception,
+    ) -> Result<(), Refusal>
         requires short { length heard ≤ LONGEST }
         requires ready { HoldsSome self.old }
         ensures ok { OnOk result ((named : ℕ → Bool) (F : ℕ → Facts) → Holds self.old named F
@@ -148,6 +154,11 @@ impl NamedGroups {
             → (refusal ≡ Refusal.TooManyGroups) × IsFull named group)) }
         ensures kept { IfErr result (λ refusal. refusal ≢ Refusal.Memory → self.new ≡ self.old) }
     {
+        if !is_watched {
+            if let Some(read) = workers.read_alone(&heard) {
+                return self.meet(group, &read);
+            }
+        }
         match self.number_of(group) {
             Ok(number) => {
                 self.put(number, heard)?;

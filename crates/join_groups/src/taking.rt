@@ -8,6 +8,7 @@ ghost use Rattle.join_groups.specs.inside.Kept.{Keeps, IsRefused, IsShort, Takes
 use crate::groups::{MOST_IN_BATCH, NamedGroups};
 use dsc_lines::{JoinLine, LineFault, join_line};
 use line_engine::{LONGEST_LINE, Refusal};
+use live_watch::WatchedJoiner;
 use receiver_pool::Joiner;
 use std::alloc::Global;
 
@@ -59,8 +60,14 @@ pub fn take_read<W: Joiner>(
     }
 }
 
-/// The same of workers who join a batch only where it is closed.
-pub fn take_waiting(groups: &mut NamedGroups, read: JoinLine) -> Result<(), Refusal>
+/// The same of workers who join a batch only where it is closed, but for a reception of a group that nobody watches any more: one who works
+/// alone reads that at once.
+pub fn take_waiting<W: WatchedJoiner>(
+    groups: &mut NamedGroups,
+    workers: &W,
+    is_watched: bool,
+    read: JoinLine,
+) -> Result<(), Refusal>
     requires short { IsShort read }
     requires ready { HoldsSome groups.old }
     ensures ok { OnOk result (TakesRead groups.old read groups.new) }
@@ -69,7 +76,9 @@ pub fn take_waiting(groups: &mut NamedGroups, read: JoinLine) -> Result<(), Refu
 {
     match read {
         JoinLine::Nothing => Ok(()),
-        JoinLine::Reception { group, elements } => groups.wait(group, elements),
+        JoinLine::Reception { group, elements } => {
+            groups.wait(workers, is_watched, group, elements)
+        }
         JoinLine::Evidence { sheet, group } => groups.meet(group, &sheet),
     }
 }

@@ -1,16 +1,23 @@
 -- A watcher's round stays one behind each look, and what it tells at its end.
 use Rattle.std.proofs.Common.{◌≡◌, ◌≢◌, ◌⊎◌, ℕ, ◌+◌, ◌<◌, ◌≤◌, false, true, List, Option, Some, None, length, set, slice_index, refl, sym, ap, subst, ◌∙◌, inl, inr, arith}
 use Rattle.std.proofs.lemmas.Bool.{cases_eq, cases_lt}
+use Rattle.std.proofs.Math.Bool.{or-false}
 use Rattle.std.proofs.lemmas.List.{get_or_past, length-set, get_or-set_same, get_or-set_other}
 use Rattle.call_values.specs.declared.calls.Call.{Call}
 use Rattle.slot_evidence.specs.declared.places.Seen.{Seen}
+use Rattle.slot_evidence.specs.Facts.{no_facts, union}
+use Rattle.slot_evidence.specs.Sheet.{IsEnds, facts_in}
+use Rattle.slot_evidence.proofs.PublicLaws.{IsEnds-same, flip_alike}
+use Rattle.slot_join.specs.declared.joined.Joined.TheVariants.{Reported}
 use Rattle.evidence_board.specs.Views.{Reach, View, place_at, seen_sheet}
 use Rattle.evidence_board.specs.Rule.{IsWithin}
 use Rattle.evidence_board.specs.Seats.{Held}
-use Rattle.receiver_pool.specs.Rows.{seat_at}
+use Rattle.receiver_pool.specs.Rows.{HaveSeenNothing, seat_at}
 use Rattle.live_watch.specs.declared.batches.WatchedGroup.{WatchedGroup}
+use Rattle.live_watch.specs.Told.{IsReportOf}
 use Rattle.live_watch.specs.Batches.{Sight, IsSeenWith, IsReportWith, known_of}
 use Rattle.live_watch.specs.inside.Rounds.{sight_of, watched_at, nothing_watched, AreOnBoards, IsBoardOf, HasLooked, IsStep, IsDone, IsJudged, IsRound}
+use Rattle.live_watch.proofs.Posting.{Alike}
 
 pub within_itself : (a : Reach) → IsWithin a a
 within_itself a = record { least = omega arith; past = omega arith }
@@ -194,15 +201,22 @@ on_boards known groups begun watched seats n many was i k is = elim (cases_lt i 
 ]
 
 -- the boards of the first groups are found
-pub record FoundTo (groups : List ℕ) (begun watched : List WatchedGroup) (i : ℕ) : Type 0 where
+pub record FoundTo (known : List (List Seen)) (groups : List ℕ) (begun watched : List WatchedGroup) (i : ℕ) : Type 0 where
   pub count : length watched ≡ length begun
   pub same : (j : ℕ) → j < length begun → sight_of (watched_at watched j) ≡ sight_of (watched_at begun j)
   pub board : (j : ℕ) → j < i → IsBoardOf groups (watched_at begun j).group (watched_at watched j).board
-  pub unlooked : (j : ℕ) → j < i → (watched_at watched j).is_looked ≡ false
+  pub judged : (j : ℕ) → j < i → (watched_at watched j).is_looked ≡ true → IsReportOf (known_of known (watched_at begun j).group) None
 
-pub found_more : (groups : List ℕ) (begun watched : List WatchedGroup) (i : ℕ) (one : WatchedGroup) → i < length begun → sight_of one ≡ sight_of (watched_at watched i) → IsBoardOf groups (watched_at watched i).group one.board → one.is_looked ≡ false
-    → FoundTo groups begun watched i → FoundTo groups begun (set watched i one) (i + 1)
-found_more groups begun watched i one inside sight board unlooked was =
+pub same_sight : (a b : WatchedGroup) → a.group ≡ b.group → a.call ≡ b.call → sight_of a ≡ sight_of b
+same_sight a b group call =
+    let of_group : (g : ℕ) → Sight = λ g. record { group = g; seen = a.call } in
+    let of_call : (o : Option Call) → Sight = λ o. record { group = b.group; seen = o } in
+    ap of_group group ∙ ap of_call call
+
+pub found_more : (known : List (List Seen)) (groups : List ℕ) (begun watched : List WatchedGroup) (i : ℕ) (one : WatchedGroup) → i < length begun → sight_of one ≡ sight_of (watched_at watched i) → IsBoardOf groups (watched_at watched i).group one.board
+    → (one.is_looked ≡ true → IsReportOf (known_of known (watched_at watched i).group) None)
+    → FoundTo known groups begun watched i → FoundTo known groups begun (set watched i one) (i + 1)
+found_more known groups begun watched i one inside sight board judged was =
     let here : (j : ℕ) → j ≡ i → watched_at (set watched i one) j ≡ one = λ j e. ap (watched_at (set watched i one)) e ∙ get_or-set_same watched i one nothing_watched (omega (arith, was.count, inside)) in
     let apart : (j : ℕ) → j ≢ i → watched_at (set watched i one) j ≡ watched_at watched j = λ j e. get_or-set_other watched i j one nothing_watched e in
     let group : (watched_at watched i).group ≡ (watched_at begun i).group = ap (λ (s : Sight). s.group) (was.same i inside) in
@@ -218,21 +232,34 @@ found_more groups begun watched i one inside sight board unlooked was =
             (subst (λ (n : ℕ). IsBoardOf groups (watched_at begun n).group one.board) (sym e) (subst (λ (g : ℕ). IsBoardOf groups g one.board) group board))
         | inr e ↦ subst (λ (w : WatchedGroup). IsBoardOf groups (watched_at begun j).group w.board) (sym (apart j e)) (was.board j (omega (arith, below, e)))
       ];
-      unlooked = λ j below. elim (cases_eq j i) [
-        | inl e ↦ ap (λ (w : WatchedGroup). w.is_looked) (here j e) ∙ unlooked
-        | inr e ↦ ap (λ (w : WatchedGroup). w.is_looked) (apart j e) ∙ was.unlooked j (omega (arith, below, e))
+      judged = λ j below is. elim (cases_eq j i) [
+        | inl e ↦
+            subst (λ (n : ℕ). IsReportOf (known_of known (watched_at begun n).group) None) (sym e)
+            (subst (λ (g : ℕ). IsReportOf (known_of known g) None) group (judged (ap (λ (w : WatchedGroup). w.is_looked) (sym (here j e)) ∙ is)))
+        | inr e ↦ was.judged j (omega (arith, below, e)) (ap (λ (w : WatchedGroup). w.is_looked) (sym (apart j e)) ∙ is)
       ];
     }
 
+-- a seat that has seen nothing adds nothing to what was known
+nothing_adds : Alike → (known shown : List Seen) → IsEnds no_facts shown → IsReportOf known None → IsReportWith known shown None
+nothing_adds laws known shown nothing none F ends call extra is =
+    none (union F no_facts) (IsEnds-same F _ known (λ p v. sym (or-false (F p v))) ends) call extra
+    (laws.answers (union F (facts_in shown)) (union F no_facts) (Reported call extra)
+    (λ p. laws.unions (F p) (F p) (facts_in shown p) (no_facts p) (laws.itself (F p)) (flip_alike (no_facts p) (facts_in shown p) (laws.sheet no_facts shown p nothing)))
+    is)
+
 -- a round begins where they all are
-pub found_round : (known : List (List Seen)) (groups : List ℕ) (begun watched : List WatchedGroup) (seats : List Held) (i : ℕ) → length begun ≤ i → FoundTo groups begun watched i → IsRound known groups begun watched seats
-found_round known groups begun watched seats i over was = record {
+pub found_round : Alike → (known : List (List Seen)) (groups : List ℕ) (begun watched : List WatchedGroup) (seats : List Held) (i : ℕ) → length begun ≤ i → HaveSeenNothing (length groups) seats
+    → FoundTo known groups begun watched i → IsRound known groups begun watched seats
+found_round laws known groups begun watched seats i over nothing was = record {
   count = was.count;
   group = λ j below. ap (λ (s : Sight). s.group) (was.same j below);
   boards = λ j below. was.board j (omega (arith, below, over));
   kept = λ j call below is. ap (λ (s : Sight). s.seen) (was.same j below) ∙ is;
   shown = λ j call below is. inl (sym (ap (λ (s : Sight). s.seen) (was.same j below)) ∙ is);
-  looked = λ j k below is. absurd (cc (was.unlooked j (omega (arith, below, over)), is));
+  looked = λ j k below is board.
+      let inside : k < length groups = (subst (λ (o : Option ℕ). IsBoardOf groups (watched_at begun j).group o) board (was.board j (omega (arith, below, over)))).0 in
+      inr (nothing_adds laws (known_of known (watched_at begun j).group) (seen_sheet (seat_at seats k).view) (nothing k inside) (was.judged j (omega (arith, below, over)) is));
 }
 
 -- a look at the board of a group of which no call was seen

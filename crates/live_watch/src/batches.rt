@@ -1,11 +1,11 @@
 //! A watcher of all boards of a batch.
-ghost use Rattle.std.specs.Prelude.{◌≡◌, ℕ, ◌<◌, ◌≤◌, ◌++◌, ◌∷◌, true, false, List, [], None, All, IfOk, MatchOption, OnOk, length};
+ghost use Rattle.std.specs.Prelude.{◌≡◌, ℕ, ◌<◌, ◌≤◌, ◌++◌, ◌∷◌, true, false, List, [], None, All, IfOk, IfSome, MatchOption, OnOk, length};
 ghost use Rattle.slot_evidence.specs.declared.places.Seen.{Seen};
-ghost use Rattle.slot_evidence.specs.Facts.{Facts, union};
+ghost use Rattle.slot_evidence.specs.Facts.{Facts, facts_of, union};
 ghost use Rattle.slot_evidence.specs.Sheet.{IsEnds, facts_in};
 ghost use Rattle.evidence_board.specs.Seats.{Held};
 ghost use Rattle.receiver_pool.specs.Groups.{facts_of_group, AreSheets, Belongs, IsShort, Shows};
-ghost use Rattle.receiver_pool.specs.Rows.{AreAsBefore, Sit};
+ghost use Rattle.receiver_pool.specs.Rows.{AreAsBefore, HaveSeenNothing, Sit};
 ghost use Rattle.live_watch.specs.declared.batches.WatchedGroup.{WatchedGroup as Begun};
 ghost use Rattle.live_watch.specs.Told.{IsReportOf};
 ghost use Rattle.live_watch.specs.Batches.{HasWatched, IsReportWith, IsSightOf, WentRound, known_of};
@@ -14,11 +14,13 @@ ghost use Rattle.live_watch.specs.inside.Rounds.{AreJudged, AreOnBoards, IsBoard
 
 use crate::showing::{Unreported, reports};
 use call_values::Call;
+use phasing::LONGEST;
 use receiver_pool::{
-    AllFacts, Beside, Board, Gate, GroupReception, GroupSheet, Posts, Seat, look_at, meet_entries,
+    AllFacts, Alone, Beside, Board, Gate, GroupReception, GroupSheet, Posts, Seat, look_at, meet_entries,
     pool_groups, pool_groups_beside,
 };
-use slot_evidence::{Sheet, sheet_has_facts};
+use slot_evidence::{Reception, Sheet, ends_are_kept, sheet_has_facts};
+use slot_join::alike_facts_have_one_answer;
 use std::alloc::{AllocError, Global};
 use std::marker::Model;
 use std::thread::{Threads, yield_now};
@@ -59,9 +61,9 @@ struct WatchedGroup {
     call: SeenCall,
     /// Where its board stands among those of the batch.
     board: Option<usize>,
-    /// Whether somebody looked there.
+    /// Whether somebody looked there, or nobody need look before something new is posted: what was known of the group reports no call.
     is_looked: bool,
-    /// How often something had been posted there before the last look.
+    /// How often something new had been posted there before the last look.
     posts: u32,
     /// The last sheet of it that was judged: it reports no call.
     unreported: Option<Unreported>,
@@ -87,18 +89,26 @@ impl WatchedGroup {
         self.call.get().is_some() || self.board.is_none()
     }
 
-    /// Begins a batch in which its board stands at this place, if it has one.
-    fn begin(&mut self, board: Option<usize>)
-        ensures { (self.new.group ≡ self.old.group) × (self.new.call ≡ self.old.call) × (self.new.board ≡ board)
-            × (self.new.is_looked ≡ false) }
+    /// Whether what was known of the group is the sheet that was judged last: then it reports no call.
+    fn was_judged(&self, known: &[Sheet]) -> bool
+        ensures { result ≡ true → IsReportOf (known_of known.now self.now.group) None }
     {
+        self.group < known.len() && self.is_judged(&known[self.group])
+    }
+
+    /// Begins a batch in which its board stands at this place, if it has one. Where what was known of the group was judged before, nobody need
+    /// look there before something new is posted.
+    fn begin(&mut self, known: &[Sheet], board: Option<usize>)
+        ensures kept { (self.new.group ≡ self.old.group) × (self.new.call ≡ self.old.call) × (self.new.board ≡ board) }
+        ensures judged { self.new.is_looked ≡ true → IsReportOf (known_of known.now self.old.group) None }
+    {
+        self.is_looked = self.was_judged(known);
         self.board = board;
-        self.is_looked = false;
         self.posts = 0;
     }
 
-    /// Whether nothing is to be seen of it by a look at its board, on which something was posted so often: a call was seen, or nothing is
-    /// new. The last look is made also where none was made before.
+    /// Whether nothing is to be seen of it by a look at its board, on which something new was posted so often: a call was seen, or nothing is
+    /// new. The last look is made also where none was made before that need be.
     fn is_over(&self, posts: u32, is_last: bool) -> bool
         ensures over { result ≡ true → is_last ≡ true → IsDone self.now }
         ensures open { result ≡ false → self.now.call ≡ None }
@@ -167,16 +177,18 @@ fn place_of(groups: &[usize], here: usize, group: usize) -> Option<usize>
     None
 }
 
-/// Finds the board of each group: the k-th board is that of the k-th of these groups.
-fn find_boards(watched: &mut [WatchedGroup], groups: &[usize])
-    ensures { (known : List (List Seen)) (seats : List Held)
-        → IsRound known groups.now watched.old watched.new seats }
+/// Finds the board of each group: the k-th board is that of the k-th of these groups. No seat of them has seen anything.
+fn find_boards(watched: &mut [WatchedGroup], known: &[Sheet], groups: &[usize])
+    ensures { (seats : List Held) → HaveSeenNothing (length groups.now) seats
+        → IsRound known.now groups.now watched.old watched.new seats }
 {
+    alike_facts_have_one_answer();
+    ends_are_kept();
     let mut next = 0;
     for i in 0..watched.len() {
         let place = place_of(groups, next, watched[i].group);
         next = place.unwrap_or(next).saturating_add(1);
-        watched[i].begin(place);
+        watched[i].begin(known, place);
     }
 }
 
@@ -269,11 +281,12 @@ fn go_through(
     posts: &Posts,
 )
     requires seats { Sit 1 boards.now seats.old }
+    requires unseen { HaveSeenNothing (length boards.now) seats.old }
     requires count { length boards.now ≡ length groups.now }
     ensures kept { AreAsBefore boards.now seats.old seats.new }
     ensures gone { WentRound (sights_of watched.old) (sights_of watched.new) known.now groups.now seats.new }
 {
-    find_boards(watched, groups);
+    find_boards(watched, known, groups);
     look_on(watched, known, boards, seats, posts);
     go_once(watched, known, boards, seats, posts, true);
 }
@@ -294,7 +307,7 @@ fn place_among(watched: &[WatchedGroup], here: usize, group: usize) -> Option<us
 }
 
 /// A watcher of a batch. It goes round the boards of the groups that it watches, and looks at those on which there is something new, until
-/// it has seen a call of each; and once more behind the last post. What was known of a group before the batch counts with what its board
+/// it has seen a call of each; and once more after the last post. What was known of a group before the batch counts with what its board
 /// shows. Contracts see it as the groups that it watches, each with the call that it saw.
 #[derive(Drop)]
 pub struct BatchWatcher {
@@ -400,6 +413,11 @@ pub trait WatchedJoiner: Drop {
     /// Their way of joining batches joins them.
     ghost can_join: { Self → Type 0 };
 
+    /// What a reception shows, where one worker works alone.
+    fn read_alone(&self, heard: &Reception) -> Option<Sheet>
+        requires { length heard.now ≤ LONGEST }
+        ensures { IfSome result (λ sheet. IsEnds (facts_of heard.now) sheet) };
+
     /// Joins a batch of receptions into the sheets of their groups, and gives the watcher back. The error is want of memory.
     fn join_watched(
         &self,
@@ -414,10 +432,23 @@ pub trait WatchedJoiner: Drop {
         ensures watched { IfOk result (λ after. HasWatched watcher after sheets.old batch.now) };
 }
 
-/// Workers who read batches by this function, as `watch_batch` does.
+/// Workers who read batches by this function, as `watch_batch` does. One who works alone also reads a reception by itself.
 #[derive(Drop)]
 pub struct WatchedWorkers<J> {
+    alone: Alone,
     pub join: J,
+}
+
+impl<J: Drop> WatchedWorkers<J> {
+    /// So many workers. One enters the gate here; one and several enter it in each batch.
+    pub fn new<G: Gate>(workers: u32, gate: &G, join: J) -> WatchedWorkers<J>
+        ensures { result.join ≡ join }
+    {
+        WatchedWorkers {
+            alone: Alone::of(workers, gate),
+            join,
+        }
+    }
 }
 
 impl<
@@ -429,6 +460,10 @@ impl<
         ) -> Result<(Vec<GroupSheet>, BatchWatcher), AllocError>,
 > WatchedJoiner for WatchedWorkers<J> {
     ghost can_join = { λ workers. JoinsWatched (J.pre workers.join) (J.post workers.join) };
+
+    fn read_alone(&self, heard: &Reception) -> Option<Sheet> {
+        self.alone.read(heard)
+    }
 
     fn join_watched(
         &self,

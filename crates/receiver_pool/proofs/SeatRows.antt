@@ -4,11 +4,11 @@ use Rattle.std.proofs.lemmas.Bool.{cases_eq, eq-eqb, ne_eqb}
 use Rattle.std.proofs.Math.Bool.{or-false}
 use Rattle.std.proofs.lemmas.List.{length-set, get_or-set_same, get_or-set_other}
 use Rattle.atomic_table.specs.Seated.{TableId}
-use Rattle.slot_evidence.specs.Facts.{Facts, union}
+use Rattle.slot_evidence.specs.Facts.{Facts, no_facts, union}
 use Rattle.slot_evidence.specs.declared.places.Seen.{Seen}
 use Rattle.slot_evidence.specs.Sheet.{IsEnds, seen_at}
 use Rattle.slot_evidence.proofs.PublicLaws.{IsEnds-same}
-use Rattle.evidence_board.specs.Views.{Reach, united, reach_of, Place, place_at, given_sheet}
+use Rattle.evidence_board.specs.Views.{Reach, united, reach_of, Place, place_at, given_sheet, seen_sheet}
 use Rattle.evidence_board.specs.Rule.{IsWithin}
 use Rattle.evidence_board.specs.Steps.{joined}
 use Rattle.receiver_pool.specs.Groups.{AreSheets}
@@ -32,6 +32,10 @@ Tables boards j board = board ≡ table_at boards j
 
 abbrev pub AnySeat : ℕ → Held → Type 0
 AnySeat j seat = seat ≡ seat
+
+-- the seat has seen nothing
+abbrev pub Unseen : ℕ → Held → Type 0
+Unseen j seat = IsEnds no_facts (seen_sheet seat.view)
 
 -- the seat that stands there in a row
 abbrev pub Same : List Held → ℕ → Held → Type 0

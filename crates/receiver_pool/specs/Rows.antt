@@ -1,9 +1,9 @@
 -- A row of boards, and a seat of each: this project's profile.
 use Rattle.std.specs.Prelude.{◌≡◌, ℕ, ◌<◌, ◌≤◌, List, [], length, slice_index_or}
 use Rattle.atomic_table.specs.Seated.{TableId}
-use Rattle.slot_evidence.specs.Facts.{Facts}
+use Rattle.slot_evidence.specs.Facts.{Facts, no_facts}
 use Rattle.slot_evidence.specs.Sheet.{IsEnds}
-use Rattle.evidence_board.specs.Views.{spent, given_sheet}
+use Rattle.evidence_board.specs.Views.{spent, given_sheet, seen_sheet}
 use Rattle.evidence_board.specs.Seats.{Held}
 
 -- what stands where there is no board, and no seat
@@ -41,3 +41,7 @@ pub record Sit (least : ℕ) (boards : List TableId) (seats : List Held) : Type 
 -- behind something that was done the seats are as they were: each has its board, its share and what was posted through it
 abbrev pub AreAsBefore : List TableId → List Held → List Held → Type 0
 AreAsBefore boards before after = (share : ℕ) (F : ℕ → Facts) → AreSeats share F boards before → AreSeats share F boards after
+
+-- no seat of so many boards has posted or loaded anything
+abbrev pub HaveSeenNothing : ℕ → List Held → Type 0
+HaveSeenNothing n seats = (k : ℕ) → k < n → IsEnds no_facts (seen_sheet (seat_at seats k).view)

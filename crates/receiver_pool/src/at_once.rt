@@ -16,15 +16,17 @@ use evidence_board::{AllFacts, Board, Seat, all_facts_may_be_posted};
 use phasing::LONGEST;
 use slot_evidence::{Reception, Sheet, ends_are_kept, sheet_is_lawful, shown_by};
 
-/// Takes what a reception shows into a sheet of all that was posted through a seat, where it is one's turn, and posts it where that is new.
-/// It answers whether it posted.
+/// Takes what a reception shows into a sheet of all that was posted through a seat of the board with this number, where it is one's turn,
+/// and posts it where that is new, and notes it.
 fn post_turn(
     board: &Board<AllFacts>,
     seat: &mut Seat<AllFacts>,
     sheet: &mut Sheet,
     heard: &Reception,
     mine: bool,
-) -> bool
+    number: usize,
+    posts: &Posts,
+)
     requires board { seat.old.table ≡ board.now }
     requires short { length heard.now ≤ LONGEST }
     ensures board { seat.new.table ≡ board.now }
@@ -35,7 +37,7 @@ fn post_turn(
         → IsEnds (union F (union P (λ p v. mine && facts_of heard.now p v))) (given_sheet seat.new.view) }
 {
     if !mine {
-        return false;
+        return;
     }
     all_facts_may_be_posted();
     ends_are_kept();
@@ -45,11 +47,11 @@ fn post_turn(
     sheet_is_lawful(&before);
     sheet_is_lawful(sheet);
     if *sheet == before {
-        return false;
+        return;
     }
     sheet_is_lawful(&shown);
     post_sheet(board, seat, &shown);
-    true
+    posts.note(number, &shown);
 }
 
 /// Posts a worker's receptions on the boards of their groups, each as soon as it was read, but for those that show nothing new of the batch.
@@ -77,14 +79,14 @@ pub(crate) fn post_turns(
         let mine = index % workers as usize == worker as usize;
         let place = places[index];
         let reception = &heard.reception;
-        if post_turn(
+        post_turn(
             &boards[place],
             &mut seats[place],
             &mut sheets[place],
             reception,
             mine,
-        ) {
-            posts.note(place);
-        }
+            place,
+            posts,
+        );
     }
 }

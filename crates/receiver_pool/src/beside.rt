@@ -9,7 +9,7 @@ ghost use Rattle.evidence_board.specs.Seats.{Held};
 ghost use Rattle.evidence_board.specs.Views.{place_at, reach_of};
 ghost use Rattle.receiver_pool.specs.Groups.{facts_of_group, AreSheets, IsShort, Shows};
 ghost use Rattle.receiver_pool.specs.inside.Numbers.{AreTurns, HavePosted, read_by};
-ghost use Rattle.receiver_pool.specs.Rows.{AreAsBefore, AreSeats, Sit, seat_at};
+ghost use Rattle.receiver_pool.specs.Rows.{AreAsBefore, AreSeats, HaveSeenNothing, Sit, seat_at};
 ghost use Rattle.receiver_pool.specs.Seeing.{HasGoneRound};
 
 use crate::batch_groups::{Turns, entries_of, number_groups};
@@ -29,8 +29,8 @@ pub trait Beside: Drop + Send {
     ghost has_seen: { Self → Self → List (List Seen) → List ℕ → List Held → Type 0 };
 
     /// Goes round the boards, with a seat of each: the k-th board is that of the k-th group. What was known of a group before the batch
-    /// is the sheet with the group's number, and `posts` tells of which board there is something new, and whether all was posted. Each seat
-    /// keeps its board, its share and what was posted through it.
+    /// is the sheet with the group's number, and `posts` says on which board there is something new, and whether all was posted. The seats
+    /// have seen nothing. Each keeps its board, its share and what was posted through it.
     fn go_round(
         &mut self,
         known: &[Sheet],
@@ -40,6 +40,7 @@ pub trait Beside: Drop + Send {
         posts: &Posts,
     )
         requires seats { Sit 1 boards.now seats.old }
+        requires unseen { HaveSeenNothing (length boards.now) seats.old }
         requires count { length boards.now ≡ length groups.now }
         ensures kept { AreAsBefore boards.now seats.old seats.new }
         ensures seen { has_seen self.old self.new known.now groups.now seats.new };
@@ -56,6 +57,7 @@ fn go_beside<G: Gate, B: Beside>(
     mut beside: B,
 ) -> (B, Vec<Seat<AllFacts>>)
     requires seats { Sit 1 boards.now seats.items }
+    requires unseen { HaveSeenNothing (length boards.now) seats.items }
     requires count { length boards.now ≡ length groups.now }
     ensures kept { AreAsBefore boards.now seats.items result.1.items }
     ensures seen { B.has_seen beside result.0 known.now groups.now result.1.items }
@@ -83,6 +85,7 @@ fn fork_beside<R: Threads + Sync, G: Gate, B: Beside>(
     requires workers { 1 ≤ turns.now.workers }
     requires seats { Sit turns.now.workers boards.now seats.items }
     requires others { Sit 1 boards.now others.items }
+    requires unseen { HaveSeenNothing (length boards.now) others.items }
     requires turns { AreTurns (length boards.now) batch.now turns.now }
     requires count { length boards.now ≡ length groups.now }
     ensures seats { IfOk result (λ v. (share other : ℕ) (F H : ℕ → Facts) → AreSeats share F boards.now seats.items
@@ -99,7 +102,7 @@ fn fork_beside<R: Threads + Sync, G: Gate, B: Beside>(
         rt,
         move || -> (B, Vec<Seat<AllFacts>>)
             requires { IsSync G.row × IsSend B.row × Sit 1 boards.now others.items
-                × (length boards.now ≡ length groups.now) }
+                × HaveSeenNothing (length boards.now) others.items × (length boards.now ≡ length groups.now) }
             ensures { AreAsBefore boards.entry.now others.items result.1.items
                 × B.has_seen beside result.0 known.entry.now groups.entry.now result.1.items }
         { go_beside(known, groups, boards, others, turns, gate, beside) },
@@ -120,15 +123,17 @@ fn fork_beside<R: Threads + Sync, G: Gate, B: Beside>(
     Ok((beside, joined))
 }
 
-/// Two seats of each board, of its whole seat.
+/// Two seats of each board, of its whole seat, which has seen nothing. Nor has the second.
 fn halved(
     alloc: Global,
     boards: &[Board<AllFacts>],
     mut seats: Vec<Seat<AllFacts>>,
 ) -> Result<(Vec<Seat<AllFacts>>, Vec<Seat<AllFacts>>), AllocError>
-    requires { AreSeats WHOLE (λ k. no_facts) boards.now seats.items }
-    ensures { IfOk result (λ v. AreSeats (WHOLE / 2) (λ k. no_facts) boards.now v.0.items
+    requires seats { AreSeats WHOLE (λ k. no_facts) boards.now seats.items }
+    requires unseen { HaveSeenNothing (length boards.now) seats.items }
+    ensures halves { IfOk result (λ v. AreSeats (WHOLE / 2) (λ k. no_facts) boards.now v.0.items
         × AreSeats (WHOLE / 2) (λ k. no_facts) boards.now v.1.items) }
+    ensures unseen { IfOk result (λ v. HaveSeenNothing (length boards.now) v.1.items) }
 {
     let others = split_each(alloc, boards, &mut seats)?;
     Ok((seats, others))
@@ -164,7 +169,8 @@ fn share_beside<R: Threads + Sync, G: Gate, B: Beside>(
 }
 
 /// What a batch of receptions shows, as `pool_groups` says it, while somebody looks at the boards on which its workers post. This one has
-/// a thread beside theirs, also where one worker works alone; all are made by one fork. Each reception is posted as soon as it was read.
+/// a thread beside theirs, also where one worker works alone; all are made by one fork. Each reception is posted as soon as it was read, and
+/// one that shows nothing beyond what was known of its group isn't new to this one.
 /// Behind the gate, which is entered once with the number `workers`, this one goes round the boards with what was known of the groups
 /// before. The answer is an entry for each group that the batch names, and the one who looked, whose seats saw no more than the batch shows
 /// of their groups. The error is want of memory.
@@ -186,7 +192,7 @@ pub fn pool_groups_beside<R: Threads + Sync, G: Gate, B: Beside>(
     let turns = Turns {
         places,
         workers,
-        posts: Posts::of(alloc, groups.len())?,
+        posts: Posts::of(alloc, known, &groups)?,
     };
     let (sheets, beside) = share_beside(rt, alloc, known, &groups, batch, &turns, gate, beside)?;
     let entries = entries_of(alloc, &groups, &sheets)?;

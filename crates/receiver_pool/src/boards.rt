@@ -7,19 +7,20 @@ ghost use Rattle.evidence_board.specs.Looks.{IsLooked};
 ghost use Rattle.evidence_board.specs.Rule.{IsWithin};
 ghost use Rattle.evidence_board.specs.Views.{given_sheet, place_at, reach_of, seen_sheet};
 ghost use Rattle.receiver_pool.specs.Groups.{AreSheets};
-ghost use Rattle.receiver_pool.specs.Rows.{AreAsBefore, AreSeats, Sit, seat_at};
+ghost use Rattle.receiver_pool.specs.Rows.{AreAsBefore, AreSeats, HaveSeenNothing, Sit, seat_at};
 
 use evidence_board::{AllFacts, Allowed, Board, Seat, WHOLE, all_facts_may_be_posted};
 use slot_evidence::{Sheet, sheet_is_lawful};
 use std::alloc::{AllocError, Global};
 
-/// So many boards, and the whole seat of each.
+/// So many boards, and the whole seat of each, which has seen nothing.
 pub(crate) fn boards_for(
     alloc: Global,
     count: usize,
 ) -> Result<(Vec<Board<AllFacts>>, Vec<Seat<AllFacts>>), AllocError>
     ensures count { IfOk result (λ made. length made.0.items ≡ count) }
     ensures seats { IfOk result (λ made. AreSeats WHOLE (λ k. no_facts) made.0.items made.1.items) }
+    ensures unseen { IfOk result (λ made. HaveSeenNothing count made.1.items) }
 {
     let mut boards = Vec::new(alloc);
     let mut seats = Vec::new(alloc);
@@ -63,15 +64,17 @@ pub(crate) fn post_each(boards: &[Board<AllFacts>], seats: &mut [Seat<AllFacts>]
     }
 }
 
-/// Splits each seat, which keeps the one half.
+/// Splits each seat, which keeps the one half. The other half has seen what the seat had.
 pub(crate) fn split_each(
     alloc: Global,
     boards: &[Board<AllFacts>],
     seats: &mut [Seat<AllFacts>],
 ) -> Result<Vec<Seat<AllFacts>>, AllocError>
     requires { Sit 2 boards.now seats.old }
-    ensures { IfOk result (λ v. (share : ℕ) (F : ℕ → Facts) → AreSeats share F boards.now seats.old
+    ensures halves { IfOk result (λ v. (share : ℕ) (F : ℕ → Facts) → AreSeats share F boards.now seats.old
         → AreSeats (share - share / 2) F boards.now seats.new × AreSeats (share / 2) F boards.now v.items) }
+    ensures unseen { IfOk result (λ v. HaveSeenNothing (length boards.now) seats.old
+        → HaveSeenNothing (length boards.now) v.items) }
 {
     let mut others = Vec::new(alloc);
     for (k, board) in boards.iter().enumerate() {

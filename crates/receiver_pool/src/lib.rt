@@ -23,4 +23,4 @@ pub use pools::{pool, post_all};
 pub use posts::Posts;
 pub use rendezvous::Rendezvous;
 pub use slot_evidence::Reception;
-pub use workers::{Joiner, Workers, meet_entries};
+pub use workers::{Alone, Joiner, Workers, meet_entries};

@@ -30,25 +30,51 @@ pub trait Joiner: Drop {
             → AreSheets (λ k. union (F k) (facts_of_group batch.now k)) sheets.new n) };
 }
 
-/// Those who join receptions: one worker, who joins each at once, or several, who read batches by this function, as `pool_groups` does.
+/// What one worker has who works alone, once it entered the gate; nothing, where several work.
 #[derive(Drop)]
-pub struct Workers<J> {
-    /// What the one worker has who works alone.
-    alone: Option<Entered>,
-    pub join: J,
+pub struct Alone {
+    entered: Option<Entered>,
 }
 
-impl<J: Drop> Workers<J> {
-    /// So many workers. One enters the gate here; several enter it in each batch.
-    pub fn new<G: Gate>(workers: u32, gate: &G, join: J) -> Workers<J>
-        ensures { result.join ≡ join }
-    {
-        let alone = if workers == 1 {
+impl Alone {
+    /// Of so many workers. One enters the gate here; several enter it in each batch.
+    pub fn of<G: Gate>(workers: u32, gate: &G) -> Alone {
+        let entered = if workers == 1 {
             Some(enter(gate, 0))
         } else {
             None
         };
-        Workers { alone, join }
+        Alone { entered }
+    }
+
+    /// What a reception shows, where one worker works alone.
+    pub fn read(&self, heard: &Reception) -> Option<Sheet>
+        requires { length heard.now ≤ LONGEST }
+        ensures { IfSome result (λ sheet. IsEnds (facts_of heard.now) sheet) }
+    {
+        match &self.entered {
+            Some(entered) => Some(read_by(entered, heard)),
+            None => None,
+        }
+    }
+}
+
+/// Those who join receptions: one worker, who joins each at once, or several, who read batches by this function, as `pool_groups` does.
+#[derive(Drop)]
+pub struct Workers<J> {
+    alone: Alone,
+    pub join: J,
+}
+
+impl<J: Drop> Workers<J> {
+    /// So many workers, who enter the gate as `Alone::of` says.
+    pub fn new<G: Gate>(workers: u32, gate: &G, join: J) -> Workers<J>
+        ensures { result.join ≡ join }
+    {
+        Workers {
+            alone: Alone::of(workers, gate),
+            join,
+        }
     }
 }
 
@@ -56,10 +82,7 @@ impl<J: Drop + Fn(&[GroupReception]) -> Result<Vec<GroupSheet>, AllocError>> Joi
     ghost can_join = { λ workers. JoinsBatches (J.pre workers.join) (J.post workers.join) };
 
     fn read_alone(&self, heard: &Reception) -> Option<Sheet> {
-        match &self.alone {
-            Some(entered) => Some(read_by(entered, heard)),
-            None => None,
-        }
+        self.alone.read(heard)
     }
 
     fn join_into(&self, sheets: &mut [Sheet], batch: &[GroupReception]) -> Result<(), AllocError> {

@@ -24,7 +24,8 @@ use live_watch::{WatchedJoiner, told_calls};
 use std::alloc::{AllocError, Global};
 
 /// The command that tells a call of each group as soon as a batch ends that reports it, and at the input's end answers as `join` does. A batch
-/// ends at each 256th reception, and where the engine pauses, before it reads on. Workers join its receptions while a watcher looks on.
+/// ends at each 256th reception, and where the engine pauses, before it reads on. Workers join its receptions while a watcher looks on; a
+/// reception of a group of which a call was told waits for nobody, where one worker works alone.
 #[derive(Drop)]
 pub struct WatchGroups<W: WatchedJoiner> {
     alloc: Global,
@@ -56,6 +57,14 @@ fn named_by(read: &JoinLine) -> Named
         JoinLine::Nothing => Named::Nothing,
         JoinLine::Evidence { group, .. } => Named::Evidence(*group),
         JoinLine::Reception { group, .. } => Named::Reception(*group),
+    }
+}
+
+/// Whether a line names a group of which a call is still to be told.
+fn is_untold(told: &ToldCalls, named: Named) -> bool {
+    match named {
+        Named::Nothing => false,
+        Named::Evidence(group) | Named::Reception(group) => !told.has(group),
     }
 }
 
@@ -156,7 +165,8 @@ impl<W: WatchedJoiner> WatchGroups<W> {
         ensures unsaid { IfErr result (λ refusal. refusal ≢ Refusal.Memory → out.new.items ≡ out.old.items) }
     {
         let named = named_by(&read);
-        match take_waiting(&mut self.groups, read) {
+        let is_watched = is_untold(&self.told, named);
+        match take_waiting(&mut self.groups, &self.workers, is_watched, read) {
             Ok(()) => {
                 self.count(named, out)?;
                 Ok(())

@@ -17,7 +17,8 @@ use std::thread::Threads;
 /// of which none was told; so it is at the input's end, and the answer of each group follows, by rising number. A batch ends at each 256th
 /// reception, and behind the lines of each read: so a call is told before more is read. Told lines of one batch come in the order in which its
 /// lines first named their groups. So many workers, 1 to 64, read the receptions of a batch, and a watcher beside them goes round their
-/// boards, with one fork: it may see a group's call while they still post.
+/// boards, with one fork: it may see a group's call while they still post. One worker reads a reception of a group of which a call was told at
+/// once. It enters the gate before the first line, and, as several do, in each batch.
 ///
 /// | Status | What it says |
 /// |---|---|
@@ -48,6 +49,7 @@ pub fn watch_groups<R: Threads + Sync, S: Source, K: Sink, G: Gate>(
         ensures { IfOk result (λ v. Shows (facts_of_group batch.now) batch.now v.0.items
             × HasWatched watcher v.1 known.now batch.now) }
     { watch_batch(rt, alloc, known, batch, workers, gate, watcher) };
-    let mut command = WatchGroups::new(alloc, WatchedWorkers { join });
+    let workers = WatchedWorkers::new(workers, gate, join);
+    let mut command = WatchGroups::new(alloc, workers);
     drive(alloc, &mut command, source, sink)
 }

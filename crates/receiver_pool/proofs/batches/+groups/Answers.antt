@@ -18,7 +18,7 @@ pub join-first-requires-after_bounds : goal.join-first-requires-after_bounds
 join-first-requires-after_bounds g t c κs lives =
     let sit = c.requires.seats in
     let boards = c.args.boards.now in
-    let split = c.in_ok-others.ensures sit.share sit.facts (subst (λ (s : List Held). AreSeats sit.share sit.facts boards s) (sym c.deref_mut.ensures.value) sit.are_seats) in
+    let split = c.in_ok-others.ensures.halves sit.share sit.facts (subst (λ (s : List Held). AreSeats sit.share sit.facts boards s) (sym c.deref_mut.ensures.value) sit.are_seats) in
     let whole = lent_whole Held c.args.seats.items c.split_each.new.seats c.args.seats.len c.args.seats.ok.0 (split.0.count ∙ sym sit.are_seats.count) in
     let low : c.args.low + c.div_ceil.result - c.args.low ≤ sit.share - sit.share / 2 = omega (arith, sit.enough) in
     let high : c.args.high - (c.args.low + c.div_ceil.result) ≤ sit.share / 2 = omega (arith, sit.enough) in (
@@ -66,7 +66,7 @@ pub join_each-requires-clause-seats : goal.join_each-requires-clause-seats
 join_each-requires-clause-seats g t c =
     let sit = c.requires.seats in
     let boards = c.args.boards.now in
-    let split = c.in_ok-others.ensures sit.share sit.facts (subst (λ (s : List Held). AreSeats sit.share sit.facts boards s) (sym c.deref_mut.ensures.value) sit.are_seats) in
+    let split = c.in_ok-others.ensures.halves sit.share sit.facts (subst (λ (s : List Held). AreSeats sit.share sit.facts boards s) (sym c.deref_mut.ensures.value) sit.are_seats) in
     let whole = lent_whole Held c.args.seats.items c.split_each.new.seats c.args.seats.len c.args.seats.ok.0 (split.0.count ∙ sym sit.are_seats.count) in
     let half = sit.share - sit.share / 2 in
     let A : ℕ → Facts = λ k. union (sit.facts k) (read_by c.args.batch.now c.args.turns.now c.args.low (c.args.low + c.div_ceil.result) k) in
@@ -77,7 +77,7 @@ pub join_each-requires-clause-others : goal.join_each-requires-clause-others
 join_each-requires-clause-others g t c =
     let sit = c.requires.seats in
     let boards = c.args.boards.now in
-    let split = c.in_ok-others.ensures sit.share sit.facts (subst (λ (s : List Held). AreSeats sit.share sit.facts boards s) (sym c.deref_mut.ensures.value) sit.are_seats) in
+    let split = c.in_ok-others.ensures.halves sit.share sit.facts (subst (λ (s : List Held). AreSeats sit.share sit.facts boards s) (sym c.deref_mut.ensures.value) sit.are_seats) in
     let second = IfOk-at_ok _ c.in_ok-second.was c.join-first.ensures.second (sit.share / 2) sit.facts split.1 in
     record { share = sit.share / 2; enough = omega (arith, sit.enough); facts = _; are_seats = second }
 
@@ -89,7 +89,7 @@ returns g t c =
     let turns = c.args.turns.now in
     let middle = c.args.low + c.div_ceil.result in
     let half = share - share / 2 in
-    let split = c.in_ok-others.ensures share F (subst (λ (s : List Held). AreSeats share F boards s) (sym c.deref_mut.ensures.value) are) in
+    let split = c.in_ok-others.ensures.halves share F (subst (λ (s : List Held). AreSeats share F boards s) (sym c.deref_mut.ensures.value) are) in
     let whole = lent_whole Held c.args.seats.items c.split_each.new.seats c.args.seats.len c.args.seats.ok.0 (split.0.count ∙ sym are.count) in
     let A : ℕ → Facts = λ k. union (F k) (read_by batch turns c.args.low middle k) in
     let B : ℕ → Facts = λ k. union (F k) (read_by batch turns middle c.args.high k) in

@@ -14,7 +14,7 @@ use Rattle.receiver_pool.proofs.beside.share_beside.Goals as goal
 pub close_each-requires : goal.close_each-requires
 close_each-requires g c =
     let part = read_by c.args.batch.now c.args.turns.now 0 c.args.turns.now.workers in
-    let two = c.in_ok-seats.ensures in
+    let two = c.in_ok-seats.ensures.halves in
     let joined = c.in_ok-beside.ensures.seats (WHOLE / 2) (WHOLE / 2) (λ k. no_facts) (λ k. no_facts)
     (subst (λ (bs : List TableId). AreSeats (WHOLE / 2) (λ k. no_facts) bs c.in_ok-seats.seats.items) (c.deref.ensures.value ∙ sym c.deref-2.ensures.value) two.0)
     (subst (λ (bs : List TableId). AreSeats (WHOLE / 2) (λ k. no_facts) bs c.in_ok-seats.others.items) (c.deref.ensures.value ∙ sym c.deref-2.ensures.value) two.1) in
@@ -25,7 +25,7 @@ close_each-requires g c =
 pub returns-clause-sheets : goal.returns-clause-sheets
 returns-clause-sheets g c =
     let part = read_by c.args.batch.now c.args.turns.now 0 c.args.turns.now.workers in
-    let two = c.in_ok-seats.ensures in
+    let two = c.in_ok-seats.ensures.halves in
     let joined = c.in_ok-beside.ensures.seats (WHOLE / 2) (WHOLE / 2) (λ k. no_facts) (λ k. no_facts)
     (subst (λ (bs : List TableId). AreSeats (WHOLE / 2) (λ k. no_facts) bs c.in_ok-seats.seats.items) (c.deref.ensures.value ∙ sym c.deref-2.ensures.value) two.0)
     (subst (λ (bs : List TableId). AreSeats (WHOLE / 2) (λ k. no_facts) bs c.in_ok-seats.others.items) (c.deref.ensures.value ∙ sym c.deref-2.ensures.value) two.1) in
