@@ -19,3 +19,6 @@ pub mod Spelled
 pub mod Repeats
 pub mod Decimals
 pub mod Chains
+pub mod Sections
+pub mod Forms
+pub mod SectionSteps

@@ -3,8 +3,7 @@ use Rattle.std.proofs.Common.{◌≡◌, ℕ, true, false, List, Result, Ok, Err
 use Rattle.line_grammar.specs.Tokens.{Token}
 use Rattle.line_grammar.specs.Grammar.{Grammar, word, field, either, Parts, part, first, second}
 use Rattle.line_grammar.specs.inside.Reading.{after, read_token, and_then, and_part, named, further, read}
-use Rattle.dsc_texts.specs.CallGrammar.{labelled}
-use Rattle.dsc_texts.specs.inside.Reading.{ReadsSection, ReadsForm}
+use Rattle.line_grammar.specs.Sections.{labelled, ReadsSection, ReadsForm}
 
 -- a field behind its label
 pub no_label : {V : Type 0} (label : List ℕ) (token : Token) (parts : V → Parts → Parts) (old new : List ℕ) (r : Result V ℕ) (left : ℕ) → IsErrAnd r (λ y. y ≡ left)

@@ -7,7 +7,7 @@ use Rattle.line_grammar.specs.inside.Soundness.{is_sound, is_unambiguous}
 use Rattle.line_grammar.proofs.Stops.{Reads, Stops, IsAlike, Stops-alike, left_le, IsColumn-stops}
 use Rattle.line_grammar.proofs.Grammars.{reads}
 use Rattle.line_grammar.proofs.Written.{tells_all, written_spells, spelled_parts, one_line, written_is_read}
-use Rattle.dsc_texts.proofs.CallSections.{Form}
+use Rattle.line_grammar.proofs.Sections.{Form}
 
 -- the values of a section to the end have these texts, which its grammar tells apart
 pub record Texts {V : Type 0} (G : Grammar) (Lawful : V → Type 0) (parts : V → Parts) (text : V → List ℕ) : Type 0 where

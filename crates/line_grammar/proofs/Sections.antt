@@ -1,8 +1,24 @@
--- sections of call texts: fields one after the other, and what follows them
-use Rattle.std.proofs.Common.{◌≡◌, ℕ, List, ◌++◌, ◌⊎◌, inl, inr, refl, sym, ◌∙◌, ap, subst, append-nil, append_assoc}
-use Rattle.line_grammar.specs.Tokens.{Token, IsToken}
+-- sections of lines: fields one after the other, and what follows them
+use Rattle.std.proofs.Common.{◌≡◌, ℕ, ◌<◌, ◌^◌, true, List, ◌++◌, ◌⊎◌, inl, inr, refl, sym, ◌∙◌, ap, subst, append-nil, append_assoc}
+use Rattle.line_grammar.specs.Tokens.{Token, IsToken, shaped}
 use Rattle.line_grammar.specs.Grammar.{Grammar, finish, word, field, either, Parts, none, part, first, second, Spells, AreParts, written}
-use Rattle.dsc_texts.proofs.SymbolTexts.{Told}
+use Rattle.line_grammar.specs.Shapes.{fixed_number, is_within, digits}
+use Rattle.line_grammar.proofs.Digits.{one_number}
+
+-- a token whose byte lists are the texts of the lawful values, one text for each
+pub record Told {V : Type 0} (token : Token) (Lawful : V → Type 0) (text : V → List ℕ) : Type 0 where
+  pub is : (v : V) → Lawful v → IsToken token (text v)
+  pub of : (bytes : List ℕ) → IsToken token bytes → (v : V) × Lawful v × (bytes ≡ text v)
+  pub one : (u v : V) → Lawful u → Lawful v → text u ≡ text v → u ≡ v
+
+-- the numbers of some ranges
+pub numbers : (width : ℕ) (ranges : List (ℕ × ℕ)) (Lawful : ℕ → Type 0) → ((n : ℕ) → Lawful n → is_within ranges n ≡ true) → ((n : ℕ) → is_within ranges n ≡ true → Lawful n)
+    → ((n : ℕ) → Lawful n → n < 10 ^ width) → Told (shaped (fixed_number width ranges)) Lawful (digits width)
+numbers width ranges Lawful inside lawful below = record {
+  is = λ n h. (n, inside n h, refl);
+  of = λ bytes h. (h.0, lawful h.0 h.1, h.2);
+  one = λ m n h k e. one_number width m n (below m h) (below n k) e;
+}
 
 -- the parts of a field, of one of two, and of the end
 field_is : (token : Token) (G : Grammar) (p : Parts) → AreParts (field token G) p → (front : List ℕ) × (q : Parts) × (p ≡ part front q) × IsToken token front × AreParts G q
