@@ -22,3 +22,5 @@ pub mod Chains
 pub mod Sections
 pub mod Forms
 pub mod SectionSteps
+pub mod Rows
+pub mod Judged

@@ -6,3 +6,4 @@ pub mod Sections
 pub mod Shapes
 pub mod Tokens
 pub mod inside
+pub mod Rows
