@@ -50,7 +50,10 @@ fn accept(bytes: &[u8]) -> Result<CoastOwn, Left>
 fn ask_or_tell(bytes: &[u8]) -> Result<bool, Left>
     ensures { ReadsRow rows.ask_or_tell (last 0) (λ _. Unit {0}) ask_parts bytes.now result }
 {
-    further(&spelled(b" ask", true, bytes), &spelled(b" tell", false, bytes))
+    further(
+        &spelled(b" ask", true, bytes),
+        &spelled(b" tell", false, bytes),
+    )
 }
 
 fn relay(bytes: &[u8]) -> Result<CoastOwn, Left>
