@@ -28,7 +28,6 @@ use Rattle.traffic_replay.specs.HeardGroups.{of_receivers, hears, since_heard, f
 use Rattle.traffic_replay.specs.Happenings.{heard_as, taking_ship, taking_coast, Taking, ComesOf, Happening, AreHappenings}
 use Rattle.traffic_replay.specs.Output.{text_of, all_accepted}
 use Rattle.traffic_replay.specs.Meaning.{StationTells, Replays, replay_meaning}
-use Rattle.traffic_replay.specs.inside.Progress.{IsPointOf}
 use Rattle.traffic_replay.proofs.Fronts.{ship_early, coast_early, none_early}
 
 -- it can't be that there is none
@@ -52,6 +51,15 @@ unfolding facts_since_heard
 since_small k said lines are p v = group_small (of_receivers (since_heard k said)) k p v (some_since k said lines are)
 
 -- ---- the point behind lines is one of their kind of station
+
+-- the kind of the station behind whose lines a point is
+abbrev IsPointOf : Point → Kind → Type 0
+IsPointOf (point.Groups held) kind = kind ≡ ship
+IsPointOf point.Ship kind = kind ≡ ship
+IsPointOf point.Coast ship = ⊥
+IsPointOf point.Coast (coast band) = Unit {0}
+IsPointOf point.Station kind = Unit {0}
+IsPointOf point.Base kind = Unit {0}
 
 among : (kind : Kind) → IsPointOf (among_events kind) kind
 among ship = refl
