@@ -6,10 +6,9 @@ ghost use Rattle.traffic_replay.specs.inside.Progress.{GoesOn, IsBehindBase, IsR
 
 use call_values::Mmsi;
 use coast_station::Coast;
-use dsc_lines::Point;
 use ship_station::Ship;
 use std::alloc::{AllocError, Global};
-use traffic_lines::StationLine;
+use traffic_lines::{Point, StationLine};
 
 /// A ship whose groups are being named.
 #[derive(Drop)]

@@ -1,8 +1,9 @@
 use crate::tests::calls::call_of;
 use call_values::worked::FIX;
 use call_values::{AlertDelay, Area, Band, CoastDelay, Comm, Mmsi, Nature, Position, To};
+use dsc_files::read_traffic;
 use std::test::Fail;
-use traffic_lines::{EventLine, Point, TrafficLine, read_traffic};
+use traffic_lines::{EventLine, Point, TrafficLine};
 
 // Points, and lines that aren't of these points, with the column at which each is ill-formed.
 const COLUMNS: [(Point, &[(&str, usize)]); 8] = [

@@ -1,9 +1,9 @@
 use call_values::{CoastDelay, Mmsi};
-use dsc_lines::{
-    EventLine, ExchangeLine, ExchangePoint, FileKind, Line, WorldLine, line_of, world_line,
-};
+use dsc_files::{FileKind, Line, line_of, read_world, world_line};
 use std::test::Fail;
-use traffic_lines::{CoastEntry, CoastOwn, Entry, ShipEntry, read_world};
+use traffic_lines::{
+    CoastEntry, CoastOwn, Entry, EventLine, ExchangeLine, ExchangePoint, ShipEntry, WorldLine,
+};
 
 // Points, lines that aren't of these points, and the column at which each is ill-formed.
 const COLUMNS: [(ExchangePoint, &str, usize); 8] = [

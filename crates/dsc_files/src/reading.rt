@@ -1,14 +1,26 @@
-ghost use Rattle.dsc_lines.specs.Lines.{ReadsLine};
+ghost use Rattle.dsc_files.specs.Files.{ReadsLine, ReadsStream};
 
-use crate::books::book_line;
-use crate::calls::call_line;
-use crate::join::join_line;
-use crate::lines::{FileKind, Line, LineFault};
-use crate::sentences::sentence_line;
-use crate::streams::added_line;
-use crate::traffic::point_line;
+use crate::lines::{FileKind, Line};
+use crate::points::point_line;
 use crate::worlds::world_line;
+use dsc_lines::{LineFault, book_line, call_line, join_line, sentence_line, stream_line};
+use slot_evidence::Reception;
 use std::alloc::Global;
+
+/// Reads one line of a stream, with its elements in a list.
+fn added_line(alloc: Global, bytes: &[u8]) -> Result<Line, LineFault>
+    ensures { ReadsStream bytes.now result }
+{
+    match stream_line(bytes) {
+        Ok(signs) => {
+            if signs.is_empty() {
+                return Ok(Line::Nothing);
+            }
+            Ok(Line::Stream(Reception::of_signs(alloc, signs)?.unwrap()))
+        }
+        Err(n) => Err(LineFault::Column(n)),
+    }
+}
 
 /// Reads one line of a file of this kind, without its end. An error is the column of a line that is ill-formed, or want of
 /// memory.

@@ -1,19 +1,14 @@
 ghost use Rattle.std.specs.Prelude.{◌≡◌, Some};
 ghost use Rattle.dsc_lines.specs.CallLine as calls;
-ghost use Rattle.dsc_lines.specs.Lines.{line_of_book, line_of_call, line_of_entry, line_of_join, line_of_point, line_of_sentence, line_of_traffic, line_of_world};
-ghost use Rattle.dsc_lines.specs.declared.lines.LineFault.TheVariants.{NoMemory};
+ghost use Rattle.dsc_files.specs.Files.{line_of_book, line_of_call, line_of_entry, line_of_join, line_of_point, line_of_sentence, line_of_traffic, line_of_world};
 
-use crate::books::BookLine;
-use crate::calls::CallLine;
-use crate::join::JoinLine;
-use crate::sentences::SentenceLine;
-use crate::traffic::PointLine;
+use crate::events::{exchange_of_coast, exchange_of_ship};
+use crate::points::PointLine;
 use call_values::{Band, Call, Mmsi};
+use dsc_lines::{BookLine, CallLine, JoinLine, SentenceLine};
 use expansion::Expansion;
 use slot_evidence::{Reception, Sheet};
 use slot_join::Extra;
-use std::alloc::AllocError;
-use thiserror::Error;
 use traffic_lines::{Entry, EventLine, ExchangeLine, ExchangePoint, Point, TrafficLine, WorldLine};
 
 /// Which lines a file has.
@@ -156,11 +151,11 @@ impl From<Entry> for Line {
         match says {
             Entry::AtShip { at, what } => Line::AtShip {
                 at,
-                what: ExchangeLine::from(what),
+                what: exchange_of_ship(what),
             },
             Entry::AtCoast { at, what } => Line::AtCoast {
                 at,
-                what: ExchangeLine::from(what),
+                what: exchange_of_coast(what),
             },
         }
     }
@@ -176,25 +171,5 @@ impl From<WorldLine> for Line {
             WorldLine::Base(second) => Line::Base(second),
             WorldLine::Entry(entry) => Line::from(entry),
         }
-    }
-}
-
-/// Why a line was not read.
-#[derive(Clone, Copy, Debug, PartialEq, Eq, Error)]
-pub enum LineFault {
-    /// The line is ill-formed. The column is the least n for which its first n bytes begin no well-formed line, and its
-    /// length plus one where it ends too early.
-    #[error("ill-formed at column {0}")]
-    Column(usize),
-    /// There was no memory for the line's elements.
-    #[error("out of memory")]
-    NoMemory,
-}
-
-impl From<AllocError> for LineFault {
-    ghost from_gives = { λ _ e. e ≡ NoMemory };
-
-    fn from(_: AllocError) -> LineFault {
-        LineFault::NoMemory
     }
 }
