@@ -1,5 +1,5 @@
 -- what comes of an event line
-use Rattle.std.proofs.Common.{◌≡◌, ℕ, Bool, false, List, ◌++◌, is_ok, Result, Ok, Err, OnOk, IfOk, refl, sym, ap}
+use Rattle.std.proofs.Common.{◌≡◌, ℕ, Bool, false, Some, List, ◌++◌, is_ok, Result, Ok, Err, OnOk, IfOk, refl, sym, ap}
 use Rattle.call_values.specs.declared.calls.Call.{Call}
 use Rattle.slot_join.specs.declared.joined.Joined.{Joined}
 use Rattle.slot_join.specs.declared.joined.Joined.TheVariants.{Reported, Missing, Differ, Outside, Check}
@@ -24,24 +24,36 @@ use Rattle.station_lines.specs.Events.{own_ship_event, own_coast_event}
 use Rattle.traffic_replay.specs.Happenings.{Taking, taking_ship, taking_coast, heard_as, ComesOf}
 use Rattle.station_lines.specs.Answers.{answer_lines}
 use Rattle.traffic_replay.specs.Output.{unreported_line}
-use Rattle.traffic_replay.specs.inside.Happens.{Happens}
+use Rattle.traffic_replay.specs.declared.steps.Coming.TheVariants as coming
+use Rattle.traffic_replay.specs.inside.Happens.{IsPlain, Comes, Happens}
 
--- an event of a station's own comes of its line
-pub comes_own_ship : (said : Said) (at : ℕ) (own : ShipOwn) → ComesOf taking_ship said at (event_of_ship (at_ship.Own own)) (Ok (own_ship_event (base_of said) at own))
-comes_own_ship said at (own_ship.Position place) = (_, refl, refl)
-comes_own_ship said at (own_ship.Delay delay) = (_, refl, refl)
-comes_own_ship said at (own_ship.Alert nature comm) = (_, refl, refl)
-comes_own_ship said at own_ship.Cancel = (_, refl, refl)
-comes_own_ship said at own_ship.Tick = (_, refl, refl)
-comes_own_ship said at (own_ship.Send call) = (_, refl, refl)
-comes_own_ship said at (own_ship.Answer number accepts) = (_, refl, refl)
+-- a line that hears no group gives its event
+pub comes_plain : {What : Type 0} (taking : Taking What) (said : Said) (at : ℕ) (l : EventLine) (what : What) → IsPlain l → taking.event (base_of said) at l ≡ Some what
+    → ComesOf taking said at l (Ok what)
+comes_plain taking said at (line.Position place) what plain e = (what, e, refl)
+comes_plain taking said at (line.Delay delay) what plain e = (what, e, refl)
+comes_plain taking said at (line.Alert nature comm) what plain e = (what, e, refl)
+comes_plain taking said at line.Cancel what plain e = (what, e, refl)
+comes_plain taking said at line.Tick what plain e = (what, e, refl)
+comes_plain taking said at (line.Send call) what plain e = (what, e, refl)
+comes_plain taking said at (line.Answer number accepts) what plain e = (what, e, refl)
+comes_plain taking said at (line.Hear call) what plain e = (what, e, refl)
+comes_plain taking said at (line.Accept mmsi delay) what plain e = (what, e, refl)
+comes_plain taking said at (line.Relay mmsi to ask) what plain e = (what, e, refl)
+comes_plain taking said at (line.Heard group) what plain e = absurd plain
 
-pub comes_own_coast : (said : Said) (at : ℕ) (own : CoastOwn) → ComesOf taking_coast said at (event_of_coast (at_coast.Own own)) (Ok (own_coast_event own))
-comes_own_coast said at (own_coast.Accept mmsi delay) = (_, refl, refl)
-comes_own_coast said at (own_coast.Relay mmsi to ask) = (_, refl, refl)
-comes_own_coast said at own_coast.Tick = (_, refl, refl)
-comes_own_coast said at (own_coast.Send call) = (_, refl, refl)
-comes_own_coast said at (own_coast.Answer number accepts) = (_, refl, refl)
+pub plain_quiet : (at : ℕ) (l : EventLine) → IsPlain l → (k : ℕ) → hears k (traffic (Event at l)) ≡ false
+plain_quiet at (line.Position place) plain k = refl
+plain_quiet at (line.Delay delay) plain k = refl
+plain_quiet at (line.Alert nature comm) plain k = refl
+plain_quiet at line.Cancel plain k = refl
+plain_quiet at line.Tick plain k = refl
+plain_quiet at (line.Send call) plain k = refl
+plain_quiet at (line.Answer number accepts) plain k = refl
+plain_quiet at (line.Hear call) plain k = refl
+plain_quiet at (line.Accept mmsi delay) plain k = refl
+plain_quiet at (line.Relay mmsi to ask) plain k = refl
+plain_quiet at (line.Heard group) plain k = absurd plain
 
 -- what a step tells where it ends well
 pub tell : {E : Type 0} {S L : Type 0} {A B : Bool → Type 0} (r : Result Bool E) → ((b : Bool) → S → L → A b → B b) → OnOk r S → OnOk r L → IfOk r A → IfOk r B
@@ -93,20 +105,3 @@ pub unheard_happens : {What : Type 0} (rules : Rules What) (taking : Taking What
     → IsAt h → new ≡ old ++ unreported_line at u → accepted ≡ false → Happens rules taking IsAt h said at (line.Heard group) old new accepted
 unheard_happens rules taking IsAt h said at group old new accepted answer u answers is stands lines well =
     record { outcome = Err u; comes = (answer, answers, heard_none taking.heard group answer u is); stands = stands; lines = lines; well = well }
-
--- events of a station's own hear no group
-pub own_ship_quiet : (at : ℕ) (own : ShipOwn) (k : ℕ) → hears k (traffic (Event at (event_of_ship (at_ship.Own own)))) ≡ false
-own_ship_quiet at (own_ship.Position place) k = refl
-own_ship_quiet at (own_ship.Delay delay) k = refl
-own_ship_quiet at (own_ship.Alert nature comm) k = refl
-own_ship_quiet at own_ship.Cancel k = refl
-own_ship_quiet at own_ship.Tick k = refl
-own_ship_quiet at (own_ship.Send call) k = refl
-own_ship_quiet at (own_ship.Answer number accepts) k = refl
-
-pub own_coast_quiet : (at : ℕ) (own : CoastOwn) (k : ℕ) → hears k (traffic (Event at (event_of_coast (at_coast.Own own)))) ≡ false
-own_coast_quiet at (own_coast.Accept mmsi delay) k = refl
-own_coast_quiet at (own_coast.Relay mmsi to ask) k = refl
-own_coast_quiet at own_coast.Tick k = refl
-own_coast_quiet at (own_coast.Send call) k = refl
-own_coast_quiet at (own_coast.Answer number accepts) k = refl

@@ -15,7 +15,7 @@ ghost use Rattle.traffic_replay.specs.inside.Progress.{Begins, Keeps, StandsFor,
 ghost use Rattle.traffic_replay.specs.inside.Gives.{gives_text};
 
 use crate::stages::{Stage, behind_base};
-use crate::steps::{happen_at_coast, happen_at_ship};
+use crate::steps::{at_coast, at_ship, happen};
 use arrayvec::ArrayVec;
 use dsc_lines::{JoinLine, LineFault, Status, joined_line, one_point_line};
 use join_groups::NamedGroups;
@@ -228,9 +228,8 @@ impl Replay {
                         let (base, mut ship) = (groups.base, groups.ship());
                         let heard = &mut self.heard;
                         let acts = &mut self.acts;
-                        self.is_well &= happen_at_ship(
-                            &mut ship, heard, workers, base, at, &what, acts, out,
-                        )?;
+                        let coming = at_ship(base, at, &what);
+                        self.is_well &= happen(&mut ship, heard, workers, at, &coming, acts, out)?;
                         self.stage = Stage::Ship { base, ship };
                     }
                 }
@@ -245,9 +244,8 @@ impl Replay {
                     ShipBodyLine::Event { at, what } => {
                         let heard = &mut self.heard;
                         let acts = &mut self.acts;
-                        self.is_well &= happen_at_ship(
-                            ship, heard, workers, *base, at, &what, acts, out,
-                        )?;
+                        let coming = at_ship(*base, at, &what);
+                        self.is_well &= happen(ship, heard, workers, at, &coming, acts, out)?;
                     }
                 }
             }
@@ -258,7 +256,8 @@ impl Replay {
                 };
                 let heard = &mut self.heard;
                 let acts = &mut self.acts;
-                self.is_well &= happen_at_coast(coast, heard, workers, at, &what, acts, out)?;
+                let coming = at_coast(&what);
+                self.is_well &= happen(coast, heard, workers, at, &coming, acts, out)?;
             }
         }
         Ok(())

@@ -5,6 +5,9 @@ use Rattle.traffic_lines.specs.declared.lines.ShipBodyLine.{ShipBodyLine}
 use Rattle.traffic_lines.specs.declared.lines.TrafficLine.TheVariants.{Group, Event}
 use Rattle.traffic_lines.specs.Lines.{IsTrafficLine}
 use Rattle.traffic_replay.specs.declared.stages.Stage.TheVariants as stage
+use Rattle.traffic_replay.specs.Said.{base_of}
+use Rattle.traffic_replay.specs.Happenings.{taking_ship, taking_coast}
+use Rattle.traffic_replay.specs.inside.Happens.{Comes}
 use Rattle.traffic_replay.proofs.Bodies.{takes_own, kept_at, ready_at}
 use Rattle.traffic_replay.proofs.Told.{ship_begins, keeps_group, keeps_at_ship, keeps_at_coast}
 use Rattle.traffic_replay.proofs.command.Replay.take_body.Goals as goal
@@ -30,12 +33,13 @@ returns-in_ok-self-in-Event-clause-ok g c = λ said text keeps.
     let did = c.in_ok-self-in-Event.ensures in
     let line : IsTrafficLine (point.Groups c.held.result) (Event c.in-Event.at what) c.args.line.now =
     subst (λ (says : ShipBodyLine). IsTrafficLine (point.Groups c.held.result) (line_of_ship says) c.args.line.now) c.in-Event.is c.in-Ok.ensures in
-    takes_own old _ (stage.Groups from) said c.args.line.now (text ++ out) (text ++ c.happen_at_ship.new.out.items) (Event c.in-Event.at what) c.in-Groups.is keeps
+    takes_own old _ (stage.Groups from) said c.args.line.now (text ++ out) (text ++ c.happen.new.out.items) (Event c.in-Event.at what) c.in-Groups.is keeps
     (subst (λ (n : ℕ). IsTrafficLine (point.Groups n) (Event c.in-Event.at what) c.args.line.now) c.held.ensures line)
-    (keeps_at_ship old _ from.base c.ship-ship.result c.happen_at_ship.new.ship said text out c.happen_at_ship.new.out.items c.in_ok-self-in-Event.field-0 c.in-Event.at what
+    (keeps_at_ship old _ from.base c.ship-ship.result c.happen.new.station said text out c.happen.new.out.items c.in_ok-self-in-Event.field-0 c.in-Event.at what
     (ready_at old (stage.Groups from) c.in-Groups.is c.requires.ready.stage).0
     (ship_begins from c.ship-ship.result said (text ++ out) old.is_well c.ship-ship.ensures (kept_at old (stage.Groups from) said (text ++ out) c.in-Groups.is keeps))
-    (λ who h based stands. did.happens said who h keeps.heard based stands) (did.kept said keeps.heard) (did.few keeps.few) refl refl)
+    (λ who h based stands. did.happens said taking_ship what who h refl (subst (λ (b : ℕ). Comes taking_ship b c.in-Event.at what c.at_ship-coming.result) based c.at_ship-coming.ensures) keeps.heard stands)
+    (did.kept said taking_ship from.base what c.at_ship-coming.ensures keeps.heard) (did.few keeps.few) refl refl)
 
 pub returns-in_ok-self-in-Event-says-clause-ok : goal.returns-in_ok-self-in-Event-says-clause-ok
 returns-in_ok-self-in-Event-says-clause-ok g c = λ said text keeps.
@@ -44,11 +48,12 @@ returns-in_ok-self-in-Event-says-clause-ok g c = λ said text keeps.
     let at = stage.Ship c.in-Ship.base c.in-Ship.ship in
     let what = event_of_ship c.in-Event-says.what in
     let did = c.in_ok-self-in-Event-says.ensures in
-    takes_own old _ at said c.args.line.now (text ++ out) (text ++ c.happen_at_ship-in-Event-says.new.out.items) (Event c.in-Event-says.at what) c.in-Ship.is keeps
+    takes_own old _ at said c.args.line.now (text ++ out) (text ++ c.happen-in-Event-says.new.out.items) (Event c.in-Event-says.at what) c.in-Ship.is keeps
     (subst (λ (says : ShipBodyLine). IsTrafficLine point.Ship (line_of_ship says) c.args.line.now) c.in-Event-says.is c.in-Ok-read_ship_line.ensures)
-    (keeps_at_ship old _ c.in-Ship.base c.in-Ship.ship c.happen_at_ship-in-Event-says.new.ship said text out c.happen_at_ship-in-Event-says.new.out.items
+    (keeps_at_ship old _ c.in-Ship.base c.in-Ship.ship c.happen-in-Event-says.new.station said text out c.happen-in-Event-says.new.out.items
     c.in_ok-self-in-Event-says.field-0 c.in-Event-says.at what (ready_at old at c.in-Ship.is c.requires.ready.stage) (kept_at old at said (text ++ out) c.in-Ship.is keeps)
-    (λ who h based stands. did.happens said who h keeps.heard based stands) (did.kept said keeps.heard) (did.few keeps.few) refl refl)
+    (λ who h based stands. did.happens said taking_ship what who h refl (subst (λ (b : ℕ). Comes taking_ship b c.in-Event-says.at what c.at_ship-coming-in-Event-says.result) based c.at_ship-coming-in-Event-says.ensures) keeps.heard stands)
+    (did.kept said taking_ship c.in-Ship.base what c.at_ship-coming-in-Event-says.ensures keeps.heard) (did.few keeps.few) refl refl)
 
 pub returns-in_ok-self-in-Coast-clause-ok : goal.returns-in_ok-self-in-Coast-clause-ok
 returns-in_ok-self-in-Coast-clause-ok g c = λ said text keeps.
@@ -57,6 +62,7 @@ returns-in_ok-self-in-Coast-clause-ok g c = λ said text keeps.
     let at = stage.Coast c.in-Coast.coast in
     let says = c.in-Ok-read_coast_line.says in
     let did = c.in_ok-self-in-Coast.ensures in
-    takes_own old _ at said c.args.line.now (text ++ out) (text ++ c.happen_at_coast.new.out.items) (line_of_coast says) c.in-Coast.is keeps c.in-Ok-read_coast_line.ensures
-    (keeps_at_coast old _ c.in-Coast.coast c.happen_at_coast.new.coast said text out c.happen_at_coast.new.out.items c.in_ok-self-in-Coast.field-0 says.0 (event_of_coast says.1)
-    (kept_at old at said (text ++ out) c.in-Coast.is keeps) (λ who h stands. did.happens said who h keeps.heard stands) (did.kept said keeps.heard) (did.few keeps.few) refl refl)
+    takes_own old _ at said c.args.line.now (text ++ out) (text ++ c.happen-in-Coast.new.out.items) (line_of_coast says) c.in-Coast.is keeps c.in-Ok-read_coast_line.ensures
+    (keeps_at_coast old _ c.in-Coast.coast c.happen-in-Coast.new.station said text out c.happen-in-Coast.new.out.items c.in_ok-self-in-Coast.field-0 says.0 (event_of_coast says.1)
+    (kept_at old at said (text ++ out) c.in-Coast.is keeps) (λ who h stands. did.happens said taking_coast (event_of_coast says.1) who h refl (c.at_coast-coming.ensures (base_of said) says.0) keeps.heard stands)
+    (did.kept said taking_coast 0 (event_of_coast says.1) (c.at_coast-coming.ensures 0 says.0) keeps.heard) (did.few keeps.few) refl refl)
