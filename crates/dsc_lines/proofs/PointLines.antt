@@ -1,5 +1,5 @@
 -- lines at a point of a traffic file
-use Rattle.std.proofs.Common.{◌≡◌, ℕ, zero, suc, ◌≤◌, ◌⊎◌, inl, inr, true, List, [], ◌∷◌, Ok, Err, refl, sym, ap, subst, arith}
+use Rattle.std.proofs.Common.{◌≡◌, ℕ, zero, suc, ◌≤◌, ◌⊎◌, inl, inr, true, Some, List, [], ◌∷◌, Ok, Err, refl, sym, ap, subst, arith}
 use mathlib.Core.List.{head-eq_of_cons-eq}
 use Rattle.line_grammar.specs.Columns.{IsColumn}
 use Rattle.line_grammar.specs.Tokens.{is_digit}
@@ -8,12 +8,11 @@ use Rattle.traffic_lines.specs.declared.lines.TrafficLine.{TrafficLine}
 use Rattle.traffic_lines.specs.declared.lines.TrafficLine.TheVariants.{Ship, Coast, Base, Group, Event}
 use Rattle.traffic_lines.specs.Lines.{IsLineText, IsFirstByte, IsTrafficLine}
 use Rattle.dsc_lines.specs.declared.join.JoinLine.{JoinLine as Got}
-use Rattle.dsc_lines.specs.declared.traffic.PointLine.TheVariants as read_as
-use Rattle.dsc_lines.specs.declared.lines.LineFault.{LineFault}
-use Rattle.dsc_lines.specs.declared.lines.LineFault.TheVariants.{Column, NoMemory}
+use Rattle.dsc_lines.specs.declared.fault.LineFault.{LineFault}
+use Rattle.dsc_lines.specs.declared.fault.LineFault.TheVariants.{Column, NoMemory}
 use Rattle.dsc_lines.specs.JoinLine.{JoinLine, nothing, reception, evidence, IsLine}
 use Rattle.dsc_lines.specs.PointLine.{PointLine, joined, traffic, IsBody, MayBeJoined, IsPointLine}
-use Rattle.dsc_lines.specs.Lines.{ReadsJoin, ReadsAtPoint}
+use Rattle.dsc_lines.specs.Lines.{ReadsJoin, ReadsJoinedAt}
 use Rattle.dsc_lines.specs.inside.Points.{IsStationsByte}
 use Rattle.dsc_lines.proofs.Narrowing.{column_of_kind}
 use Rattle.dsc_lines.proofs.WholeLines.{one_line}
@@ -71,8 +70,8 @@ counted b rest zero h = absurd (h.at (omega arith) (record { value = nothing; re
 counted b rest (suc n) h = omega arith
 
 -- what was read of a line of join's input is what a line of a body says
-pub joined_line : (point : Point) (text : List ℕ) (read : Got) → IsBody point → ReadsJoin text (Ok read) → ReadsAtPoint point text (Ok (read_as.Joined read))
-joined_line point text read body h = (joined h.0, ((may_in_body point h.0 body, h.1.0), (read, (h.1.1, refl))))
+pub joined_line : (point : Point) (text : List ℕ) (read : Got) → IsBody point → ReadsJoin text (Ok read) → ReadsJoinedAt point text (Ok (Some read))
+joined_line point text read body h = (h.0, ((may_in_body point h.0 body, h.1.0), h.1.1))
 
 joined_column_at : StationsBegin → (at : Point) (b : ℕ) (rest : List ℕ) (n : ℕ) → IsBody at → (b ≡ 114) ⊎ (b ≡ 101) → IsColumn IsLine (b ∷ rest) n → IsColumn (IsPointLine at) (b ∷ rest) n
 joined_column_at begin at b rest n body which h =
@@ -81,14 +80,14 @@ joined_column_at begin at b rest n body which h =
     rest n (counted b rest n h) h
 
 joined_fault_at : StationsBegin → (at : Point) (b : ℕ) (rest : List ℕ) (fault : LineFault) → IsBody at → (b ≡ 114) ⊎ (b ≡ 101)
-    → ReadsJoin (b ∷ rest) (Err fault) → ReadsAtPoint at (b ∷ rest) (Err fault)
+    → ReadsJoin (b ∷ rest) (Err fault) → ReadsJoinedAt at (b ∷ rest) (Err fault)
 joined_fault_at begin at b rest (Column n) body which h = joined_column_at begin at b rest n body which h
 joined_fault_at begin at b rest NoMemory body which h = tt
 
 pub joined_fault : StationsBegin → (at : Point) (text : List ℕ) (fault : LineFault) → IsBody at
-    → (b : ℕ) × (rest : List ℕ) × (text ≡ b ∷ rest) × ((b ≡ 114) ⊎ (b ≡ 101)) → ReadsJoin text (Err fault) → ReadsAtPoint at text (Err fault)
+    → (b : ℕ) × (rest : List ℕ) × (text ≡ b ∷ rest) × ((b ≡ 114) ⊎ (b ≡ 101)) → ReadsJoin text (Err fault) → ReadsJoinedAt at text (Err fault)
 joined_fault begin at text fault body given h =
-    subst (λ (l : List ℕ). ReadsAtPoint at l (Err fault)) (sym given.2)
+    subst (λ (l : List ℕ). ReadsJoinedAt at l (Err fault)) (sym given.2)
     (joined_fault_at begin at given.0 given.1 fault body given.3 (subst (λ (l : List ℕ). ReadsJoin l (Err fault)) given.2 h))
 
 -- other lines

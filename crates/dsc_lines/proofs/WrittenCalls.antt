@@ -1,5 +1,5 @@
 -- the text of a call is read as this call
-use Rattle.std.proofs.Common.{◌≡◌, ℕ, Some, None, ◌==◌, false, List, [], ◌∷◌, ◌++◌, codes, inl, inr, refl, sym, ap, ◌∙◌, arith, Result, Ok, Err}
+use Rattle.std.proofs.Common.{◌≡◌, ℕ, ◌==◌, false, List, [], ◌∷◌, ◌++◌, codes, inl, inr, refl, sym, ap, ◌∙◌, arith}
 use Rattle.std.proofs.lemmas.Bool.{eqb-false}
 use Rattle.call_values.specs.declared.calls.Call.{Call}
 use Rattle.call_values.specs.declared.calls.Call.TheVariants as form
@@ -8,16 +8,9 @@ use Rattle.call_values.specs.Calls.{IsCall}
 use Rattle.slot_join.specs.declared.joined.Extra.{Extra}
 use Rattle.dsc_texts.specs.CallParts.{call_text}
 use Rattle.dsc_texts.specs.Texts.{IsWholeOrAbsent, reported_text}
-use Rattle.dsc_lines.specs.declared.lines.Line.{Line}
-use Rattle.dsc_lines.specs.declared.lines.Line.TheVariants as got
-use Rattle.dsc_lines.specs.declared.lines.LineFault.{LineFault}
-use Rattle.dsc_lines.specs.declared.lines.LineFault.TheVariants as fault
 use Rattle.dsc_lines.specs.declared.calls.CallLine.{CallLine}
 use Rattle.dsc_lines.specs.declared.calls.CallLine.TheVariants as line
-use Rattle.slot_join.specs.declared.joined.Extra.TheVariants.{Absent, Whole, Broken}
 use Rattle.dsc_lines.specs.CallLine.{extra_of, IsCallLine}
-use Rattle.dsc_lines.specs.Lines.{ReadsLine}
-use Rattle.dsc_lines.specs.declared.lines.FileKind.TheVariants as file
 
 abbrev pub ApartLaw : Type 0
 ApartLaw = (a b : Call) (x y : Extra) → IsCall a → IsCall b → IsWholeOrAbsent x → IsWholeOrAbsent y → reported_text a x ≡ reported_text b y → (a ≡ b) × (x ≡ y)
@@ -107,13 +100,3 @@ no_sentence a text rest is e = no_dollar a text is (ap first_of e ∙ first_doll
 -- a call's text says a call
 pub no_empty : (c : Call) (x : Extra) → IsCallLine line.Nothing (reported_text c x) → ⊥
 no_empty c x is = eqb-false (letter_of c) 35 (is_letter c) (sym (begins_so c x) ∙ says_nothing (reported_text c x) is)
-
-pub call_is_read : ApartLaw → (c : Call) (x : Extra) (answer : Result Line LineFault) → IsCall c → IsWholeOrAbsent x → ReadsLine file.Call (reported_text c x) answer → answer ≡ Ok (got.Call c x)
-call_is_read apart c Absent (Err (fault.Column n)) is whole h = absurd (h.is_none (line.Call c None) ((is, whole), refl))
-call_is_read apart c (Whole x) (Err (fault.Column n)) is whole h = absurd (h.is_none (line.Call c (Some x)) ((is, whole), refl))
-call_is_read apart c (Broken n) (Err (fault.Column k)) is whole h = absurd whole
-call_is_read apart c x (Err fault.NoMemory) is whole h = absurd h
-call_is_read apart c x (Ok read) is whole (line.Nothing, (text, says)) = absurd (no_empty c x text)
-call_is_read apart c x (Ok read) is whole (line.Call d y, (text, says)) =
-    let same = apart d c (extra_of y) x text.0.0 is text.0.1 whole (sym text.1) in
-    ap Ok (says ∙ ap (λ k. got.Call k (extra_of y)) same.0 ∙ ap (λ k. got.Call c k) same.1)

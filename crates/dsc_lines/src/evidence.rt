@@ -11,9 +11,9 @@ ghost use Rattle.dsc_lines.specs.Lines.{ReadsJoin, Says, facts_of_pairs};
 ghost use Rattle.dsc_lines.specs.inside.Reading as reading;
 ghost use Rattle.dsc_lines.specs.inside.Reading.{grouped};
 
+use crate::fault::LineFault;
 use crate::groups::group;
 use crate::join::JoinLine;
-use crate::lines::LineFault;
 use line_grammar::{Left, column, free_number, word};
 use slot_evidence::Sheet;
 

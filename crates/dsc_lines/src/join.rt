@@ -2,7 +2,7 @@
 ghost use Rattle.dsc_lines.specs.Lines.{ReadsJoin};
 
 use crate::evidence::evidence_line;
-use crate::lines::LineFault;
+use crate::fault::LineFault;
 use crate::receptions::reception_line;
 use slot_evidence::{Reception, Sheet};
 use std::alloc::Global;

@@ -1,15 +1,6 @@
 //! Laws: each function here does nothing, and its contract is a theorem over definitions.
-ghost use Rattle.std.specs.Prelude.{◌≡◌, ◌≤◌, ℕ, List, Option, Result, Ok};
-ghost use Rattle.call_values.specs.declared.calls.Call.{Call};
-ghost use Rattle.call_values.specs.Calls.{IsCall};
-ghost use Rattle.slot_join.specs.declared.joined.Extra.{Extra};
-ghost use Rattle.dsc_texts.specs.Texts.{IsWholeOrAbsent, reported_text};
-ghost use Rattle.dsc_lines.specs.declared.lines.Line.{Line};
-ghost use Rattle.dsc_lines.specs.declared.lines.Line.TheVariants as line;
-ghost use Rattle.dsc_lines.specs.declared.lines.LineFault.{LineFault};
+ghost use Rattle.std.specs.Prelude.{◌≡◌, ◌≤◌, ℕ, List, Option};
 ghost use Rattle.dsc_lines.specs.JoinLine.{JoinLine, IsLine};
-ghost use Rattle.dsc_lines.specs.declared.lines.FileKind.TheVariants as kind;
-ghost use Rattle.dsc_lines.specs.Lines.{ReadsLine};
 ghost use Rattle.dsc_lines.specs.declared.calls.CallLine.{CallLine};
 ghost use Rattle.dsc_lines.specs.declared.sentences.SentenceLine.{SentenceLine};
 ghost use Rattle.dsc_lines.specs.CallLine.{IsCallLine};
@@ -79,12 +70,3 @@ pub fn exchange_columns()
     ensures { (point : ExchangePoint) (text : List ℕ) (n : ℕ) → (IsNothing text → ⊥) → 1 ≤ n
         → IsColumn (IsWorldLine point) text n → IsColumn (IsWorldFileLine point) text n }
 {}
-
-/// The law that of the text that `put_call` writes of a call and of the expansion behind it, reading a line of calls can answer
-/// nothing but this call and this expansion.
-pub fn written_calls_are_read()
-    ensures { (call : Call) (extra : Extra) (answer : Result Line LineFault) → IsCall call → IsWholeOrAbsent extra
-        → ReadsLine kind.Call (reported_text call extra) answer → answer ≡ Ok (line.Call call extra) }
-{
-    texts_tell_calls_apart();
-}

@@ -4,11 +4,10 @@
 mod books;
 mod calls;
 mod evidence;
+mod fault;
 mod groups;
 mod join;
 mod laws;
-mod lines;
-mod reading;
 mod receptions;
 mod sentences;
 mod streams;
@@ -22,15 +21,13 @@ pub use dsc_streams::{
     SureSource, write_all,
 };
 pub use dsc_texts::{put_answer, put_answer_line, put_call};
+pub use fault::LineFault;
 pub use join::{JoinLine, join_line};
 pub use laws::{
     exchange_columns, one_book_line, one_call_line, one_exchange_line, one_line, one_point_line,
-    one_sentence_line, one_stream_line, written_calls_are_read,
+    one_sentence_line, one_stream_line,
 };
-pub use lines::{FileKind, Line, LineFault};
-pub use reading::line_of;
 pub use sentences::{SentenceLine, sentence_line};
 pub use streams::stream_line;
-pub use traffic::{PointLine, joined_line, point_line};
-pub use traffic_lines::{EventLine, ExchangeLine, ExchangePoint, Point, TrafficLine, WorldLine};
-pub use worlds::{says_nothing, world_line};
+pub use traffic::joined_line;
+pub use worlds::says_nothing;

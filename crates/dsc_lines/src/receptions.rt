@@ -11,9 +11,9 @@ ghost use Rattle.dsc_lines.specs.Lines.{ReadsJoin};
 ghost use Rattle.dsc_lines.specs.inside.Reading as reading;
 ghost use Rattle.dsc_lines.specs.inside.Reading.{behind_blank, blank_and_signs, grouped};
 
+use crate::fault::LineFault;
 use crate::groups::group;
 use crate::join::JoinLine;
-use crate::lines::LineFault;
 use line_grammar::{Left, column, end, run, word};
 use slot_evidence::Reception;
 use std::alloc::{AllocError, Global};

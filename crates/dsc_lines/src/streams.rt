@@ -3,13 +3,10 @@ ghost use Rattle.std.specs.Prelude.{◌≡◌, ◌∷◌, true, map, IfOk, Match
 ghost use Rattle.std.specs.List.{list_all};
 ghost use Rattle.ten_unit.specs.Signs.{element_of, is_sign};
 ghost use Rattle.line_grammar.specs.Columns.{IsColumn};
-ghost use Rattle.dsc_lines.specs.Lines.{ReadsStream};
 ghost use Rattle.dsc_lines.specs.StreamLine.{IsStreamLine};
 
-use crate::lines::{Line, LineFault};
-use crate::receptions::{elements_of, signs};
+use crate::receptions::signs;
 use line_grammar::{column, grammars_are_read};
-use std::alloc::Global;
 
 /// Reads a line behind its `s`.
 fn elements_line<'a>(line: &[u8], rest: &'a [u8]) -> Result<&'a [u8], usize>
@@ -39,20 +36,5 @@ pub fn stream_line(line: &[u8]) -> Result<&[u8], usize>
         b'#' => Ok(&[]),
         b's' => elements_line(line, rest),
         _ => Err(1),
-    }
-}
-
-/// Reads one line of a stream, with its elements in a list.
-pub(crate) fn added_line(alloc: Global, bytes: &[u8]) -> Result<Line, LineFault>
-    ensures { ReadsStream bytes.now result }
-{
-    match stream_line(bytes) {
-        Ok(signs) => {
-            if signs.is_empty() {
-                return Ok(Line::Nothing);
-            }
-            Ok(Line::Stream(elements_of(alloc, signs)?))
-        }
-        Err(n) => Err(LineFault::Column(n)),
     }
 }

@@ -1,23 +1,14 @@
 //! The lines of traffic files.
 ghost use Rattle.std.specs.Prelude.{◌≡◌, ◌∷◌, ◌⊎◌, ℕ, List, IsTrue, ◌↔◌};
 ghost use Rattle.line_grammar.specs.Bytes.{letter_e, letter_r};
-ghost use Rattle.dsc_lines.specs.Lines.{ReadsAtPoint, ReadsJoinedAt};
+ghost use Rattle.dsc_lines.specs.Lines.{ReadsJoinedAt};
 ghost use Rattle.dsc_lines.specs.PointLine.{IsBody};
 ghost use Rattle.dsc_lines.specs.inside.Points.{IsStationsByte};
 
+use crate::fault::LineFault;
 use crate::join::{JoinLine, join_line};
-use crate::lines::LineFault;
 use std::alloc::Global;
-use traffic_lines::{Point, TrafficLine, read_traffic, traffic_lines_begin};
-
-/// What a line at a point of a traffic file says.
-#[derive(Debug, Drop)]
-pub enum PointLine {
-    /// What a line of join's input says.
-    Joined(JoinLine),
-    /// What a line of the station says: who it is, its base, a group, or an event.
-    Traffic(TrafficLine),
-}
+use traffic_lines::{Point, traffic_lines_begin};
 
 /// Whether receptions and evidence may stand at this point.
 fn is_body(point: Point) -> bool
@@ -69,22 +60,5 @@ pub fn joined_line(alloc: Global, point: Point, line: &[u8]) -> Result<Option<Jo
         b'#' => Ok(Some(JoinLine::Nothing)),
         b'r' | b'e' => line_of_receivers(alloc, point, line),
         _ => stations_own(point, line),
-    }
-}
-
-/// Reads one line at this point of a traffic file. An error is the column of bytes that are no such line, or want of memory.
-pub fn point_line(alloc: Global, point: Point, line: &[u8]) -> Result<PointLine, LineFault>
-    ensures { ReadsAtPoint point line.now result }
-{
-    let joined = match joined_line(alloc, point, line) {
-        Ok(joined) => joined,
-        Err(fault) => return Err(fault),
-    };
-    match joined {
-        Some(says) => Ok(PointLine::Joined(says)),
-        None => match read_traffic(point, line) {
-            Ok(says) => Ok(PointLine::Traffic(says)),
-            Err(n) => Err(LineFault::Column(n)),
-        },
     }
 }

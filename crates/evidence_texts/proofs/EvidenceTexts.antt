@@ -15,12 +15,11 @@ use Rattle.slot_evidence.specs.Seen.{IsSeen, IsLawful, symbols_in}
 use Rattle.slot_evidence.specs.Sheet.{IsSheet, IsEnds, seen_at, facts_in}
 use Rattle.slot_evidence.proofs.PublicLaws.{seen_by}
 use Rattle.dsc_lines.specs.JoinLine.{JoinLine, IsPair, pair_text, IsLine, evidence}
-use Rattle.dsc_lines.specs.declared.lines.Line.{Line}
-use Rattle.dsc_lines.specs.declared.lines.Line.TheVariants as line
-use Rattle.dsc_lines.specs.declared.lines.LineFault.{LineFault}
-use Rattle.dsc_lines.specs.declared.lines.LineFault.TheVariants as fault
-use Rattle.dsc_lines.specs.declared.lines.FileKind.TheVariants.{Join}
-use Rattle.dsc_lines.specs.Lines.{Says, IsTold, line_of_join, ReadsLine, facts_of_pairs}
+use Rattle.dsc_lines.specs.declared.join.JoinLine.{JoinLine as Got}
+use Rattle.dsc_lines.specs.declared.join.JoinLine.TheVariants as got
+use Rattle.dsc_lines.specs.declared.fault.LineFault.{LineFault}
+use Rattle.dsc_lines.specs.declared.fault.LineFault.TheVariants as fault
+use Rattle.dsc_lines.specs.Lines.{Says, ReadsJoin, facts_of_pairs}
 use Rattle.evidence_texts.specs.Evidence.{pairs_at, pairs_below, evidence_text}
 
 -- how long a number is
@@ -145,15 +144,13 @@ OneLine = (a b : JoinLine) (text : List ℕ) → IsLine a text → IsLine b text
 abbrev pub OneSheet : Type 0
 OneSheet = (F : Facts) (s t : List Seen) → IsEnds F s → IsEnds F t → s ≡ t
 
-said : (group : ℕ) (sheet : List Seen) (read : Line) → OneSheet → IsSheet sheet → IsTold Says line_of_join (evidence group (pairs_below 64 sheet)) read → read ≡ line.Evidence group sheet
-said group sheet read one h told =
-    let says = told.1.0 in
-    told.1.1 ∙ ap line_of_join says.1.0 ∙ ap (line.Evidence group) (one (facts_of_pairs (pairs_below 64 sheet)) says.0 sheet says.1.1 (text_has_ends sheet h))
+said : (group : ℕ) (sheet : List Seen) (read : Got) → OneSheet → IsSheet sheet → Says (evidence group (pairs_below 64 sheet)) read → read ≡ got.Evidence group sheet
+said group sheet read one h says = says.1.0 ∙ ap (got.Evidence group) (one (facts_of_pairs (pairs_below 64 sheet)) says.0 sheet says.1.1 (text_has_ends sheet h))
 
-pub text_is_read : (group : ℕ) (sheet : List Seen) (answer : Result Line LineFault) → OneLine → OneSheet → group < 2 ^ 32 → IsSheet sheet
-    → ReadsLine Join (evidence_text group sheet) answer → (answer ≡ Ok (line.Evidence group sheet)) ⊎ (answer ≡ Err fault.NoMemory)
+pub text_is_read : (group : ℕ) (sheet : List Seen) (answer : Result Got LineFault) → OneLine → OneSheet → group < 2 ^ 32 → IsSheet sheet
+    → ReadsJoin (evidence_text group sheet) answer → (answer ≡ Ok (got.Evidence group sheet)) ⊎ (answer ≡ Err fault.NoMemory)
 text_is_read group sheet (Ok read) one_line one_sheet small h reads =
     let same = one_line reads.0 (evidence group (pairs_below 64 sheet)) (evidence_text group sheet) reads.1.0 (text_is_line group sheet small h) in
-    inl (ap (λ (l : Line). Ok l) (said group sheet read one_sheet h (subst (λ (w : JoinLine). IsTold Says line_of_join w read) same reads.1.1)))
+    inl (ap (λ (l : Got). Ok l) (said group sheet read one_sheet h (subst (λ (w : JoinLine). Says w read) same reads.1.1)))
 text_is_read group sheet (Err (fault.Column n)) one_line one_sheet small h reads = absurd (reads.is_none (evidence group (pairs_below 64 sheet)) (text_is_line group sheet small h))
 text_is_read group sheet (Err fault.NoMemory) one_line one_sheet small h reads = inr refl

@@ -1,13 +1,12 @@
 ghost use Rattle.std.specs.Prelude.{◌≡◌, ◌<◌, ◌^◌, ◌⊎◌, ℕ, List, Result, Ok, Err};
 ghost use Rattle.slot_evidence.specs.declared.places.Seen.{Seen};
 ghost use Rattle.slot_evidence.specs.Sheet.{IsSheet, IsEnds, facts_in};
-ghost use Rattle.dsc_lines.specs.declared.lines.FileKind.TheVariants.{Join};
-ghost use Rattle.dsc_lines.specs.declared.lines.Line.{Line};
-ghost use Rattle.dsc_lines.specs.declared.lines.Line.TheVariants.{Evidence};
-ghost use Rattle.dsc_lines.specs.declared.lines.LineFault.{LineFault};
-ghost use Rattle.dsc_lines.specs.declared.lines.LineFault.TheVariants.{NoMemory};
+ghost use Rattle.dsc_lines.specs.declared.join.JoinLine.{JoinLine};
+ghost use Rattle.dsc_lines.specs.declared.join.JoinLine.TheVariants.{Evidence};
+ghost use Rattle.dsc_lines.specs.declared.fault.LineFault.{LineFault};
+ghost use Rattle.dsc_lines.specs.declared.fault.LineFault.TheVariants.{NoMemory};
 ghost use Rattle.dsc_lines.specs.JoinLine.{IsLine, evidence};
-ghost use Rattle.dsc_lines.specs.Lines.{ReadsLine, facts_of_pairs};
+ghost use Rattle.dsc_lines.specs.Lines.{ReadsJoin, facts_of_pairs};
 ghost use Rattle.evidence_texts.specs.Evidence.{pairs_below, evidence_text};
 
 use dsc_lines::one_line;
@@ -21,8 +20,8 @@ pub fn evidence_is_read()
     ensures facts { (sheet : List Seen) (place symbol : ℕ) → IsSheet sheet
         → facts_of_pairs (pairs_below 64 sheet) place symbol ≡ facts_in sheet place symbol }
     ensures ends { (sheet : List Seen) → IsSheet sheet → IsEnds (facts_of_pairs (pairs_below 64 sheet)) sheet }
-    ensures read { (group : ℕ) (sheet : List Seen) (answer : Result Line LineFault) → group < 2 ^ 32 → IsSheet sheet
-        → ReadsLine Join (evidence_text group sheet) answer
+    ensures read { (group : ℕ) (sheet : List Seen) (answer : Result JoinLine LineFault) → group < 2 ^ 32 → IsSheet sheet
+        → ReadsJoin (evidence_text group sheet) answer
         → (answer ≡ Ok (Evidence group sheet)) ⊎ (answer ≡ Err NoMemory) }
 {
     one_line();

@@ -5,7 +5,7 @@ ghost use Rattle.exchange.specs.StandsFor.{Stands, IsStill, given_of, given_with
 
 use crate::events::WorldEvent;
 use crate::sent::MOST_SENT;
-use crate::steps::{coast_gets, ship_gets, step_coast, step_ship};
+use crate::steps::{gets, step};
 use crate::told::{Outcome, Told};
 use call_values::{Band, Call, Mmsi};
 use coast_station::Coast;
@@ -89,15 +89,27 @@ impl World {
         match *event {
             WorldEvent::Ship(event) => {
                 self.from_ship.reserve(MOST_SENT)?;
-                Ok(step_ship(&mut self.ship, &mut self.from_ship, &event, acts))
+                Ok(step(
+                    &mut self.ship,
+                    &mut self.from_ship,
+                    event.at,
+                    &event.what,
+                    acts,
+                ))
             }
             WorldEvent::Coast(event) => {
                 self.from_coast.reserve(MOST_SENT)?;
-                Ok(step_coast(&mut self.coast, &mut self.from_coast, &event, acts))
+                Ok(step(
+                    &mut self.coast,
+                    &mut self.from_coast,
+                    event.at,
+                    &event.what,
+                    acts,
+                ))
             }
             WorldEvent::ShipGets { at, number } => {
                 self.from_ship.reserve(MOST_SENT)?;
-                Ok(ship_gets(
+                Ok(gets(
                     &mut self.ship,
                     &mut self.from_ship,
                     &self.from_coast,
@@ -108,7 +120,7 @@ impl World {
             }
             WorldEvent::CoastGets { at, number } => {
                 self.from_coast.reserve(MOST_SENT)?;
-                Ok(coast_gets(
+                Ok(gets(
                     &mut self.coast,
                     &mut self.from_coast,
                     &self.from_ship,

@@ -7,19 +7,29 @@ use Rattle.line_engine.specs.Determined.{BeginsWith}
 use Rattle.station_lines.proofs.PublicLaws.{no_more, last_of, begins_itself, begins_further}
 use Rattle.ship_station.specs.ShipRules.{ship_rules}
 use Rattle.coast_station.specs.CoastRules.{coast_rules}
-use Rattle.traffic_lines.specs.declared.lines.EventLine.{EventLine}
+use Rattle.station_lines.specs.Events.{EventLine}
 use Rattle.traffic_lines.specs.declared.lines.Point.{Point}
 use Rattle.traffic_lines.specs.declared.lines.Point.TheVariants as point
 use Rattle.traffic_lines.specs.declared.lines.TrafficLine.TheVariants as line
 use Rattle.traffic_lines.specs.Lines.{MayStand}
 use Rattle.dsc_lines.specs.JoinLine.{JoinLine, nothing, reception, evidence}
 use Rattle.dsc_lines.specs.PointLine.{PointLine, joined, traffic, IsPointLine}
-use Rattle.traffic_replay.specs.Said.{Said, Kind, ship, coast, kind_of, identities_of, station_of, point_of, AreSaid}
+use Rattle.traffic_replay.specs.Said.{Said, Kind, ship, coast, kind_of, identities_of, station_of, among_events, point_of, AreSaid}
 use Rattle.traffic_replay.specs.Happenings.{Taking, taking_ship, taking_coast, Happening, AreHappenings}
 use Rattle.traffic_replay.specs.Output.{history_of, text_of, all_accepted, written_behind}
 use Rattle.traffic_replay.specs.Meaning.{Tells, StationTells}
-use Rattle.traffic_replay.specs.inside.Progress.{IsBeforeEvents}
-use Rattle.traffic_replay.proofs.Told.{no_more_early}
+
+-- events come behind the groups alone
+abbrev IsBeforeEvents : Point → Type 0
+IsBeforeEvents point.Station = Unit {0}
+IsBeforeEvents point.Base = Unit {0}
+IsBeforeEvents (point.Groups held) = Unit {0}
+IsBeforeEvents point.Ship = ⊥
+IsBeforeEvents point.Coast = ⊥
+
+no_more_early : (kind : Kind) → IsBeforeEvents (among_events kind) → ⊥
+no_more_early ship early = early
+no_more_early (coast band) early = early
 
 pub ship_early : (p : Point) (mmsi : ℕ) → MayStand p (line.Ship mmsi) → IsBeforeEvents p
 ship_early point.Station mmsi may = tt

@@ -2,7 +2,6 @@ mod GroupFacts
 mod GroupKeeping
 mod Told
 mod Happened
-mod Beginnings
 mod Unique
 mod Receivers
 mod Fronts

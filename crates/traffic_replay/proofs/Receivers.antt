@@ -8,20 +8,19 @@ use Rattle.slot_evidence.specs.Sheet.{IsEnds}
 use Rattle.traffic_lines.specs.declared.lines.TrafficLine.{TrafficLine}
 use Rattle.dsc_lines.specs.declared.join.JoinLine.{JoinLine as Got}
 use Rattle.dsc_lines.specs.declared.join.JoinLine.TheVariants as got
-use Rattle.dsc_lines.specs.declared.traffic.PointLine.TheVariants as at
 use Rattle.dsc_lines.specs.JoinLine.{JoinLine, nothing, reception, evidence}
 use Rattle.traffic_lines.specs.declared.lines.Point.{Point}
-use Rattle.dsc_lines.specs.PointLine.{PointLine, joined, traffic, IsPointLine}
-use Rattle.dsc_lines.specs.Lines.{Says, SaysAtPoint, ReadsJoinedAt}
+use Rattle.dsc_lines.specs.PointLine.{PointLine, joined, traffic, MayBeJoined, IsPointLine}
+use Rattle.dsc_lines.specs.Lines.{Says, ReadsJoinedAt}
 use Rattle.join_groups.specs.Groups.{facts_of_line}
 use Rattle.join_groups.specs.Meanings.{BringsTooMany}
 use Rattle.join_groups.proofs.PublicLaws.{says_reception, says_evidence}
 use Rattle.traffic_replay.specs.declared.command.Replay.{Replay}
 use Rattle.traffic_replay.specs.Said.{Said, kind_of, among_events, point_of}
 use Rattle.traffic_replay.specs.HeardGroups.{of_receivers}
-use Rattle.traffic_replay.specs.inside.Progress.{IsBeforeEvents, Keeps, IsShown, BringsGroup}
+use Rattle.traffic_replay.specs.inside.Progress.{Keeps, IsShown, BringsGroup, MayBeRead}
 use Rattle.traffic_replay.proofs.GroupKeeping.{keeps_nothing}
-use Rattle.traffic_replay.proofs.Told.{carry_joined}
+use Rattle.traffic_replay.proofs.Told.{silent}
 
 apart : {group : ℕ} {e : List Element} → got.Reception group e ≡ got.Nothing → ⊥
 apart h = cc
@@ -69,27 +68,26 @@ station_taken h = cc
 pub traffic_taken : (said : Said) (says : TrafficLine) → BringsGroup said (traffic says) → ⊥
 traffic_taken said says b = station_taken b.is_joined
 
--- what was read of a line tells whether receivers' or the station's it is
-two_kinds : {one : Got} {says : TrafficLine} → at.Joined one ≡ at.Traffic says → ⊥
-two_kinds h = cc
-
-same_joined : {one two : Got} → at.Joined one ≡ at.Joined two → one ≡ two
-same_joined h = cc
-
 -- a line of receivers at a point, or one that says nothing
 pub record IsReceivers (at_point : Point) (read : Got) (text : List ℕ) : Type 0 where
   pub line : JoinLine
   pub is_line : IsPointLine at_point (joined line) text
   pub says_it : Says line read
+  pub may : MayBeRead at_point read
 
-of_joined : (at_point : Point) (text : List ℕ) (says : PointLine) (one : Got) → IsPointLine at_point says text → SaysAtPoint says (at.Joined one) → IsReceivers at_point one text
-of_joined at_point text (joined line) one is h = record { line = line; is_line = is; says_it = subst (Says line) (same_joined (sym h.1.1)) h.1.0 }
-of_joined at_point text (traffic says) one is h = absurd (two_kinds h)
+may_be : (at_point : Point) (line : JoinLine) (one : Got) → MayBeJoined at_point line → Says line one → MayBeRead at_point one
+may_be at_point line got.Nothing may says = tt
+may_be at_point (reception g f) (got.Reception group e) may says = may
+may_be at_point (reception g f) (got.Evidence group sheet) may says = may
+may_be at_point (evidence g pairs) (got.Reception group e) may says = may
+may_be at_point (evidence g pairs) (got.Evidence group sheet) may says = may
+may_be at_point nothing (got.Reception group e) may says = absurd (apart says)
+may_be at_point nothing (got.Evidence group sheet) may says = absurd (apart_too says)
 
 pub receivers_line : (at_point : Point) (read : Option Got) (one : Got) (text : List ℕ) → read ≡ Some one → ReadsJoinedAt at_point text (Ok read) → IsReceivers at_point one text
 receivers_line at_point read one text is h =
     let some : ReadsJoinedAt at_point text (Ok (Some one)) = subst (λ (o : Option Got). ReadsJoinedAt at_point text (Ok o)) is h in
-    of_joined at_point text some.0 one some.1.0 some.1.1
+    record { line = some.0; is_line = some.1.0; says_it = some.1.1; may = may_be at_point some.0 one some.1.0.0 some.1.1 }
 
 -- a line that says nothing
 pub nothing_taken : (replay : Replay) (said : Said) (line : JoinLine) (text : List ℕ) → Says line got.Nothing → Keeps replay said text
@@ -100,15 +98,9 @@ nothing_taken replay said nothing text is keeps = (
   λ b. false≢true b.named,
   record {
     point = keeps.point;
-    own = keeps.own;
-    base = keeps.base;
-    within = keeps.within;
-    groups = keeps.groups;
-    counted = keeps.counted;
-    most = keeps.most;
+    ready = keeps.ready;
     heard = keeps_nothing replay.heard said keeps.heard;
     few = keeps.few;
-    kind = keeps.kind;
-    told = carry_joined (kind_of said) replay.station (IsBeforeEvents replay.point) (IsBeforeEvents replay.point) nothing said text replay.is_well (λ early. early) keeps.told;
+    station = silent replay.stage nothing said text replay.is_well keeps.station;
   },
 )

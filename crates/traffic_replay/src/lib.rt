@@ -6,7 +6,7 @@ mod heard;
 mod laws;
 mod outcomes;
 mod replaying;
-mod stations;
+mod stages;
 mod steps;
 
 pub use civil_time::civil_minute;

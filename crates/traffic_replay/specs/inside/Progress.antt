@@ -1,21 +1,25 @@
 -- What a replay has come to.
-use Rattle.std.specs.Prelude.{◌≡◌, ℕ, ◌≤◌, ◌<◌, ◌==◌, Bool, Option, Some, None, List, [], ◌∷◌, ◌++◌, ◌⊎◌, length}
+use Rattle.std.specs.Prelude.{◌≡◌, ℕ, ◌≤◌, ◌<◌, ◌==◌, Bool, true, List, [], ◌∷◌, ◌++◌, ◌⊎◌, length}
 use Rattle.ten_unit.specs.declared.character.Element.{Element}
 use Rattle.slot_evidence.specs.Facts.{Facts}
 use Rattle.phasing.specs.declared.reception.TheConstants.{LONGEST}
 use Rattle.line_engine.specs.Lines.{Lines}
 use Rattle.traffic_lines.specs.declared.lines.Point.{Point}
 use Rattle.traffic_lines.specs.declared.lines.Point.TheVariants as point
+use Rattle.traffic_lines.specs.declared.lines.StationLine.{StationLine}
+use Rattle.traffic_lines.specs.declared.lines.StationLine.TheVariants as named
 use Rattle.traffic_rules.specs.Histories.{History}
 use Rattle.traffic_rules.specs.Rules.{Rules}
-use Rattle.ship_station.specs.ShipRules.{ship_rules}
+use Rattle.ship_station.specs.declared.ships.Ship.{Ship}
+use Rattle.ship_station.specs.ShipRules.{Identities, ship_rules}
 use Rattle.ship_station.specs.Stands.{Stands as ShipStands}
+use Rattle.coast_station.specs.declared.coasts.Coast.{Coast}
 use Rattle.coast_station.specs.CoastRules.{coast_rules}
 use Rattle.coast_station.specs.Stands.{Stands as CoastStands}
+use Rattle.call_values.specs.declared.choices.Band.{Band}
 use Rattle.call_values.specs.declared.bounds.TheConstants.{LAST_BASE}
 use Rattle.dsc_lines.specs.JoinLine.{JoinLine}
-use Rattle.dsc_lines.specs.PointLine.{PointLine, joined, traffic, IsPointLine}
-use Rattle.traffic_lines.specs.declared.lines.TrafficLine.{TrafficLine}
+use Rattle.dsc_lines.specs.PointLine.{PointLine, joined, IsBody, IsPointLine}
 use Rattle.traffic_lines.specs.Lines.{IsTrafficLine}
 use Rattle.line_grammar.specs.Columns.{IsColumn}
 use Rattle.line_engine.specs.declared.command.Refusal.{Refusal}
@@ -27,74 +31,63 @@ use Rattle.join_groups.specs.declared.groups.TheConstants.{MOST_IN_BATCH}
 use Rattle.join_groups.specs.Holds.{HoldsSome}
 use Rattle.join_groups.specs.Meanings.{BringsTooMany}
 use Rattle.traffic_replay.specs.declared.command.Replay.{Replay}
-use Rattle.traffic_replay.specs.declared.stations.Station.{Station}
-use Rattle.traffic_replay.specs.declared.stations.Station.TheVariants as station
-use Rattle.traffic_replay.specs.Said.{Said, Kind, ship, coast, kind_of, own_of, base_of, groups_of, identities_of, station_of, among_events, point_of, AreSaid}
+use Rattle.traffic_replay.specs.declared.stages.Groups.{Groups}
+use Rattle.traffic_replay.specs.declared.stages.Stage.{Stage}
+use Rattle.traffic_replay.specs.declared.stages.Stage.TheVariants as stage
+use Rattle.traffic_replay.specs.Said.{Said, ship, coast, kind_of, base_of, groups_of, identities_of, station_of, among_events, point_of, AreSaid}
 use Rattle.traffic_replay.specs.HeardGroups.{of_receivers}
-use Rattle.traffic_replay.specs.Happenings.{Taking, taking_ship, taking_coast, Happening, AreHappenings}
-use Rattle.traffic_replay.specs.Output.{history_of, text_of, all_accepted}
+use Rattle.traffic_replay.specs.Happenings.{Taking, taking_ship, taking_coast, AreHappenings}
+use Rattle.traffic_replay.specs.Output.{history_of}
+use Rattle.traffic_replay.specs.Meaning.{Tells}
 use Rattle.traffic_replay.specs.inside.Kept.{KeepsGroups}
 
--- events come behind the groups alone
-abbrev pub IsBeforeEvents : Point → Type 0
-IsBeforeEvents point.Station = Unit {0}
-IsBeforeEvents point.Base = Unit {0}
-IsBeforeEvents (point.Groups held) = Unit {0}
-IsBeforeEvents point.Ship = ⊥
-IsBeforeEvents point.Coast = ⊥
+-- the identities of a ship whose groups are being named
+abbrev pub identities_in : Groups → Identities
+identities_in g = record { own = g.own; groups = g.named.items }
 
--- behind a ship's base and its groups
-abbrev pub IsAmongGroups : Point → Type 0
-IsAmongGroups (point.Groups held) = Unit {0}
-IsAmongGroups _ = ⊥
+-- where the next line stands, by the stage
+abbrev pub point_at : Stage → Point
+point_at stage.Station = point.Station
+point_at (stage.Base station) = point.Base
+point_at (stage.Groups g) = point.Groups (length g.named.items)
+point_at (stage.Ship base s) = point.Ship
+point_at (stage.Coast s) = point.Coast
 
--- how many groups a point stands behind
-abbrev pub IsBehindGroups : Point → List ℕ → Type 0
-IsBehindGroups point.Station groups = groups ≡ []
-IsBehindGroups point.Base groups = groups ≡ []
-IsBehindGroups (point.Groups held) groups = held ≡ length groups
-IsBehindGroups point.Ship groups = Unit {0}
-IsBehindGroups point.Coast groups = Unit {0}
+-- what is known of a stage whatever was said
+abbrev pub IsReadyAt : Stage → Type 0
+IsReadyAt (stage.Groups g) = (g.base ≤ LAST_BASE) × (length g.named.items ≤ 16)
+IsReadyAt (stage.Ship base s) = base ≤ LAST_BASE
+IsReadyAt _ = Unit {0}
 
--- the kind of the station behind whose lines a point stands
-abbrev pub IsPointOf : Point → Kind → Type 0
-IsPointOf (point.Groups held) kind = kind ≡ ship
-IsPointOf point.Ship kind = kind ≡ ship
-IsPointOf point.Coast ship = ⊥
-IsPointOf point.Coast (coast band) = Unit {0}
-IsPointOf point.Station kind = Unit {0}
-IsPointOf point.Base kind = Unit {0}
+-- nothing happened at a station of either kind
+abbrev pub IsQuiet : Said → (text : List ℕ) → (is_well : Bool) → Type 0
+IsQuiet said text is_well = AreHappenings taking_ship said [] × AreHappenings taking_coast said [] × (text ≡ []) × (is_well ≡ true)
 
 -- what happened so far, and its text; the station stands for its history
-pub record TellsSoFar {What : Type 0} (rules : Rules What) (taking : Taking What) (IsAt : History What → Type 0) (IsEarly : Type 0) (said : Said) (text : List ℕ) (is_well : Bool) : Type 0 where
-  pub happened : List (Happening What)
-  pub are_happenings : AreHappenings taking said happened
-  pub early : IsEarly → happened ≡ []
-  pub stands : IsAt (history_of rules happened)
-  pub text_is : text ≡ text_of rules happened
-  pub well_is : is_well ≡ all_accepted rules happened
+pub record TellsSoFar {What : Type 0} (rules : Rules What) (taking : Taking What) (IsAt : History What → Type 0) (said : Said) (text : List ℕ) (is_well : Bool) : Type 0 where
+  pub tells : Tells rules taking said text is_well
+  pub stands : IsAt (history_of rules tells.happened)
 
--- the same for the station that lines name
-abbrev pub IsTold : Kind → Station → (IsEarly : Type 0) → Said → (text : List ℕ) → (is_well : Bool) → Type 0
-IsTold ship (station.Ship s) IsEarly said text is_well =
-    TellsSoFar (ship_rules (identities_of said)) taking_ship (ShipStands s (identities_of said)) IsEarly said text is_well
-IsTold (coast band) (station.Coast s) IsEarly said text is_well =
-    TellsSoFar (coast_rules (station_of band said)) taking_coast (CoastStands s (station_of band said)) IsEarly said text is_well
-IsTold _ _ IsEarly said text is_well = ⊥
+-- what a stage keeps of what was said and told: a station's events come behind the base, and behind a ship's groups, alone
+abbrev pub KeepsStation : Stage → Said → (text : List ℕ) → (is_well : Bool) → Type 0
+KeepsStation stage.Station said text is_well = (groups_of said ≡ []) × IsQuiet said text is_well
+KeepsStation (stage.Base (named.Ship own)) said text is_well =
+    (kind_of said ≡ ship) × (identities_of said ≡ record { own = own; groups = [] }) × IsQuiet said text is_well
+KeepsStation (stage.Base (named.Coast own band)) said text is_well =
+    (kind_of said ≡ coast band) × (station_of band said ≡ record { own = own; band = band }) × IsQuiet said text is_well
+KeepsStation (stage.Groups g) said text is_well = (kind_of said ≡ ship) × (identities_of said ≡ identities_in g) × (g.base ≡ base_of said) × IsQuiet said text is_well
+KeepsStation (stage.Ship base s) said text is_well =
+    (kind_of said ≡ ship) × (base ≡ base_of said) × TellsSoFar (ship_rules (identities_of said)) taking_ship (ShipStands s (identities_of said)) said text is_well
+KeepsStation (stage.Coast s) said text is_well =
+    (band : Band) × (kind_of said ≡ coast band) × TellsSoFar (coast_rules (station_of band said)) taking_coast (CoastStands s (station_of band said)) said text is_well
 
 -- a replay keeps what these lines say, and this is their text
 pub record Keeps (replay : Replay) (said : Said) (text : List ℕ) : Type 0 where
-  pub point : replay.point ≡ point_of said
-  pub own : replay.own ≡ own_of said
-  pub base : replay.base ≡ base_of said
-  pub within : replay.base ≤ LAST_BASE
-  pub groups : replay.groups.items ≡ groups_of said
-  pub counted : IsBehindGroups replay.point replay.groups.items
-  pub most : length replay.groups.items ≤ 16
+  pub point : point_at replay.stage ≡ point_of said
+  pub ready : IsReadyAt replay.stage
   pub heard : KeepsGroups replay.heard said
   pub few : length replay.heard.batch.items < MOST_IN_BATCH
-  pub kind : IsPointOf replay.point (kind_of said)
-  pub told : IsTold (kind_of said) replay.station (IsBeforeEvents replay.point) said text replay.is_well
+  pub station : KeepsStation replay.stage said text replay.is_well
 
 -- a replay stands for these lines, and this is their text
 pub record StandsFor (replay : Replay) (lines : Lines) (text : List ℕ) : Type 0 where
@@ -102,20 +95,15 @@ pub record StandsFor (replay : Replay) (lines : Lines) (text : List ℕ) : Type 
   pub are_said : AreSaid said lines
   pub keeps : Keeps replay said text
 
--- where a line behind one of events or receivers stands, by the station
-abbrev pub point_at : Station → Point
-point_at (station.Ship s) = point.Ship
-point_at (station.Coast s) = point.Coast
+-- from one stage to events: a ship begins behind its groups
+abbrev pub GoesOn : Stage → Stage → Type 0
+GoesOn (stage.Groups g) to = (s : Ship) × (to ≡ stage.Ship g.base s) × ShipStands s (identities_in g) []
+GoesOn from to = to ≡ from
 
--- where the line behind the base stands, by the station
-abbrev pub point_behind_base : Station → Point
-point_behind_base (station.Ship s) = point.Groups 0
-point_behind_base (station.Coast s) = point.Coast
-
--- behind how many groups a point stands, where another may follow
-abbrev pub groups_at : Point → Option ℕ
-groups_at (point.Groups held) = Some held
-groups_at _ = None
+-- the stage behind the base of a station that was named
+abbrev pub IsBehindBase : StationLine → (base : ℕ) → Stage → Type 0
+IsBehindBase (named.Ship own) base to = (g : Groups) × (to ≡ stage.Groups g) × (identities_in g ≡ record { own = own; groups = [] }) × (g.base ≡ base)
+IsBehindBase (named.Coast own band) base to = (s : Coast) × (to ≡ stage.Coast s) × CoastStands s (record { own = own; band = band }) []
 
 -- faults of the station's lines are faults of this line at this point
 abbrev pub IsOwnLine : Point → List ℕ → Type 0
@@ -123,14 +111,18 @@ IsOwnLine at text = (n : ℕ) → 1 ≤ n → IsColumn (IsTrafficLine at) text n
 
 -- what is known of a replay whatever was said
 pub record IsReady (replay : Replay) : Type 0 where
-  pub within : replay.base ≤ LAST_BASE
+  pub stage : IsReadyAt replay.stage
   pub heard : HoldsSome replay.heard
-  pub most : length replay.groups.items ≤ 16
-  pub counted : IsBehindGroups replay.point replay.groups.items
 
 -- what was read of a line of receivers has no more elements than a reception may have
 abbrev pub IsShort : Got → Type 0
 IsShort read = (group : ℕ) (e : List Element) → read ≡ got.Reception group e → length e ≤ LONGEST
+
+-- what was read of a line may stand at this point
+abbrev pub MayBeRead : Point → Got → Type 0
+MayBeRead at got.Nothing = Unit {0}
+MayBeRead at (got.Reception group e) = IsBody at
+MayBeRead at (got.Evidence group sheet) = IsBody at
 
 -- a line of receivers gives these facts of its group
 pub record IsShown (line : JoinLine) (group : ℕ) (G : Facts) : Type 0 where
@@ -162,12 +154,12 @@ abbrev pub TakesLine : (old new : Replay) → (line before after : List ℕ) →
 TakesLine old new line before after = (said : Said) (text : List ℕ) → Keeps old said (text ++ before) → Takes new said line (text ++ after)
 
 -- and it is refused for this reason
-abbrev pub RefusesLine : (old : Replay) → (line before : List ℕ) → Refusal → Type 0
-RefusesLine old line before why = (said : Said) (text : List ℕ) → Keeps old said (text ++ before) → Refuses said line why
+abbrev pub RefusesLine : (old : Replay) → (line : List ℕ) → Refusal → Type 0
+RefusesLine old line why = (said : Said) (text : List ℕ) → Keeps old said text → Refuses said line why
 
--- a replay keeps what was said with this line more, at which nothing is written
-abbrev pub KeepsWith : (old new : Replay) → TrafficLine → Type 0
-KeepsWith old new line = (said : Said) (text : List ℕ) → Keeps old said text → Keeps new (traffic line ∷ said) text
+-- a line is taken at which nothing is written
+abbrev pub Begins : (old new : Replay) → (line : List ℕ) → Type 0
+Begins old new line = (said : Said) (text : List ℕ) → Keeps old said text → Takes new said line text
 
 -- what a line showed of a group is refused for want of memory, or since it brings a group too many
 abbrev pub RefusesGroup : (old : Replay) → (group : ℕ) → Refusal → Type 0

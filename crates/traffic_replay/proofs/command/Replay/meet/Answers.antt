@@ -1,36 +1,19 @@
-use Rattle.std.proofs.Common.{◌<◌, ◌∙◌, ℕ, length, ap, sym, subst, inl, inr}
-use Rattle.traffic_lines.specs.declared.lines.Point.{Point}
+use Rattle.std.proofs.Common.{◌<◌, ℕ, length, refl, ap, sym, subst, inl, inr}
 use Rattle.join_groups.specs.declared.groups.TheConstants.{MOST_IN_BATCH}
 use Rattle.join_groups.specs.Groups.{is_named}
 use Rattle.join_groups.proofs.PublicLaws.{brings_full, full_brings}
-use Rattle.traffic_replay.specs.Said.{kind_of}
 use Rattle.traffic_replay.specs.HeardGroups.{of_receivers, facts_since_heard}
-use Rattle.traffic_replay.specs.inside.Progress.{IsBeforeEvents, IsBehindGroups, IsPointOf}
 use Rattle.traffic_replay.proofs.GroupKeeping.{keeps_line}
-use Rattle.traffic_replay.proofs.Told.{carry_joined, at_events, events_of, events_behind, no_more_early}
+use Rattle.traffic_replay.proofs.Told.{keeps_shown}
 use Rattle.traffic_replay.proofs.command.Replay.meet.Goals as goal
 
 pub returns-in-Ok-clause-ok : goal.returns-in-Ok-clause-ok
 returns-in-Ok-clause-ok c = λ said line G text keeps shown ends.
     let old = c.args.self.now in
-    let kind = kind_of said in
-    let early = IsBeforeEvents old.point in
-    let here = sym (c.among_events-self.ensures ∙ at_events kind old.station early said text old.is_well keeps.told) in
     let taken = c.in-Ok.ensures.ok (is_named (of_receivers said)) (λ k. facts_since_heard k said) G keeps.heard ends in (
       λ b. taken.0 (brings_full (of_receivers said) line c.args.group shown.named b),
-      record {
-        point = sym here ∙ sym (shown.point said);
-        own = keeps.own;
-        base = keeps.base;
-        within = keeps.within;
-        groups = keeps.groups;
-        counted = subst (λ (p : Point). IsBehindGroups p old.groups.items) here (events_behind kind old.groups.items);
-        most = keeps.most;
-        heard = keeps_line c.meet.new.self said line c.args.group G shown.named shown.facts taken.1;
-        few = subst (λ (n : ℕ). n < MOST_IN_BATCH) (sym (ap (λ b. length b.items) c.meet.ensures.batch)) keeps.few;
-        kind = subst (λ (p : Point). IsPointOf p kind) here (events_of kind);
-        told = carry_joined kind old.station early (IsBeforeEvents c.among_events-self.result) line said text old.is_well (λ b. absurd (no_more_early kind (subst IsBeforeEvents (sym here) b))) keeps.told;
-      },
+      keeps_shown old _ line said text keeps refl c.begin.ensures c.requires.body (shown.point said)
+          (keeps_line c.meet.new.self said line c.args.group G shown.named shown.facts taken.1) (subst (λ (n : ℕ). n < MOST_IN_BATCH) (sym (ap (λ b. length b.items) c.meet.ensures.batch)) keeps.few),
     )
 
 pub returns-in-Err-clause-err : goal.returns-in-Err-clause-err

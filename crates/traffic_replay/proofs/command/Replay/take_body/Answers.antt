@@ -1,91 +1,69 @@
-use Rattle.std.proofs.Common.{◌++◌, sym, ap, subst}
-use Rattle.traffic_lines.specs.declared.lines.Point.{Point}
+use Rattle.std.proofs.Common.{◌++◌, ℕ, refl, subst}
+use Rattle.traffic_lines.specs.Lines.{event_with, line_of_ship, line_of_coast}
+use Rattle.traffic_lines.specs.declared.lines.StationOwn.TheVariants as own
 use Rattle.traffic_lines.specs.declared.lines.Point.TheVariants as point
-use Rattle.traffic_lines.specs.declared.lines.ShipBodyLine.{ShipBodyLine}
-use Rattle.traffic_lines.specs.declared.lines.TrafficLine.TheVariants.{Event}
-use Rattle.traffic_lines.specs.Anywhere.{event_of_ship, event_of_coast, line_of_ship, line_of_coast, ship_point}
+use Rattle.traffic_lines.specs.declared.lines.ShipLine.{ShipLine}
+use Rattle.traffic_lines.specs.declared.lines.TrafficLine.TheVariants.{Group, Event}
 use Rattle.traffic_lines.specs.Lines.{IsTrafficLine}
-use Rattle.dsc_lines.specs.PointLine.{traffic}
-use Rattle.traffic_replay.specs.declared.stations.Station.TheVariants as at
-use Rattle.traffic_replay.specs.Said.{kind_of, among_events}
-use Rattle.traffic_replay.specs.inside.Progress.{IsBeforeEvents, IsPointOf}
-use Rattle.traffic_replay.proofs.Bodies.{told_at, is_ship, is_coast, ship_stands, coast_stands, fault_here}
-use Rattle.traffic_replay.proofs.Receivers.{traffic_taken}
-use Rattle.traffic_replay.proofs.Told.{more_at_ship, more_at_coast}
+use Rattle.traffic_replay.specs.declared.stages.Stage.TheVariants as stage
+use Rattle.traffic_replay.specs.Said.{base_of}
+use Rattle.traffic_replay.specs.Happenings.{taking_ship, taking_coast}
+use Rattle.traffic_replay.specs.inside.Happens.{Comes}
+use Rattle.traffic_replay.proofs.Bodies.{takes_own, kept_at, ready_at}
+use Rattle.traffic_replay.proofs.Told.{ship_begins, keeps_group, keeps_at_ship, keeps_at_coast}
 use Rattle.traffic_replay.proofs.command.Replay.take_body.Goals as goal
 
-pub returns-in-Err-clause-err : goal.returns-in-Err-clause-err
-returns-in-Err-clause-err g c = λ said text keeps.
+pub returns-in_ok-name-in-Group-clause-ok : goal.returns-in_ok-name-in-Group-clause-ok
+returns-in_ok-name-in-Group-clause-ok g c = λ said text keeps.
     let old = c.args.self.now in
     let all = text ++ c.args.out.now.items in
-    let groups = c.groups_at-groups.result in
-    fault_here old said all c.args.line.now (ship_point groups) c.in-Err.n keeps (ship_stands old c.in-Ship.ship said all groups c.in-Ship.is c.requires.body c.groups_at-groups.ensures keeps)
-    c.requires.own c.in-Err.ensures
-
-pub returns-in-Err-read_coast_line-clause-err : goal.returns-in-Err-read_coast_line-clause-err
-returns-in-Err-read_coast_line-clause-err g c = λ said text keeps.
-    let old = c.args.self.now in
-    let all = text ++ c.args.out.now.items in
-    fault_here old said all c.args.line.now point.Coast c.in-Err-read_coast_line.n keeps (coast_stands old c.in-Coast.coast said all c.in-Coast.is c.requires.body keeps)
-    c.requires.own c.in-Err-read_coast_line.ensures
+    let from = c.in-Groups.groups in
+    let mmsi = c.in-Group.mmsi in
+    let line : IsTrafficLine (point.Groups c.held.result) (Group mmsi) c.args.line.now =
+    subst (λ (says : ShipLine). IsTrafficLine (point.Groups c.held.result) (line_of_ship says) c.args.line.now) c.in-Group.is c.in-Ok.ensures in
+    let here = subst (λ (n : ℕ). IsTrafficLine (point.Groups n) (Group mmsi) c.args.line.now) c.held.ensures line in
+    takes_own old _ (stage.Groups from) said c.args.line.now all all (Group mmsi) c.in-Groups.is keeps here
+    (keeps_group old _ from c.name.new.self mmsi said all c.in-Groups.is keeps here.0 c.name.ensures.own c.name.ensures.base c.in_ok-name-in-Group.ensures.named refl)
 
 pub returns-in_ok-self-in-Event-clause-ok : goal.returns-in_ok-self-in-Event-clause-ok
 returns-in_ok-self-in-Event-clause-ok g c = λ said text keeps.
     let old = c.args.self.now in
     let out = c.args.out.now.items in
-    let groups = c.groups_at-groups.result in
-    let what = event_of_ship c.in-Event.what in
+    let from = c.in-Groups.groups in
+    let what = event_with own.Ship c.in-Event.what in
     let did = c.in_ok-self-in-Event.ensures in
-    let only = is_ship old c.in-Ship.ship said (text ++ out) c.in-Ship.is keeps in
-    let here = ship_stands old c.in-Ship.ship said (text ++ out) groups c.in-Ship.is c.requires.body c.groups_at-groups.ensures keeps in
-    let line : IsTrafficLine (ship_point groups) (Event c.in-Event.at what) c.args.line.now =
-    subst (λ (says : ShipBodyLine). IsTrafficLine (ship_point groups) (line_of_ship says) c.args.line.now) c.in-Event.is c.in-Ok.ensures in
-    record {
-      says = traffic (Event c.in-Event.at what);
-      is_line = subst (λ (p : Point). IsTrafficLine p (Event c.in-Event.at what) c.args.line.now) here line;
-      few = λ b. traffic_taken said (Event c.in-Event.at what) b;
-      keeps = record {
-        point = sym (ap among_events only);
-        own = keeps.own;
-        base = keeps.base;
-        within = keeps.within;
-        groups = keeps.groups;
-        counted = tt;
-        most = keeps.most;
-        heard = did.kept said keeps.heard;
-        few = did.few keeps.few;
-        kind = only;
-        told = more_at_ship (kind_of said) c.in-Ship.ship c.happen_at_ship.new.ship (IsBeforeEvents old.point) (IsBeforeEvents point.Ship) said text out c.happen_at_ship.new.out.items
-            old.is_well c.in_ok-self-in-Event.field-0 c.in-Event.at what (λ b. b) (told_at old (at.Ship c.in-Ship.ship) said (text ++ out) c.in-Ship.is keeps)
-            (λ who h stands. did.happens said who h keeps.heard keeps.base stands);
-      };
-    }
+    let line : IsTrafficLine (point.Groups c.held.result) (Event c.in-Event.at what) c.args.line.now =
+    subst (λ (says : ShipLine). IsTrafficLine (point.Groups c.held.result) (line_of_ship says) c.args.line.now) c.in-Event.is c.in-Ok.ensures in
+    takes_own old _ (stage.Groups from) said c.args.line.now (text ++ out) (text ++ c.happen.new.out.items) (Event c.in-Event.at what) c.in-Groups.is keeps
+    (subst (λ (n : ℕ). IsTrafficLine (point.Groups n) (Event c.in-Event.at what) c.args.line.now) c.held.ensures line)
+    (keeps_at_ship old _ from.base c.ship-ship.result c.happen.new.station said text out c.happen.new.out.items c.in_ok-self-in-Event.field-0 c.in-Event.at what
+    (ready_at old (stage.Groups from) c.in-Groups.is c.requires.ready.stage).0
+    (ship_begins from c.ship-ship.result said (text ++ out) old.is_well c.ship-ship.ensures (kept_at old (stage.Groups from) said (text ++ out) c.in-Groups.is keeps))
+    (λ who h based stands. did.happens said taking_ship what who h refl (subst (λ (b : ℕ). Comes taking_ship b c.in-Event.at what c.at_ship-coming.result) based c.at_ship-coming.ensures) keeps.heard stands)
+    (did.kept said taking_ship from.base what c.at_ship-coming.ensures keeps.heard) (did.few keeps.few) refl refl)
+
+pub returns-in_ok-self-in-Event-says-clause-ok : goal.returns-in_ok-self-in-Event-says-clause-ok
+returns-in_ok-self-in-Event-says-clause-ok g c = λ said text keeps.
+    let old = c.args.self.now in
+    let out = c.args.out.now.items in
+    let at = stage.Ship c.in-Ship.base c.in-Ship.ship in
+    let what = event_with own.Ship c.in-Event-says.what in
+    let did = c.in_ok-self-in-Event-says.ensures in
+    takes_own old _ at said c.args.line.now (text ++ out) (text ++ c.happen-in-Event-says.new.out.items) (Event c.in-Event-says.at what) c.in-Ship.is keeps
+    (subst (λ (says : ShipLine). IsTrafficLine point.Ship (line_of_ship says) c.args.line.now) c.in-Event-says.is c.in-Ok-read_ship_line.ensures)
+    (keeps_at_ship old _ c.in-Ship.base c.in-Ship.ship c.happen-in-Event-says.new.station said text out c.happen-in-Event-says.new.out.items
+    c.in_ok-self-in-Event-says.field-0 c.in-Event-says.at what (ready_at old at c.in-Ship.is c.requires.ready.stage) (kept_at old at said (text ++ out) c.in-Ship.is keeps)
+    (λ who h based stands. did.happens said taking_ship what who h refl (subst (λ (b : ℕ). Comes taking_ship b c.in-Event-says.at what c.at_ship-coming-in-Event-says.result) based c.at_ship-coming-in-Event-says.ensures) keeps.heard stands)
+    (did.kept said taking_ship c.in-Ship.base what c.at_ship-coming-in-Event-says.ensures keeps.heard) (did.few keeps.few) refl refl)
 
 pub returns-in_ok-self-in-Coast-clause-ok : goal.returns-in_ok-self-in-Coast-clause-ok
 returns-in_ok-self-in-Coast-clause-ok g c = λ said text keeps.
     let old = c.args.self.now in
     let out = c.args.out.now.items in
+    let at = stage.Coast c.in-Coast.coast in
     let says = c.in-Ok-read_coast_line.says in
     let did = c.in_ok-self-in-Coast.ensures in
-    let kind = is_coast old c.in-Coast.coast said (text ++ out) c.in-Coast.is keeps in
-    let here = coast_stands old c.in-Coast.coast said (text ++ out) c.in-Coast.is c.requires.body keeps in
-    record {
-      says = traffic (line_of_coast says);
-      is_line = subst (λ (p : Point). IsTrafficLine p (line_of_coast says) c.args.line.now) here c.in-Ok-read_coast_line.ensures;
-      few = λ b. traffic_taken said (line_of_coast says) b;
-      keeps = record {
-        point = sym (ap among_events kind.1);
-        own = keeps.own;
-        base = keeps.base;
-        within = keeps.within;
-        groups = keeps.groups;
-        counted = tt;
-        most = keeps.most;
-        heard = did.kept said keeps.heard;
-        few = did.few keeps.few;
-        kind = subst (IsPointOf point.Coast) (sym kind.1) tt;
-        told = more_at_coast (kind_of said) c.in-Coast.coast c.happen_at_coast.new.coast (IsBeforeEvents old.point) (IsBeforeEvents point.Coast) said text out c.happen_at_coast.new.out.items
-            old.is_well c.in_ok-self-in-Coast.field-0 says.0 (event_of_coast says.1) (λ b. b) (told_at old (at.Coast c.in-Coast.coast) said (text ++ out) c.in-Coast.is keeps)
-            (λ who h stands. did.happens said who h keeps.heard stands);
-      };
-    }
+    takes_own old _ at said c.args.line.now (text ++ out) (text ++ c.happen-in-Coast.new.out.items) (line_of_coast says) c.in-Coast.is keeps c.in-Ok-read_coast_line.ensures
+    (keeps_at_coast old _ c.in-Coast.coast c.happen-in-Coast.new.station said text out c.happen-in-Coast.new.out.items c.in_ok-self-in-Coast.field-0 says.0 (event_with own.Coast says.1)
+    (kept_at old at said (text ++ out) c.in-Coast.is keeps) (λ who h stands. did.happens said taking_coast (event_with own.Coast says.1) who h refl (c.at_coast-coming.ensures (base_of said) says.0) keeps.heard stands)
+    (did.kept said taking_coast 0 (event_with own.Coast says.1) (c.at_coast-coming.ensures 0 says.0) keeps.heard) (did.few keeps.few) refl refl)

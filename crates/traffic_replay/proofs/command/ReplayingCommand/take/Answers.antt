@@ -1,3 +1,4 @@
+use Rattle.std.proofs.Common.{◌++◌}
 use Rattle.std.proofs.lemmas.Result.{on_ok_weaker, IfErr-weaker}
 use Rattle.traffic_replay.proofs.Unique.{taken_behind, refused_so}
 use Rattle.traffic_replay.proofs.command.ReplayingCommand.take.Goals as goal
@@ -12,5 +13,5 @@ returns-clause-taken g c = on_ok_weaker c.take_line.result
 pub returns-clause-refused : goal.returns-clause-refused
 returns-clause-refused g c = IfErr-weaker c.take_line.result _ _
     (λ refusal err. λ lines written stands.
-    refused_so c.one_point_line.ensures stands.1.said lines c.args.line.now refusal stands.1.are_said (err stands.1.said written stands.1.keeps))
+    refused_so c.one_point_line.ensures stands.1.said lines c.args.line.now refusal stands.1.are_said (err stands.1.said (written ++ c.args.out.now.items) stands.1.keeps))
     c.take_line.ensures.err
