@@ -3,8 +3,9 @@ use Rattle.std.specs.Prelude.{ℕ, List, codes, decimal}
 use Rattle.traffic_rules.specs.declared.acts.Act.{Act}
 use Rattle.traffic_rules.specs.declared.acts.Act.TheVariants.{Send, Shown, Held, Answered, GaveUp, Distress, AlertEnded, CasualtyClosed}
 use Rattle.line_grammar.specs.Shapes.{digits}
+use Rattle.line_grammar.specs.Sections.{labelled}
 use Rattle.line_grammar.specs.Grammar.{Grammar, finish, word, none, part, written}
-use Rattle.dsc_texts.specs.CallGrammar.{identity, labelled, ship_in_distress}
+use Rattle.dsc_texts.specs.CallGrammar.{identity, ship_in_distress}
 use Rattle.dsc_texts.specs.CallParts.{form_of, parts_of, ship_in_distress_parts}
 use Rattle.act_texts.specs.Moments.{number, at_moment}
 

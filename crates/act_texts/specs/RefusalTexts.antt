@@ -3,8 +3,9 @@ use Rattle.std.specs.Prelude.{ℕ, List, ◌++◌, codes, decimal}
 use Rattle.traffic_rules.specs.declared.refusals.StationRefusal.{StationRefusal}
 use Rattle.traffic_rules.specs.declared.refusals.StationRefusal.TheVariants.{AlertActive, NoAlert, NoSuchCall, Full, NeedsDelay, NotSendable, NoCasualty, TimeBack}
 use Rattle.line_grammar.specs.Shapes.{digits}
+use Rattle.line_grammar.specs.Sections.{labelled}
 use Rattle.line_grammar.specs.Grammar.{Grammar, finish, word, none, part, written}
-use Rattle.dsc_texts.specs.CallGrammar.{identity, labelled}
+use Rattle.dsc_texts.specs.CallGrammar.{identity}
 use Rattle.act_texts.specs.Moments.{number, at_moment}
 
 -- the station's distress alert is on already

@@ -5,7 +5,7 @@ use Rattle.line_grammar.specs.Columns.{Spelling, IsColumn}
 use Rattle.traffic_lines.specs.declared.lines.Point.{Point}
 use Rattle.traffic_lines.specs.declared.lines.TrafficLine.{TrafficLine}
 use Rattle.traffic_lines.specs.declared.lines.TrafficLine.TheVariants.{Ship, Coast, Base, Group, Event}
-use Rattle.traffic_lines.specs.Anywhere.{exchange_of_ship, exchange_of_coast}
+use Rattle.dsc_files.specs.Events.{event_line, exchange_of_ship, exchange_of_coast}
 use Rattle.traffic_lines.specs.declared.worlds.Entry as entries
 use Rattle.traffic_lines.specs.declared.worlds.Entry.TheVariants.{AtShip, AtCoast}
 use Rattle.traffic_lines.specs.declared.worlds.WorldLine.{WorldLine}
@@ -81,7 +81,7 @@ line_of_traffic (Ship mmsi) = line.Ship mmsi
 line_of_traffic (Coast mmsi band) = line.Coast mmsi band
 line_of_traffic (Base second) = line.Base second
 line_of_traffic (Group mmsi) = line.Group mmsi
-line_of_traffic (Event moment what) = line.Event moment what
+line_of_traffic (Event moment what) = line.Event moment (event_line what)
 
 abbrev pub line_of_point : GotAtPoint → Line
 line_of_point (at.Joined says) = line_of_join says

@@ -1,67 +1,153 @@
 //! The events of ships, of coast stations and of exchanges, as events of any file.
 ghost use Rattle.std.specs.Prelude.{◌≡◌};
-ghost use Rattle.traffic_lines.specs.Anywhere as anywhere;
-ghost use Rattle.traffic_lines.specs.declared.lines.ShipLine.TheVariants as ship;
-ghost use Rattle.traffic_lines.specs.declared.lines.CoastLine.TheVariants as coast;
+ghost use Rattle.dsc_files.specs.Events as events;
+ghost use Rattle.traffic_lines.specs.Lines as lines;
+ghost use Rattle.traffic_lines.specs.declared.lines.StationOwn.TheVariants as own;
 
+use call_values::{AlertDelay, Call, CoastDelay, Comm, Mmsi, Nature, Position, To};
 use traffic_lines::{
-    CoastEntry, CoastLine, CoastOwn, EventLine, ExchangeLine, ShipBodyLine, ShipEntry, ShipLine,
-    ShipOwn, StationLine, TrafficLine,
+    CoastOwn, Deed, Event, Hearing, ShipLine, ShipOwn, StationLine, StationOwn, TrafficLine,
 };
 
-/// A ship's own event.
-fn own_of_ship(says: ShipOwn) -> EventLine
-    ensures { result ≡ anywhere.event_of_ship (ship.Own says) }
+/// What an event line of any file says after its moment. `Position`, `Delay`, `Alert` and `Cancel` stand in files of ships alone,
+/// `Accept` and `Relay` in those of coast stations alone, and the others in both.
+#[derive(Clone, Copy, Debug, PartialEq, Eq)]
+pub enum EventLine {
+    /// The ship is there, or doesn't know where it is.
+    Position(Position),
+    /// The wait from one attempt of an alert to the next.
+    Delay(AlertDelay),
+    /// An alert of this nature of distress, and the subsequent communications that it proposes.
+    Alert(Nature, Comm),
+    /// The alert is cancelled.
+    Cancel,
+    /// Time passes.
+    Tick,
+    /// This call is to be sent.
+    Send(Call),
+    /// The call that is held under this number, 1 to 16, is answered where the flag is true, and declined where it is false.
+    Answer(u8, bool),
+    /// This call is heard.
+    Hear(Call),
+    /// What the receivers of this group heard is joined.
+    Heard(u32),
+    /// The distress alert of this ship is to be acknowledged, so long after it as the delay says where one is given.
+    Accept(Mmsi, Option<CoastDelay>),
+    /// The distress alert of this ship is to be relayed. The flag says whether the relay asks for an acknowledgement.
+    Relay(Mmsi, To, bool),
+}
+
+/// What an event line of an exchange says after its moment, at either end.
+#[derive(Clone, Copy, Debug, PartialEq, Eq)]
+pub enum ExchangeLine {
+    /// An event of that end's own.
+    Event(EventLine),
+    /// The call that the other end sent under this number, from 0, comes to this end.
+    Get(u32),
+}
+
+/// What a ship does, as a deed of a station.
+fn ship_deed(deed: Deed<ShipOwn>) -> Deed<StationOwn>
+    ensures { result ≡ lines.deed_with own.Ship deed }
 {
-    match says {
+    match deed {
+        Deed::Own(what) => Deed::Own(StationOwn::Ship(what)),
+        Deed::Tick => Deed::Tick,
+        Deed::Send(call) => Deed::Send(call),
+        Deed::Answer(number, accepts) => Deed::Answer(number, accepts),
+    }
+}
+
+/// What a coast station does, as a deed of a station.
+fn coast_deed(deed: Deed<CoastOwn>) -> Deed<StationOwn>
+    ensures { result ≡ lines.deed_with own.Coast deed }
+{
+    match deed {
+        Deed::Own(what) => Deed::Own(StationOwn::Coast(what)),
+        Deed::Tick => Deed::Tick,
+        Deed::Send(call) => Deed::Send(call),
+        Deed::Answer(number, accepts) => Deed::Answer(number, accepts),
+    }
+}
+
+/// What a ship alone does.
+fn own_of_ship(what: ShipOwn) -> EventLine
+    ensures { result ≡ events.own_line (own.Ship what) }
+{
+    match what {
         ShipOwn::Position(position) => EventLine::Position(position),
         ShipOwn::Delay(delay) => EventLine::Delay(delay),
         ShipOwn::Alert(nature, comm) => EventLine::Alert(nature, comm),
         ShipOwn::Cancel => EventLine::Cancel,
-        ShipOwn::Tick => EventLine::Tick,
-        ShipOwn::Send(call) => EventLine::Send(call),
-        ShipOwn::Answer(number, accepts) => EventLine::Answer(number, accepts),
     }
 }
 
-/// An event in a ship's file.
-fn event_of_ship(says: ShipLine) -> EventLine
-    ensures { result ≡ anywhere.event_of_ship says }
+/// What a coast station alone does.
+fn own_of_coast(what: CoastOwn) -> EventLine
+    ensures { result ≡ events.own_line (own.Coast what) }
 {
-    match says {
-        ShipLine::Own(own) => own_of_ship(own),
-        ShipLine::Hear(call) => EventLine::Hear(call),
-        ShipLine::Heard(group) => EventLine::Heard(group),
-    }
-}
-
-/// A coast station's own event.
-fn own_of_coast(says: CoastOwn) -> EventLine
-    ensures { result ≡ anywhere.event_of_coast (coast.Own says) }
-{
-    match says {
+    match what {
         CoastOwn::Accept(ship, delay) => EventLine::Accept(ship, delay),
         CoastOwn::Relay(ship, to, ask) => EventLine::Relay(ship, to, ask),
-        CoastOwn::Tick => EventLine::Tick,
-        CoastOwn::Send(call) => EventLine::Send(call),
-        CoastOwn::Answer(number, accepts) => EventLine::Answer(number, accepts),
     }
 }
 
-/// An event in a coast station's file.
-pub(crate) fn event_of_coast(says: CoastLine) -> EventLine
-    ensures { result ≡ anywhere.event_of_coast says }
+/// What a station of one kind alone does.
+fn own_line(what: StationOwn) -> EventLine
+    ensures { result ≡ events.own_line what }
 {
-    match says {
-        CoastLine::Own(own) => own_of_coast(own),
-        CoastLine::Hear(call) => EventLine::Hear(call),
-        CoastLine::Heard(group) => EventLine::Heard(group),
+    match what {
+        StationOwn::Ship(own) => own_of_ship(own),
+        StationOwn::Coast(own) => own_of_coast(own),
+    }
+}
+
+/// What a station does.
+fn deed_line(deed: Deed<StationOwn>) -> EventLine
+    ensures { result ≡ events.deed_line deed }
+{
+    match deed {
+        Deed::Own(own) => own_line(own),
+        Deed::Tick => EventLine::Tick,
+        Deed::Send(call) => EventLine::Send(call),
+        Deed::Answer(number, accepts) => EventLine::Answer(number, accepts),
+    }
+}
+
+/// An event of a traffic file.
+pub(crate) fn event_line(event: Event<StationOwn, Hearing>) -> EventLine
+    ensures { result ≡ events.event_line event }
+{
+    match event {
+        Event::Does(deed) => deed_line(deed),
+        Event::Comes(Hearing::Hear(call, _)) => EventLine::Hear(call),
+        Event::Comes(Hearing::Heard(group)) => EventLine::Heard(group),
+    }
+}
+
+/// What happens at the ship of an exchange.
+pub(crate) fn exchange_of_ship(event: Event<ShipOwn, u32>) -> ExchangeLine
+    ensures { result ≡ events.exchange_of_ship event }
+{
+    match event {
+        Event::Does(deed) => ExchangeLine::Event(deed_line(ship_deed(deed))),
+        Event::Comes(number) => ExchangeLine::Get(number),
+    }
+}
+
+/// What happens at the coast station of an exchange.
+pub(crate) fn exchange_of_coast(event: Event<CoastOwn, u32>) -> ExchangeLine
+    ensures { result ≡ events.exchange_of_coast event }
+{
+    match event {
+        Event::Does(deed) => ExchangeLine::Event(deed_line(coast_deed(deed))),
+        Event::Comes(number) => ExchangeLine::Get(number),
     }
 }
 
 /// The line that names the station.
 pub(crate) fn line_of_station(says: StationLine) -> TrafficLine
-    ensures { result ≡ anywhere.line_of_station says }
+    ensures { result ≡ lines.line_of_station says }
 {
     match says {
         StationLine::Ship(mmsi) => TrafficLine::Ship(mmsi),
@@ -69,35 +155,35 @@ pub(crate) fn line_of_station(says: StationLine) -> TrafficLine
     }
 }
 
-/// A line behind the base of a ship's file.
-pub(crate) fn line_of_ship(says: ShipBodyLine) -> TrafficLine
-    ensures { result ≡ anywhere.line_of_ship says }
+/// An event in a ship's file.
+fn event_of_ship(event: Event<ShipOwn, Hearing>) -> Event<StationOwn, Hearing>
+    ensures { result ≡ lines.event_with own.Ship event }
+{
+    match event {
+        Event::Does(deed) => Event::Does(ship_deed(deed)),
+        Event::Comes(what) => Event::Comes(what),
+    }
+}
+
+/// A line after the base of a ship's file.
+pub(crate) fn line_of_ship(says: ShipLine) -> TrafficLine
+    ensures { result ≡ lines.line_of_ship says }
 {
     match says {
-        ShipBodyLine::Group(mmsi) => TrafficLine::Group(mmsi),
-        ShipBodyLine::Event { at, what } => TrafficLine::Event {
+        ShipLine::Group(mmsi) => TrafficLine::Group(mmsi),
+        ShipLine::Event { at, what } => TrafficLine::Event {
             at,
             what: event_of_ship(what),
         },
     }
 }
 
-/// What happens at the ship of an exchange.
-pub(crate) fn exchange_of_ship(says: ShipEntry) -> ExchangeLine
-    ensures { result ≡ anywhere.exchange_of_ship says }
+/// An event in a coast station's file.
+pub(crate) fn event_of_coast(event: Event<CoastOwn, Hearing>) -> Event<StationOwn, Hearing>
+    ensures { result ≡ lines.event_with own.Coast event }
 {
-    match says {
-        ShipEntry::Own(own) => ExchangeLine::Event(own_of_ship(own)),
-        ShipEntry::Get(number) => ExchangeLine::Get(number),
-    }
-}
-
-/// What happens at the coast station of an exchange.
-pub(crate) fn exchange_of_coast(says: CoastEntry) -> ExchangeLine
-    ensures { result ≡ anywhere.exchange_of_coast says }
-{
-    match says {
-        CoastEntry::Own(own) => ExchangeLine::Event(own_of_coast(own)),
-        CoastEntry::Get(number) => ExchangeLine::Get(number),
+    match event {
+        Event::Does(deed) => Event::Does(coast_deed(deed)),
+        Event::Comes(what) => Event::Comes(what),
     }
 }

@@ -8,6 +8,7 @@ mod points;
 mod reading;
 mod worlds;
 
+pub use events::{EventLine, ExchangeLine};
 pub use laws::{evidence_lines_are_read, written_calls_are_read};
 pub use lines::{FileKind, Line};
 pub use points::{PointLine, point_line, read_traffic};

@@ -2,14 +2,14 @@ ghost use Rattle.std.specs.Prelude.{◌≡◌, Some};
 ghost use Rattle.dsc_lines.specs.CallLine as calls;
 ghost use Rattle.dsc_files.specs.Files.{line_of_book, line_of_call, line_of_entry, line_of_join, line_of_point, line_of_sentence, line_of_traffic, line_of_world};
 
-use crate::events::{exchange_of_coast, exchange_of_ship};
+use crate::events::{EventLine, ExchangeLine, event_line, exchange_of_coast, exchange_of_ship};
 use crate::points::PointLine;
 use call_values::{Band, Call, Mmsi};
 use dsc_lines::{BookLine, CallLine, JoinLine, SentenceLine};
 use expansion::Expansion;
 use slot_evidence::{Reception, Sheet};
 use slot_join::Extra;
-use traffic_lines::{Entry, EventLine, ExchangeLine, ExchangePoint, Point, TrafficLine, WorldLine};
+use traffic_lines::{Entry, ExchangePoint, Point, TrafficLine, WorldLine};
 
 /// Which lines a file has.
 #[derive(Clone, Copy, Debug, PartialEq, Eq)]
@@ -128,7 +128,10 @@ impl From<TrafficLine> for Line {
             TrafficLine::Coast(mmsi, band) => Line::Coast(mmsi, band),
             TrafficLine::Base(second) => Line::Base(second),
             TrafficLine::Group(mmsi) => Line::Group(mmsi),
-            TrafficLine::Event { at, what } => Line::Event { at, what },
+            TrafficLine::Event { at, what } => {
+                let what = event_line(what);
+                Line::Event { at, what }
+            }
         }
     }
 }

@@ -1,8 +1,7 @@
 //! The lines of traffic files, at any point.
 ghost use Rattle.std.specs.Prelude.{◌≤◌, IfErr};
 ghost use Rattle.line_grammar.specs.Columns.{ReadsAs};
-ghost use Rattle.traffic_lines.specs.Anywhere.{ship_point};
-ghost use Rattle.traffic_lines.specs.Lines.{IsTrafficLine};
+ghost use Rattle.traffic_lines.specs.Lines.{IsTrafficLine, ship_point};
 ghost use Rattle.traffic_lines.specs.Readings.{ReadsAt};
 ghost use Rattle.dsc_files.specs.Files.{ReadsAtPoint};
 

@@ -11,7 +11,8 @@ use Rattle.dsc_texts.proofs.PublicLaws.{with_expansion, with_expansion_sound, ca
 use Rattle.traffic_lines.specs.declared.worlds.ExchangePoint.{ExchangePoint}
 use Rattle.traffic_lines.specs.declared.worlds.WorldLine.{WorldLine}
 use Rattle.traffic_lines.specs.Worlds.{IsWorldLine}
-use Rattle.traffic_lines.proofs.PublicLaws.{HasGrammar, IsJudged, judged, of_grammar, of_choice, IsExchangePoint, world_grammar}
+use Rattle.line_grammar.proofs.Judged.{HasGrammar, IsJudged, judged, of_grammar, of_choice}
+use Rattle.traffic_lines.proofs.PublicLaws.{IsExchangePoint, world_grammar}
 use Rattle.dsc_lines.specs.declared.calls.CallLine.{CallLine}
 use Rattle.dsc_lines.specs.declared.calls.CallLine.TheVariants as line
 use Rattle.dsc_lines.specs.declared.sentences.SentenceLine.{SentenceLine}

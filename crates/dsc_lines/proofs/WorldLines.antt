@@ -2,12 +2,11 @@
 use Rattle.std.proofs.Common.{◌≡◌, ◌≢◌, ℕ, ◌≤◌, Option, Some, None, inl, inr, List, [], ◌∷◌, get_or, refl, ap, arith}
 use mathlib.Core.List.{head-eq_of_cons-eq}
 use Rattle.line_grammar.specs.Columns.{IsColumn}
-use Rattle.traffic_lines.specs.declared.worlds.Entry as entries
 use Rattle.traffic_lines.specs.declared.worlds.Entry.TheVariants.{AtShip, AtCoast}
 use Rattle.traffic_lines.specs.declared.worlds.ExchangePoint.{ExchangePoint}
 use Rattle.traffic_lines.specs.declared.worlds.WorldLine.{WorldLine}
 use Rattle.traffic_lines.specs.declared.worlds.WorldLine.TheVariants.{Ship, Coast, Base, Entry}
-use Rattle.traffic_lines.specs.Worlds.{IsEntryText, IsWorldLine, IsWorldLineText}
+use Rattle.traffic_lines.specs.Worlds.{IsWorldLine, IsWorldLineText}
 use Rattle.dsc_lines.specs.StreamLine.{IsNothing}
 use Rattle.dsc_lines.specs.WorldLine.{IsWorldFileLine}
 use Rattle.dsc_lines.proofs.Narrowing.{column_of_kind}
@@ -21,17 +20,13 @@ unfolding first_byte
 nothing_first text (inl empty) = ap first_byte empty
 nothing_first text (inr (comment, e)) = ap first_byte e
 
-entry_first : (entry : entries.Entry) (text : List ℕ) → IsEntryText entry text → first_byte text ≡ 35 → ⊥
-unfolding first_byte
-entry_first (AtShip at what) text h e = absurd (omega (arith, ap first_byte h.3, e))
-entry_first (AtCoast at what) text h e = absurd (omega (arith, ap first_byte h.3, e))
-
 line_first : (line : WorldLine) (text : List ℕ) → IsWorldLineText line text → first_byte text ≡ 35 → ⊥
 unfolding first_byte
 line_first (Ship m) text h e = absurd (omega (arith, ap first_byte h.1, e))
 line_first (Coast m b) text h e = absurd (omega (arith, ap first_byte h.1, e))
 line_first (Base s) text h e = absurd (omega (arith, ap first_byte h.1, e))
-line_first (Entry entry) text h e = entry_first entry text h e
+line_first (Entry (AtShip at what)) text h e = absurd (omega (arith, ap first_byte h.1, e))
+line_first (Entry (AtCoast at what)) text h e = absurd (omega (arith, ap first_byte h.1, e))
 
 -- a line that says something is no empty line and no comment
 neither : (line : WorldLine) (text : List ℕ) → IsNothing text → IsWorldLineText line text → ⊥

@@ -15,10 +15,10 @@ use Rattle.dsc_texts.specs.CallParts.{call_text, expansion_text}
 use Rattle.dsc_texts.specs.Texts.{IsBareCallText, IsCallText, IsWholeOrAbsent, extra_text, reported_text}
 use Rattle.dsc_texts.specs.inside.Expansions.{extra_parts}
 use Rattle.dsc_texts.specs.inside.Places.{call_parts}
-use Rattle.dsc_texts.proofs.CallSections.{followed, closed}
+use Rattle.line_grammar.proofs.Sections.{followed, closed}
 use Rattle.dsc_texts.proofs.CallTexts.{calls_section}
 use Rattle.dsc_texts.proofs.ExpansionTexts.{extra_section}
-use Rattle.dsc_texts.proofs.FormLaws.{Texts, one_value, texts_alike}
+use Rattle.line_grammar.proofs.Forms.{Texts, one_value, texts_alike}
 
 -- the texts of calls with nothing behind them
 pub bare_is : (c : Call) → call_text c ≡ written (calls finish) (call_parts c none)

@@ -26,10 +26,11 @@ use Rattle.line_grammar.specs.Shapes.{digits}
 use Rattle.call_values.specs.Calls.{IsCasualty, IsCall}
 use Rattle.dsc_texts.specs.CallGrammar as grammar
 use Rattle.dsc_texts.specs.CallParts.{position_text, time_text, area_text, frequency_text, address_text, relay_end, test_end, message_parts}
-use Rattle.dsc_texts.specs.inside.Places.{nth, call_parts}
+use Rattle.dsc_texts.specs.inside.Places.{call_parts}
+use Rattle.line_grammar.specs.Sections.{nth}
 use Rattle.dsc_texts.proofs.SymbolTexts.{identity_told, nature_told, comm_told, first_told, second_told, category_told, end_told, relay_end_told, test_end_told}
 use Rattle.dsc_texts.proofs.FieldTexts.{time_told, position_told, area_told, frequency_told, address_told}
-use Rattle.dsc_texts.proofs.CallSections.{Section, fielded, worded, labelled, followed, LawfulSide, side_parts, sided, renamed}
+use Rattle.line_grammar.proofs.Sections.{Section, fielded, worded, labelled, followed, LawfulSide, side_parts, sided, renamed}
 
 -- the sections, their values and their parts
 abbrev Casualties : Type 0

@@ -10,11 +10,11 @@ use Rattle.line_grammar.specs.Tokens.{Token}
 use Rattle.line_grammar.specs.Grammar.{Grammar, finish, Parts, none, first, second, written}
 use Rattle.line_grammar.specs.inside.Reading.{ended, read}
 use Rattle.dsc_texts.specs.CallGrammar as grammar
-use Rattle.dsc_texts.specs.CallGrammar.{labelled, perhaps}
+use Rattle.dsc_texts.specs.CallGrammar.{perhaps}
+use Rattle.line_grammar.specs.Sections.{labelled, ReadsForm, ReadsTail}
 use Rattle.dsc_texts.specs.CallParts as parts
 use Rattle.dsc_texts.specs.CallParts.{perhaps_parts, expansion_text}
 use Rattle.dsc_texts.specs.inside.Expansions.{set_part, label_and_set}
-use Rattle.dsc_texts.specs.inside.Reading.{ReadsForm, ReadsTail}
 
 -- the end
 pub ended_read : (bytes : List ℕ) (r : Result Parts ℕ) → ended bytes ≡ r → read finish bytes ≡ r

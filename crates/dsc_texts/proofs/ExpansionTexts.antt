@@ -17,9 +17,9 @@ use Rattle.dsc_texts.specs.CallParts as parts
 use Rattle.dsc_texts.specs.CallParts.{set_text, perhaps_parts, expansion_parts}
 use Rattle.dsc_texts.specs.Texts.{IsWholeOrAbsent}
 use Rattle.dsc_texts.specs.inside.Expansions.{IsSet, set_part, extra_parts}
-use Rattle.dsc_texts.proofs.SymbolTexts.{Told}
+use Rattle.line_grammar.proofs.Sections.{Told}
 use Rattle.dsc_texts.proofs.FieldTexts.{up_to, most_of}
-use Rattle.dsc_texts.proofs.CallSections.{Section, worded, labelled, nothing, followed, LawfulSide, side_parts, sided, renamed}
+use Rattle.line_grammar.proofs.Sections.{Section, worded, labelled, nothing, followed, LawfulSide, side_parts, sided, renamed}
 use Rattle.dsc_texts.proofs.ExpansionSteps.{last_there}
 
 -- no digits are the letters of none

@@ -19,7 +19,8 @@ use Rattle.call_values.specs.Parts.{IsTo}
 use Rattle.call_values.proofs.PublicLaws.{same_fix, same_area}
 use Rattle.dsc_texts.specs.CallGrammar.{minutes, position, time, area_shape, area, frequency, address}
 use Rattle.dsc_texts.specs.CallParts.{time_text, position_text, area_text, frequency_text, address_text}
-use Rattle.dsc_texts.proofs.SymbolTexts.{Told, identity_told}
+use Rattle.line_grammar.proofs.Sections.{Told}
+use Rattle.dsc_texts.proofs.SymbolTexts.{identity_told}
 
 -- a number up to the most in so many digits
 pub up_to : (width most n : ℕ) → n ≤ most → IsShaped (fixed_number width ((0, most) ∷ [])) (digits width n)

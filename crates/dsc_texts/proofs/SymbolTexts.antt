@@ -4,6 +4,7 @@ use Rattle.std.proofs.lemmas.Bool.Decides.{nat_tests}
 use Rattle.line_grammar.specs.Shapes.{fixed_number, is_within, digits}
 use Rattle.line_grammar.specs.Tokens.{Token, IsToken, shaped}
 use Rattle.line_grammar.proofs.Digits.{one_number}
+use Rattle.line_grammar.proofs.Sections.{Told, numbers}
 use Rattle.call_values.specs.Identity.{IsMmsi}
 use Rattle.dsc_symbols.specs.Natures.{IsNature}
 use Rattle.dsc_symbols.specs.Telecommands.{IsComm}
@@ -16,21 +17,6 @@ use Rattle.call_values.proofs.PublicLaws.{end_one}
 use Rattle.call_grammar.specs.Spelling.{category_symbol, end_symbol}
 use Rattle.dsc_texts.specs.CallParts.{relay_end, test_end}
 use Rattle.dsc_texts.specs.CallGrammar.{identity, symbol, nature, category, comm, first_command, second_command}
-
--- a token whose byte lists are the texts of the lawful values, one text for each
-pub record Told {V : Type 0} (token : Token) (Lawful : V → Type 0) (text : V → List ℕ) : Type 0 where
-  pub is : (v : V) → Lawful v → IsToken token (text v)
-  pub of : (bytes : List ℕ) → IsToken token bytes → (v : V) × Lawful v × (bytes ≡ text v)
-  pub one : (u v : V) → Lawful u → Lawful v → text u ≡ text v → u ≡ v
-
--- the numbers of some ranges
-pub numbers : (width : ℕ) (ranges : List (ℕ × ℕ)) (Lawful : ℕ → Type 0) → ((n : ℕ) → Lawful n → is_within ranges n ≡ true) → ((n : ℕ) → is_within ranges n ≡ true → Lawful n)
-    → ((n : ℕ) → Lawful n → n < 10 ^ width) → Told (shaped (fixed_number width ranges)) Lawful (digits width)
-numbers width ranges Lawful inside lawful below = record {
-  is = λ n h. (n, inside n h, refl);
-  of = λ bytes h. (h.0, lawful h.0 h.1, h.2);
-  one = λ m n h k e. one_number width m n (below m h) (below n k) e;
-}
 
 -- an identity is told by its nine digits
 pub identity_told : Told identity IsMmsi (digits 9)

@@ -9,6 +9,7 @@ use Rattle.call_values.specs.declared.bounds.TheConstants.{IDENTITIES, SIX_DIGIT
 use Rattle.expansion.specs.declared.bounds.TheConstants.{LAST_ENHANCEMENT, LAST_SPEED, LAST_COURSE}
 use Rattle.line_grammar.specs.Shapes.{Shape, letters, fixed_number, pair, choice}
 use Rattle.line_grammar.specs.Tokens.{Token, shaped}
+use Rattle.line_grammar.specs.Sections.{labelled}
 use Rattle.line_grammar.specs.Grammar.{Grammar, word, field, either}
 
 -- the nine digits of an identity
@@ -85,10 +86,6 @@ abbrev pub frequency : Token
 frequency =
     shaped (choice (letters (codes "none"))
     (choice (fixed_number 6 SIX_DIGITS) (fixed_number 8 EIGHT_DIGITS)))
-
--- a field behind its label
-abbrev pub labelled : List ℕ → Token → Grammar → Grammar
-labelled label token rest = word label (field token rest)
 
 -- the sender
 abbrev pub from : Grammar → Grammar

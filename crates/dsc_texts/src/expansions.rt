@@ -4,11 +4,11 @@ ghost use Rattle.line_grammar.specs.Shapes as shape;
 ghost use Rattle.line_grammar.specs.inside.Reading.{read_shape};
 ghost use Rattle.expansion.specs.Parts.{IsUpTo};
 ghost use Rattle.dsc_texts.specs.CallGrammar as grammar;
-ghost use Rattle.dsc_texts.specs.CallGrammar.{labelled, perhaps};
+ghost use Rattle.dsc_texts.specs.CallGrammar.{perhaps};
+ghost use Rattle.line_grammar.specs.Sections.{labelled, ReadsSection, ReadsForm, ReadsTail};
 ghost use Rattle.dsc_texts.specs.CallParts.{set_text};
 ghost use Rattle.dsc_texts.specs.inside.Expansions as inside;
 ghost use Rattle.dsc_texts.specs.inside.Expansions.{IsSet};
-ghost use Rattle.dsc_texts.specs.inside.Reading.{ReadsSection, ReadsForm, ReadsTail};
 
 use crate::fields::spelled;
 use crate::line::{end, take, word};

@@ -1,9 +1,8 @@
 ghost use Rattle.std.specs.Prelude.{codes};
 ghost use Rattle.line_grammar.specs.Grammar.{first, second};
 ghost use Rattle.dsc_texts.specs.CallGrammar as grammar;
-ghost use Rattle.dsc_texts.specs.CallGrammar.{labelled};
-ghost use Rattle.dsc_texts.specs.inside.Places.{nth, last};
-ghost use Rattle.dsc_texts.specs.inside.Reading.{ReadsForm, ending_with, parts_with};
+ghost use Rattle.line_grammar.specs.Sections.{labelled, nth, last, ReadsForm};
+ghost use Rattle.dsc_texts.specs.inside.Reading.{ending_with, parts_with};
 
 use crate::line::word;
 use crate::sections::{Distress, Frequencies, Request, Sender, casualty, field};

@@ -17,10 +17,14 @@ mod values;
 
 pub use answers::{put_answer, put_answer_line};
 pub use calls::{append_call, put_call};
+pub use forms::any_call;
 pub use laws::{
     bare_call_texts_are_read, call_texts_are_read, expansions_are_refused_at_their_blank,
     texts_tell_calls_apart,
 };
-pub use reading::{bare_call_of, call_of, read_bare_call, read_call};
+pub use line::{end, take, whole_word, word};
+pub use reading::{bare_call_of, call_of, extra_of, read_bare_call, read_call};
+pub use sections::field;
+pub use tails::Tail;
 pub use tokens::Token;
 pub use values::append_ship_in_distress;

@@ -11,7 +11,7 @@ use line_grammar::{Left, column};
 use slot_join::Extra;
 
 /// What follows a call, where an expansion may follow.
-fn extra_of(tail: Option<Expansion>) -> Extra
+pub fn extra_of(tail: Option<Expansion>) -> Extra
     ensures lawful { IsWholeOrAbsent result }
     ensures parts { extra_parts result none ≡ expansion_or_end tail }
 {

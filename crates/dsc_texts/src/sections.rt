@@ -1,9 +1,8 @@
 ghost use Rattle.std.specs.Prelude.{◌≡◌, codes, IfOk};
 ghost use Rattle.line_grammar.specs.Grammar.{part};
 ghost use Rattle.dsc_texts.specs.CallGrammar as grammar;
-ghost use Rattle.dsc_texts.specs.CallGrammar.{labelled};
+ghost use Rattle.line_grammar.specs.Sections.{labelled, ReadsSection};
 ghost use Rattle.dsc_texts.specs.CallParts.{casualty_parts, distress_parts, sender_parts, request_parts, frequencies_parts};
-ghost use Rattle.dsc_texts.specs.inside.Reading.{ReadsSection};
 
 use crate::line::{take, whole_word};
 use crate::tokens::Token;

@@ -2,7 +2,7 @@ ghost use Rattle.line_grammar.specs.Grammar as line;
 ghost use Rattle.line_grammar.specs.Grammar.{Grammar, Parts};
 ghost use Rattle.dsc_texts.specs.CallGrammar as grammar;
 ghost use Rattle.dsc_texts.specs.inside.Expansions as inside;
-ghost use Rattle.dsc_texts.specs.inside.Reading.{ReadsTail};
+ghost use Rattle.line_grammar.specs.Sections.{ReadsTail};
 
 use crate::expansions::expansion_or_end;
 use expansion::Expansion;

@@ -19,3 +19,8 @@ pub mod Spelled
 pub mod Repeats
 pub mod Decimals
 pub mod Chains
+pub mod Sections
+pub mod Forms
+pub mod SectionSteps
+pub mod Rows
+pub mod Judged

@@ -1,16 +1,15 @@
 -- the history of the exchange that lines tell is legal
 use Rattle.std.proofs.Common.{◌≡◌, ℕ, Some, None, List, [], ◌∷◌, refl, sym, subst}
 use Rattle.call_values.specs.declared.choices.Band.{Band}
-use Rattle.traffic_lines.specs.declared.worlds.ShipEntry.TheVariants as of_ship
-use Rattle.traffic_lines.specs.declared.worlds.CoastEntry.TheVariants as of_coast
+use Rattle.traffic_lines.specs.declared.lines.Event.TheVariants.{Does, Comes}
 use Rattle.traffic_lines.specs.declared.worlds.Entry as entries
 use Rattle.traffic_lines.specs.declared.worlds.Entry.TheVariants.{AtShip, AtCoast}
 use Rattle.traffic_lines.specs.declared.worlds.ExchangePoint.{ExchangePoint}
 use Rattle.traffic_lines.specs.declared.worlds.ExchangePoint.TheVariants as point
 use Rattle.traffic_lines.specs.declared.worlds.WorldLine.TheVariants.{Ship, Coast, Base, Entry}
-use Rattle.traffic_lines.specs.Worlds.{IsEntryText, MayStandInWorld}
+use Rattle.traffic_lines.specs.Worlds.{IsEntry, MayStandInWorld}
 use Rattle.line_engine.specs.Lines.{Lines}
-use Rattle.station_lines.proofs.PublicLaws.{own_ship_lawful, own_coast_lawful}
+use Rattle.station_lines.proofs.PublicLaws.{ship_deed_lawful, coast_deed_lawful}
 use Rattle.exchange.specs.declared.events.WorldEvent.{WorldEvent}
 use Rattle.exchange.specs.WorldHistories.{WorldHistory}
 use Rattle.exchange.specs.WorldRules.{Parties, IsFromOutside, IsWorldEvent, world_continued, IsLegal}
@@ -23,11 +22,11 @@ abbrev pub GoesOn : Type 0
 GoesOn = (who : Parties) (w : WorldHistory) (event : WorldEvent) → IsFromOutside event → IsWorldEvent event → IsLegal who w → IsLegal who (world_continued who w event)
 
 -- the parts of the event of an event line are in their ranges
-entry_lawful : (base : ℕ) (entry : entries.Entry) (text : List ℕ) → IsEntryText entry text → IsWorldEvent (event_of base entry)
-entry_lawful base (AtShip at (of_ship.Own own)) text is = own_ship_lawful base at own is.0 is.2
-entry_lawful base (AtShip at (of_ship.Get number)) text is = tt
-entry_lawful base (AtCoast at (of_coast.Own own)) text is = own_coast_lawful own is.0 is.2
-entry_lawful base (AtCoast at (of_coast.Get number)) text is = tt
+entry_lawful : (base : ℕ) (entry : entries.Entry) → IsEntry entry → IsWorldEvent (event_of base entry)
+entry_lawful base (AtShip at (Does deed)) is = ship_deed_lawful base at deed is.1
+entry_lawful base (AtShip at (Comes number)) is = tt
+entry_lawful base (AtCoast at (Does deed)) is = coast_deed_lawful deed is.1
+entry_lawful base (AtCoast at (Comes number)) is = tt
 
 -- in front of the events
 abbrev IsEarly : ExchangePoint → Type 0
@@ -73,5 +72,5 @@ said_legal goes (Some (Coast mmsi band) ∷ said) lines are =
     nothing_legal (parties_of (Some (Coast mmsi band) ∷ said)) (world_of said) (none_early said are.0 are.4 (coast_early (point_of said) mmsi band are.3.0))
 said_legal goes (Some (Base second) ∷ said) lines are = said_legal goes said are.0 are.4
 said_legal goes (Some (Entry entry) ∷ said) lines are =
-    goes (parties_of said) (world_of said) (event_of (base_of said) entry) (outside (base_of said) entry) (entry_lawful (base_of said) entry are.1 are.3.1)
+    goes (parties_of said) (world_of said) (event_of (base_of said) entry) (outside (base_of said) entry) (entry_lawful (base_of said) entry are.3.1.0)
     (said_legal goes said are.0 are.4)

@@ -7,19 +7,19 @@ use coast_station::CoastEvent;
 use exchange::WorldEvent;
 use ship_station::ShipEvent;
 use station_lines::{coast_event, ship_event};
-use traffic_lines::{CoastEntry, Entry, ShipEntry};
+use traffic_lines::{CoastOwn, Entry, Event, ShipOwn};
 
 /// What happens at the ship.
-fn event_at_ship(base: u64, at: u32, what: &ShipEntry) -> WorldEvent
+fn event_at_ship(base: u64, at: u32, what: &Event<ShipOwn, u32>) -> WorldEvent
     requires { base ≤ LAST_BASE }
     ensures { result ≡ events.event_at_ship base at what.now }
 {
     match *what {
-        ShipEntry::Own(own) => WorldEvent::Ship(ShipEvent {
+        Event::Does(deed) => WorldEvent::Ship(ShipEvent {
             at: u64::from(at),
-            what: ship_event(base, at, &own),
+            what: ship_event(base, at, &deed),
         }),
-        ShipEntry::Get(number) => WorldEvent::ShipGets {
+        Event::Comes(number) => WorldEvent::ShipGets {
             at: u64::from(at),
             number,
         },
@@ -27,15 +27,15 @@ fn event_at_ship(base: u64, at: u32, what: &ShipEntry) -> WorldEvent
 }
 
 /// What happens at the coast station.
-fn event_at_coast(at: u32, what: &CoastEntry) -> WorldEvent
+fn event_at_coast(at: u32, what: &Event<CoastOwn, u32>) -> WorldEvent
     ensures { result ≡ events.event_at_coast at what.now }
 {
     match *what {
-        CoastEntry::Own(own) => WorldEvent::Coast(CoastEvent {
+        Event::Does(deed) => WorldEvent::Coast(CoastEvent {
             at: u64::from(at),
-            what: coast_event(&own),
+            what: coast_event(&deed),
         }),
-        CoastEntry::Get(number) => WorldEvent::CoastGets {
+        Event::Comes(number) => WorldEvent::CoastGets {
             at: u64::from(at),
             number,
         },

@@ -1,5 +1,5 @@
--- the parts of the events that event lines give are in their ranges
-use Rattle.std.proofs.Common.{◌≡◌, ℕ, Option, Some, None, IfSome, List, subst, arith}
+-- the parts of the events that lines give are in their ranges
+use Rattle.std.proofs.Common.{◌≡◌, ℕ, Option, Some, None, IfSome, subst, arith}
 use Rattle.std.proofs.lemmas.Option.{none-some, same_Some}
 use Rattle.call_values.specs.declared.positions.Fix.{Fix}
 use Rattle.call_values.specs.Clock.{IsHourMinute}
@@ -14,11 +14,13 @@ use Rattle.traffic_lines.specs.declared.lines.ShipOwn.{ShipOwn}
 use Rattle.traffic_lines.specs.declared.lines.ShipOwn.TheVariants as own_ship
 use Rattle.traffic_lines.specs.declared.lines.CoastOwn.{CoastOwn}
 use Rattle.traffic_lines.specs.declared.lines.CoastOwn.TheVariants as own_coast
-use Rattle.traffic_lines.specs.declared.lines.EventLine.{EventLine}
-use Rattle.traffic_lines.specs.declared.lines.EventLine.TheVariants.{Position, Delay, Alert, Cancel, Tick, Send, Answer, Hear, Heard, Accept, Relay}
-use Rattle.traffic_lines.specs.Lines.{IsPerhapsDelay, IsEventText}
-use Rattle.traffic_lines.specs.Worlds.{IsShipOwnText, IsCoastOwnText}
-use Rattle.station_lines.specs.Events.{time_of, own_ship_event, own_coast_event, ship_event, coast_event}
+use Rattle.traffic_lines.specs.declared.lines.StationOwn.TheVariants as own
+use Rattle.traffic_lines.specs.declared.lines.Deed.{Deed}
+use Rattle.traffic_lines.specs.declared.lines.Deed.TheVariants.{Own, Tick, Send, Answer}
+use Rattle.traffic_lines.specs.declared.lines.Hearing.TheVariants.{Hear, Heard}
+use Rattle.traffic_lines.specs.declared.lines.Event.TheVariants.{Does, Comes}
+use Rattle.traffic_lines.specs.Events.{IsPerhapsDelay, IsShipOwn, IsCoastOwn, IsStationOwn, IsHearing, IsDeed, IsEvent}
+use Rattle.station_lines.specs.Events.{EventLine, time_of, own_ship_event, ship_deed, coast_deed, ship_event, coast_event}
 
 time_lawful : (base at : ℕ) (place : Option Fix) → IsHourMinute (time_of base at place)
 time_lawful base at (Some fix) = (omega arith, omega arith)
@@ -28,48 +30,41 @@ delay_lawful : (delay : Option ℕ) → IsPerhapsDelay delay → IfSome delay Is
 delay_lawful None is = tt
 delay_lawful (Some ms) is = is
 
--- those of an end's own event
-pub own_ship_lawful : (base at : ℕ) (own : ShipOwn) (text : List ℕ) → IsShipOwnText own text → IsShipWhat (own_ship_event base at own)
-own_ship_lawful base at (own_ship.Position place) text is = (is.0, time_lawful base at place)
-own_ship_lawful base at (own_ship.Delay delay) text is = is.0
-own_ship_lawful base at (own_ship.Alert nature comm) text is = (is.0, is.1)
-own_ship_lawful base at own_ship.Cancel text is = tt
-own_ship_lawful base at own_ship.Tick text is = tt
-own_ship_lawful base at (own_ship.Send call) text is = tt
-own_ship_lawful base at (own_ship.Answer number accepts) text is = tt
+own_ship_lawful : (base at : ℕ) (own : ShipOwn) → IsShipOwn own → IsShipWhat (own_ship_event base at own)
+own_ship_lawful base at (own_ship.Position place) is = (is, time_lawful base at place)
+own_ship_lawful base at (own_ship.Delay delay) is = is
+own_ship_lawful base at (own_ship.Alert nature comm) is = is
+own_ship_lawful base at own_ship.Cancel is = tt
 
-pub own_coast_lawful : (own : CoastOwn) (text : List ℕ) → IsCoastOwnText own text → IsCoastWhat (own_coast_event own)
-own_coast_lawful (own_coast.Accept mmsi delay) text is = (is.0, delay_lawful delay is.1)
-own_coast_lawful (own_coast.Relay mmsi to ask) text is = (is.0, is.1)
-own_coast_lawful own_coast.Tick text is = tt
-own_coast_lawful (own_coast.Send call) text is = tt
-own_coast_lawful (own_coast.Answer number accepts) text is = tt
+-- those by what an end does
+pub ship_deed_lawful : (base at : ℕ) (deed : Deed ShipOwn) → IsDeed IsShipOwn deed → IsShipWhat (ship_deed base at deed)
+ship_deed_lawful base at (Own what) is = own_ship_lawful base at what is
+ship_deed_lawful base at Tick is = tt
+ship_deed_lawful base at (Send call) is = tt
+ship_deed_lawful base at (Answer number accepts) is = tt
+
+pub coast_deed_lawful : (deed : Deed CoastOwn) → IsDeed IsCoastOwn deed → IsCoastWhat (coast_deed deed)
+coast_deed_lawful (Own (own_coast.Accept mmsi delay)) is = (is.0, delay_lawful delay is.1)
+coast_deed_lawful (Own (own_coast.Relay mmsi to ask)) is = is
+coast_deed_lawful Tick is = tt
+coast_deed_lawful (Send call) is = tt
+coast_deed_lawful (Answer number accepts) is = tt
 
 -- those of the event that a line gives of itself
-pub ship_event_lawful : (base at : ℕ) (line : EventLine) (text : List ℕ) (what : ShipWhat) → IsEventText line text → ship_event base at line ≡ Some what → IsShipWhat what
-ship_event_lawful base at (Position place) text what is same =
-    subst IsShipWhat (same_Some (ship.Position place (time_of base at place)) what same) (is.0, time_lawful base at place)
-ship_event_lawful base at (Delay delay) text what is same = subst IsShipWhat (same_Some (ship.Delay delay) what same) is.0
-ship_event_lawful base at (Alert nature comm) text what is same = subst IsShipWhat (same_Some (ship.Alert nature comm) what same) (is.0, is.1)
-ship_event_lawful base at Cancel text what is same = subst IsShipWhat (same_Some ship.Cancel what same) tt
-ship_event_lawful base at Tick text what is same = subst IsShipWhat (same_Some ship.Tick what same) tt
-ship_event_lawful base at (Send call) text what is same = subst IsShipWhat (same_Some (ship.Send call) what same) tt
-ship_event_lawful base at (Answer number accepts) text what is same = subst IsShipWhat (same_Some (ship.Answer number accepts) what same) tt
-ship_event_lawful base at (Hear call) text what is same = subst IsShipWhat (same_Some (ship.Heard call) what same) tt
-ship_event_lawful base at (Heard group) text what is same = absurd (none-some what same)
-ship_event_lawful base at (Accept mmsi delay) text what is same = absurd (none-some what same)
-ship_event_lawful base at (Relay mmsi to ask) text what is same = absurd (none-some what same)
+pub ship_event_lawful : (base at : ℕ) (line : EventLine) (what : ShipWhat) → IsEvent IsStationOwn IsHearing line → ship_event base at line ≡ Some what → IsShipWhat what
+ship_event_lawful base at (Does (Own (own.Ship w))) what is same = subst IsShipWhat (same_Some (own_ship_event base at w) what same) (own_ship_lawful base at w is)
+ship_event_lawful base at (Does (Own (own.Coast w))) what is same = absurd (none-some what same)
+ship_event_lawful base at (Does Tick) what is same = subst IsShipWhat (same_Some ship.Tick what same) tt
+ship_event_lawful base at (Does (Send call)) what is same = subst IsShipWhat (same_Some (ship.Send call) what same) tt
+ship_event_lawful base at (Does (Answer number accepts)) what is same = subst IsShipWhat (same_Some (ship.Answer number accepts) what same) tt
+ship_event_lawful base at (Comes (Hear call extra)) what is same = subst IsShipWhat (same_Some (ship.Heard call) what same) tt
+ship_event_lawful base at (Comes (Heard group)) what is same = absurd (none-some what same)
 
-pub coast_event_lawful : (base at : ℕ) (line : EventLine) (text : List ℕ) (what : CoastWhat) → IsEventText line text → coast_event base at line ≡ Some what → IsCoastWhat what
-coast_event_lawful base at (Accept mmsi delay) text what is same =
-    subst IsCoastWhat (same_Some (coast.Accept mmsi delay) what same) (is.0, delay_lawful delay is.1)
-coast_event_lawful base at Tick text what is same = subst IsCoastWhat (same_Some coast.Tick what same) tt
-coast_event_lawful base at (Relay mmsi to ask) text what is same = subst IsCoastWhat (same_Some (coast.Relay mmsi to ask) what same) (is.0, is.1)
-coast_event_lawful base at (Send call) text what is same = subst IsCoastWhat (same_Some (coast.Send call) what same) tt
-coast_event_lawful base at (Answer number accepts) text what is same = subst IsCoastWhat (same_Some (coast.Answer number accepts) what same) tt
-coast_event_lawful base at (Hear call) text what is same = subst IsCoastWhat (same_Some (coast.Heard call) what same) tt
-coast_event_lawful base at (Heard group) text what is same = absurd (none-some what same)
-coast_event_lawful base at (Position place) text what is same = absurd (none-some what same)
-coast_event_lawful base at (Delay delay) text what is same = absurd (none-some what same)
-coast_event_lawful base at (Alert nature comm) text what is same = absurd (none-some what same)
-coast_event_lawful base at Cancel text what is same = absurd (none-some what same)
+pub coast_event_lawful : (base at : ℕ) (line : EventLine) (what : CoastWhat) → IsEvent IsStationOwn IsHearing line → coast_event base at line ≡ Some what → IsCoastWhat what
+coast_event_lawful base at (Does (Own (own.Coast w))) what is same = subst IsCoastWhat (same_Some (coast_deed (Own w)) what same) (coast_deed_lawful (Own w) is)
+coast_event_lawful base at (Does (Own (own.Ship w))) what is same = absurd (none-some what same)
+coast_event_lawful base at (Does Tick) what is same = subst IsCoastWhat (same_Some coast.Tick what same) tt
+coast_event_lawful base at (Does (Send call)) what is same = subst IsCoastWhat (same_Some (coast.Send call) what same) tt
+coast_event_lawful base at (Does (Answer number accepts)) what is same = subst IsCoastWhat (same_Some (coast.Answer number accepts) what same) tt
+coast_event_lawful base at (Comes (Hear call extra)) what is same = subst IsCoastWhat (same_Some (coast.Heard call) what same) tt
+coast_event_lawful base at (Comes (Heard group)) what is same = absurd (none-some what same)

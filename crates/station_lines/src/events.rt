@@ -1,4 +1,4 @@
-//! The events that stations have of their own.
+//! The events that stations have by what lines say.
 ghost use Rattle.std.specs.Prelude.{◌≡◌, ◌≤◌};
 ghost use Rattle.station_lines.specs.Events as events;
 
@@ -7,7 +7,7 @@ use call_values::{HourMinute, Position};
 use civil_time::civil_minute;
 use coast_station::CoastWhat;
 use ship_station::ShipWhat;
-use traffic_lines::{CoastOwn, ShipOwn};
+use traffic_lines::{CoastOwn, Deed, ShipOwn};
 
 /// The time of a position: that of its line's moment in UTC, and unknown where the position is.
 fn time_at(base: u64, at: u32, position: &Position) -> HourMinute
@@ -20,8 +20,8 @@ fn time_at(base: u64, at: u32, position: &Position) -> HourMinute
     }
 }
 
-/// The event at a ship by an event of its own.
-pub fn ship_event(base: u64, at: u32, own: &ShipOwn) -> ShipWhat
+/// The event at a ship by what it alone does.
+fn own_ship_event(base: u64, at: u32, own: &ShipOwn) -> ShipWhat
     requires { base ≤ LAST_BASE }
     ensures { result ≡ events.own_ship_event base at own.now }
 {
@@ -30,21 +30,31 @@ pub fn ship_event(base: u64, at: u32, own: &ShipOwn) -> ShipWhat
         ShipOwn::Delay(delay) => ShipWhat::Delay(delay),
         ShipOwn::Alert(nature, comm) => ShipWhat::Alert(nature, comm),
         ShipOwn::Cancel => ShipWhat::Cancel,
-        ShipOwn::Tick => ShipWhat::Tick,
-        ShipOwn::Send(call) => ShipWhat::Send(call),
-        ShipOwn::Answer(number, accepts) => ShipWhat::Answer(number, accepts),
     }
 }
 
-/// The event at a coast station by an event of its own.
-pub fn coast_event(own: &CoastOwn) -> CoastWhat
-    ensures { result ≡ events.own_coast_event own.now }
+/// The event at a ship by what it does.
+pub fn ship_event(base: u64, at: u32, deed: &Deed<ShipOwn>) -> ShipWhat
+    requires { base ≤ LAST_BASE }
+    ensures { result ≡ events.ship_deed base at deed.now }
 {
-    match *own {
-        CoastOwn::Accept(mmsi, delay) => CoastWhat::Accept(mmsi, delay),
-        CoastOwn::Relay(mmsi, to, ask) => CoastWhat::Relay(mmsi, to, ask),
-        CoastOwn::Tick => CoastWhat::Tick,
-        CoastOwn::Send(call) => CoastWhat::Send(call),
-        CoastOwn::Answer(number, accepts) => CoastWhat::Answer(number, accepts),
+    match *deed {
+        Deed::Own(own) => own_ship_event(base, at, &own),
+        Deed::Tick => ShipWhat::Tick,
+        Deed::Send(call) => ShipWhat::Send(call),
+        Deed::Answer(number, accepts) => ShipWhat::Answer(number, accepts),
+    }
+}
+
+/// The event at a coast station by what it does.
+pub fn coast_event(deed: &Deed<CoastOwn>) -> CoastWhat
+    ensures { result ≡ events.coast_deed deed.now }
+{
+    match *deed {
+        Deed::Own(CoastOwn::Accept(mmsi, delay)) => CoastWhat::Accept(mmsi, delay),
+        Deed::Own(CoastOwn::Relay(mmsi, to, ask)) => CoastWhat::Relay(mmsi, to, ask),
+        Deed::Tick => CoastWhat::Tick,
+        Deed::Send(call) => CoastWhat::Send(call),
+        Deed::Answer(number, accepts) => CoastWhat::Answer(number, accepts),
     }
 }

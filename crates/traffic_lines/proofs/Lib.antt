@@ -1,13 +1,7 @@
 pub mod PublicLaws
 mod Tokens
-mod Languages
-mod Steps
-mod EventTexts
-mod CallEvents
-mod LineTexts
-mod OneLine
-mod EntryTexts
+mod EventSections
+mod LineSections
 mod OtherIdentities
-mod WorldLines
-mod OneWorld
-mod Judged
+mod PointRows
+mod Begins

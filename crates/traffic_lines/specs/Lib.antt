@@ -1,5 +1,4 @@
+pub mod Events
 pub mod Lines
-pub mod Anywhere
-pub mod Readings
 pub mod Worlds
-pub mod inside
+pub mod Readings

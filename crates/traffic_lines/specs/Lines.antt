@@ -1,124 +1,226 @@
--- The lines of traffic files but for empty lines, comments, receptions and evidence: this project's profile.
-use Rattle.std.specs.Prelude.{◌≡◌, ℕ, ◌<◌, ◌≤◌, ◌^◌, Bool, true, false, List, [], ◌++◌, Option, Some, None, codes, decimal}
+-- The lines of traffic files but for empty lines, comments, receptions and evidence, a row for each: this project's profile.
+use Rattle.std.specs.Prelude.{◌≡◌, ℕ, ◌<◌, ◌≤◌, ◌^◌, true, List, Option, Some, None, codes, decimal}
 use Rattle.call_values.specs.declared.bounds.TheConstants.{LAST_BASE}
-use Rattle.call_values.specs.declared.calls.Call.{Call}
 use Rattle.call_values.specs.declared.choices.Band.{Band}
 use Rattle.call_values.specs.declared.choices.Band.TheVariants.{Mf, Hf, Vhf}
-use Rattle.call_values.specs.Delays.{IsAlertDelay, IsCoastDelay}
 use Rattle.call_values.specs.Identity.{IsMmsi}
-use Rattle.call_values.specs.Parts.{IsTo}
-use Rattle.call_values.specs.Positions.{IsPosition}
-use Rattle.dsc_symbols.specs.Natures.{IsNature}
-use Rattle.dsc_symbols.specs.Telecommands.{IsComm}
-use Rattle.dsc_texts.specs.CallParts.{address_text, position_text}
-use Rattle.dsc_texts.specs.Texts.{IsBareCallText, IsCallText}
+use Rattle.dsc_texts.specs.CallGrammar.{identity}
 use Rattle.line_grammar.specs.Shapes.{digits}
-use Rattle.line_grammar.specs.Tokens.{is_digit}
-use Rattle.slot_join.specs.declared.joined.Extra.{Extra}
-use Rattle.traffic_lines.specs.declared.lines.EventLine.{EventLine}
-use Rattle.traffic_lines.specs.declared.lines.EventLine.TheVariants.{Position, Delay, Alert, Cancel, Tick, Send, Answer, Hear, Heard, Accept, Relay}
+use Rattle.line_grammar.specs.Tokens.{Token, free_number, is_digit}
+use Rattle.line_grammar.specs.Grammar.{Grammar, word, field, either, Parts, part, first, second}
+use Rattle.line_grammar.specs.Sections.{labelled, nth, last}
+use Rattle.traffic_lines.specs.declared.lines.StationOwn.{StationOwn}
+use Rattle.traffic_lines.specs.declared.lines.StationOwn.TheVariants as own
+use Rattle.line_grammar.specs.Rows.{IsWritten}
+use Rattle.traffic_lines.specs.declared.lines.ShipOwn.{ShipOwn}
+use Rattle.traffic_lines.specs.declared.lines.CoastOwn.{CoastOwn}
+use Rattle.traffic_lines.specs.declared.lines.Hearing.{Hearing}
+use Rattle.traffic_lines.specs.declared.lines.Event as events
+use Rattle.traffic_lines.specs.declared.lines.Event.TheVariants.{Does, Comes}
+use Rattle.traffic_lines.specs.declared.lines.Deed.{Deed}
+use Rattle.traffic_lines.specs.declared.lines.Deed.TheVariants.{Own, Tick, Send, Answer}
+use Rattle.traffic_lines.specs.declared.lines.StationLine.{StationLine}
+use Rattle.traffic_lines.specs.declared.lines.StationLine.TheVariants as station_line
+use Rattle.traffic_lines.specs.declared.lines.ShipLine.{ShipLine}
+use Rattle.traffic_lines.specs.declared.lines.ShipLine.TheVariants as body
 use Rattle.traffic_lines.specs.declared.lines.Point.{Point}
 use Rattle.traffic_lines.specs.declared.lines.Point.TheVariants as point
 use Rattle.traffic_lines.specs.declared.lines.TrafficLine.{TrafficLine}
 use Rattle.traffic_lines.specs.declared.lines.TrafficLine.TheVariants.{Ship, Coast, Base, Group, Event}
+use Rattle.traffic_lines.specs.Events.{number, ship_rows, ship_parts, IsShipOwn, coast_rows, coast_parts, IsCoastOwn, station_rows, station_parts, IsStationOwn, hearing_rows, hearing_parts, IsHearing, event, event_parts, IsEvent}
 
--- hear and the text of a call, behind which an expansion may stand that says nothing
-abbrev pub IsHear : Call → List ℕ → Type 0
-IsHear call text = (extra : Extra) × (said : List ℕ) × IsCallText (call, extra) said × (text ≡ codes "hear " ++ said)
+-- ---- the lines in front of the events
 
--- send and the text of a call, behind which nothing stands
-abbrev pub IsSend : Call → List ℕ → Type 0
-IsSend call text = (said : List ℕ) × IsBareCallText call said × (text ≡ codes "send " ++ said)
+-- station ship 232001234
+abbrev pub ship : Grammar → Grammar
+ship rest = labelled (codes "station ship ") identity rest
 
--- the number of a call that is held
-abbrev pub IsHeldNumber : ℕ → Type 0
-IsHeldNumber k = (1 ≤ k) × (k ≤ 16)
+-- a coast station's band
+abbrev pub band : Grammar → Grammar
+band rest = either (word (codes " mf") rest) (either (word (codes " hf") rest) (word (codes " vhf") rest))
 
--- the word in front of the number of a held call: it is answered, or it is declined
-abbrev pub answer_word : (accepts : Bool) → List ℕ
-answer_word true = codes "answer "
-answer_word false = codes "decline "
+abbrev pub band_parts : Band → Parts → Parts
+band_parts Mf rest = nth 0 rest
+band_parts Hf rest = nth 1 rest
+band_parts Vhf rest = last 2 rest
 
--- where a delay is given, it is in the range of a coast station's
-abbrev pub IsPerhapsDelay : Option ℕ → Type 0
-IsPerhapsDelay None = Unit {0}
-IsPerhapsDelay (Some ms) = IsCoastDelay ms
+-- station coast 002320001 mf
+abbrev pub coast : Token → Grammar → Grammar
+coast party rest = labelled (codes "station coast ") party (band rest)
 
--- a blank and a delay, or nothing where none is given
-abbrev pub delay_text : Option ℕ → List ℕ
-delay_text None = []
-delay_text (Some ms) = codes " " ++ decimal ms
+abbrev pub coast_station_parts : ℕ × Band → Parts → Parts
+coast_station_parts says rest = part (digits 9 says.0) (band_parts says.1 rest)
 
--- whether a relay asks for an acknowledgement
-abbrev pub ask_text : (ask : Bool) → List ℕ
-ask_text true = codes " ask"
-ask_text false = codes " tell"
+abbrev pub stations : Grammar → Grammar
+stations rest = either (ship rest) (coast identity rest)
 
--- the text of an event: its word, and its values in their ranges
-abbrev pub IsEventText : EventLine → List ℕ → Type 0
-IsEventText (Position p) text = IsPosition p × (text ≡ codes "position " ++ position_text p)
-IsEventText (Delay ms) text = IsAlertDelay ms × (text ≡ codes "delay " ++ decimal ms)
-IsEventText (Alert nature comm) text =
-    IsNature nature × IsComm comm × (text ≡ codes "alert nature=" ++ (digits 3 nature ++ (codes " then=" ++ digits 3 comm)))
-IsEventText Cancel text = text ≡ codes "cancel"
-IsEventText Tick text = text ≡ codes "tick"
-IsEventText (Send call) text = IsSend call text
-IsEventText (Answer k accepts) text = IsHeldNumber k × (text ≡ answer_word accepts ++ decimal k)
-IsEventText (Hear call) text = IsHear call text
-IsEventText (Heard group) text = (group < 2 ^ 32) × (text ≡ codes "heard g" ++ decimal group)
-IsEventText (Accept ship delay) text = IsMmsi ship × IsPerhapsDelay delay × (text ≡ codes "accept " ++ (digits 9 ship ++ delay_text delay))
-IsEventText (Relay ship to ask) text =
-    IsMmsi ship × IsTo to × (text ≡ codes "relay " ++ (digits 9 ship ++ (codes " to=" ++ (address_text to ++ ask_text ask))))
+abbrev pub stations_parts : StationLine → Parts → Parts
+stations_parts (station_line.Ship mmsi) rest = nth 0 (part (digits 9 mmsi) rest)
+stations_parts (station_line.Coast mmsi band) rest = last 1 (coast_station_parts (mmsi, band) rest)
 
--- the events of a ship: it accepts and relays no alert of another
-abbrev pub IsShipEvent : EventLine → Type 0
-IsShipEvent (Accept ship delay) = ⊥
-IsShipEvent (Relay ship to ask) = ⊥
-IsShipEvent _ = Unit {0}
+abbrev pub IsStation : StationLine → Type 0
+IsStation (station_line.Ship mmsi) = IsMmsi mmsi
+IsStation (station_line.Coast mmsi band) = IsMmsi mmsi
 
--- the events of a coast station: it has no position and no alert of its own
-abbrev pub IsCoastEvent : EventLine → Type 0
-IsCoastEvent (Position p) = ⊥
-IsCoastEvent (Delay ms) = ⊥
-IsCoastEvent (Alert nature comm) = ⊥
-IsCoastEvent Cancel = ⊥
-IsCoastEvent _ = Unit {0}
+-- base 1780000000
+abbrev pub base : Grammar → Grammar
+base rest = labelled (codes "base ") (free_number 0 LAST_BASE) rest
 
--- the band in which a coast station works
-abbrev pub band_text : Band → List ℕ
-band_text Mf = codes "mf"
-band_text Hf = codes "hf"
-band_text Vhf = codes "vhf"
+abbrev pub base_parts : ℕ → Parts → Parts
+base_parts s rest = part (decimal s) rest
 
--- the text of a line: a ship, or a coast station and its band; the second that moments count from; a group that the ship belongs
--- to; or a moment in milliseconds, a blank and an event
+abbrev pub IsBase : ℕ → Type 0
+IsBase s = s ≤ LAST_BASE
+
+-- group 023200001
+abbrev pub group : Grammar → Grammar
+group rest = labelled (codes "group ") identity rest
+
+abbrev pub group_parts : ℕ → Parts → Parts
+group_parts mmsi rest = part (digits 9 mmsi) rest
+
+-- ---- events at their moments
+
+-- a moment in milliseconds, a blank, and what happens then: 5000 tick
+abbrev pub at_moment : (Grammar → Grammar) → Grammar → Grammar
+at_moment event rest = field number (word (codes " ") (event rest))
+
+abbrev pub moment_parts : {E : Type 0} → (E → Parts → Parts) → ℕ × E → Parts → Parts
+moment_parts parts says rest = part (decimal says.0) (parts says.1 rest)
+
+abbrev pub IsAtMoment : {E : Type 0} → (E → Type 0) → ℕ × E → Type 0
+IsAtMoment lawful says = (says.0 < 2 ^ 32) × lawful says.1
+
+-- the event lines of a ship, of a coast station, and of either
+abbrev pub ship_event : Grammar → Grammar
+ship_event rest = at_moment (event ship_rows hearing_rows) rest
+
+abbrev pub coast_event : Grammar → Grammar
+coast_event rest = at_moment (event coast_rows hearing_rows) rest
+
+abbrev pub station_event : Grammar → Grammar
+station_event rest = at_moment (event station_rows hearing_rows) rest
+
+abbrev pub ship_event_parts : ℕ × events.Event ShipOwn Hearing → Parts → Parts
+ship_event_parts = moment_parts (event_parts ship_parts hearing_parts)
+
+abbrev pub coast_event_parts : ℕ × events.Event CoastOwn Hearing → Parts → Parts
+coast_event_parts = moment_parts (event_parts coast_parts hearing_parts)
+
+abbrev pub station_event_parts : ℕ × events.Event StationOwn Hearing → Parts → Parts
+station_event_parts = moment_parts (event_parts station_parts hearing_parts)
+
+abbrev pub IsShipEvent : ℕ × events.Event ShipOwn Hearing → Type 0
+IsShipEvent = IsAtMoment (IsEvent IsShipOwn IsHearing)
+
+abbrev pub IsCoastEvent : ℕ × events.Event CoastOwn Hearing → Type 0
+IsCoastEvent = IsAtMoment (IsEvent IsCoastOwn IsHearing)
+
+abbrev pub IsStationEvent : ℕ × events.Event StationOwn Hearing → Type 0
+IsStationEvent = IsAtMoment (IsEvent IsStationOwn IsHearing)
+
+-- a group or an event of a ship
+abbrev pub ship_lines : Grammar → Grammar
+ship_lines rest = either (group rest) (ship_event rest)
+
+abbrev pub ship_lines_parts : ShipLine → Parts → Parts
+ship_lines_parts (body.Group mmsi) rest = nth 0 (group_parts mmsi rest)
+ship_lines_parts (body.Event at what) rest = last 1 (ship_event_parts (at, what) rest)
+
+abbrev pub IsShipLine : ShipLine → Type 0
+IsShipLine (body.Group mmsi) = IsMmsi mmsi
+IsShipLine (body.Event at what) = IsShipEvent (at, what)
+
+-- ---- all lines
+
+abbrev pub lines : Grammar → Grammar
+lines rest = either (ship rest) (either (coast identity rest) (either (base rest) (either (group rest) (station_event rest))))
+
+abbrev pub line_parts : TrafficLine → Parts → Parts
+line_parts (Ship mmsi) rest = nth 0 (part (digits 9 mmsi) rest)
+line_parts (Coast mmsi band) rest = nth 1 (coast_station_parts (mmsi, band) rest)
+line_parts (Base s) rest = nth 2 (base_parts s rest)
+line_parts (Group mmsi) rest = nth 3 (group_parts mmsi rest)
+line_parts (Event at what) rest = last 4 (station_event_parts (at, what) rest)
+
+-- its values are in their ranges
+abbrev pub IsLine : TrafficLine → Type 0
+IsLine (Ship mmsi) = IsMmsi mmsi
+IsLine (Coast mmsi band) = IsMmsi mmsi
+IsLine (Base s) = IsBase s
+IsLine (Group mmsi) = IsMmsi mmsi
+IsLine (Event at what) = IsStationEvent (at, what)
+
+-- the text of a line
 abbrev pub IsLineText : TrafficLine → List ℕ → Type 0
-IsLineText (Ship mmsi) text = IsMmsi mmsi × (text ≡ codes "station ship " ++ digits 9 mmsi)
-IsLineText (Coast mmsi band) text = IsMmsi mmsi × (text ≡ codes "station coast " ++ (digits 9 mmsi ++ (codes " " ++ band_text band)))
-IsLineText (Base second) text = (second ≤ LAST_BASE) × (text ≡ codes "base " ++ decimal second)
-IsLineText (Group mmsi) text = IsMmsi mmsi × (text ≡ codes "group " ++ digits 9 mmsi)
-IsLineText (Event at what) text = (said : List ℕ) × (at < 2 ^ 32) × IsEventText what said × (text ≡ decimal at ++ (codes " " ++ said))
+IsLineText line text = IsWritten lines IsLine line_parts line text
 
 -- the first byte of a line: the s of station, the b of base, the g of group, or a digit of the moment
 abbrev pub IsFirstByte : TrafficLine → ℕ → Type 0
 IsFirstByte (Ship mmsi) b = b ≡ 115
 IsFirstByte (Coast mmsi band) b = b ≡ 115
-IsFirstByte (Base second) b = b ≡ 98
+IsFirstByte (Base s) b = b ≡ 98
 IsFirstByte (Group mmsi) b = b ≡ 103
 IsFirstByte (Event at what) b = is_digit b ≡ true
+
+-- a deed, and an event, with what a kind of station alone does under another name
+abbrev pub deed_with : {O P : Type 0} → (O → P) → Deed O → Deed P
+deed_with name (Own what) = Own (name what)
+deed_with name Tick = Tick
+deed_with name (Answer k accepts) = Answer k accepts
+deed_with name (Send call) = Send call
+
+abbrev pub event_with : {O P C : Type 0} → (O → P) → events.Event O C → events.Event P C
+event_with name (Comes what) = Comes what
+event_with name (Does deed) = Does (deed_with name deed)
+
+-- the events of a ship: it accepts and relays no alert of another
+abbrev pub IsOfShip : events.Event StationOwn Hearing → Type 0
+IsOfShip (Does (Own (own.Coast what))) = ⊥
+IsOfShip _ = Unit {0}
+
+-- the events of a coast station: it has no position and no alert of its own
+abbrev pub IsOfCoast : events.Event StationOwn Hearing → Type 0
+IsOfCoast (Does (Own (own.Ship what))) = ⊥
+IsOfCoast _ = Unit {0}
 
 -- which lines may stand at a point: groups of a ship up to the sixteenth, and events of the station that the file names, none in
 -- front of the base
 abbrev pub MayStand : Point → TrafficLine → Type 0
 MayStand point.Station (Ship mmsi) = Unit {0}
 MayStand point.Station (Coast mmsi band) = Unit {0}
-MayStand point.Base (Base second) = Unit {0}
+MayStand point.Base (Base s) = Unit {0}
 MayStand (point.Groups held) (Group mmsi) = held < 16
-MayStand (point.Groups held) (Event at what) = IsShipEvent what
-MayStand point.Ship (Event at what) = IsShipEvent what
-MayStand point.Coast (Event at what) = IsCoastEvent what
+MayStand (point.Groups held) (Event at what) = IsOfShip what
+MayStand point.Ship (Event at what) = IsOfShip what
+MayStand point.Coast (Event at what) = IsOfCoast what
 MayStand _ _ = ⊥
 
 -- the lines of a point
 abbrev pub IsTrafficLine : Point → TrafficLine → List ℕ → Type 0
 IsTrafficLine point line text = MayStand point line × IsLineText line text
+
+-- ---- what is read at a point, among all lines
+
+abbrev pub line_of_station : StationLine → TrafficLine
+line_of_station (station_line.Ship mmsi) = Ship mmsi
+line_of_station (station_line.Coast mmsi band) = Coast mmsi band
+
+-- a line behind the base of a ship's file
+abbrev pub line_of_ship : ShipLine → TrafficLine
+line_of_ship (body.Group mmsi) = Group mmsi
+line_of_ship (body.Event at what) = Event at (event_with own.Ship what)
+
+-- a moment and an event in a coast station's file
+abbrev pub line_of_coast : ℕ × events.Event CoastOwn Hearing → TrafficLine
+line_of_coast says = Event says.0 (event_with own.Coast says.1)
+
+-- where a line behind so many groups of a ship stands, and where one behind its events
+abbrev pub ship_point : Option ℕ → Point
+ship_point (Some held) = point.Groups held
+ship_point None = point.Ship
+
+-- no group may stand after so many groups, nor after an event
+abbrev pub IsFull : Option ℕ → Type 0
+IsFull (Some held) = 16 ≤ held
+IsFull None = Unit {0}

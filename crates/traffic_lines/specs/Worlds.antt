@@ -1,61 +1,99 @@
--- The lines of files of exchanges but for empty lines and comments: this project's profile.
-use Rattle.std.specs.Prelude.{◌≡◌, ◌≢◌, ℕ, ◌<◌, ◌^◌, List, ◌++◌, codes, decimal}
-use Rattle.traffic_lines.specs.Anywhere.{event_of_ship, event_of_coast}
-use Rattle.traffic_lines.specs.Lines.{IsEventText, IsLineText}
+-- The lines of files of exchanges but for empty lines and comments, a row for each: this project's profile.
+use Rattle.std.specs.Prelude.{◌≡◌, ◌≢◌, ℕ, List, [], ◌∷◌, ◌+◌, ◌-◌, ◌==◌, if◌then◌else◌, codes}
+use Rattle.call_values.specs.declared.bounds.TheConstants as bounds
+use Rattle.call_values.specs.declared.choices.Band.{Band}
+use Rattle.call_values.specs.Identity.{IsMmsi}
+use Rattle.dsc_texts.specs.CallGrammar.{identity}
+use Rattle.line_grammar.specs.Shapes.{digits, fixed_number}
+use Rattle.line_grammar.specs.Tokens.{Token, shaped}
+use Rattle.line_grammar.specs.Grammar.{Grammar, word, either, Parts, part, first, second}
+use Rattle.line_grammar.specs.Sections.{nth, last}
+use Rattle.line_grammar.specs.Rows.{IsWritten}
 use Rattle.traffic_lines.specs.declared.lines.ShipOwn.{ShipOwn}
-use Rattle.traffic_lines.specs.declared.lines.ShipLine.TheVariants as at_ship
 use Rattle.traffic_lines.specs.declared.lines.CoastOwn.{CoastOwn}
-use Rattle.traffic_lines.specs.declared.lines.CoastLine.TheVariants as at_coast
-use Rattle.traffic_lines.specs.declared.lines.TrafficLine.TheVariants as line
+use Rattle.traffic_lines.specs.declared.lines.Event as events
 use Rattle.traffic_lines.specs.declared.worlds.ExchangePoint.{ExchangePoint}
 use Rattle.traffic_lines.specs.declared.worlds.ExchangePoint.TheVariants as point
-use Rattle.traffic_lines.specs.declared.worlds.ShipEntry.{ShipEntry}
-use Rattle.traffic_lines.specs.declared.worlds.ShipEntry.TheVariants as of_ship
-use Rattle.traffic_lines.specs.declared.worlds.CoastEntry.{CoastEntry}
-use Rattle.traffic_lines.specs.declared.worlds.CoastEntry.TheVariants as of_coast
 use Rattle.traffic_lines.specs.declared.worlds.Entry as entries
 use Rattle.traffic_lines.specs.declared.worlds.Entry.TheVariants.{AtShip, AtCoast}
 use Rattle.traffic_lines.specs.declared.worlds.WorldLine.{WorldLine}
 use Rattle.traffic_lines.specs.declared.worlds.WorldLine.TheVariants.{Ship, Coast, Base, Entry}
+use Rattle.traffic_lines.specs.Events.{ship_rows, ship_parts, IsShipOwn, coast_rows, coast_parts, IsCoastOwn, get, get_parts, IsGet, event, event_parts, IsEvent}
+use Rattle.traffic_lines.specs.Lines.{ship, coast, coast_station_parts, base, base_parts, IsBase, at_moment, moment_parts, IsAtMoment}
 
--- the texts of a ship's own events, and of a coast station's
-abbrev pub IsShipOwnText : ShipOwn → List ℕ → Type 0
-IsShipOwnText what text = IsEventText (event_of_ship (at_ship.Own what)) text
+-- ---- a coast station of another identity than the ship
 
-abbrev pub IsCoastOwnText : CoastOwn → List ℕ → Type 0
-IsCoastOwnText what text = IsEventText (event_of_coast (at_coast.Own what)) text
+-- the identities below this one and above it, and of the first and of the last those on the other side
+abbrev pub below : ℕ → ℕ × ℕ
+below mmsi = if mmsi == 0 then (1, bounds.LAST_IDENTITY) else (0, mmsi - 1)
 
--- a call that the other end sent comes to this one: get and its number, from 0
-abbrev pub IsGetText : ℕ → List ℕ → Type 0
-IsGetText number text = (number < 2 ^ 32) × (text ≡ codes "get " ++ decimal number)
+abbrev pub above : ℕ → ℕ × ℕ
+above mmsi = if mmsi == bounds.LAST_IDENTITY then (0, mmsi - 1) else (mmsi + 1, bounds.LAST_IDENTITY)
 
--- what happens at the ship, and at the coast station: an event of its own, or a call comes
-abbrev pub IsShipEntryText : ShipEntry → List ℕ → Type 0
-IsShipEntryText (of_ship.Own what) text = IsShipOwnText what text
-IsShipEntryText (of_ship.Get number) text = IsGetText number text
+-- the identities but for this one, as ranges of numbers
+abbrev pub others : ℕ → List (ℕ × ℕ)
+others mmsi = below mmsi ∷ above mmsi ∷ []
 
-abbrev pub IsCoastEntryText : CoastEntry → List ℕ → Type 0
-IsCoastEntryText (of_coast.Own what) text = IsCoastOwnText what text
-IsCoastEntryText (of_coast.Get number) text = IsGetText number text
+-- an identity but this one
+abbrev pub other_identity : ℕ → Token
+other_identity mmsi = shaped (fixed_number 9 (others mmsi))
 
--- the text of an event line: s or c for its end, a blank, a moment in milliseconds, a blank, and what happens there
-abbrev pub IsEntryText : entries.Entry → List ℕ → Type 0
-IsEntryText (AtShip at what) text = (said : List ℕ) × (at < 2 ^ 32) × IsShipEntryText what said × (text ≡ codes "s " ++ (decimal at ++ (codes " " ++ said)))
-IsEntryText (AtCoast at what) text = (said : List ℕ) × (at < 2 ^ 32) × IsCoastEntryText what said × (text ≡ codes "c " ++ (decimal at ++ (codes " " ++ said)))
+abbrev pub IsOtherCoast : (ship : ℕ) → ℕ × Band → Type 0
+IsOtherCoast ship says = (IsMmsi says.0 × (says.0 ≢ ship)) × Unit {0}
 
--- the text of a line: the ship, the coast station and its band, and the base as in traffic files, or an event line
+-- ---- event lines
+
+-- s, a moment and what happens at the ship: s 5000 get 0
+abbrev pub at_ship : Grammar → Grammar
+at_ship rest = word (codes "s ") (at_moment (event ship_rows get) rest)
+
+-- c, a moment and what happens at the coast station: c 5000 tick
+abbrev pub at_coast : Grammar → Grammar
+at_coast rest = word (codes "c ") (at_moment (event coast_rows get) rest)
+
+abbrev pub at_ship_parts : ℕ × events.Event ShipOwn ℕ → Parts → Parts
+at_ship_parts = moment_parts (event_parts ship_parts get_parts)
+
+abbrev pub at_coast_parts : ℕ × events.Event CoastOwn ℕ → Parts → Parts
+at_coast_parts = moment_parts (event_parts coast_parts get_parts)
+
+abbrev pub entry : Grammar → Grammar
+entry rest = either (at_ship rest) (at_coast rest)
+
+abbrev pub entry_parts : entries.Entry → Parts → Parts
+entry_parts (AtShip at what) rest = nth 0 (at_ship_parts (at, what) rest)
+entry_parts (AtCoast at what) rest = last 1 (at_coast_parts (at, what) rest)
+
+abbrev pub IsEntry : entries.Entry → Type 0
+IsEntry (AtShip at what) = IsAtMoment (IsEvent IsShipOwn IsGet) (at, what)
+IsEntry (AtCoast at what) = IsAtMoment (IsEvent IsCoastOwn IsGet) (at, what)
+
+-- ---- all lines
+abbrev pub world_lines : Grammar → Grammar
+world_lines rest = either (ship rest) (either (coast identity rest) (either (base rest) (entry rest)))
+
+abbrev pub world_parts : WorldLine → Parts → Parts
+world_parts (Ship mmsi) rest = nth 0 (part (digits 9 mmsi) rest)
+world_parts (Coast mmsi band) rest = nth 1 (coast_station_parts (mmsi, band) rest)
+world_parts (Base s) rest = nth 2 (base_parts s rest)
+world_parts (Entry what) rest = last 3 (entry_parts what rest)
+
+abbrev pub IsWorld : WorldLine → Type 0
+IsWorld (Ship mmsi) = IsMmsi mmsi
+IsWorld (Coast mmsi band) = IsMmsi mmsi
+IsWorld (Base s) = IsBase s
+IsWorld (Entry what) = IsEntry what
+
+-- the text of a line
 abbrev pub IsWorldLineText : WorldLine → List ℕ → Type 0
-IsWorldLineText (Ship mmsi) text = IsLineText (line.Ship mmsi) text
-IsWorldLineText (Coast mmsi band) text = IsLineText (line.Coast mmsi band) text
-IsWorldLineText (Base second) text = IsLineText (line.Base second) text
-IsWorldLineText (Entry entry) text = IsEntryText entry text
+IsWorldLineText line text = IsWritten world_lines IsWorld world_parts line text
 
 -- which lines may stand at a point: the coast station has another identity than the ship
 abbrev pub MayStandInWorld : ExchangePoint → WorldLine → Type 0
 MayStandInWorld point.Ship (Ship mmsi) = Unit {0}
 MayStandInWorld (point.Coast ship) (Coast mmsi band) = mmsi ≢ ship
-MayStandInWorld point.Base (Base second) = Unit {0}
-MayStandInWorld point.Events (Entry entry) = Unit {0}
+MayStandInWorld point.Base (Base s) = Unit {0}
+MayStandInWorld point.Events (Entry what) = Unit {0}
 MayStandInWorld _ _ = ⊥
 
 -- the lines of a point

@@ -1,245 +1,148 @@
-ghost use Rattle.traffic_lines.specs.Lines.{IsSend};
-ghost use Rattle.traffic_lines.specs.Worlds.{IsCoastOwnText, IsShipOwnText};
-ghost use Rattle.traffic_lines.specs.inside.Grammars as grammar;
-ghost use Rattle.traffic_lines.specs.inside.Reading.{Finds, ReadsBy, IsCoastText, IsShipText, SaysAtBoth, SaysAtCoast, SaysAtShip, SaysHearing};
+//! What comes to a station, and events: a reader for each row.
+ghost use Rattle.line_grammar.specs.Sections.{last, nth};
+ghost use Rattle.line_grammar.specs.Rows.{ReadsRow};
+ghost use Rattle.traffic_lines.specs.Events as rows;
+ghost use Rattle.traffic_lines.specs.Events.{IsDeed, IsEvent, IsGet, IsHearing, deed_parts, event_parts, get_parts, hearing_parts};
 
-use crate::calls::{hear, send};
-use crate::casualties::{accept, relay};
-use crate::fields::{labelled, labelled_to_end, number_to_end};
-use crate::lines::{CoastLine, CoastOwn, ShipLine, ShipOwn};
-use crate::shared::{Hearing, Shared};
-use crate::words::word_to_end;
-use call_values::bounds::{LONGEST_ALERT_DELAY, SHORTEST_ALERT_DELAY};
-use call_values::{AlertDelay, Comm, Nature, Position};
+use crate::lines::{Deed, Event, Hearing};
+use crate::rows::{Rows, spelled, to_end};
+use crate::values::{Held, Number};
+use dsc_texts::{any_call, extra_of};
+use expansion::Expansion;
 use line_grammar::{Left, further};
 
-/// Reads a position of the ship.
-#[tactic(auto, unfolding(line_grammar::specs::inside::Reading::fits))]
-fn position(bytes: &[u8]) -> Result<ShipOwn, Left>
-    ensures { ReadsBy grammar.position IsShipOwnText bytes.now result }
+fn hear(bytes: &[u8]) -> Result<Hearing, Left>
+    ensures { ReadsRow rows.hear (nth 0) IsHearing hearing_parts bytes.now result }
 {
-    let position: Position = labelled_to_end(b"position ", bytes)?;
-    let _ = position.known();
-    Ok(ShipOwn::Position(position))
+    let text = line_grammar::word(b"hear ", bytes)?;
+    let (call, tail) = any_call::<Option<Expansion>>(text)?;
+    call.lawful();
+    Ok(Hearing::Hear(call, extra_of(tail)))
 }
 
-/// Reads a delay.
-fn delay(bytes: &[u8]) -> Result<ShipOwn, Left>
-    ensures { ReadsBy grammar.delay IsShipOwnText bytes.now result }
-{
-    let number = number_to_end(
-        b"delay ",
-        SHORTEST_ALERT_DELAY as u64,
-        LONGEST_ALERT_DELAY as u64,
-        bytes,
-    )?;
-    Ok(ShipOwn::Delay(AlertDelay::new(number as u32).unwrap()))
-}
-
-/// Reads an alert.
-fn alert(bytes: &[u8]) -> Result<ShipOwn, Left>
-    ensures { ReadsBy grammar.alert IsShipOwnText bytes.now result }
-{
-    // No `?`: the borrow checker has no rule for it at a value with an invariant beside the bytes that follow it.
-    let (nature, rest) = match labelled::<Nature>(b"alert nature=", bytes) {
-        Ok(parts) => parts,
-        Err(left) => return Err(left),
-    };
-    let comm: Comm = labelled_to_end(b" then=", rest)?;
-    let _ = nature.number();
-    let _ = comm.number();
-    Ok(ShipOwn::Alert(nature, comm))
-}
-
-/// Reads that the alert is cancelled.
-fn cancel(bytes: &[u8]) -> Result<ShipOwn, Left>
-    ensures { ReadsBy grammar.cancel IsShipOwnText bytes.now result }
-{
-    word_to_end(b"cancel", bytes)?;
-    Ok(ShipOwn::Cancel)
-}
-
-/// Reads that time passes.
-fn tick(bytes: &[u8]) -> Result<Shared, Left>
-    ensures { ReadsBy grammar.tick SaysAtBoth bytes.now result }
-{
-    word_to_end(b"tick", bytes)?;
-    Ok(Shared::Tick)
-}
-
-/// Reads a held call that is answered.
-fn answer(bytes: &[u8]) -> Result<Shared, Left>
-    ensures { ReadsBy grammar.answer SaysAtBoth bytes.now result }
-{
-    let held = number_to_end(b"answer ", 1, 16, bytes)?;
-    Ok(Shared::Answer(held as u8, true))
-}
-
-/// Reads a held call that is declined.
-fn decline(bytes: &[u8]) -> Result<Shared, Left>
-    ensures { ReadsBy grammar.decline SaysAtBoth bytes.now result }
-{
-    let held = number_to_end(b"decline ", 1, 16, bytes)?;
-    Ok(Shared::Answer(held as u8, false))
-}
-
-/// Reads an event that both kinds of stations have and that names no call.
-fn shared_event(bytes: &[u8]) -> Result<Shared, Left>
-    ensures { ReadsBy grammar.shared_events SaysAtBoth bytes.now result }
-{
-    let others = further(&answer(bytes), &decline(bytes));
-    further(&tick(bytes), &others)
-}
-
-/// Reads such an event as a ship's.
-fn shared_at_ship(bytes: &[u8]) -> Result<ShipOwn, Left>
-    ensures { ReadsBy grammar.shared_events IsShipOwnText bytes.now result }
-{
-    match shared_event(bytes) {
-        Ok(says) => Ok(says.at_ship()),
-        Err(left) => Err(left),
-    }
-}
-
-/// Reads such an event as a coast station's.
-fn shared_at_coast(bytes: &[u8]) -> Result<CoastOwn, Left>
-    ensures { ReadsBy grammar.shared_events IsCoastOwnText bytes.now result }
-{
-    match shared_event(bytes) {
-        Ok(says) => Ok(says.at_coast()),
-        Err(left) => Err(left),
-    }
-}
-
-/// Reads a call that a ship is to send.
-fn send_at_ship(bytes: &[u8]) -> Result<ShipOwn, Left>
-    ensures { Finds IsSend IsShipOwnText bytes.now result }
-{
-    match send(bytes) {
-        Ok(says) => Ok(says.at_ship()),
-        Err(left) => Err(left),
-    }
-}
-
-/// Reads a call that a coast station is to send.
-fn send_at_coast(bytes: &[u8]) -> Result<CoastOwn, Left>
-    ensures { Finds IsSend IsCoastOwnText bytes.now result }
-{
-    match send(bytes) {
-        Ok(says) => Ok(says.at_coast()),
-        Err(left) => Err(left),
-    }
-}
-
-/// Reads an event of a ship's own that names no call.
-fn plain_ship_event(bytes: &[u8]) -> Result<ShipOwn, Left>
-    ensures { ReadsBy grammar.ship_events IsShipOwnText bytes.now result }
-{
-    let others = further(&cancel(bytes), &shared_at_ship(bytes));
-    let others = further(&alert(bytes), &others);
-    let others = further(&delay(bytes), &others);
-    further(&position(bytes), &others)
-}
-
-/// Reads an event of a coast station's own that names no call.
-fn plain_coast_event(bytes: &[u8]) -> Result<CoastOwn, Left>
-    ensures { ReadsBy grammar.coast_events IsCoastOwnText bytes.now result }
-{
-    let others = further(&relay(bytes), &shared_at_coast(bytes));
-    further(&accept(bytes), &others)
-}
-
-/// Reads an event of a ship's own.
-pub fn own_ship_event(bytes: &[u8]) -> Result<ShipOwn, Left>
-    ensures { Finds IsShipOwnText IsShipOwnText bytes.now result }
-{
-    further(&plain_ship_event(bytes), &send_at_ship(bytes))
-}
-
-/// Reads an event of a coast station's own.
-pub fn own_coast_event(bytes: &[u8]) -> Result<CoastOwn, Left>
-    ensures { Finds IsCoastOwnText IsCoastOwnText bytes.now result }
-{
-    further(&plain_coast_event(bytes), &send_at_coast(bytes))
-}
-
-/// Reads a group that is joined.
 fn heard(bytes: &[u8]) -> Result<Hearing, Left>
-    ensures { ReadsBy grammar.heard SaysHearing bytes.now result }
+    ensures { ReadsRow rows.heard (last 1) IsHearing hearing_parts bytes.now result }
 {
-    let group = number_to_end(b"heard g", 0, 4_294_967_295, bytes)?;
-    Ok(Hearing::Heard(group as u32))
+    let group: Number = to_end(b"heard g", bytes)?;
+    Ok(Hearing::Heard(group.number))
 }
 
-/// Reads what a station hears. A call that is heard ends the search.
-fn hearing(bytes: &[u8]) -> Result<Hearing, Left>
-    ensures { Finds SaysHearing SaysHearing bytes.now result }
-{
-    let call = hear(bytes);
-    if call.is_ok() {
-        return call;
+impl Rows for Hearing {
+    ghost rows = { rows.hearing_rows };
+
+    ghost lawful = { IsHearing };
+
+    ghost parts = { hearing_parts };
+
+    /// A call that is heard ends the search.
+    fn read(bytes: &[u8]) -> Result<Hearing, Left> {
+        let call = hear(bytes);
+        if call.is_ok() {
+            return call;
+        }
+        further(&call, &heard(bytes))
     }
-    further(&call, &heard(bytes))
 }
 
-/// Reads an event of a ship's own as one of its file.
-fn own_at_ship(bytes: &[u8]) -> Result<ShipLine, Left>
-    ensures { Finds IsShipOwnText SaysAtShip bytes.now result }
+/// The number of a call that the other end of an exchange sent.
+impl Rows for u32 {
+    ghost rows = { rows.get };
+
+    ghost lawful = { IsGet };
+
+    ghost parts = { get_parts };
+
+    fn read(bytes: &[u8]) -> Result<u32, Left> {
+        let call: Number = to_end(b"get ", bytes)?;
+        Ok(call.number)
+    }
+}
+
+fn own<O: Rows>(bytes: &[u8]) -> Result<Deed<O>, Left>
+    ensures { ReadsRow O.rows (nth 0) (IsDeed O.lawful) (deed_parts O.parts) bytes.now result }
 {
-    match own_ship_event(bytes) {
-        Ok(says) => Ok(ShipLine::Own(says)),
+    match O::read(bytes) {
+        Ok(what) => Ok(Deed::Own(what)),
         Err(left) => Err(left),
     }
 }
 
-/// Reads what a ship hears.
-fn hearing_at_ship(bytes: &[u8]) -> Result<ShipLine, Left>
-    ensures { Finds SaysHearing SaysAtShip bytes.now result }
+fn tick<O: Rows>(bytes: &[u8]) -> Result<Deed<O>, Left>
+    ensures { ReadsRow rows.tick (nth 1) (IsDeed O.lawful) (deed_parts O.parts) bytes.now result }
 {
-    match hearing(bytes) {
-        Ok(says) => Ok(says.at_ship()),
+    spelled(b"tick", Deed::Tick, bytes)
+}
+
+fn answer<O: Rows>(bytes: &[u8]) -> Result<Deed<O>, Left>
+    ensures { ReadsRow rows.answer (nth 2) (IsDeed O.lawful) (deed_parts O.parts) bytes.now result }
+{
+    let held: Held = to_end(b"answer ", bytes)?;
+    Ok(Deed::Answer(held.number(), true))
+}
+
+fn decline<O: Rows>(bytes: &[u8]) -> Result<Deed<O>, Left>
+    ensures { ReadsRow rows.decline (nth 3) (IsDeed O.lawful) (deed_parts O.parts) bytes.now result }
+{
+    let held: Held = to_end(b"decline ", bytes)?;
+    Ok(Deed::Answer(held.number(), false))
+}
+
+fn send<O: Rows>(bytes: &[u8]) -> Result<Deed<O>, Left>
+    ensures { ReadsRow rows.send (last 4) (IsDeed O.lawful) (deed_parts O.parts) bytes.now result }
+{
+    let text = line_grammar::word(b"send ", bytes)?;
+    let (call, _nothing) = any_call::<()>(text)?;
+    call.lawful();
+    Ok(Deed::Send(call))
+}
+
+impl<O: Rows> Rows for Deed<O> {
+    ghost rows = { rows.deeds O.rows };
+
+    ghost lawful = { IsDeed O.lawful };
+
+    ghost parts = { deed_parts O.parts };
+
+    fn read(bytes: &[u8]) -> Result<Deed<O>, Left> {
+        let declined = further(&decline(bytes), &send(bytes));
+        let answered = further(&answer(bytes), &declined);
+        let ticked = further(&tick(bytes), &answered);
+        further(&own(bytes), &ticked)
+    }
+}
+
+fn does<O: Rows, C: Rows>(bytes: &[u8]) -> Result<Event<O, C>, Left>
+    ensures { ReadsRow (rows.deeds O.rows) (last 1) (IsEvent O.lawful C.lawful) (event_parts O.parts C.parts) bytes.now
+        result }
+{
+    match Deed::<O>::read(bytes) {
+        Ok(deed) => Ok(Event::Does(deed)),
         Err(left) => Err(left),
     }
 }
 
-/// Reads an event of a coast station's own as one of its file.
-fn own_at_coast(bytes: &[u8]) -> Result<CoastLine, Left>
-    ensures { Finds IsCoastOwnText SaysAtCoast bytes.now result }
+fn comes<O: Rows, C: Rows>(bytes: &[u8]) -> Result<Event<O, C>, Left>
+    ensures { ReadsRow C.rows (nth 0) (IsEvent O.lawful C.lawful) (event_parts O.parts C.parts) bytes.now result }
 {
-    match own_coast_event(bytes) {
-        Ok(says) => Ok(CoastLine::Own(says)),
+    match C::read(bytes) {
+        Ok(what) => Ok(Event::Comes(what)),
         Err(left) => Err(left),
     }
 }
 
-/// Reads what a coast station hears.
-fn hearing_at_coast(bytes: &[u8]) -> Result<CoastLine, Left>
-    ensures { Finds SaysHearing SaysAtCoast bytes.now result }
-{
-    match hearing(bytes) {
-        Ok(says) => Ok(says.at_coast()),
-        Err(left) => Err(left),
-    }
-}
+impl<O: Rows, C: Rows> Rows for Event<O, C> {
+    ghost rows = { rows.event O.rows C.rows };
 
-/// Reads an event of a ship. What it hears ends the search, since most lines say that.
-pub fn ship_event(bytes: &[u8]) -> Result<ShipLine, Left>
-    ensures { Finds IsShipText SaysAtShip bytes.now result }
-{
-    let heard = hearing_at_ship(bytes);
-    if heard.is_ok() {
-        return heard;
-    }
-    further(&own_at_ship(bytes), &heard)
-}
+    ghost lawful = { IsEvent O.lawful C.lawful };
 
-/// Reads an event of a coast station, in the same order.
-pub fn coast_event(bytes: &[u8]) -> Result<CoastLine, Left>
-    ensures { Finds IsCoastText SaysAtCoast bytes.now result }
-{
-    let heard = hearing_at_coast(bytes);
-    if heard.is_ok() {
-        return heard;
+    ghost parts = { event_parts O.parts C.parts };
+
+    /// What comes to the station ends the search, since most lines say that.
+    fn read(bytes: &[u8]) -> Result<Event<O, C>, Left> {
+        let comes = comes(bytes);
+        if comes.is_ok() {
+            return comes;
+        }
+        further(&comes, &does(bytes))
     }
-    further(&own_at_coast(bytes), &heard)
 }

@@ -1,24 +1,25 @@
+ghost use Rattle.line_grammar.specs.Sections.{last, nth};
+ghost use Rattle.line_grammar.specs.Rows.{ReadsRow};
 ghost use Rattle.traffic_lines.specs.Readings.{ReadsInWorld};
+ghost use Rattle.traffic_lines.specs.Worlds as worlds;
+ghost use Rattle.traffic_lines.specs.Worlds.{IsEntry, entry_parts};
 ghost use Rattle.traffic_lines.specs.declared.worlds.ExchangePoint.TheVariants as point;
 ghost use Rattle.traffic_lines.specs.declared.worlds.WorldLine.TheVariants as line;
 
-use crate::entries::entry;
-use crate::parties::other_coast;
-use crate::points::ship_identity;
-use crate::reading::read_base;
+use crate::lines::{CoastOwn, Event, ShipOwn};
+use crate::others::other_coast;
+use crate::rows::{Rows, whole};
+use crate::values::Second;
 use crate::worlds::Entry;
 use call_values::{Band, Mmsi};
-use line_grammar::column;
+use line_grammar::{Left, column, further, word};
 
-/// The ship that the first line of a file of an exchange names. An error is the column: the least n, from 1, for which the first n bytes
-/// begin no such line, and the length plus one where the line ends too early.
+/// The ship that the first line of a file of an exchange names. An error is the column: the least n, from 1, for which the first n
+/// bytes begin no such line, and the length plus one where the line ends too early.
 pub fn read_exchange_ship(bytes: &[u8]) -> Result<Mmsi, usize>
     ensures { ReadsInWorld point.Ship (λ mmsi. line.Ship mmsi) bytes.now result }
 {
-    match ship_identity(bytes) {
-        Ok(mmsi) => Ok(mmsi),
-        Err(left) => Err(column(bytes, left)),
-    }
+    whole(bytes)
 }
 
 /// The coast station, another than this ship, that the second line of a file of an exchange names, and its band. An error is the
@@ -26,6 +27,7 @@ pub fn read_exchange_ship(bytes: &[u8]) -> Result<Mmsi, usize>
 pub fn read_exchange_coast(ship: Mmsi, bytes: &[u8]) -> Result<(Mmsi, Band), usize>
     ensures { ReadsInWorld (point.Coast ship) (λ says. line.Coast says.0 says.1) bytes.now result }
 {
+    let _ = ship.number();
     match other_coast(ship, bytes) {
         Ok(says) => Ok(says),
         Err(left) => Err(column(bytes, left)),
@@ -37,9 +39,37 @@ pub fn read_exchange_coast(ship: Mmsi, bytes: &[u8]) -> Result<(Mmsi, Band), usi
 pub fn read_exchange_base(bytes: &[u8]) -> Result<u64, usize>
     ensures { ReadsInWorld point.Base (λ second. line.Base second) bytes.now result }
 {
-    match read_base(bytes) {
-        Ok(second) => Ok(second),
+    match whole::<Second>(bytes) {
+        Ok(second) => Ok(second.number()),
         Err(n) => Err(n),
+    }
+}
+
+fn at_ship(bytes: &[u8]) -> Result<Entry, Left>
+    ensures { ReadsRow worlds.at_ship (nth 0) IsEntry entry_parts bytes.now result }
+{
+    let rest = word(b"s ", bytes)?;
+    let (at, what) = <(u32, Event<ShipOwn, u32>)>::read(rest)?;
+    Ok(Entry::AtShip { at, what })
+}
+
+fn at_coast(bytes: &[u8]) -> Result<Entry, Left>
+    ensures { ReadsRow worlds.at_coast (last 1) IsEntry entry_parts bytes.now result }
+{
+    let rest = word(b"c ", bytes)?;
+    let (at, what) = <(u32, Event<CoastOwn, u32>)>::read(rest)?;
+    Ok(Entry::AtCoast { at, what })
+}
+
+impl Rows for Entry {
+    ghost rows = { worlds.entry };
+
+    ghost lawful = { IsEntry };
+
+    ghost parts = { entry_parts };
+
+    fn read(bytes: &[u8]) -> Result<Entry, Left> {
+        further(&at_ship(bytes), &at_coast(bytes))
     }
 }
 
@@ -47,8 +77,5 @@ pub fn read_exchange_base(bytes: &[u8]) -> Result<u64, usize>
 pub fn read_entry(bytes: &[u8]) -> Result<Entry, usize>
     ensures { ReadsInWorld point.Events (λ says. line.Entry says) bytes.now result }
 {
-    match entry(bytes) {
-        Ok(says) => Ok(says),
-        Err(left) => Err(column(bytes, left)),
-    }
+    whole(bytes)
 }

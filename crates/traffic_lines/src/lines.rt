@@ -1,4 +1,5 @@
 use call_values::{AlertDelay, Band, Call, CoastDelay, Comm, Mmsi, Nature, Position, To};
+use slot_join::Extra;
 
 /// Where a line stands in a traffic file, not counting empty lines and comments: this decides which lines are well formed.
 #[derive(Clone, Copy, Debug, PartialEq, Eq)]
@@ -7,15 +8,37 @@ pub enum Point {
     Station,
     /// The second line, which names the base of a ship or of a coast station.
     Base,
-    /// Behind a ship's base and so many groups, at most 16.
+    /// After a ship's base and so many groups, at most 16.
     Groups { held: u8 },
-    /// Behind the first line of a ship that is no group.
+    /// After the first line of a ship that is no group.
     Ship,
-    /// Behind a coast station's base.
+    /// After a coast station's base.
     Coast,
 }
 
-/// An event of a ship's own, as an event line says it.
+/// What a station does: `O` is what its kind alone does.
+#[derive(Clone, Copy, Debug, PartialEq, Eq)]
+pub enum Deed<O> {
+    /// What a station of its kind alone does.
+    Own(O),
+    /// Time passes.
+    Tick,
+    /// This call is to be sent.
+    Send(Call),
+    /// The call that is held under this number, 1 to 16, is answered where the flag is true, and declined where it is false.
+    Answer(u8, bool),
+}
+
+/// An event of a station: `O` is what its kind alone does, and `C` what comes to it.
+#[derive(Clone, Copy, Debug, PartialEq, Eq)]
+pub enum Event<O, C> {
+    /// The station does this.
+    Does(Deed<O>),
+    /// This comes to it.
+    Comes(C),
+}
+
+/// What a ship alone does.
 #[derive(Clone, Copy, Debug, PartialEq, Eq)]
 pub enum ShipOwn {
     /// The ship is there, or doesn't know where it is.
@@ -26,47 +49,31 @@ pub enum ShipOwn {
     Alert(Nature, Comm),
     /// The alert is cancelled.
     Cancel,
-    /// Time passes.
-    Tick,
-    /// This call is to be sent.
-    Send(Call),
-    /// The call that is held under this number, 1 to 16, is answered where the flag is true, and declined where it is false.
-    Answer(u8, bool),
 }
 
-/// What an event line of a ship's file says behind its moment.
-#[derive(Clone, Copy, Debug, PartialEq, Eq)]
-pub enum ShipLine {
-    /// An event of the ship's own.
-    Own(ShipOwn),
-    /// This call is heard.
-    Hear(Call),
-    /// What the receivers of this group heard is joined.
-    Heard(u32),
-}
-
-/// An event of a coast station's own, as an event line says it.
+/// What a coast station alone does.
 #[derive(Clone, Copy, Debug, PartialEq, Eq)]
 pub enum CoastOwn {
     /// The distress alert of this ship is to be acknowledged, so long after it as the delay says where one is given.
     Accept(Mmsi, Option<CoastDelay>),
     /// The distress alert of this ship is to be relayed. The flag says whether the relay asks for an acknowledgement.
     Relay(Mmsi, To, bool),
-    /// Time passes.
-    Tick,
-    /// This call is to be sent.
-    Send(Call),
-    /// The call that is held under this number, 1 to 16, is answered where the flag is true, and declined where it is false.
-    Answer(u8, bool),
 }
 
-/// What an event line of a coast station's file says behind its moment.
+/// What a station of either kind alone does.
 #[derive(Clone, Copy, Debug, PartialEq, Eq)]
-pub enum CoastLine {
-    /// An event of the coast station's own.
-    Own(CoastOwn),
-    /// This call is heard.
-    Hear(Call),
+pub enum StationOwn {
+    /// The station is a ship.
+    Ship(ShipOwn),
+    /// The station is a coast station.
+    Coast(CoastOwn),
+}
+
+/// What a station of a traffic file hears.
+#[derive(Clone, Copy, Debug, PartialEq, Eq)]
+pub enum Hearing {
+    /// This call. The expansion that may stand after it says nothing to a station.
+    Hear(Call, Extra),
     /// What the receivers of this group heard is joined.
     Heard(u32),
 }
@@ -80,41 +87,16 @@ pub enum StationLine {
     Coast(Mmsi, Band),
 }
 
-/// A line behind the base of a ship's file.
+/// A line after the base of a ship's file.
 #[derive(Clone, Copy, Debug, PartialEq, Eq)]
-pub enum ShipBodyLine {
+pub enum ShipLine {
     /// The ship belongs to this group.
     Group(Mmsi),
     /// So many milliseconds after the base this happens.
-    Event { at: u32, what: ShipLine },
-}
-
-/// What an event line of any file says behind its moment. `Position`, `Delay`, `Alert` and `Cancel` stand in files of ships alone,
-/// `Accept` and `Relay` in those of coast stations alone, and the others in both.
-#[derive(Clone, Copy, Debug, PartialEq, Eq)]
-pub enum EventLine {
-    /// The ship is there, or doesn't know where it is.
-    Position(Position),
-    /// The wait from one attempt of an alert to the next.
-    Delay(AlertDelay),
-    /// An alert of this nature of distress, and the subsequent communications that it proposes.
-    Alert(Nature, Comm),
-    /// The alert is cancelled.
-    Cancel,
-    /// Time passes.
-    Tick,
-    /// This call is to be sent.
-    Send(Call),
-    /// The call that is held under this number, 1 to 16, is answered where the flag is true, and declined where it is false.
-    Answer(u8, bool),
-    /// This call is heard.
-    Hear(Call),
-    /// What the receivers of this group heard is joined.
-    Heard(u32),
-    /// The distress alert of this ship is to be acknowledged, so long after it as the delay says where one is given.
-    Accept(Mmsi, Option<CoastDelay>),
-    /// The distress alert of this ship is to be relayed. The flag says whether the relay asks for an acknowledgement.
-    Relay(Mmsi, To, bool),
+    Event {
+        at: u32,
+        what: Event<ShipOwn, Hearing>,
+    },
 }
 
 /// What a line of a traffic file says, where it is no empty line, comment, reception or evidence.
@@ -129,5 +111,8 @@ pub enum TrafficLine {
     /// The ship belongs to this group.
     Group(Mmsi),
     /// So many milliseconds after the base this happens.
-    Event { at: u32, what: EventLine },
+    Event {
+        at: u32,
+        what: Event<StationOwn, Hearing>,
+    },
 }

@@ -1,100 +1,132 @@
-ghost use Rattle.std.specs.Prelude.{◌<◌};
-ghost use Rattle.traffic_lines.specs.Lines.{IsTrafficLine};
-ghost use Rattle.traffic_lines.specs.declared.lines.Point.TheVariants.{Station, Base, Groups};
-ghost use Rattle.traffic_lines.specs.inside.Grammars as grammar;
-ghost use Rattle.traffic_lines.specs.inside.Reading.{Finds, ReadsBy, IsBandText, IsGroupLine, NamesBase, NamesShip, NamesStation, SaysGroup, SaysInShip};
+//! The lines in front of the events, and those of a ship: a reader for each row.
+ghost use Rattle.dsc_texts.specs.CallGrammar.{identity};
+ghost use Rattle.call_values.specs.Identity.{IsMmsi};
+ghost use Rattle.line_grammar.specs.Sections.{last, nth};
+ghost use Rattle.line_grammar.specs.Rows.{ReadsRow};
+ghost use Rattle.traffic_lines.specs.Lines as rows;
+ghost use Rattle.traffic_lines.specs.Lines.{IsAtMoment, IsBase, IsShipLine, IsStation, band_parts, base_parts, group_parts, moment_parts, ship_lines_parts, stations_parts};
 
-use crate::fields::{labelled, labelled_to_end, number_to_end};
-use crate::lines::{ShipBodyLine, StationLine};
-use crate::moments::ship_line;
-use crate::words::spelled_to_end;
-use call_values::bounds::LAST_BASE;
+use crate::lines::{Event, Hearing, ShipLine, ShipOwn, StationLine};
+use crate::rows::{Rows, spelled, to_end};
+use crate::values::{Number, Second};
 use call_values::{Band, Mmsi};
-use line_grammar::{Left, further};
+use cursor::Cursor;
+use dsc_texts::{Token, field};
+use line_grammar::{Left, further, word};
 
-/// How many groups a ship belongs to at most.
-const MOST_SHIP_GROUPS: u8 = 16;
+/// The identity of a ship that is the station.
+impl Rows for Mmsi {
+    ghost rows = { rows.ship };
 
-/// Reads a ship's identity.
-pub fn ship_identity(bytes: &[u8]) -> Result<Mmsi, Left>
-    ensures { ReadsBy grammar.ship NamesShip bytes.now result }
-{
-    let mmsi: Mmsi = labelled_to_end(b"station ship ", bytes)?;
-    let _ = mmsi.number();
-    Ok(mmsi)
+    ghost lawful = { IsMmsi };
+
+    ghost parts = { group_parts };
+
+    fn read(bytes: &[u8]) -> Result<Mmsi, Left> {
+        let mmsi: Mmsi = to_end(b"station ship ", bytes)?;
+        let _ = mmsi.number();
+        Ok(mmsi)
+    }
 }
 
-/// Reads that the station is a ship.
 fn ship(bytes: &[u8]) -> Result<StationLine, Left>
-    ensures { ReadsBy grammar.ship NamesStation bytes.now result }
+    ensures { ReadsRow rows.ship (nth 0) IsStation stations_parts bytes.now result }
 {
-    let mmsi = ship_identity(bytes)?;
+    let mmsi = <Mmsi as Rows>::read(bytes)?;
     Ok(StationLine::Ship(mmsi))
 }
 
-/// Reads a band.
-pub fn band(bytes: &[u8]) -> Result<Band, Left>
-    ensures { ReadsBy grammar.band IsBandText bytes.now result }
-{
-    let mf = spelled_to_end(b" mf", Band::Mf, bytes);
-    let hf = spelled_to_end(b" hf", Band::Hf, bytes);
-    let vhf = spelled_to_end(b" vhf", Band::Vhf, bytes);
-    let others = further(&hf, &vhf);
-    further(&mf, &others)
+/// The band in which a coast station works.
+impl Rows for Band {
+    ghost rows = { rows.band };
+
+    ghost lawful = { λ _. Unit {0} };
+
+    ghost parts = { band_parts };
+
+    fn read(bytes: &[u8]) -> Result<Band, Left> {
+        let hf = spelled(b" hf", Band::Hf, bytes);
+        let others = further(&hf, &spelled(b" vhf", Band::Vhf, bytes));
+        further(&spelled(b" mf", Band::Mf, bytes), &others)
+    }
 }
 
-/// Reads that the station is a coast station.
 fn coast(bytes: &[u8]) -> Result<StationLine, Left>
-    ensures { ReadsBy grammar.coast NamesStation bytes.now result }
+    ensures { ReadsRow (rows.coast identity) (last 1) IsStation stations_parts bytes.now result }
 {
-    let (mmsi, rest) = match labelled::<Mmsi>(b"station coast ", bytes) {
-        Ok(parts) => parts,
-        Err(left) => return Err(left),
-    };
-    let band = band(rest)?;
+    let mut line = Cursor::new(bytes);
+    let mmsi: Mmsi = field(&mut line, b"station coast ")?;
+    let band = Band::read(line.rest())?;
     let _ = mmsi.number();
     Ok(StationLine::Coast(mmsi, band))
 }
 
-/// Reads a station.
-pub fn station_line(bytes: &[u8]) -> Result<StationLine, Left>
-    ensures { Finds (IsTrafficLine Station) NamesStation bytes.now result }
-{
-    further(&ship(bytes), &coast(bytes))
+impl Rows for StationLine {
+    ghost rows = { rows.stations };
+
+    ghost lawful = { IsStation };
+
+    ghost parts = { stations_parts };
+
+    fn read(bytes: &[u8]) -> Result<StationLine, Left> {
+        further(&ship(bytes), &coast(bytes))
+    }
 }
 
-/// Reads a base.
-pub fn base_line(bytes: &[u8]) -> Result<u64, Left>
-    ensures { Finds (IsTrafficLine Base) (NamesBase Base) bytes.now result }
-{
-    let second = number_to_end(b"base ", 0, LAST_BASE, bytes)?;
-    Ok(second)
+impl Rows for Second {
+    ghost rows = { rows.base };
+
+    ghost lawful = { IsBase };
+
+    ghost parts = { base_parts };
+
+    fn read(bytes: &[u8]) -> Result<Second, Left> {
+        let second: Second = to_end(b"base ", bytes)?;
+        let _ = second.number();
+        Ok(second)
+    }
 }
 
-/// Reads a group.
-fn group_line(bytes: &[u8]) -> Result<ShipBodyLine, Left>
-    ensures { Finds IsGroupLine SaysGroup bytes.now result }
+/// A moment, a blank and what happens then.
+impl<E: Rows> Rows for (u32, E) {
+    ghost rows = { rows.at_moment E.rows };
+
+    ghost lawful = { IsAtMoment E.lawful };
+
+    ghost parts = { moment_parts E.parts };
+
+    fn read(bytes: &[u8]) -> Result<(u32, E), Left> {
+        let (at, rest) = Number::read(bytes)?;
+        let rest = word(b" ", rest)?;
+        let what = E::read(rest)?;
+        Ok((at.number, what))
+    }
+}
+
+fn group(bytes: &[u8]) -> Result<ShipLine, Left>
+    ensures { ReadsRow rows.group (nth 0) IsShipLine ship_lines_parts bytes.now result }
 {
-    let mmsi: Mmsi = labelled_to_end(b"group ", bytes)?;
+    let mmsi: Mmsi = to_end(b"group ", bytes)?;
     let _ = mmsi.number();
-    Ok(ShipBodyLine::Group(mmsi))
+    Ok(ShipLine::Group(mmsi))
 }
 
-/// Reads a group or an event, behind fewer than sixteen groups.
-fn group_or_event(held: u8, bytes: &[u8]) -> Result<ShipBodyLine, Left>
-    requires { held < 16 }
-    ensures { Finds (IsTrafficLine (Groups held)) (SaysInShip (Groups held)) bytes.now result }
+fn event(bytes: &[u8]) -> Result<ShipLine, Left>
+    ensures { ReadsRow rows.ship_event (last 1) IsShipLine ship_lines_parts bytes.now result }
 {
-    further(&group_line(bytes), &ship_line(bytes))
+    let (at, what) = <(u32, Event<ShipOwn, Hearing>)>::read(bytes)?;
+    Ok(ShipLine::Event { at, what })
 }
 
-/// Reads a line behind so many groups.
-pub fn line_behind_groups(held: u8, bytes: &[u8]) -> Result<ShipBodyLine, Left>
-    ensures { Finds (IsTrafficLine (Groups held)) (SaysInShip (Groups held)) bytes.now result }
-{
-    if held < MOST_SHIP_GROUPS {
-        group_or_event(held, bytes)
-    } else {
-        ship_line(bytes)
+/// A group that a ship belongs to, or an event.
+impl Rows for ShipLine {
+    ghost rows = { rows.ship_lines };
+
+    ghost lawful = { IsShipLine };
+
+    ghost parts = { ship_lines_parts };
+
+    fn read(bytes: &[u8]) -> Result<ShipLine, Left> {
+        further(&group(bytes), &event(bytes))
     }
 }

@@ -10,8 +10,9 @@ use Rattle.slot_join.specs.declared.joined.Joined.{Joined}
 use Rattle.slot_join.specs.Answer.{IsAnswer}
 use Rattle.ship_station.specs.ShipRules.{ship_rules}
 use Rattle.coast_station.specs.CoastRules.{coast_rules}
-use Rattle.traffic_lines.specs.declared.lines.EventLine.{EventLine}
-use Rattle.traffic_lines.specs.declared.lines.EventLine.TheVariants.{Position, Delay, Alert, Cancel, Tick, Send, Answer, Hear, Heard, Accept, Relay}
+use Rattle.station_lines.specs.Events.{EventLine}
+use Rattle.traffic_lines.specs.declared.lines.Event.TheVariants.{Does, Comes}
+use Rattle.traffic_lines.specs.declared.lines.Hearing.TheVariants.{Hear, Heard}
 use Rattle.traffic_lines.specs.declared.lines.TrafficLine.TheVariants as line
 use Rattle.dsc_lines.specs.PointLine.{joined, traffic, IsPointLine}
 use Rattle.dsc_lines.proofs.PublicLaws.{one_column}
@@ -36,24 +37,16 @@ same_plain : {What : Type 0} (gives : Option What) (a b : Result What Unreported
 same_plain {What} gives a b x y = let event : x.0 ≡ y.0 = same_Some _ _ (sym x.1 ∙ y.1) in x.2 ∙ ap (λ (e : What). Ok e) event ∙ sym y.2
 
 same_heard : OneAnswer → {What : Type 0} (taking : Taking What) (said : Said) (at group : ℕ) (a b : Result What Unreported)
-    → ComesOf taking said at (Heard group) a → ComesOf taking said at (Heard group) b → a ≡ b
+    → ComesOf taking said at (Comes (Heard group)) a → ComesOf taking said at (Comes (Heard group)) b → a ≡ b
 same_heard one taking said at group a b x y =
     x.2 ∙ ap (heard_as taking.heard group) (one (facts_since_heard group said) x.0 y.0 x.1 y.1) ∙ sym y.2
 
 -- one thing comes of an event line
 same_outcome : OneAnswer → {What : Type 0} (taking : Taking What) (said : Said) (at : ℕ) (what : EventLine) (a b : Result What Unreported)
     → ComesOf taking said at what a → ComesOf taking said at what b → a ≡ b
-same_outcome one taking said at (Position place) a b x y = same_plain _ a b x y
-same_outcome one taking said at (Delay delay) a b x y = same_plain _ a b x y
-same_outcome one taking said at (Alert nature comm) a b x y = same_plain _ a b x y
-same_outcome one taking said at Cancel a b x y = same_plain _ a b x y
-same_outcome one taking said at Tick a b x y = same_plain _ a b x y
-same_outcome one taking said at (Send call) a b x y = same_plain _ a b x y
-same_outcome one taking said at (Answer number accepts) a b x y = same_plain _ a b x y
-same_outcome one taking said at (Hear call) a b x y = same_plain _ a b x y
-same_outcome one taking said at (Accept mmsi delay) a b x y = same_plain _ a b x y
-same_outcome one taking said at (Relay mmsi to ask) a b x y = same_plain _ a b x y
-same_outcome one taking said at (Heard group) a b x y = same_heard one taking said at group a b x y
+same_outcome one taking said at (Does deed) a b x y = same_plain _ a b x y
+same_outcome one taking said at (Comes (Hear call extra)) a b x y = same_plain _ a b x y
+same_outcome one taking said at (Comes (Heard group)) a b x y = same_heard one taking said at group a b x y
 
 happening_of : {What : Type 0} → ℕ → Result What Unreported → Happening What
 happening_of at outcome = record { at = at; outcome = outcome }

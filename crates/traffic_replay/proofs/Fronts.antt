@@ -7,7 +7,7 @@ use Rattle.line_engine.specs.Determined.{BeginsWith}
 use Rattle.station_lines.proofs.PublicLaws.{no_more, last_of, begins_itself, begins_further}
 use Rattle.ship_station.specs.ShipRules.{ship_rules}
 use Rattle.coast_station.specs.CoastRules.{coast_rules}
-use Rattle.traffic_lines.specs.declared.lines.EventLine.{EventLine}
+use Rattle.station_lines.specs.Events.{EventLine}
 use Rattle.traffic_lines.specs.declared.lines.Point.{Point}
 use Rattle.traffic_lines.specs.declared.lines.Point.TheVariants as point
 use Rattle.traffic_lines.specs.declared.lines.TrafficLine.TheVariants as line

@@ -3,7 +3,8 @@ use Rattle.std.proofs.Common.{◌≡◌, ℕ, Bool, true, false, not, ◌&&◌, 
 use Rattle.slot_evidence.specs.Facts.{Facts, no_facts}
 use Rattle.traffic_lines.specs.declared.lines.TrafficLine.{TrafficLine}
 use Rattle.traffic_lines.specs.declared.lines.TrafficLine.TheVariants.{Event}
-use Rattle.traffic_lines.specs.declared.lines.EventLine.TheVariants.{Heard}
+use Rattle.traffic_lines.specs.declared.lines.Event.TheVariants.{Comes}
+use Rattle.traffic_lines.specs.declared.lines.Hearing.TheVariants.{Heard}
 use Rattle.dsc_lines.specs.JoinLine.{JoinLine, nothing}
 use Rattle.dsc_lines.specs.PointLine.{joined, traffic}
 use Rattle.join_groups.specs.declared.groups.NamedGroups.{NamedGroups}
@@ -39,17 +40,17 @@ silent groups said line quiet keeps =
 
 -- a group that is heard begins anew
 pub keeps_anew : (groups : NamedGroups) (said : Said) (at group : ℕ) → Holds groups (is_named (of_receivers said)) (facts_without group (λ k. facts_since_heard k said))
-    → KeepsGroups groups (traffic (Event at (Heard group)) ∷ said)
+    → KeepsGroups groups (traffic (Event at (Comes (Heard group))) ∷ said)
 keeps_anew groups said at group h =
     holds_same (number_in groups) groups.sheets.items groups.batch.items (is_named (of_receivers said)) (is_named (of_receivers said))
-    (facts_without group (λ k. facts_since_heard k said)) (λ k. facts_since_heard k (traffic (Event at (Heard group)) ∷ said))
+    (facts_without group (λ k. facts_since_heard k said)) (λ k. facts_since_heard k (traffic (Event at (Comes (Heard group))) ∷ said))
     (λ k. refl) (λ k p v. by_test k p v (group == k) refl) h
   where
-    by_test : (k p v : ℕ) (t : Bool) → (group == k) ≡ t → facts_without group (λ j. facts_since_heard j said) k p v ≡ facts_since_heard k (traffic (Event at (Heard group)) ∷ said) p v
+    by_test : (k p v : ℕ) (t : Bool) → (group == k) ≡ t → facts_without group (λ j. facts_since_heard j said) k p v ≡ facts_since_heard k (traffic (Event at (Comes (Heard group))) ∷ said) p v
     by_test k p v true e =
-        ap (λ (b : Bool). not b && facts_since_heard k said p v) e ∙ sym (ap (λ (F : Facts). F p v) (facts_heard said (Event at (Heard group)) k e))
+        ap (λ (b : Bool). not b && facts_since_heard k said p v) e ∙ sym (ap (λ (F : Facts). F p v) (facts_heard said (Event at (Comes (Heard group))) k e))
     by_test k p v false e =
-        ap (λ (b : Bool). not b && facts_since_heard k said p v) e ∙ sym (ap (λ (F : Facts). F p v) (facts_unheard said (Event at (Heard group)) k e))
+        ap (λ (b : Bool). not b && facts_since_heard k said p v) e ∙ sym (ap (λ (F : Facts). F p v) (facts_unheard said (Event at (Comes (Heard group))) k e))
 
 -- before the first line
 pub none_kept : (groups : NamedGroups) → Holds groups (λ k. false) (λ k. no_facts) → KeepsGroups groups []

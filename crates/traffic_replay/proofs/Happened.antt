@@ -6,21 +6,14 @@ use Rattle.slot_join.specs.declared.joined.Joined.TheVariants.{Reported, Missing
 use Rattle.slot_join.specs.Answer.{IsAnswer}
 use Rattle.traffic_rules.specs.Histories.{History}
 use Rattle.traffic_rules.specs.Rules.{Rules, answer_to, continued}
-use Rattle.traffic_lines.specs.declared.lines.EventLine.{EventLine}
-use Rattle.traffic_lines.specs.declared.lines.EventLine.TheVariants as line
+use Rattle.station_lines.specs.Events.{EventLine}
+use Rattle.traffic_lines.specs.declared.lines.Event.TheVariants as event
+use Rattle.traffic_lines.specs.declared.lines.Hearing.TheVariants.{Hear, Heard}
 use Rattle.traffic_lines.specs.declared.lines.TrafficLine.TheVariants.{Event}
 use Rattle.dsc_lines.specs.PointLine.{traffic}
-use Rattle.traffic_lines.specs.declared.lines.ShipOwn.{ShipOwn}
-use Rattle.traffic_lines.specs.declared.lines.ShipOwn.TheVariants as own_ship
-use Rattle.traffic_lines.specs.declared.lines.ShipLine.TheVariants as at_ship
-use Rattle.traffic_lines.specs.declared.lines.CoastOwn.{CoastOwn}
-use Rattle.traffic_lines.specs.declared.lines.CoastOwn.TheVariants as own_coast
-use Rattle.traffic_lines.specs.declared.lines.CoastLine.TheVariants as at_coast
-use Rattle.traffic_lines.specs.Anywhere.{event_of_ship, event_of_coast}
 use Rattle.traffic_replay.specs.declared.outcomes.Unreported.{Unreported}
 use Rattle.traffic_replay.specs.Said.{Said, base_of}
 use Rattle.traffic_replay.specs.HeardGroups.{hears, facts_since_heard}
-use Rattle.station_lines.specs.Events.{own_ship_event, own_coast_event}
 use Rattle.traffic_replay.specs.Happenings.{Taking, taking_ship, taking_coast, heard_as, ComesOf}
 use Rattle.station_lines.specs.Answers.{answer_lines}
 use Rattle.traffic_replay.specs.Output.{unreported_line}
@@ -30,30 +23,14 @@ use Rattle.traffic_replay.specs.inside.Happens.{IsPlain, Comes, Happens}
 -- a line that hears no group gives its event
 pub comes_plain : {What : Type 0} (taking : Taking What) (said : Said) (at : ℕ) (l : EventLine) (what : What) → IsPlain l → taking.event (base_of said) at l ≡ Some what
     → ComesOf taking said at l (Ok what)
-comes_plain taking said at (line.Position place) what plain e = (what, e, refl)
-comes_plain taking said at (line.Delay delay) what plain e = (what, e, refl)
-comes_plain taking said at (line.Alert nature comm) what plain e = (what, e, refl)
-comes_plain taking said at line.Cancel what plain e = (what, e, refl)
-comes_plain taking said at line.Tick what plain e = (what, e, refl)
-comes_plain taking said at (line.Send call) what plain e = (what, e, refl)
-comes_plain taking said at (line.Answer number accepts) what plain e = (what, e, refl)
-comes_plain taking said at (line.Hear call) what plain e = (what, e, refl)
-comes_plain taking said at (line.Accept mmsi delay) what plain e = (what, e, refl)
-comes_plain taking said at (line.Relay mmsi to ask) what plain e = (what, e, refl)
-comes_plain taking said at (line.Heard group) what plain e = absurd plain
+comes_plain taking said at (event.Does deed) what plain e = (what, e, refl)
+comes_plain taking said at (event.Comes (Hear call extra)) what plain e = (what, e, refl)
+comes_plain taking said at (event.Comes (Heard group)) what plain e = absurd plain
 
 pub plain_quiet : (at : ℕ) (l : EventLine) → IsPlain l → (k : ℕ) → hears k (traffic (Event at l)) ≡ false
-plain_quiet at (line.Position place) plain k = refl
-plain_quiet at (line.Delay delay) plain k = refl
-plain_quiet at (line.Alert nature comm) plain k = refl
-plain_quiet at line.Cancel plain k = refl
-plain_quiet at line.Tick plain k = refl
-plain_quiet at (line.Send call) plain k = refl
-plain_quiet at (line.Answer number accepts) plain k = refl
-plain_quiet at (line.Hear call) plain k = refl
-plain_quiet at (line.Accept mmsi delay) plain k = refl
-plain_quiet at (line.Relay mmsi to ask) plain k = refl
-plain_quiet at (line.Heard group) plain k = absurd plain
+plain_quiet at (event.Does deed) plain k = refl
+plain_quiet at (event.Comes (Hear call extra)) plain k = refl
+plain_quiet at (event.Comes (Heard group)) plain k = absurd plain
 
 -- what a step tells where it ends well
 pub tell : {E : Type 0} {S L : Type 0} {A B : Bool → Type 0} (r : Result Bool E) → ((b : Bool) → S → L → A b → B b) → OnOk r S → OnOk r L → IfOk r A → IfOk r B
@@ -95,13 +72,13 @@ heard_none make group (Check n want got) u is = ap (λ (v : Unreported). Err v) 
 pub heard_happens : {What : Type 0} (rules : Rules What) (taking : Taking What) (IsAt : History What → Type 0) (h : History What) (said : Said) (at group : ℕ)
     (old new : List ℕ) (accepted : Bool) (answer : Joined) (call : Call) → IsAnswer (facts_since_heard group said) answer → heard_as (λ (c : Call). c) group answer ≡ Ok call
     → IsAt (continued rules h at (taking.heard call)) → new ≡ old ++ answer_lines at (answer_to rules h at (taking.heard call)) → accepted ≡ is_ok (answer_to rules h at (taking.heard call))
-    → Happens rules taking IsAt h said at (line.Heard group) old new accepted
+    → Happens rules taking IsAt h said at (event.Comes (Heard group)) old new accepted
 heard_happens rules taking IsAt h said at group old new accepted answer call answers is stands lines well =
     record { outcome = Ok (taking.heard call); comes = (answer, answers, heard_event taking.heard group answer call is); stands = stands; lines = lines; well = well }
 
 -- a heard group isn't reported
 pub unheard_happens : {What : Type 0} (rules : Rules What) (taking : Taking What) (IsAt : History What → Type 0) (h : History What) (said : Said) (at group : ℕ)
     (old new : List ℕ) (accepted : Bool) (answer : Joined) (u : Unreported) → IsAnswer (facts_since_heard group said) answer → heard_as (λ (c : Call). c) group answer ≡ Err u
-    → IsAt h → new ≡ old ++ unreported_line at u → accepted ≡ false → Happens rules taking IsAt h said at (line.Heard group) old new accepted
+    → IsAt h → new ≡ old ++ unreported_line at u → accepted ≡ false → Happens rules taking IsAt h said at (event.Comes (Heard group)) old new accepted
 unheard_happens rules taking IsAt h said at group old new accepted answer u answers is stands lines well =
     record { outcome = Err u; comes = (answer, answers, heard_none taking.heard group answer u is); stands = stands; lines = lines; well = well }

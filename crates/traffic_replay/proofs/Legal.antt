@@ -7,10 +7,11 @@ use Rattle.slot_join.specs.declared.joined.Joined.TheVariants.{Reported, Missing
 use Rattle.traffic_rules.specs.Histories.{History}
 use Rattle.traffic_rules.specs.Rules.{Rules, Legal}
 use Rattle.traffic_rules.proofs.PublicLaws.{legal_continued}
-use Rattle.traffic_lines.specs.declared.lines.EventLine.{EventLine}
-use Rattle.traffic_lines.specs.declared.lines.EventLine.TheVariants.{Heard}
+use Rattle.station_lines.specs.Events.{EventLine}
+use Rattle.traffic_lines.specs.declared.lines.Event.TheVariants.{Comes}
+use Rattle.traffic_lines.specs.declared.lines.Hearing.TheVariants.{Heard}
 use Rattle.traffic_lines.specs.declared.lines.TrafficLine.TheVariants as line
-use Rattle.traffic_lines.specs.Lines.{IsEventText}
+use Rattle.traffic_lines.specs.Events.{IsStationOwn, IsHearing, IsEvent}
 use Rattle.dsc_lines.specs.PointLine.{joined, traffic}
 use Rattle.traffic_replay.specs.declared.outcomes.Unreported.{Unreported}
 use Rattle.traffic_replay.specs.Said.{Said, base_of, AreSaid}
@@ -22,7 +23,7 @@ abbrev IsOf : {What : Type 0} → Rules What → Result What Unreported → Type
 IsOf {What} rules outcome = (what : What) → outcome ≡ Ok what → rules.IsEvent what
 
 module _ {What : Type 0} (rules : Rules What) (taking : Taking What)
-    (lawful : (base at : ℕ) (what : EventLine) (text : List ℕ) (event : What) → IsEventText what text → taking.event base at what ≡ Some event → rules.IsEvent event)
+    (lawful : (base at : ℕ) (what : EventLine) (event : What) → IsEvent IsStationOwn IsHearing what → taking.event base at what ≡ Some event → rules.IsEvent event)
     (heard : (call : Call) → rules.IsEvent (taking.heard call)) where
   same_event : (a b : What) → ◌≡◌ {A = Result What Unreported} (Ok a) (Ok b) → a ≡ b
   same_event a b h = cc
@@ -38,11 +39,11 @@ module _ {What : Type 0} (rules : Rules What) (taking : Taking What)
   of_answer group (Check n want got) what same = absurd (no_event _ what same)
 
   -- what comes of an event line
-  of_line : (earlier : Said) (at : ℕ) (what : EventLine) (text : List ℕ) (outcome : Result What Unreported) → IsEventText what text → ComesOf taking earlier at what outcome
+  of_line : (earlier : Said) (at : ℕ) (what : EventLine) (outcome : Result What Unreported) → IsEvent IsStationOwn IsHearing what → ComesOf taking earlier at what outcome
       → IsOf rules outcome
-  of_line earlier at (Heard group) text outcome is comes event same = of_answer group comes.0 event (sym comes.2 ∙ same)
-  of_line earlier at what text outcome is comes event same =
-      subst rules.IsEvent (same_event comes.0 event (sym comes.2 ∙ same)) (lawful (base_of earlier) at what text comes.0 is comes.1)
+  of_line earlier at (Comes (Heard group)) outcome is comes event same = of_answer group comes.0 event (sym comes.2 ∙ same)
+  of_line earlier at what outcome is comes event same =
+      subst rules.IsEvent (same_event comes.0 event (sym comes.2 ∙ same)) (lawful (base_of earlier) at what comes.0 is comes.1)
 
   next_legal : (h : History What) (at : ℕ) (outcome : Result What Unreported) → IsOf rules outcome → Legal rules h → Legal rules (history_behind rules h at outcome)
   next_legal h at (Ok what) of legal = legal_continued rules h at what (of what refl) legal
@@ -58,4 +59,4 @@ module _ {What : Type 0} (rules : Rules What) (taking : Taking What)
   happened_legal (traffic (line.Group mmsi) ∷ said) lines happened are so = happened_legal said are.0 happened are.4 so
   happened_legal (traffic (line.Event at what) ∷ said) lines [] are so = absurd so
   happened_legal (traffic (line.Event at what) ∷ said) lines (h ∷ happened) are so =
-      next_legal (history_of rules happened) h.at h.outcome (of_line said at what are.3.1.0 h.outcome are.3.1.2 so.1) (happened_legal said are.0 happened are.4 so.2)
+      next_legal (history_of rules happened) h.at h.outcome (of_line said at what h.outcome are.3.1.0.1 so.1) (happened_legal said are.0 happened are.4 so.2)

@@ -11,13 +11,15 @@ use Rattle.ship_station.specs.declared.events.ShipWhat.TheVariants as at_ship
 use Rattle.coast_station.specs.CoastRules.{coast_rules}
 use Rattle.coast_station.specs.declared.events.CoastWhat.{CoastWhat}
 use Rattle.coast_station.specs.declared.events.CoastWhat.TheVariants as at_coast
-use Rattle.station_lines.specs.Events.{time_of}
-use Rattle.traffic_lines.specs.declared.lines.EventLine.{EventLine}
-use Rattle.traffic_lines.specs.declared.lines.EventLine.TheVariants.{Position, Delay, Alert, Cancel, Tick, Send, Answer, Hear, Heard, Accept, Relay}
+use Rattle.station_lines.specs.Events.{EventLine, own_ship_event, coast_deed}
+use Rattle.traffic_lines.specs.declared.lines.Deed.TheVariants.{Own, Tick, Send, Answer}
+use Rattle.traffic_lines.specs.declared.lines.Event.TheVariants.{Does, Comes}
+use Rattle.traffic_lines.specs.declared.lines.Hearing.TheVariants.{Hear, Heard}
+use Rattle.traffic_lines.specs.declared.lines.StationOwn.TheVariants as own
 use Rattle.traffic_lines.specs.declared.lines.Point.{Point}
 use Rattle.traffic_lines.specs.declared.lines.Point.TheVariants as point
 use Rattle.traffic_lines.specs.declared.lines.TrafficLine.TheVariants as line
-use Rattle.traffic_lines.specs.Lines.{IsShipEvent, IsCoastEvent, MayStand}
+use Rattle.traffic_lines.specs.Lines.{IsOfShip, IsOfCoast, MayStand}
 use Rattle.dsc_lines.specs.JoinLine.{nothing, reception, evidence}
 use Rattle.dsc_lines.specs.PointLine.{PointLine, joined, traffic, IsPointLine}
 use Rattle.dsc_lines.proofs.PublicLaws.{line_there}
@@ -87,7 +89,7 @@ point_kind (traffic (line.Base second) ∷ said) lines are = behind (kind_of sai
 point_kind (traffic (line.Group mmsi) ∷ said) lines are = group_kind (point_of said) (kind_of said) mmsi (point_kind said are.0 are.4) are.3.0
 point_kind (traffic (line.Event at what) ∷ said) lines are = among (kind_of said)
 
-ship_event_of : (p : Point) (at : ℕ) (what : EventLine) → IsPointOf p ship → MayStand p (line.Event at what) → IsShipEvent what
+ship_event_of : (p : Point) (at : ℕ) (what : EventLine) → IsPointOf p ship → MayStand p (line.Event at what) → IsOfShip what
 ship_event_of point.Station at what of may = absurd may
 ship_event_of point.Base at what of may = absurd may
 ship_event_of (point.Groups held) at what of may = may
@@ -97,7 +99,7 @@ ship_event_of point.Coast at what of may = absurd of
 not_ship : (band : Band) → coast band ≡ ship → ⊥
 not_ship band h = cc
 
-coast_event_of : (p : Point) (band : Band) (at : ℕ) (what : EventLine) → IsPointOf p (coast band) → MayStand p (line.Event at what) → IsCoastEvent what
+coast_event_of : (p : Point) (band : Band) (at : ℕ) (what : EventLine) → IsPointOf p (coast band) → MayStand p (line.Event at what) → IsOfCoast what
 coast_event_of point.Station band at what of may = absurd may
 coast_event_of point.Base band at what of may = absurd may
 coast_event_of (point.Groups held) band at what of may = absurd (not_ship band of)
@@ -107,33 +109,25 @@ coast_event_of point.Coast band at what of may = may
 -- ---- what comes of event lines
 
 module _ (law : AnswerLaw) where
-  comes_ship : (said : Said) (lines : Lines) → AreSaid said lines → (at : ℕ) (what : EventLine) → IsShipEvent what → IsThere ((outcome : Result ShipWhat Unreported) × ComesOf taking_ship said at what outcome)
-  comes_ship said lines are at (Position p) is k = let e = at_ship.Position p (time_of (base_of said) at p) in k (Ok e, (e, refl, refl))
-  comes_ship said lines are at (Delay ms) is k = k (Ok (at_ship.Delay ms), (at_ship.Delay ms, refl, refl))
-  comes_ship said lines are at (Alert nature comm) is k = k (Ok (at_ship.Alert nature comm), (at_ship.Alert nature comm, refl, refl))
-  comes_ship said lines are at Cancel is k = k (Ok at_ship.Cancel, (at_ship.Cancel, refl, refl))
-  comes_ship said lines are at Tick is k = k (Ok at_ship.Tick, (at_ship.Tick, refl, refl))
-  comes_ship said lines are at (Send call) is k = k (Ok (at_ship.Send call), (at_ship.Send call, refl, refl))
-  comes_ship said lines are at (Answer number accepts) is k = k (Ok (at_ship.Answer number accepts), (at_ship.Answer number accepts, refl, refl))
-  comes_ship said lines are at (Hear call) is k = k (Ok (at_ship.Heard call), (at_ship.Heard call, refl, refl))
-  comes_ship said lines are at (Heard group) is k =
+  comes_ship : (said : Said) (lines : Lines) → AreSaid said lines → (at : ℕ) (what : EventLine) → IsOfShip what → IsThere ((outcome : Result ShipWhat Unreported) × ComesOf taking_ship said at what outcome)
+  comes_ship said lines are at (Does (Own (own.Ship what))) is k = let e = own_ship_event (base_of said) at what in k (Ok e, (e, refl, refl))
+  comes_ship said lines are at (Does (Own (own.Coast what))) is k = is
+  comes_ship said lines are at (Does Tick) is k = k (Ok at_ship.Tick, (at_ship.Tick, refl, refl))
+  comes_ship said lines are at (Does (Send call)) is k = k (Ok (at_ship.Send call), (at_ship.Send call, refl, refl))
+  comes_ship said lines are at (Does (Answer number accepts)) is k = k (Ok (at_ship.Answer number accepts), (at_ship.Answer number accepts, refl, refl))
+  comes_ship said lines are at (Comes (Hear call extra)) is k = k (Ok (at_ship.Heard call), (at_ship.Heard call, refl, refl))
+  comes_ship said lines are at (Comes (Heard group)) is k =
       law (facts_since_heard group said) (since_small group said lines are) (λ answer of. k (heard_as at_ship.Heard group answer, (answer, of, refl)))
-  comes_ship said lines are at (Accept mmsi delay) is k = is
-  comes_ship said lines are at (Relay mmsi to ask) is k = is
 
-  comes_coast : (said : Said) (lines : Lines) → AreSaid said lines → (at : ℕ) (what : EventLine) → IsCoastEvent what → IsThere ((outcome : Result CoastWhat Unreported) × ComesOf taking_coast said at what outcome)
-  comes_coast said lines are at (Accept mmsi delay) is k = k (Ok (at_coast.Accept mmsi delay), (at_coast.Accept mmsi delay, refl, refl))
-  comes_coast said lines are at (Relay mmsi to ask) is k = k (Ok (at_coast.Relay mmsi to ask), (at_coast.Relay mmsi to ask, refl, refl))
-  comes_coast said lines are at Tick is k = k (Ok at_coast.Tick, (at_coast.Tick, refl, refl))
-  comes_coast said lines are at (Send call) is k = k (Ok (at_coast.Send call), (at_coast.Send call, refl, refl))
-  comes_coast said lines are at (Answer number accepts) is k = k (Ok (at_coast.Answer number accepts), (at_coast.Answer number accepts, refl, refl))
-  comes_coast said lines are at (Hear call) is k = k (Ok (at_coast.Heard call), (at_coast.Heard call, refl, refl))
-  comes_coast said lines are at (Heard group) is k =
+  comes_coast : (said : Said) (lines : Lines) → AreSaid said lines → (at : ℕ) (what : EventLine) → IsOfCoast what → IsThere ((outcome : Result CoastWhat Unreported) × ComesOf taking_coast said at what outcome)
+  comes_coast said lines are at (Does (Own (own.Coast what))) is k = let e = coast_deed (Own what) in k (Ok e, (e, refl, refl))
+  comes_coast said lines are at (Does (Own (own.Ship what))) is k = is
+  comes_coast said lines are at (Does Tick) is k = k (Ok at_coast.Tick, (at_coast.Tick, refl, refl))
+  comes_coast said lines are at (Does (Send call)) is k = k (Ok (at_coast.Send call), (at_coast.Send call, refl, refl))
+  comes_coast said lines are at (Does (Answer number accepts)) is k = k (Ok (at_coast.Answer number accepts), (at_coast.Answer number accepts, refl, refl))
+  comes_coast said lines are at (Comes (Hear call extra)) is k = k (Ok (at_coast.Heard call), (at_coast.Heard call, refl, refl))
+  comes_coast said lines are at (Comes (Heard group)) is k =
       law (facts_since_heard group said) (since_small group said lines are) (λ answer of. k (heard_as at_coast.Heard group answer, (answer, of, refl)))
-  comes_coast said lines are at (Position p) is k = is
-  comes_coast said lines are at (Delay ms) is k = is
-  comes_coast said lines are at (Alert nature comm) is k = is
-  comes_coast said lines are at Cancel is k = is
 
   abbrev Happened : {What : Type 0} → Taking What → Said → Type 0
   Happened {What} taking said = (happened : List (Happening What)) × AreHappenings taking said happened

@@ -12,12 +12,12 @@ use Rattle.coast_station.specs.declared.coasts.Coast.{Coast}
 use Rattle.coast_station.specs.declared.events.CoastWhat.{CoastWhat}
 use Rattle.coast_station.specs.CoastRules.{Station as Who, coast_rules}
 use Rattle.coast_station.specs.Stands.{Stands as CoastStands}
-use Rattle.traffic_lines.specs.declared.lines.EventLine.{EventLine}
+use Rattle.station_lines.specs.Events.{EventLine}
 use Rattle.traffic_lines.specs.declared.lines.TrafficLine.TheVariants as line
 use Rattle.traffic_lines.specs.declared.lines.Point.TheVariants as point
 use Rattle.traffic_lines.specs.declared.lines.StationLine.{StationLine}
 use Rattle.traffic_lines.specs.declared.lines.StationLine.TheVariants as named
-use Rattle.traffic_lines.specs.Anywhere.{line_of_station}
+use Rattle.traffic_lines.specs.Lines.{line_of_station}
 use Rattle.dsc_lines.specs.JoinLine.{JoinLine}
 use Rattle.dsc_lines.specs.PointLine.{joined, traffic, IsBody}
 use Rattle.join_groups.specs.declared.groups.TheConstants.{MOST_IN_BATCH}

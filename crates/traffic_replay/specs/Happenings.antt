@@ -4,8 +4,9 @@ use Rattle.call_values.specs.declared.calls.Call.{Call}
 use Rattle.slot_join.specs.declared.joined.Joined.{Joined}
 use Rattle.slot_join.specs.declared.joined.Joined.TheVariants.{Reported, Missing, Differ, Outside, Check}
 use Rattle.slot_join.specs.Answer.{IsAnswer}
-use Rattle.traffic_lines.specs.declared.lines.EventLine.{EventLine}
-use Rattle.traffic_lines.specs.declared.lines.EventLine.TheVariants.{Heard}
+use Rattle.station_lines.specs.Events.{EventLine}
+use Rattle.traffic_lines.specs.declared.lines.Event.TheVariants.{Comes}
+use Rattle.traffic_lines.specs.declared.lines.Hearing.TheVariants.{Heard}
 use Rattle.traffic_lines.specs.declared.lines.TrafficLine.TheVariants.{Event}
 use Rattle.ship_station.specs.declared.events.ShipWhat.{ShipWhat}
 use Rattle.ship_station.specs.declared.events.ShipWhat.TheVariants as ship
@@ -38,7 +39,7 @@ taking_coast = record { event = coast_event; heard = coast.Heard }
 
 -- what comes of an event line behind these lines: an event at the station, or a group that isn't reported
 abbrev pub ComesOf : {What : Type 0} → Taking What → Said → (at : ℕ) → EventLine → Result What Unreported → Type 0
-ComesOf taking earlier at (Heard group) outcome =
+ComesOf taking earlier at (Comes (Heard group)) outcome =
     (answer : Joined) × IsAnswer (facts_since_heard group earlier) answer × (outcome ≡ heard_as taking.heard group answer)
 ComesOf {What} taking earlier at line outcome = (event : What) × (taking.event (base_of earlier) at line ≡ Some event) × (outcome ≡ Ok event)
 

@@ -2,7 +2,8 @@
 use Rattle.std.specs.Prelude.{ℕ, ◌==◌, Bool, false, List, [], ◌∷◌, if◌then◌else◌}
 use Rattle.slot_evidence.specs.Facts.{Facts}
 use Rattle.line_engine.specs.Lines.{Lines}
-use Rattle.traffic_lines.specs.declared.lines.EventLine.TheVariants.{Heard}
+use Rattle.traffic_lines.specs.declared.lines.Event.TheVariants.{Comes}
+use Rattle.traffic_lines.specs.declared.lines.Hearing.TheVariants.{Heard}
 use Rattle.traffic_lines.specs.declared.lines.TrafficLine.TheVariants.{Event}
 use Rattle.dsc_lines.specs.JoinLine.{JoinLine}
 use Rattle.dsc_lines.specs.PointLine.{PointLine, joined, traffic, IsPointLine}
@@ -18,7 +19,7 @@ of_receivers (traffic line ∷ earlier) = of_receivers earlier
 
 -- a line hears what the receivers of this group showed
 abbrev pub hears : ℕ → PointLine → Bool
-hears k (traffic (Event at (Heard group))) = group == k
+hears k (traffic (Event at (Comes (Heard group)))) = group == k
 hears k _ = false
 
 -- the lines behind the last one that heard this group

@@ -25,7 +25,7 @@ use receiver_pool::Joiner;
 use slot_evidence::{Reception, Sheet};
 use std::alloc::{AllocError, Global};
 use traffic_lines::{
-    ShipBodyLine, StationLine, read_base, read_coast_line, read_ship_line, read_station,
+    ShipLine, StationLine, read_base, read_coast_line, read_ship_line, read_station,
 };
 use traffic_rules::Acts;
 
@@ -223,8 +223,8 @@ impl Replay {
                     Err(n) => return Err(Refusal::Column(n)),
                 };
                 match says {
-                    ShipBodyLine::Group(mmsi) => groups.name(mmsi)?,
-                    ShipBodyLine::Event { at, what } => {
+                    ShipLine::Group(mmsi) => groups.name(mmsi)?,
+                    ShipLine::Event { at, what } => {
                         let (base, mut ship) = (groups.base, groups.ship());
                         let heard = &mut self.heard;
                         let acts = &mut self.acts;
@@ -240,8 +240,8 @@ impl Replay {
                     Err(n) => return Err(Refusal::Column(n)),
                 };
                 match says {
-                    ShipBodyLine::Group(_) => unreachable!(),
-                    ShipBodyLine::Event { at, what } => {
+                    ShipLine::Group(_) => unreachable!(),
+                    ShipLine::Event { at, what } => {
                         let heard = &mut self.heard;
                         let acts = &mut self.acts;
                         let coming = at_ship(*base, at, &what);

@@ -2,7 +2,8 @@
 ghost use Rattle.std.specs.Prelude.{◌≡◌, ℕ, [], ◌∷◌, IfOk, OnOk};
 ghost use Rattle.slot_join.specs.Answer.{IsAnswer};
 ghost use Rattle.dsc_lines.specs.PointLine.{traffic};
-ghost use Rattle.traffic_lines.specs.declared.lines.EventLine.TheVariants as event;
+ghost use Rattle.traffic_lines.specs.declared.lines.Event.TheVariants.{Comes};
+ghost use Rattle.traffic_lines.specs.declared.lines.Hearing.TheVariants as hearing;
 ghost use Rattle.traffic_lines.specs.declared.lines.TrafficLine.TheVariants as station;
 ghost use Rattle.join_groups.specs.Holds.{HoldsSome};
 ghost use Rattle.traffic_replay.specs.Said.{Said};
@@ -25,7 +26,7 @@ pub(crate) fn hear<W: Joiner>(
     ensures answer { IfOk result (λ answer. (said : Said) → KeepsGroups groups.old said
         → IsAnswer (facts_since_heard group said) answer) }
     ensures anew { OnOk result ((said : Said) (at : ℕ) → KeepsGroups groups.old said
-        → KeepsGroups groups.new (traffic (station.Event at (event.Heard group)) ∷ said)) }
+        → KeepsGroups groups.new (traffic (station.Event at (Comes (hearing.Heard group))) ∷ said)) }
     ensures ended { OnOk result (groups.new.batch.items ≡ []) }
 {
     groups.close_batch(workers)?;

@@ -1,9 +1,10 @@
 ghost use Rattle.std.specs.Prelude.{◌≡◌, ◌<◌, ◌≤◌, ◌∷◌, ◌++◌, ℕ, false, is_ok, length, OnOk, IfOk};
 ghost use Rattle.traffic_rules.specs.Histories.{History};
 ghost use Rattle.traffic_rules.specs.Rules.{answer_to, continued};
-ghost use Rattle.traffic_lines.specs.declared.lines.EventLine.{EventLine};
+ghost use Rattle.station_lines.specs.Events.{EventLine};
 ghost use Rattle.traffic_lines.specs.declared.lines.TrafficLine.TheVariants as line;
-ghost use Rattle.traffic_lines.specs.Anywhere.{event_of_ship, event_of_coast};
+ghost use Rattle.traffic_lines.specs.Lines.{event_with};
+ghost use Rattle.traffic_lines.specs.declared.lines.StationOwn.TheVariants as own;
 ghost use Rattle.dsc_lines.specs.PointLine.{traffic};
 ghost use Rattle.join_groups.specs.Holds.{HoldsSome};
 ghost use Rattle.traffic_replay.specs.Said.{Said, base_of};
@@ -25,7 +26,7 @@ use ship_station::ShipWhat;
 use station_lines::{append_answer, coast_event, ship_event};
 use stations::Station;
 use std::alloc::AllocError;
-use traffic_lines::{CoastLine, ShipLine};
+use traffic_lines::{CoastOwn, Event, Hearing, ShipOwn};
 use traffic_rules::Acts;
 
 /// What an event line comes to: an event at the station, or what the receivers of a group heard.
@@ -36,25 +37,25 @@ pub(crate) enum Coming<W> {
 }
 
 /// What a line of a ship's file comes to, where moments count from this second.
-pub(crate) fn at_ship(base: u64, at: u32, what: &ShipLine) -> Coming<ShipWhat>
+pub(crate) fn at_ship(base: u64, at: u32, what: &Event<ShipOwn, Hearing>) -> Coming<ShipWhat>
     requires { base ≤ LAST_BASE }
-    ensures { Comes taking_ship base at (event_of_ship what.now) result }
+    ensures { Comes taking_ship base at (event_with own.Ship what.now) result }
 {
     match *what {
-        ShipLine::Own(own) => Coming::Event(ship_event(base, at, &own)),
-        ShipLine::Hear(call) => Coming::Event(ShipWhat::Heard(call)),
-        ShipLine::Heard(group) => Coming::Heard(group),
+        Event::Does(deed) => Coming::Event(ship_event(base, at, &deed)),
+        Event::Comes(Hearing::Hear(call, _)) => Coming::Event(ShipWhat::Heard(call)),
+        Event::Comes(Hearing::Heard(group)) => Coming::Heard(group),
     }
 }
 
 /// What a line of a coast station's file comes to.
-pub(crate) fn at_coast(what: &CoastLine) -> Coming<CoastWhat>
-    ensures { (base at : ℕ) → Comes taking_coast base at (event_of_coast what.now) result }
+pub(crate) fn at_coast(what: &Event<CoastOwn, Hearing>) -> Coming<CoastWhat>
+    ensures { (base at : ℕ) → Comes taking_coast base at (event_with own.Coast what.now) result }
 {
     match *what {
-        CoastLine::Own(own) => Coming::Event(coast_event(&own)),
-        CoastLine::Hear(call) => Coming::Event(CoastWhat::Heard(call)),
-        CoastLine::Heard(group) => Coming::Heard(group),
+        Event::Does(deed) => Coming::Event(coast_event(&deed)),
+        Event::Comes(Hearing::Hear(call, _)) => Coming::Event(CoastWhat::Heard(call)),
+        Event::Comes(Hearing::Heard(group)) => Coming::Heard(group),
     }
 }
 

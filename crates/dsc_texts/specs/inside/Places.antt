@@ -1,20 +1,10 @@
 -- Where a form stands among the others of the grammar of call texts.
-use Rattle.std.specs.Prelude.{ℕ, zero, suc}
 use Rattle.call_values.specs.declared.calls.Call.{Call}
 use Rattle.call_values.specs.declared.calls.Call.TheVariants.{Alert, Ack, Relay, RelayAck, AllShips, AreaCall, GroupCall, Individual, Service}
 use Rattle.call_values.specs.declared.parts.Kind.TheVariants.{Test, AskPosition, Position}
-use Rattle.line_grammar.specs.Grammar.{Parts, first, second}
+use Rattle.line_grammar.specs.Grammar.{Parts}
+use Rattle.line_grammar.specs.Sections.{nth, last}
 use Rattle.dsc_texts.specs.CallParts.{parts_of}
-
--- the parts of a form that stands behind so many others, and before the last
-abbrev pub nth : ℕ → Parts → Parts
-nth zero parts = first parts
-nth (suc n) parts = second (nth n parts)
-
--- the parts of the last form, which stands behind so many others
-abbrev pub last : ℕ → Parts → Parts
-last zero parts = parts
-last (suc n) parts = second (last n parts)
 
 -- the place of a call's form among the forms
 abbrev pub place_of : Call → Parts → Parts

@@ -1,12 +1,12 @@
 use call_values::Band;
-use dsc_files::{FileKind, Line, line_of};
+use dsc_files::{EventLine, FileKind, Line, line_of};
 use dsc_lines::LineFault;
 use phasing::Elements;
 use slot_evidence::{Reception, Seen};
 use std::alloc::Global;
 use std::test::Fail;
 use ten_unit::Element;
-use traffic_lines::{EventLine, Point};
+use traffic_lines::Point;
 
 // Lines of join's input, and the column at which each is ill-formed.
 const COLUMNS: [(&str, usize); 28] = [

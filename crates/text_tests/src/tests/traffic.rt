@@ -1,9 +1,9 @@
 use crate::tests::calls::call_of;
 use call_values::worked::FIX;
 use call_values::{AlertDelay, Area, Band, CoastDelay, Comm, Mmsi, Nature, Position, To};
-use dsc_files::read_traffic;
+use dsc_files::{EventLine, Line, read_traffic};
 use std::test::Fail;
-use traffic_lines::{EventLine, Point, TrafficLine};
+use traffic_lines::{Point, TrafficLine};
 
 // Points, and lines that aren't of these points, with the column at which each is ill-formed.
 const COLUMNS: [(Point, &[(&str, usize)]); 8] = [
@@ -313,16 +313,23 @@ fn openings_are_read(rt: HostRuntime) -> Result<(), Fail> {
     Ok(())
 }
 
+/// The moment and the event that a line says at this point.
+fn event_at(point: Point, text: &[u8]) -> Option<(u32, EventLine)> {
+    match Line::from(read_traffic(point, text).ok()?) {
+        Line::Event { at, what } => Some((at, what)),
+        _ => None,
+    }
+}
+
 /// Whether this event of a ship is read of its line, wherever events of ships stand.
 fn is_read(text: &[u8], at: u32, what: &EventLine) -> bool {
-    let line = Ok(TrafficLine::Event { at, what: *what });
-    read_traffic(Point::Ship, text) == line
-        && read_traffic(Point::Groups { held: 16 }, text) == line
+    let line = Some((at, *what));
+    event_at(Point::Ship, text) == line && event_at(Point::Groups { held: 16 }, text) == line
 }
 
 /// Whether this event is read of its line in the file of a coast station.
 fn is_read_ashore(text: &[u8], at: u32, what: &EventLine) -> bool {
-    read_traffic(Point::Coast, text) == Ok(TrafficLine::Event { at, what: *what })
+    event_at(Point::Coast, text) == Some((at, *what))
 }
 
 #[test]

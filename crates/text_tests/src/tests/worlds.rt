@@ -1,9 +1,7 @@
 use call_values::{CoastDelay, Mmsi};
-use dsc_files::{FileKind, Line, line_of, read_world, world_line};
+use dsc_files::{EventLine, ExchangeLine, FileKind, Line, line_of, read_world, world_line};
 use std::test::Fail;
-use traffic_lines::{
-    CoastEntry, CoastOwn, Entry, EventLine, ExchangeLine, ExchangePoint, ShipEntry, WorldLine,
-};
+use traffic_lines::{CoastOwn, Deed, Entry, Event, ExchangePoint, WorldLine};
 
 // Points, lines that aren't of these points, and the column at which each is ill-formed.
 const COLUMNS: [(ExchangePoint, &str, usize); 8] = [
@@ -52,14 +50,14 @@ fn lines_of_exchanges_are_read(rt: HostRuntime) {
         read_world(ExchangePoint::Events, b"s 0 get 4294967295"),
         Ok(WorldLine::Entry(Entry::AtShip {
             at: 0,
-            what: ShipEntry::Get(4_294_967_295)
+            what: Event::Comes(4_294_967_295)
         }))
     );
     assert_eq!(rt;
         read_world(ExchangePoint::Events, b"c 7000 accept 338040079 60000"),
         Ok(WorldLine::Entry(Entry::AtCoast {
             at: 7000,
-            what: CoastEntry::Own(accept)
+            what: Event::Does(Deed::Own(accept))
         }))
     );
     assert_eq!(rt; world_line(ExchangePoint::Base, b"# base"), Ok(None));

@@ -2,8 +2,9 @@
 use Rattle.std.specs.Prelude.{◌≡◌, ℕ, Bool, Some, Result, List, ◌++◌}
 use Rattle.traffic_rules.specs.Histories.{History}
 use Rattle.traffic_rules.specs.Rules.{Rules}
-use Rattle.traffic_lines.specs.declared.lines.EventLine.{EventLine}
-use Rattle.traffic_lines.specs.declared.lines.EventLine.TheVariants.{Heard}
+use Rattle.station_lines.specs.Events.{EventLine}
+use Rattle.traffic_lines.specs.declared.lines.Event.TheVariants as event
+use Rattle.traffic_lines.specs.declared.lines.Hearing.TheVariants.{Heard}
 use Rattle.traffic_replay.specs.declared.steps.Coming.{Coming}
 use Rattle.traffic_replay.specs.declared.steps.Coming.TheVariants as coming
 use Rattle.traffic_replay.specs.declared.outcomes.Unreported.{Unreported}
@@ -13,13 +14,13 @@ use Rattle.traffic_replay.specs.Output.{history_behind, written_behind, is_accep
 
 -- an event line hears no group
 abbrev pub IsPlain : EventLine → Type 0
-IsPlain (Heard group) = ⊥
+IsPlain (event.Comes (Heard group)) = ⊥
 IsPlain _ = Unit {0}
 
 -- what an event line comes to at a kind of station: the event that it gives of itself, or a group that is heard
 abbrev pub Comes : {What : Type 0} → Taking What → (base at : ℕ) → EventLine → Coming What → Type 0
 Comes taking base at line (coming.Event what) = IsPlain line × (taking.event base at line ≡ Some what)
-Comes taking base at line (coming.Heard group) = line ≡ Heard group
+Comes taking base at line (coming.Heard group) = line ≡ event.Comes (Heard group)
 
 -- what came of an event line behind these lines and this history; the station then stands for the history behind it, and this is written
 pub record Happens {What : Type 0} (rules : Rules What) (taking : Taking What) (IsAt : History What → Type 0) (h : History What) (said : Said) (at : ℕ) (what : EventLine)

@@ -4,7 +4,7 @@ use Rattle.line_grammar.specs.inside.Reading.{read}
 use Rattle.dsc_texts.specs.CallGrammar as grammar
 use Rattle.dsc_texts.specs.inside.Expansions as inside
 use Rattle.dsc_texts.proofs.ExpansionSteps.{ended_read}
-use Rattle.dsc_texts.proofs.SectionSteps.{whole, no_tail, leaves_form}
+use Rattle.line_grammar.proofs.SectionSteps.{whole, no_tail, leaves_form}
 use Rattle.dsc_texts.proofs.expansions.course.Goals as goal
 
 pub returns-in_err-end-clause-reads : goal.returns-in_err-end-clause-reads

@@ -3,7 +3,7 @@ use Rattle.line_grammar.specs.Grammar.{finish, word, second}
 use Rattle.line_grammar.specs.inside.Reading.{read}
 use Rattle.dsc_texts.specs.CallGrammar as grammar
 use Rattle.dsc_texts.specs.inside.Expansions as inside
-use Rattle.dsc_texts.proofs.SectionSteps.{word_read, word_left, whole, no_tail, leaves_form}
+use Rattle.line_grammar.proofs.SectionSteps.{word_read, word_left, whole, no_tail, leaves_form}
 use Rattle.dsc_texts.proofs.expansions.expansion.Goals as goal
 
 pub returns-in_err-word : goal.returns-in_err-word

@@ -3,7 +3,7 @@ use Rattle.line_grammar.specs.Grammar.{finish, either}
 use Rattle.dsc_texts.specs.CallGrammar as grammar
 use Rattle.dsc_texts.specs.inside.Expansions as inside
 use Rattle.dsc_texts.proofs.ExpansionSteps.{settled}
-use Rattle.dsc_texts.proofs.SectionSteps.{first_form, further_form}
+use Rattle.line_grammar.proofs.SectionSteps.{first_form, further_form}
 use Rattle.dsc_texts.proofs.expansions.expansion_or_end.Goals as goal
 
 pub returns-then-is_ok : goal.returns-then-is_ok

@@ -6,7 +6,7 @@ use Rattle.dsc_texts.specs.CallGrammar as grammar
 use Rattle.dsc_texts.specs.CallGrammar.{perhaps}
 use Rattle.dsc_texts.specs.inside.Expansions as inside
 use Rattle.dsc_texts.proofs.ExpansionSteps.{from_enhanced_parts}
-use Rattle.dsc_texts.proofs.SectionSteps.{whole}
+use Rattle.line_grammar.proofs.SectionSteps.{whole}
 use Rattle.dsc_texts.proofs.expansions.from_enhanced.Goals as goal
 
 pub returns : goal.returns

@@ -3,7 +3,7 @@ use Rattle.dsc_texts.specs.CallGrammar as grammar
 use Rattle.dsc_texts.specs.CallGrammar.{perhaps}
 use Rattle.dsc_texts.specs.inside.Expansions as inside
 use Rattle.dsc_texts.proofs.ExpansionSteps.{moved, there_parts}
-use Rattle.dsc_texts.proofs.SectionSteps.{further_form}
+use Rattle.line_grammar.proofs.SectionSteps.{further_form}
 use Rattle.dsc_texts.proofs.expansions.perhaps_speed.Goals as goal
 
 pub returns-clause-reads : goal.returns-clause-reads

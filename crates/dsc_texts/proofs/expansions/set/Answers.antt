@@ -1,5 +1,5 @@
 use Rattle.line_grammar.specs.inside.Reading.{read_token}
-use Rattle.dsc_texts.proofs.SectionSteps.{no_label, field_answer}
+use Rattle.line_grammar.proofs.SectionSteps.{no_label, field_answer}
 use Rattle.dsc_texts.proofs.expansions.set.Goals as goal
 
 pub returns-in_err-word-clause-reads : goal.returns-in_err-word-clause-reads

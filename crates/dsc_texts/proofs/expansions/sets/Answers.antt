@@ -2,7 +2,7 @@ use Rattle.line_grammar.specs.Grammar.{finish, either, second}
 use Rattle.dsc_texts.specs.CallGrammar as grammar
 use Rattle.dsc_texts.specs.CallGrammar.{perhaps}
 use Rattle.dsc_texts.specs.inside.Expansions as inside
-use Rattle.dsc_texts.proofs.SectionSteps.{further_form}
+use Rattle.line_grammar.proofs.SectionSteps.{further_form}
 use Rattle.dsc_texts.proofs.expansions.sets.Goals as goal
 
 pub returns : goal.returns

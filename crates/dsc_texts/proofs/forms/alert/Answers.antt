@@ -3,11 +3,10 @@ use Rattle.line_grammar.specs.Grammar.{word, first, part}
 use Rattle.line_grammar.specs.Shapes.{digits}
 use Rattle.line_grammar.specs.inside.Reading.{read}
 use Rattle.dsc_texts.specs.CallGrammar as grammar
-use Rattle.dsc_texts.specs.CallGrammar.{labelled}
+use Rattle.line_grammar.specs.Sections.{labelled, nth}
 use Rattle.dsc_texts.specs.CallParts.{casualty_parts}
-use Rattle.dsc_texts.specs.inside.Places.{nth}
 use Rattle.dsc_texts.specs.inside.Reading.{parts_with}
-use Rattle.dsc_texts.proofs.SectionSteps.{both, behind, word_read, word_left, whole, no_tail, leaves_form}
+use Rattle.line_grammar.proofs.SectionSteps.{both, behind, word_read, word_left, whole, no_tail, leaves_form}
 use Rattle.dsc_texts.proofs.forms.alert.Goals as goal
 
 pub returns-in_err-word : goal.returns-in_err-word

@@ -1,4 +1,4 @@
-use Rattle.dsc_texts.proofs.SectionSteps.{further_form}
+use Rattle.line_grammar.proofs.SectionSteps.{further_form}
 use Rattle.dsc_texts.proofs.forms.message_and_end.Goals as goal
 
 pub returns : goal.returns

@@ -1,9 +1,9 @@
 use Rattle.std.proofs.Common.{◌∙◌, sym}
 use Rattle.line_grammar.specs.Grammar.{either}
 use Rattle.dsc_texts.specs.CallGrammar as grammar
-use Rattle.dsc_texts.specs.inside.Places.{last}
+use Rattle.line_grammar.specs.Sections.{last}
 use Rattle.dsc_texts.specs.inside.Reading.{parts_with}
-use Rattle.dsc_texts.proofs.SectionSteps.{first_form, second_form, further_form}
+use Rattle.line_grammar.proofs.SectionSteps.{first_form, second_form, further_form}
 use Rattle.dsc_texts.proofs.forms.other_call.Goals as goal
 
 pub returns-then-is_ok : goal.returns-then-is_ok

@@ -1,10 +1,9 @@
 use Rattle.std.proofs.Common.{codes, refl, sym, ◌∙◌, ap}
 use Rattle.line_grammar.specs.inside.Reading.{read}
 use Rattle.dsc_texts.specs.CallGrammar as grammar
-use Rattle.dsc_texts.specs.CallGrammar.{labelled}
-use Rattle.dsc_texts.specs.inside.Places.{nth}
+use Rattle.line_grammar.specs.Sections.{labelled, nth}
 use Rattle.dsc_texts.specs.inside.Reading.{parts_with}
-use Rattle.dsc_texts.proofs.SectionSteps.{both, behind, whole, no_tail, leaves_form}
+use Rattle.line_grammar.proofs.SectionSteps.{both, behind, whole, no_tail, leaves_form}
 use Rattle.dsc_texts.proofs.forms.position_request.Goals as goal
 
 pub returns-in_err-to : goal.returns-in_err-to

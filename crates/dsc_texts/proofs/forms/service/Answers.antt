@@ -1,8 +1,8 @@
 use Rattle.line_grammar.specs.Grammar.{either}
 use Rattle.dsc_texts.specs.CallGrammar as grammar
-use Rattle.dsc_texts.specs.inside.Places.{last}
+use Rattle.line_grammar.specs.Sections.{last}
 use Rattle.dsc_texts.specs.inside.Reading.{parts_with}
-use Rattle.dsc_texts.proofs.SectionSteps.{further_form}
+use Rattle.line_grammar.proofs.SectionSteps.{further_form}
 use Rattle.dsc_texts.proofs.forms.service.Goals as goal
 
 pub returns : goal.returns

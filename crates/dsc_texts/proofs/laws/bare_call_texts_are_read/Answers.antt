@@ -1,6 +1,6 @@
 use Rattle.call_values.specs.Calls.{IsCall}
 use Rattle.dsc_texts.specs.CallParts.{call_text}
-use Rattle.dsc_texts.proofs.FormLaws.{answered}
+use Rattle.line_grammar.proofs.Forms.{answered}
 use Rattle.dsc_texts.proofs.laws.bare_call_texts_are_read.Goals as goal
 
 pub returns : goal.returns

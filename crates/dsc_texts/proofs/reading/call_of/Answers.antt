@@ -1,7 +1,7 @@
 use Rattle.std.proofs.Common.{Ok, sym, ◌∙◌, ap}
 use Rattle.line_grammar.specs.Grammar.{Parts}
 use Rattle.dsc_texts.proofs.CallLaws.{texts}
-use Rattle.dsc_texts.proofs.FormLaws.{text_left, text_read, text_column}
+use Rattle.line_grammar.proofs.Forms.{text_left, text_read, text_column}
 use Rattle.dsc_texts.specs.inside.Places.{call_parts}
 use Rattle.dsc_texts.proofs.reading.call_of.Goals as goal
 

@@ -1,5 +1,5 @@
 use Rattle.dsc_texts.specs.Texts.{IsBareCallText}
-use Rattle.dsc_texts.proofs.FormLaws.{column_is}
+use Rattle.line_grammar.proofs.Forms.{column_is}
 use Rattle.dsc_texts.proofs.reading.read_bare_call.Goals as goal
 
 pub returns-in-Err : goal.returns-in-Err

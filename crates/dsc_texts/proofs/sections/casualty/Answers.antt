@@ -1,8 +1,8 @@
 use Rattle.std.proofs.Common.{codes}
 use Rattle.dsc_texts.specs.CallGrammar as grammar
-use Rattle.dsc_texts.specs.CallGrammar.{labelled}
+use Rattle.line_grammar.specs.Sections.{labelled}
 use Rattle.dsc_texts.specs.CallParts.{casualty_parts}
-use Rattle.dsc_texts.proofs.SectionSteps.{behind, leaves}
+use Rattle.line_grammar.proofs.SectionSteps.{behind, leaves}
 use Rattle.dsc_texts.proofs.sections.casualty.Goals as goal
 
 pub returns-in_err-time-clause-reads : goal.returns-in_err-time-clause-reads

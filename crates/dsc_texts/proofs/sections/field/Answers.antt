@@ -1,4 +1,4 @@
-use Rattle.dsc_texts.proofs.SectionSteps.{no_label, field_answer}
+use Rattle.line_grammar.proofs.SectionSteps.{no_label, field_answer}
 use Rattle.dsc_texts.proofs.sections.field.Goals as goal
 
 pub returns-in_err-whole_word : goal.returns-in_err-whole_word

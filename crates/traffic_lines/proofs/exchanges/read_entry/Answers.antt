@@ -1,8 +1,9 @@
-use Rattle.traffic_lines.proofs.WorldLines.{entry_few, entry_column}
+use Rattle.line_grammar.proofs.Rows.{among_read}
+use Rattle.traffic_lines.proofs.PointRows.{entry_rows, entry_among}
 use Rattle.traffic_lines.proofs.exchanges.read_entry.Goals as goal
 
-pub column-requires-clause-left : goal.column-requires-clause-left
-column-requires-clause-left c = entry_few c.args.bytes.now c.in-Err.left c.in-Err.ensures
+pub whole-requires : goal.whole-requires
+whole-requires c = record { sound = entry_rows.sound }
 
-pub returns-in-Err : goal.returns-in-Err
-returns-in-Err c = entry_column c.args.bytes.now c.in-Err.left c.column.result c.column.ensures c.in-Err.ensures
+pub returns : goal.returns
+returns c = among_read entry_rows entry_among _ _ c.whole.ensures

@@ -1,5 +1,13 @@
-use Rattle.traffic_lines.proofs.WorldLines.{base_column}
+use Rattle.std.proofs.Common.{ℕ, Ok, Err, sym, subst}
+use Rattle.traffic_lines.specs.declared.worlds.ExchangePoint.TheVariants.{Base}
+use Rattle.traffic_lines.specs.declared.worlds.WorldLine.TheVariants as line
+use Rattle.traffic_lines.specs.Worlds.{IsWorldLine}
+use Rattle.line_grammar.proofs.Rows.{among_read}
+use Rattle.traffic_lines.proofs.PointRows.{base_rows, world_base_among}
 use Rattle.traffic_lines.proofs.exchanges.read_exchange_base.Goals as goal
 
+pub returns-in-Ok : goal.returns-in-Ok
+returns-in-Ok c = subst (λ (n : ℕ). IsWorldLine Base (line.Base n) c.args.bytes.now) (sym c.number.ensures.value) (among_read base_rows world_base_among _ (Ok _) c.in-Ok.ensures)
+
 pub returns-in-Err : goal.returns-in-Err
-returns-in-Err c = base_column c.args.bytes.now c.in-Err.n c.in-Err.ensures
+returns-in-Err c = among_read base_rows world_base_among _ (Err _) c.in-Err.ensures

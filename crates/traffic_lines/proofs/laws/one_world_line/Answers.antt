@@ -1,5 +1,6 @@
-use Rattle.traffic_lines.proofs.OneWorld.{one_world}
+use Rattle.line_grammar.proofs.Rows.{one_row}
+use Rattle.traffic_lines.proofs.PointRows.{world_rows}
 use Rattle.traffic_lines.proofs.laws.one_world_line.Goals as goal
 
 pub returns : goal.returns
-returns c = one_world c.texts_tell_calls_apart.ensures
+returns c = λ a b text h k. one_row world_rows a b text h k

@@ -1,7 +1,6 @@
-use Rattle.traffic_lines.specs.inside.Reading.{NamesStation}
-use Rattle.traffic_lines.specs.inside.Grammars.{ship}
-use Rattle.traffic_lines.proofs.Languages.{exit_read}
+use Rattle.std.proofs.Common.{ap}
+use Rattle.line_grammar.specs.Grammar.{first}
 use Rattle.traffic_lines.proofs.points.ship.Goals as goal
 
-pub returns-in_err-mmsi : goal.returns-in_err-mmsi
-returns-in_err-mmsi c = exit_read ship NamesStation _ _ _ c.from_residual.ensures.1 c.in_err-mmsi.ensures
+pub returns : goal.returns
+returns c = (c.in_ok-mmsi.ensures.0, (c.in_ok-mmsi.ensures.1.0, c.in_ok-mmsi.ensures.1.1, ap first c.in_ok-mmsi.ensures.1.2))

@@ -1,9 +1,6 @@
-use Rattle.traffic_lines.specs.declared.lines.Point.TheVariants.{Station}
-use Rattle.traffic_lines.proofs.LineTexts.{few_left, counted_from_one}
+use Rattle.line_grammar.proofs.Rows.{among_read}
+use Rattle.traffic_lines.proofs.PointRows.{stations_rows, stations_among}
 use Rattle.traffic_lines.proofs.reading.read_station.Goals as goal
 
-pub column-requires-clause-left : goal.column-requires-clause-left
-column-requires-clause-left c = few_left Station c.args.bytes.now c.in-Err.left c.in-Err.ensures
-
-pub returns-in-Err : goal.returns-in-Err
-returns-in-Err c = counted_from_one Station c.args.bytes.now c.in-Err.left c.column.result c.column.ensures c.in-Err.ensures
+pub returns : goal.returns
+returns c = among_read stations_rows stations_among _ _ c.whole.ensures

@@ -2,7 +2,7 @@ use Rattle.std.proofs.Common.{◌≡◌, ◌++◌, ◌∙◌, is_ok, sym, ap, su
 use Rattle.std.proofs.lemmas.Result.{on_ok_weaker}
 use Rattle.call_values.specs.declared.calls.Call.{Call}
 use Rattle.traffic_rules.specs.Rules.{answer_to, continued}
-use Rattle.traffic_lines.specs.declared.lines.EventLine.{EventLine}
+use Rattle.station_lines.specs.Events.{EventLine}
 use Rattle.traffic_lines.specs.declared.lines.TrafficLine.TheVariants.{Event}
 use Rattle.traffic_replay.specs.declared.steps.Coming.{Coming}
 use Rattle.traffic_replay.specs.declared.steps.Coming.TheVariants as coming

@@ -3,9 +3,9 @@ use Rattle.line_grammar.specs.Grammar.{part}
 use Rattle.line_grammar.specs.Shapes.{digits}
 use Rattle.line_grammar.specs.inside.Reading.{named, read}
 use Rattle.dsc_texts.specs.CallGrammar as grammar
-use Rattle.dsc_texts.specs.CallGrammar.{labelled}
+use Rattle.line_grammar.specs.Sections.{labelled}
 use Rattle.dsc_texts.specs.CallParts.{casualty_parts, distress_parts}
-use Rattle.dsc_texts.proofs.SectionSteps.{both, behind, leaves}
+use Rattle.line_grammar.proofs.SectionSteps.{both, behind, leaves}
 use Rattle.dsc_texts.proofs.sections.Distress.read.Goals as goal
 
 pub returns-in_err-mmsi : goal.returns-in_err-mmsi

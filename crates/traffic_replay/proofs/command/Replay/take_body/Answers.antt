@@ -1,7 +1,8 @@
 use Rattle.std.proofs.Common.{◌++◌, ℕ, refl, subst}
-use Rattle.traffic_lines.specs.Anywhere.{event_of_ship, event_of_coast, line_of_ship, line_of_coast}
+use Rattle.traffic_lines.specs.Lines.{event_with, line_of_ship, line_of_coast}
+use Rattle.traffic_lines.specs.declared.lines.StationOwn.TheVariants as own
 use Rattle.traffic_lines.specs.declared.lines.Point.TheVariants as point
-use Rattle.traffic_lines.specs.declared.lines.ShipBodyLine.{ShipBodyLine}
+use Rattle.traffic_lines.specs.declared.lines.ShipLine.{ShipLine}
 use Rattle.traffic_lines.specs.declared.lines.TrafficLine.TheVariants.{Group, Event}
 use Rattle.traffic_lines.specs.Lines.{IsTrafficLine}
 use Rattle.traffic_replay.specs.declared.stages.Stage.TheVariants as stage
@@ -19,7 +20,7 @@ returns-in_ok-name-in-Group-clause-ok g c = λ said text keeps.
     let from = c.in-Groups.groups in
     let mmsi = c.in-Group.mmsi in
     let line : IsTrafficLine (point.Groups c.held.result) (Group mmsi) c.args.line.now =
-    subst (λ (says : ShipBodyLine). IsTrafficLine (point.Groups c.held.result) (line_of_ship says) c.args.line.now) c.in-Group.is c.in-Ok.ensures in
+    subst (λ (says : ShipLine). IsTrafficLine (point.Groups c.held.result) (line_of_ship says) c.args.line.now) c.in-Group.is c.in-Ok.ensures in
     let here = subst (λ (n : ℕ). IsTrafficLine (point.Groups n) (Group mmsi) c.args.line.now) c.held.ensures line in
     takes_own old _ (stage.Groups from) said c.args.line.now all all (Group mmsi) c.in-Groups.is keeps here
     (keeps_group old _ from c.name.new.self mmsi said all c.in-Groups.is keeps here.0 c.name.ensures.own c.name.ensures.base c.in_ok-name-in-Group.ensures.named refl)
@@ -29,10 +30,10 @@ returns-in_ok-self-in-Event-clause-ok g c = λ said text keeps.
     let old = c.args.self.now in
     let out = c.args.out.now.items in
     let from = c.in-Groups.groups in
-    let what = event_of_ship c.in-Event.what in
+    let what = event_with own.Ship c.in-Event.what in
     let did = c.in_ok-self-in-Event.ensures in
     let line : IsTrafficLine (point.Groups c.held.result) (Event c.in-Event.at what) c.args.line.now =
-    subst (λ (says : ShipBodyLine). IsTrafficLine (point.Groups c.held.result) (line_of_ship says) c.args.line.now) c.in-Event.is c.in-Ok.ensures in
+    subst (λ (says : ShipLine). IsTrafficLine (point.Groups c.held.result) (line_of_ship says) c.args.line.now) c.in-Event.is c.in-Ok.ensures in
     takes_own old _ (stage.Groups from) said c.args.line.now (text ++ out) (text ++ c.happen.new.out.items) (Event c.in-Event.at what) c.in-Groups.is keeps
     (subst (λ (n : ℕ). IsTrafficLine (point.Groups n) (Event c.in-Event.at what) c.args.line.now) c.held.ensures line)
     (keeps_at_ship old _ from.base c.ship-ship.result c.happen.new.station said text out c.happen.new.out.items c.in_ok-self-in-Event.field-0 c.in-Event.at what
@@ -46,10 +47,10 @@ returns-in_ok-self-in-Event-says-clause-ok g c = λ said text keeps.
     let old = c.args.self.now in
     let out = c.args.out.now.items in
     let at = stage.Ship c.in-Ship.base c.in-Ship.ship in
-    let what = event_of_ship c.in-Event-says.what in
+    let what = event_with own.Ship c.in-Event-says.what in
     let did = c.in_ok-self-in-Event-says.ensures in
     takes_own old _ at said c.args.line.now (text ++ out) (text ++ c.happen-in-Event-says.new.out.items) (Event c.in-Event-says.at what) c.in-Ship.is keeps
-    (subst (λ (says : ShipBodyLine). IsTrafficLine point.Ship (line_of_ship says) c.args.line.now) c.in-Event-says.is c.in-Ok-read_ship_line.ensures)
+    (subst (λ (says : ShipLine). IsTrafficLine point.Ship (line_of_ship says) c.args.line.now) c.in-Event-says.is c.in-Ok-read_ship_line.ensures)
     (keeps_at_ship old _ c.in-Ship.base c.in-Ship.ship c.happen-in-Event-says.new.station said text out c.happen-in-Event-says.new.out.items
     c.in_ok-self-in-Event-says.field-0 c.in-Event-says.at what (ready_at old at c.in-Ship.is c.requires.ready.stage) (kept_at old at said (text ++ out) c.in-Ship.is keeps)
     (λ who h based stands. did.happens said taking_ship what who h refl (subst (λ (b : ℕ). Comes taking_ship b c.in-Event-says.at what c.at_ship-coming-in-Event-says.result) based c.at_ship-coming-in-Event-says.ensures) keeps.heard stands)
@@ -63,6 +64,6 @@ returns-in_ok-self-in-Coast-clause-ok g c = λ said text keeps.
     let says = c.in-Ok-read_coast_line.says in
     let did = c.in_ok-self-in-Coast.ensures in
     takes_own old _ at said c.args.line.now (text ++ out) (text ++ c.happen-in-Coast.new.out.items) (line_of_coast says) c.in-Coast.is keeps c.in-Ok-read_coast_line.ensures
-    (keeps_at_coast old _ c.in-Coast.coast c.happen-in-Coast.new.station said text out c.happen-in-Coast.new.out.items c.in_ok-self-in-Coast.field-0 says.0 (event_of_coast says.1)
-    (kept_at old at said (text ++ out) c.in-Coast.is keeps) (λ who h stands. did.happens said taking_coast (event_of_coast says.1) who h refl (c.at_coast-coming.ensures (base_of said) says.0) keeps.heard stands)
-    (did.kept said taking_coast 0 (event_of_coast says.1) (c.at_coast-coming.ensures 0 says.0) keeps.heard) (did.few keeps.few) refl refl)
+    (keeps_at_coast old _ c.in-Coast.coast c.happen-in-Coast.new.station said text out c.happen-in-Coast.new.out.items c.in_ok-self-in-Coast.field-0 says.0 (event_with own.Coast says.1)
+    (kept_at old at said (text ++ out) c.in-Coast.is keeps) (λ who h stands. did.happens said taking_coast (event_with own.Coast says.1) who h refl (c.at_coast-coming.ensures (base_of said) says.0) keeps.heard stands)
+    (did.kept said taking_coast 0 (event_with own.Coast says.1) (c.at_coast-coming.ensures 0 says.0) keeps.heard) (did.few keeps.few) refl refl)

@@ -1,5 +1,5 @@
 use Rattle.std.proofs.Common.{refl}
-use Rattle.traffic_lines.specs.Anywhere.{line_of_station}
+use Rattle.traffic_lines.specs.Lines.{line_of_station}
 use Rattle.traffic_replay.specs.declared.stages.Stage.TheVariants as stage
 use Rattle.traffic_replay.proofs.Bodies.{takes_own, fault_here}
 use Rattle.traffic_replay.proofs.Told.{keeps_station}

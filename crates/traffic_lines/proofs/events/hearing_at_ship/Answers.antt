@@ -1,5 +1,0 @@
-use Rattle.traffic_lines.proofs.EventTexts.{hearing_at_ship as said}
-use Rattle.traffic_lines.proofs.events.hearing_at_ship.Goals as goal
-
-pub returns-in-Ok : goal.returns-in-Ok
-returns-in-Ok c = said c.in-Ok.says _ _ c.at_ship.ensures c.in-Ok.ensures

@@ -1,5 +1,0 @@
-use Rattle.traffic_lines.proofs.EventTexts.{same_text}
-use Rattle.traffic_lines.proofs.events.shared_at_ship.Goals as goal
-
-pub returns-in-Ok : goal.returns-in-Ok
-returns-in-Ok c = same_text _ _ _ c.at_ship.ensures c.in-Ok.ensures

@@ -1,3 +1,0 @@
-pub mod Grammars
-pub mod Reading
-pub mod Shared

@@ -1,0 +1,60 @@
+//! What a ship alone does: a reader for each row.
+ghost use Rattle.line_grammar.specs.Sections.{last, nth};
+ghost use Rattle.line_grammar.specs.Rows.{ReadsRow};
+ghost use Rattle.traffic_lines.specs.Events as rows;
+ghost use Rattle.traffic_lines.specs.Events.{IsShipOwn, ship_parts};
+
+use crate::lines::ShipOwn;
+use crate::rows::{Rows, spelled, to_end};
+use crate::values::Wait;
+use call_values::{Comm, Nature, Position};
+use cursor::Cursor;
+use dsc_texts::field;
+use line_grammar::{Left, further};
+
+fn position(bytes: &[u8]) -> Result<ShipOwn, Left>
+    ensures { ReadsRow rows.position (nth 0) IsShipOwn ship_parts bytes.now result }
+{
+    let position: Position = to_end(b"position ", bytes)?;
+    let _ = position.known();
+    Ok(ShipOwn::Position(position))
+}
+
+fn delay(bytes: &[u8]) -> Result<ShipOwn, Left>
+    ensures { ReadsRow rows.delay (nth 1) IsShipOwn ship_parts bytes.now result }
+{
+    let wait: Wait = to_end(b"delay ", bytes)?;
+    let _ = wait.delay.number();
+    Ok(ShipOwn::Delay(wait.delay))
+}
+
+fn alert(bytes: &[u8]) -> Result<ShipOwn, Left>
+    ensures { ReadsRow rows.alert (nth 2) IsShipOwn ship_parts bytes.now result }
+{
+    let mut line = Cursor::new(bytes);
+    let nature: Nature = field(&mut line, b"alert nature=")?;
+    let comm: Comm = to_end(b" then=", line.rest())?;
+    let _ = nature.number();
+    let _ = comm.number();
+    Ok(ShipOwn::Alert(nature, comm))
+}
+
+fn cancel(bytes: &[u8]) -> Result<ShipOwn, Left>
+    ensures { ReadsRow rows.cancel (last 3) IsShipOwn ship_parts bytes.now result }
+{
+    spelled(b"cancel", ShipOwn::Cancel, bytes)
+}
+
+impl Rows for ShipOwn {
+    ghost rows = { rows.ship_rows };
+
+    ghost lawful = { IsShipOwn };
+
+    ghost parts = { ship_parts };
+
+    fn read(bytes: &[u8]) -> Result<ShipOwn, Left> {
+        let alerted = further(&alert(bytes), &cancel(bytes));
+        let delayed = further(&delay(bytes), &alerted);
+        further(&position(bytes), &delayed)
+    }
+}
