@@ -16,8 +16,8 @@ use crate::showing::{Unreported, reports};
 use call_values::Call;
 use phasing::LONGEST;
 use receiver_pool::{
-    AllFacts, Alone, Beside, Board, Gate, GroupReception, GroupSheet, Posts, Seat, look_at, meet_entries,
-    pool_groups, pool_groups_beside,
+    AllFacts, Alone, Beside, Board, Gate, GroupReception, GroupSheet, Posts, Seat, look_at,
+    meet_entries, pool_groups, pool_groups_beside,
 };
 use slot_evidence::{Reception, Sheet, ends_are_kept, sheet_has_facts};
 use slot_join::alike_facts_have_one_answer;
