@@ -315,8 +315,12 @@ fn openings_are_read(rt: HostRuntime) -> Result<(), Fail> {
 
 /// The moment and the event that a line says at this point.
 fn event_at(point: Point, text: &[u8]) -> Option<(u32, EventLine)> {
-    match Line::from(read_traffic(point, text).ok()?) {
-        Line::Event { at, what } => Some((at, what)),
+    let Ok(said) = read_traffic(point, text) else {
+        return None;
+    };
+    let line = Line::from(said);
+    match &line {
+        Line::Event { at, what } => Some((*at, *what)),
         _ => None,
     }
 }
