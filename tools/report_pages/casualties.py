@@ -77,7 +77,7 @@ def casualties_of(heard):
     for casualty in found:
         for alert in casualty.of_kind("alert"):
             alert.finer = finer_of(alert, heard)
-    return sorted(found, key=lambda it: (not it.waits(), it.first() == "", it.first(), it.identity)), left_out
+    return sorted(found, key=lambda it: (it.first() == "", it.first(), it.identity)), left_out
 
 
 def finer_of(alert, heard):
