@@ -135,8 +135,9 @@ impl NamedGroups {
         }
     }
 
-    /// Takes what a receiver heard of a group, at most 1,000,000 elements, into the batch, and leaves the batch open. Where nobody watches the
-    /// group any more, one worker who works alone reads it at once. A group too many leaves all as it was.
+    /// Takes what a receiver heard of a group, at most 1,000,000 elements, into the batch, and leaves the batch open. One worker who works
+    /// alone reads it at once, and where nobody watches the group any more, or it shows nothing beyond what is known of the group, there is
+    /// nothing to be seen beside that worker, and it doesn't wait. A group too many leaves all as it was.
     pub fn wait<W: WatchedJoiner>(
         &mut self,
         workers: &W,
@@ -154,8 +155,8 @@ impl NamedGroups {
             → (refusal ≡ Refusal.TooManyGroups) × IsFull named group)) }
         ensures kept { IfErr result (λ refusal. refusal ≢ Refusal.Memory → self.new ≡ self.old) }
     {
-        if !is_watched {
-            if let Some(read) = workers.read_alone(&heard) {
+        if let Some(read) = workers.read_alone(&heard) {
+            if !is_watched || !self.is_news(group, &read) {
                 return self.meet(group, &read);
             }
         }
@@ -165,6 +166,22 @@ impl NamedGroups {
                 Ok(())
             }
             Err(refusal) => Err(refusal),
+        }
+    }
+
+    /// Whether a sheet shows something of a group beyond what is known of it.
+    fn is_news(&self, group: u32, shown: &Sheet) -> bool {
+        let known = self.known_of(group);
+        let mut all = known;
+        all.meet(shown);
+        all != known
+    }
+
+    /// What is known of a group, but for the receptions of the open batch.
+    fn known_of(&self, group: u32) -> Sheet {
+        match self.numbers.get(&group) {
+            Some(number) => self.sheets.get(*number).copied().unwrap_or(Sheet::empty()),
+            None => Sheet::empty(),
         }
     }
 

@@ -24,8 +24,8 @@ use live_watch::{WatchedJoiner, told_calls};
 use std::alloc::{AllocError, Global};
 
 /// The command that tells a call of each group as soon as a batch ends that reports it, and at the input's end answers as `join` does. A batch
-/// ends at each 256th reception, and where the engine pauses, before it reads on. Workers join its receptions while a watcher looks on; a
-/// reception of a group of which a call was told waits for nobody, where one worker works alone.
+/// ends at each 256th reception, and where the engine pauses, before it reads on. Workers join its receptions while a watcher looks on. Where
+/// one worker works alone, a reception waits for the batch only if it shows something new of a group of which no call was told.
 #[derive(Drop)]
 pub struct WatchGroups<W: WatchedJoiner> {
     alloc: Global,

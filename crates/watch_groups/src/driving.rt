@@ -17,8 +17,9 @@ use std::thread::Threads;
 /// of which none was told; so it is at the input's end, and the answer of each group follows, by rising number. A batch ends at each 256th
 /// reception, and behind the lines of each read: so a call is told before more is read. Told lines of one batch come in the order in which its
 /// lines first named their groups. So many workers, 1 to 64, read the receptions of a batch, and a watcher beside them goes round their
-/// boards, with one fork: it may see a group's call while they still post. One worker reads a reception of a group of which a call was told at
-/// once. It enters the gate before the first line, and, as several do, in each batch.
+/// boards, with one fork: it may see a group's call while they still post. One worker enters the gate before the first line and reads each
+/// reception at once. Those that show something new of a group of which no call was told make up its batches, in which it enters the gate
+/// again, as several workers do.
 ///
 /// | Status | What it says |
 /// |---|---|

@@ -1,6 +1,6 @@
 //! Who enters the gate, how often, and what was read by then. No clause can see it.
 
-use crate::tests::receptions::{WHOLE, line, of_group, words_of};
+use crate::tests::receptions::{Row, WHOLE, damaged, line, words_of};
 use dsc_cmd::{Failed, Source, SureSink, SureSource, run};
 use dsc_symbols::worked::ALERT_SLOTS;
 use receiver_pool::Gate;
@@ -105,11 +105,12 @@ const ROWS: [(&str, u32, Entries); 9] = [
     (" --workers 64", 300, (128, 126, 0)),
 ];
 
-// Those of a watch: in each batch of receptions all workers enter once, and a watcher beside them; one who works alone has also entered before
-// the first line. The source gives eight lines a read, after which a batch ends: 300 lines are 38 batches.
+// Those of a watch: in each batch of receptions all workers enter once, and a watcher beside them; one who works alone has entered before
+// the first line, and has no batch of receptions that show nothing. The source gives eight lines a read, after which a batch ends: 300 lines
+// are 38 batches.
 const WATCHED: [(&str, u32, Entries); 4] = [
     ("dsc watch", 0, (1, 0, 1)),
-    ("dsc watch", 2, (3, 1, 1)),
+    ("dsc watch", 2, (1, 0, 1)),
     ("dsc watch --workers 2", 300, (114, 76, 0)),
     ("dsc watch --workers 64", 2, (65, 64, 0)),
 ];
@@ -125,13 +126,30 @@ fn entries_of_a_watch_are_counted(rt: HostRuntime) -> Result<(), Fail> {
     Ok(())
 }
 
-// After the batch in which a group's call was told, a worker who works alone reads what is heard of the group by itself.
+// Where one worker works alone, a reception is a batch of its own if it shows something new of a group of which no call was told. Each line
+// is longer than a read.
 #[test]
-fn receptions_of_a_told_group_wait_for_no_batch(rt: HostRuntime) -> Result<(), Fail> {
+fn receptions_without_news_wait_for_no_batch(rt: HostRuntime) -> Result<(), Fail> {
     let alloc = rt.alloc();
-    let mut input = of_group(alloc, 1, &line(alloc, &ALERT_SLOTS, &WHOLE)?)?;
-    input.extend_from_slice(&receptions(alloc, "", 300, "")?)?;
-    assert_eq!(rt; entries(&rt, alloc, "dsc watch", input)?, (3, 1, 1));
+    let other = Row {
+        other: &[(26, 120), (31, 120)],
+        ..WHOLE
+    };
+    let whole = line(alloc, &ALERT_SLOTS, &WHOLE)?;
+    let other = line(alloc, &ALERT_SLOTS, &other)?;
+    let first = damaged(alloc, false)?;
+    let second = damaged(alloc, true)?;
+    for (lines, want) in [
+        ([&whole, &other, &first], (3, 1, 1)),
+        ([&first, &first, &first], (3, 1, 1)),
+        ([&first, &second, &second], (5, 2, 1)),
+    ] {
+        let mut input = Vec::new(alloc);
+        for line in lines {
+            input.extend_from_slice(line)?;
+        }
+        assert_eq!(rt; entries(&rt, alloc, "dsc watch", input)?, want);
+    }
     Ok(())
 }
 
