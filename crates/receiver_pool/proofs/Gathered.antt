@@ -1,5 +1,5 @@
 -- What the sheets of a batch's groups show together, place by place.
-use Rattle.std.proofs.Common.{◌≡◌, ℕ, zero, suc, ◌+◌, ◌%◌, ◌<◌, ◌≤◌, ◌==◌, Bool, true, false, ◌&&◌, ◌||◌, List, [], ◌∷◌, ◌++◌, All, length, map, take, slice_index, slice_index_or, refl, arith, ap, sym, ◌∙◌, inl, inr, add-one, subst}
+use Rattle.std.proofs.Common.{◌≡◌, ℕ, zero, suc, ◌+◌, ◌<◌, ◌≤◌, ◌==◌, Bool, true, false, ◌&&◌, ◌||◌, List, [], ◌∷◌, ◌++◌, All, length, map, take, slice_index, slice_index_or, refl, arith, ap, sym, ◌∙◌, inl, inr, add-one, subst}
 use Rattle.std.proofs.lemmas.Bool.{cases_eq, cases_lt, eq-eqb, ne_eqb}
 use Rattle.std.proofs.lemmas.List.{get_or_append_left, get_or_push, length-append, take_all, take_more}
 use Rattle.std.proofs.lemmas.List.Elements.{All-get_or, All-nil}
@@ -16,7 +16,7 @@ use Rattle.receiver_pool.specs.declared.group_entries.GroupSheet.{GroupSheet}
 use Rattle.receiver_pool.specs.Groups.{facts_of_group, groups_of, AreSheets, AreShown, Belongs, IsOneOf, Shows}
 use Rattle.receiver_pool.specs.inside.Turns.{is_turn, group_part, nobody}
 use Rattle.receiver_pool.specs.inside.Numbers.{AreApart, AreNumbered, IsBelow, IsPlaced, nth_at, place_part, gathered, is_listed, with_group}
-use Rattle.receiver_pool.proofs.Parts.{one_turn, groups_all, same_sheets}
+use Rattle.receiver_pool.proofs.Parts.{groups_all, same_sheets}
 use Rattle.receiver_pool.proofs.Entries.{shown_same, shown_append, shown_one}
 use Rattle.slot_evidence.proofs.PublicLaws.{IsEnds-same}
 use Rattle.receiver_pool.proofs.SeatRows.{same_seats}
@@ -139,19 +139,20 @@ gathered_shown workers batch groups places entries some_there are shown belong n
 }
 
 -- one reception more
-pub next_part : (workers worker index : ℕ) (batch : List GroupReception) (places : List ℕ) (heard : GroupReception) (sheets : List (List Seen)) (n : ℕ) → heard ≡ slice_index_or batch index nobody
-    → AreSheets (λ k. union (place_part (is_turn workers worker (worker + 1)) batch places index k) (λ p v. slice_index places index == k && ((index % workers) == worker && facts_of heard.reception p v))) sheets n
-    → AreSheets (place_part (is_turn workers worker (worker + 1)) batch places (index + 1)) sheets n
-next_part workers worker index batch places heard sheets n is are =
-    let part = place_part (is_turn workers worker (worker + 1)) batch places in
+pub next_part : (workers low high index : ℕ) (mine : Bool) (batch : List GroupReception) (places : List ℕ) (heard : GroupReception) (sheets : List (List Seen)) (n : ℕ) → heard ≡ slice_index_or batch index nobody
+    → mine ≡ is_turn workers low high index
+    → AreSheets (λ k. union (place_part (is_turn workers low high) batch places index k) (λ p v. slice_index places index == k && (mine && facts_of heard.reception p v))) sheets n
+    → AreSheets (place_part (is_turn workers low high) batch places (index + 1)) sheets n
+next_part workers low high index mine batch places heard sheets n is turn are =
+    let part = place_part (is_turn workers low high) batch places in
     let place = slice_index places index in
     subst (λ (m : ℕ). AreSheets (part m) sheets n) (sym (add-one index))
     (same_sheets _ (part (suc index)) sheets n
     (λ k p v.
     ap (λ (b : Bool). part index k p v || b)
-    (and_swap (place == k) ((index % workers) == worker) (facts_of heard.reception p v)
-    ∙ ap (λ (b : Bool). b && (place == k && facts_of heard.reception p v)) (one_turn workers worker index)
-    ∙ ap (λ (h : GroupReception). is_turn workers worker (worker + 1) index && (place == k && facts_of h.reception p v)) is))
+    (and_swap (place == k) mine (facts_of heard.reception p v)
+    ∙ ap (λ (b : Bool). b && (place == k && facts_of heard.reception p v)) turn
+    ∙ ap (λ (h : GroupReception). is_turn workers low high index && (place == k && facts_of h.reception p v)) is))
     are)
 
 pub or_assoc : (a b c : Bool) → (a || b || c) ≡ (a || (b || c))
@@ -159,20 +160,21 @@ or_assoc true b c = refl
 or_assoc false b c = refl
 
 -- one reception more was posted
-pub next_posted : (workers worker index : ℕ) (batch : List GroupReception) (places : List ℕ) (heard : GroupReception) (share : ℕ) (F : ℕ → Facts) (boards : List TableId) (seats : List Held) → heard ≡ slice_index_or batch index nobody
-    → AreSeats share (λ k. union (union (F k) (place_part (is_turn workers worker (worker + 1)) batch places index k)) (λ p v. slice_index places index == k && ((index % workers) == worker && facts_of heard.reception p v))) boards seats
-    → AreSeats share (λ k. union (F k) (place_part (is_turn workers worker (worker + 1)) batch places (index + 1) k)) boards seats
-next_posted workers worker index batch places heard share F boards seats is are =
-    let part = place_part (is_turn workers worker (worker + 1)) batch places in
+pub next_posted : (workers low high index : ℕ) (mine : Bool) (batch : List GroupReception) (places : List ℕ) (heard : GroupReception) (share : ℕ) (F : ℕ → Facts) (boards : List TableId) (seats : List Held) → heard ≡ slice_index_or batch index nobody
+    → mine ≡ is_turn workers low high index
+    → AreSeats share (λ k. union (union (F k) (place_part (is_turn workers low high) batch places index k)) (λ p v. slice_index places index == k && (mine && facts_of heard.reception p v))) boards seats
+    → AreSeats share (λ k. union (F k) (place_part (is_turn workers low high) batch places (index + 1) k)) boards seats
+next_posted workers low high index mine batch places heard share F boards seats is turn are =
+    let part = place_part (is_turn workers low high) batch places in
     let place = slice_index places index in
     subst (λ (m : ℕ). AreSeats share (λ k. union (F k) (part m k)) boards seats) (sym (add-one index))
     (same_seats share share _ (λ k. union (F k) (part (suc index) k)) boards seats refl
     (λ k p v.
-    or_assoc (F k p v) (part index k p v) (place == k && ((index % workers) == worker && facts_of heard.reception p v))
+    or_assoc (F k p v) (part index k p v) (place == k && (mine && facts_of heard.reception p v))
     ∙ ap (λ (b : Bool). F k p v || (part index k p v || b))
-    (and_swap (place == k) ((index % workers) == worker) (facts_of heard.reception p v)
-    ∙ ap (λ (b : Bool). b && (place == k && facts_of heard.reception p v)) (one_turn workers worker index)
-    ∙ ap (λ (h : GroupReception). is_turn workers worker (worker + 1) index && (place == k && facts_of h.reception p v)) is))
+    (and_swap (place == k) mine (facts_of heard.reception p v)
+    ∙ ap (λ (b : Bool). b && (place == k && facts_of heard.reception p v)) turn
+    ∙ ap (λ (h : GroupReception). is_turn workers low high index && (place == k && facts_of h.reception p v)) is))
     are)
 
 -- one entry more

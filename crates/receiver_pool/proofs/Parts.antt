@@ -25,17 +25,6 @@ turn_below workers low high index below = and_left _ _ (lt-leb low (index % work
 turn_above : (workers low high index : ℕ) → high ≤ index % workers → is_turn workers low high index ≡ false
 turn_above workers low high index above = and_right (nat_le low (index % workers)) _ (le-ltb (index % workers) high above)
 
-pub one_turn : (workers worker index : ℕ) → ((index % workers) == worker) ≡ is_turn workers worker (worker + 1) index
-one_turn workers worker index =
-    elim (cases_eq (index % workers) worker) [
-      | inl same ↦ eq-eqb (index % workers) worker same ∙ sym (turn_yes workers worker (worker + 1) index (omega arith) (omega arith))
-      | inr apart ↦
-          elim (cases_lt (index % workers) worker) [
-            | inl below ↦ ne_eqb (index % workers) worker apart ∙ sym (turn_below workers worker (worker + 1) index below)
-            | inr above ↦ ne_eqb (index % workers) worker apart ∙ sym (turn_above workers worker (worker + 1) index (omega arith))
-          ]
-    ]
-
 turn_halves : (workers low middle high index : ℕ) → low ≤ middle → middle ≤ high → is_turn workers low high index ≡ (is_turn workers low middle index || is_turn workers middle high index)
 turn_halves workers low middle high index left right =
     elim (cases_lt (index % workers) low) [
@@ -100,15 +89,15 @@ groups_all workers batch k p v some_there = all_taken (λ heard. heard.group == 
 pub turn_taken : (takes : Bool) (F G : Facts) (sheet : List Seen) → takes ≡ true → IsEnds (union F G) sheet → IsEnds (union F (λ p v. takes && G p v)) sheet
 turn_taken takes F G sheet is ends = IsEnds-same _ _ sheet (λ p v. ap (λ (b : Bool). F p v || (b && G p v)) (sym is)) ends
 
-pub one_more : (workers worker index : ℕ) (list : List (List Element)) (e : List Element) (sheet : List Seen) → e ≡ slice_index_or list index []
-    → IsEnds (union (part (is_turn workers worker (worker + 1)) list index) (λ p v. ((index % workers) == worker) && facts_of e p v)) sheet
-    → IsEnds (part (is_turn workers worker (worker + 1)) list (index + 1)) sheet
-one_more workers worker index list e sheet is ends =
-    subst (λ (n : ℕ). IsEnds (part (is_turn workers worker (worker + 1)) list n) sheet) (sym (add-one index))
+pub one_more : (workers low high index : ℕ) (mine : Bool) (list : List (List Element)) (e : List Element) (sheet : List Seen) → e ≡ slice_index_or list index [] → mine ≡ is_turn workers low high index
+    → IsEnds (union (part (is_turn workers low high) list index) (λ p v. mine && facts_of e p v)) sheet
+    → IsEnds (part (is_turn workers low high) list (index + 1)) sheet
+one_more workers low high index mine list e sheet is turn ends =
+    subst (λ (n : ℕ). IsEnds (part (is_turn workers low high) list n) sheet) (sym (add-one index))
     (IsEnds-same _ _ sheet
     (λ p v.
-    ap (λ (b : Bool). part (is_turn workers worker (worker + 1)) list index p v || (b && facts_of e p v)) (one_turn workers worker index)
-    ∙ ap (λ (x : List Element). part (is_turn workers worker (worker + 1)) list index p v || (is_turn workers worker (worker + 1) index && facts_of x p v)) is)
+    ap (λ (b : Bool). part (is_turn workers low high) list index p v || (b && facts_of e p v)) turn
+    ∙ ap (λ (x : List Element). part (is_turn workers low high) list index p v || (is_turn workers low high index && facts_of x p v)) is)
     ends)
 
 pub fold_twice : (f a b : Bool) → (f || a || (f || b)) ≡ (f || (a || b))

@@ -1,5 +1,5 @@
 //! Workers who post each reception as soon as they read it.
-ghost use Rattle.std.specs.Prelude.{◌≡◌, ℕ, ◌+◌, ◌<◌, ◌≤◌, ◌&&◌, All, length};
+ghost use Rattle.std.specs.Prelude.{◌≡◌, ℕ, ◌<◌, ◌≤◌, ◌&&◌, All, length};
 ghost use Rattle.slot_evidence.specs.Facts.{Facts, facts_of, no_facts, union};
 ghost use Rattle.slot_evidence.specs.Sheet.{IsEnds};
 ghost use Rattle.evidence_board.specs.Views.{given_sheet};
@@ -11,6 +11,7 @@ ghost use Rattle.receiver_pool.specs.inside.Numbers.{ArePlaces, HavePosted, plac
 use crate::boards::post_sheet;
 use crate::gate::Entered;
 use crate::group_entries::GroupReception;
+use crate::pools::is_mine;
 use crate::posts::Posts;
 use evidence_board::{AllFacts, Board, Seat, all_facts_may_be_posted};
 use phasing::LONGEST;
@@ -54,10 +55,11 @@ fn post_turn(
     posts.note(number, &shown);
 }
 
-/// Posts a worker's receptions on the boards of their groups, each as soon as it was read, but for those that show nothing new of the batch.
+/// Posts the receptions of workers who have entered on the boards of their groups, each as soon as it was read, but for those that show
+/// nothing new of the batch.
 /// The sheets are those of all that was posted.
 pub(crate) fn post_turns(
-    _entered: &Entered,
+    entered: &Entered,
     boards: &[Board<AllFacts>],
     seats: &mut [Seat<AllFacts>],
     sheets: &mut [Sheet],
@@ -65,18 +67,17 @@ pub(crate) fn post_turns(
     places: &[usize],
     posts: &Posts,
     workers: u32,
-    worker: u32,
 )
-    requires worker { worker < workers }
+    requires workers { 0 < workers }
     requires seats { Sit 1 boards.now seats.old }
     requires sheets { AreSheets (λ k. no_facts) sheets.old (length boards.now) }
     requires short { All IsShort batch.now }
     requires places { ArePlaces (length batch.now) (length boards.now) places.now }
-    ensures { HavePosted (place_part (is_turn workers worker (worker + 1)) batch.now places.now (length batch.now))
-        boards.now seats.old seats.new }
+    ensures { HavePosted (place_part (is_turn workers entered.now.low entered.now.high) batch.now places.now
+        (length batch.now)) boards.now seats.old seats.new }
 {
     for (index, heard) in batch.iter().enumerate() {
-        let mine = index % workers as usize == worker as usize;
+        let mine = is_mine(index, workers, entered.low, entered.high);
         let place = places[index];
         let reception = &heard.reception;
         post_turn(

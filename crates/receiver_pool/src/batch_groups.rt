@@ -8,8 +8,10 @@ ghost use Rattle.receiver_pool.specs.inside.Numbers.{AreNumbered, ArePlaces, Are
 use crate::boards::blank_sheets;
 use crate::gate::Entered;
 use crate::group_entries::{GroupReception, GroupSheet};
-use crate::pools::take_turn;
+use crate::pools::{is_mine, take_turn};
 use crate::posts::Posts;
+use crate::threads::threads_for;
+use phasing::Elements;
 use slot_evidence::Sheet;
 use std::alloc::{AllocError, Global};
 
@@ -95,43 +97,55 @@ pub struct Turns {
     pub posts: Posts,
 }
 
-/// Reads a worker's receptions into the sheets of their groups.
+/// Reads the receptions of workers who have entered into the sheets of their groups.
 fn read_into(
     sheets: &mut [Sheet],
     batch: &[GroupReception],
     places: &[usize],
     workers: u32,
-    worker: u32,
+    entered: &Entered,
 )
-    requires worker { worker < workers }
+    requires workers { 0 < workers }
     requires short { All IsShort batch.now }
     requires places { ArePlaces (length batch.now) (length sheets.old) places.now }
     ensures { (n : ℕ) → AreSheets (λ k. no_facts) sheets.old n
-        → AreSheets (place_part (is_turn workers worker (worker + 1)) batch.now places.now (length batch.now))
-        sheets.new n }
+        → AreSheets (place_part (is_turn workers entered.now.low entered.now.high) batch.now places.now
+        (length batch.now)) sheets.new n }
 {
     for (index, heard) in batch.iter().enumerate() {
-        let mine = index % workers as usize == worker as usize;
+        let mine = is_mine(index, workers, entered.low, entered.high);
         take_turn(&mut sheets[places[index]], &heard.reception, mine);
     }
 }
 
-/// What a worker's receptions show of each of so many groups.
+/// What the receptions of workers who have entered show of each of so many groups.
 pub(crate) fn shown_to(
-    _entered: &Entered,
+    entered: &Entered,
     alloc: Global,
     batch: &[GroupReception],
     turns: &Turns,
     count: usize,
-    worker: u32,
 ) -> Result<Vec<Sheet>, AllocError>
-    requires worker { worker < turns.now.workers }
+    requires workers { 0 < turns.now.workers }
     requires turns { AreTurns count batch.now turns.now }
-    ensures { IfOk result (λ v. AreSheets (read_by batch.now turns.now worker (worker + 1)) v.items count) }
+    ensures { IfOk result (λ v. AreSheets (read_by batch.now turns.now entered.now.low entered.now.high) v.items count) }
 {
     let mut sheets = blank_sheets(alloc, count)?;
-    read_into(&mut sheets, batch, &turns.places, turns.workers, worker);
+    read_into(&mut sheets, batch, &turns.places, turns.workers, entered);
     Ok(sheets)
+}
+
+/// How many threads act for so many workers on a batch.
+pub(crate) fn threads_of(batch: &[GroupReception], workers: u32) -> u32
+    requires { 1 ≤ workers }
+    ensures some { (1 ≤ result) × (result ≤ workers) }
+    ensures two { 2 ≤ workers → 2 ≤ result }
+{
+    let mut elements: usize = 0;
+    for heard in batch {
+        elements = elements.saturating_add(heard.reception.count());
+    }
+    threads_for(workers, elements)
 }
 
 /// An entry for each group.

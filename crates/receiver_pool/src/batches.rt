@@ -8,11 +8,12 @@ ghost use Rattle.receiver_pool.specs.inside.Numbers.{AreTurns, HavePosted, read_
 ghost use Rattle.receiver_pool.specs.Rows.{Sit};
 
 use crate::at_once::post_turns;
-use crate::batch_groups::{Turns, entries_of, number_groups, shown_to};
+use crate::batch_groups::{Turns, entries_of, number_groups, shown_to, threads_of};
 use crate::boards::{blank_sheets, boards_for, close_each, join_each, post_each, split_each};
 use crate::gate::{Gate, enter};
 use crate::group_entries::{GroupReception, GroupSheet};
 use crate::posts::Posts;
+use crate::threads::parted;
 use evidence_board::{AllFacts, Board, Seat, WHOLE};
 use slot_evidence::Sheet;
 use std::alloc::{AllocError, Global};
@@ -39,24 +40,24 @@ pub fn take_at(sheets: &mut [Sheet], number: usize) -> Sheet
     sheet
 }
 
-/// One worker: it enters the gate, joins its receptions, and posts what they showed of each group; where somebody looks at the boards, each
-/// reception at once.
+/// One thread, for the workers from `low` on and below `high`: they enter the gate, and it joins their receptions, and posts what these
+/// showed of each group; where somebody looks at the boards, each reception at once.
 fn work<G: Gate>(
     alloc: Global,
     boards: &[Board<AllFacts>],
     mut seats: Vec<Seat<AllFacts>>,
     batch: &[GroupReception],
     turns: &Turns,
-    worker: u32,
+    low: u32,
+    high: u32,
     gate: &G,
 ) -> Result<Vec<Seat<AllFacts>>, AllocError>
-    requires worker { worker < turns.now.workers }
+    requires workers { 0 < turns.now.workers }
     requires seats { Sit 1 boards.now seats.items }
     requires turns { AreTurns (length boards.now) batch.now turns.now }
-    ensures { IfOk result (λ v. HavePosted (read_by batch.now turns.now worker (worker + 1))
-        boards.now seats.items v.items) }
+    ensures { IfOk result (λ v. HavePosted (read_by batch.now turns.now low high) boards.now seats.items v.items) }
 {
-    let entered = enter(gate, worker);
+    let entered = enter(gate, low, high);
     if turns.posts.is_watched() {
         let mut sheets = blank_sheets(alloc, boards.len())?;
         post_turns(
@@ -68,16 +69,16 @@ fn work<G: Gate>(
             &turns.places,
             &turns.posts,
             turns.workers,
-            worker,
         );
         return Ok(seats);
     }
-    let sheets = shown_to(&entered, alloc, batch, turns, boards.len(), worker)?;
+    let sheets = shown_to(&entered, alloc, batch, turns, boards.len())?;
     post_each(boards, &mut seats, &sheets);
     Ok(seats)
 }
 
-/// The workers from `low` on and below `high`, by halves of halves in threads of their own. Each has a seat of every board.
+/// The workers from `low` on and below `high`, in so many threads by halves of halves, or in one for each of them where that is less. Each
+/// thread has a seat of every board.
 #[cycle(groups)]
 pub(crate) fn fork_groups<R: Threads + Sync, G: Gate>(
     rt: &R,
@@ -88,43 +89,52 @@ pub(crate) fn fork_groups<R: Threads + Sync, G: Gate>(
     turns: &Turns,
     low: u32,
     high: u32,
+    threads: u32,
     gate: &G,
 ) -> Result<Vec<Seat<AllFacts>>, AllocError>
     requires sync { IsSync R.row × IsSync G.row }
     requires range { (low < high) × (high ≤ turns.now.workers) }
-    requires seats { Sit (high - low) boards.now seats.items }
+    requires threads { 1 ≤ threads }
+    requires seats { Sit threads boards.now seats.items }
     requires turns { AreTurns (length boards.now) batch.now turns.now }
     ensures { IfOk result (λ v. HavePosted (read_by batch.now turns.now low high) boards.now seats.items v.items) }
 {
-    if high - low == 1 {
-        return work(alloc, boards, seats, batch, turns, low, gate);
+    if threads == 1 || high - low == 1 {
+        return work(alloc, boards, seats, batch, turns, low, high, gate);
     }
-    let middle = low + (high - low).div_ceil(2);
+    let middle = parted(low, high, batch.len());
+    let half = threads / 2;
+    let more = threads - half;
     let others = split_each(alloc, boards, &mut seats)?;
     let (first, second) = join(
         rt,
         move || -> Result<Vec<Seat<AllFacts>>, AllocError>
             requires { IsSync R.row × IsSync G.row × ((low < middle) × (middle ≤ turns.now.workers))
-                × Sit (middle - low) boards.now seats.items × AreTurns (length boards.now) batch.now turns.now }
+                × (1 ≤ more) × Sit more boards.now seats.items × AreTurns (length boards.now) batch.now turns.now }
             ensures { IfOk result (λ v. HavePosted (read_by batch.entry.now turns.entry.now low middle) boards.entry.now
                 seats.items v.items) }
-        { fork_groups(rt, alloc, boards, seats, batch, turns, low, middle, gate) },
+        {
+            fork_groups(
+                rt, alloc, boards, seats, batch, turns, low, middle, more, gate,
+            )
+        },
         move || -> Result<Vec<Seat<AllFacts>>, AllocError>
             requires { IsSync R.row × IsSync G.row × ((middle < high) × (high ≤ turns.now.workers))
-                × Sit (high - middle) boards.now others.items × AreTurns (length boards.now) batch.now turns.now }
+                × (1 ≤ half) × Sit half boards.now others.items × AreTurns (length boards.now) batch.now turns.now }
             ensures { IfOk result (λ v. HavePosted (read_by batch.entry.now turns.entry.now middle high)
                 boards.entry.now others.items v.items) }
-        { fork_groups(rt, alloc, boards, others, batch, turns, middle, high, gate) },
+        {
+            fork_groups(
+                rt, alloc, boards, others, batch, turns, middle, high, half, gate,
+            )
+        },
     );
     let mut joined = first?;
     join_each(boards, &mut joined, second?);
     Ok(joined)
 }
 
-/// A batch of fewer receptions than this gains nothing from an empty thread.
-const FEW: usize = 16;
-
-/// All workers. An empty thread comes first, but where the batch is small: a kernel may put the first new thread on the processor of the
+/// All workers. An empty thread comes first where there are more than two threads: a kernel may put the first new thread on the processor of the
 /// one that starts it, where it waits until that one has done its own share. The worker started behind it then has another processor, and
 /// begins at once.
 fn start_groups<R: Threads + Sync, G: Gate>(
@@ -134,28 +144,36 @@ fn start_groups<R: Threads + Sync, G: Gate>(
     seats: Vec<Seat<AllFacts>>,
     batch: &[GroupReception],
     turns: &Turns,
+    threads: u32,
     gate: &G,
 ) -> Result<Vec<Seat<AllFacts>>, AllocError>
     requires sync { IsSync R.row × IsSync G.row }
     requires workers { 1 ≤ turns.now.workers }
-    requires seats { Sit turns.now.workers boards.now seats.items }
+    requires threads { 1 ≤ threads }
+    requires seats { Sit threads boards.now seats.items }
     requires turns { AreTurns (length boards.now) batch.now turns.now }
     ensures { IfOk result (λ v. HavePosted (read_by batch.now turns.now 0 turns.now.workers) boards.now seats.items
         v.items) }
 {
     let workers = turns.workers;
-    if batch.len() < FEW {
-        return fork_groups(rt, alloc, boards, seats, batch, turns, 0, workers, gate);
+    if threads <= 2 {
+        return fork_groups(
+            rt, alloc, boards, seats, batch, turns, 0, workers, threads, gate,
+        );
     }
     let (_, joined) = join(
         rt,
         || {},
         move || -> Result<Vec<Seat<AllFacts>>, AllocError>
             requires { IsSync R.row × IsSync G.row × ((1 ≤ workers) × (workers ≤ turns.now.workers))
-                × Sit workers boards.now seats.items × AreTurns (length boards.now) batch.now turns.now }
+                × (1 ≤ threads) × Sit threads boards.now seats.items × AreTurns (length boards.now) batch.now turns.now }
             ensures { IfOk result (λ v. HavePosted (read_by batch.entry.now turns.entry.now 0 workers) boards.entry.now
                 seats.items v.items) }
-        { fork_groups(rt, alloc, boards, seats, batch, turns, 0, workers, gate) },
+        {
+            fork_groups(
+                rt, alloc, boards, seats, batch, turns, 0, workers, threads, gate,
+            )
+        },
     );
     joined
 }
@@ -174,11 +192,12 @@ fn share_groups<R: Threads + Sync, G: Gate>(
     ensures { IfOk result (λ v. AreSheets (read_by batch.now turns.now 0 turns.now.workers) v.items count) }
 {
     if turns.workers == 1 {
-        let entered = enter(gate, 0);
-        return shown_to(&entered, alloc, batch, turns, count, 0);
+        let entered = enter(gate, 0, 1);
+        return shown_to(&entered, alloc, batch, turns, count);
     }
+    let threads = threads_of(batch, turns.workers);
     let (boards, seats) = boards_for(alloc, count)?;
-    let seats = start_groups(rt, alloc, &boards, seats, batch, turns, gate)?;
+    let seats = start_groups(rt, alloc, &boards, seats, batch, turns, threads, gate)?;
     close_each(alloc, boards, seats)
 }
 

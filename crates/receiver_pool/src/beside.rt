@@ -12,7 +12,7 @@ ghost use Rattle.receiver_pool.specs.inside.Numbers.{AreTurns, HavePosted, read_
 ghost use Rattle.receiver_pool.specs.Rows.{AreAsBefore, AreSeats, HaveSeenNothing, Sit, seat_at};
 ghost use Rattle.receiver_pool.specs.Seeing.{HasGoneRound};
 
-use crate::batch_groups::{Turns, entries_of, number_groups};
+use crate::batch_groups::{Turns, entries_of, number_groups, threads_of};
 use crate::batches::fork_groups;
 use crate::boards::{boards_for, close_each, join_each, split_each};
 use crate::gate::Gate;
@@ -78,12 +78,14 @@ fn fork_beside<R: Threads + Sync, G: Gate, B: Beside>(
     others: Vec<Seat<AllFacts>>,
     batch: &[GroupReception],
     turns: &Turns,
+    threads: u32,
     gate: &G,
     beside: B,
 ) -> Result<(B, Vec<Seat<AllFacts>>), AllocError>
     requires sync { IsSync R.row × IsSync G.row × IsSend B.row }
     requires workers { 1 ≤ turns.now.workers }
-    requires seats { Sit turns.now.workers boards.now seats.items }
+    requires threads { 1 ≤ threads }
+    requires seats { Sit threads boards.now seats.items }
     requires others { Sit 1 boards.now others.items }
     requires unseen { HaveSeenNothing (length boards.now) others.items }
     requires turns { AreTurns (length boards.now) batch.now turns.now }
@@ -108,11 +110,13 @@ fn fork_beside<R: Threads + Sync, G: Gate, B: Beside>(
         { go_beside(known, groups, boards, others, turns, gate, beside) },
         move || -> Result<Vec<Seat<AllFacts>>, AllocError>
             requires { IsSync R.row × IsSync G.row × ((1 ≤ workers) × (workers ≤ turns.now.workers))
-                × Sit workers boards.now seats.items × AreTurns (length boards.now) batch.now turns.now }
+                × (1 ≤ threads) × Sit threads boards.now seats.items × AreTurns (length boards.now) batch.now turns.now }
             ensures { IfOk result (λ v. HavePosted (read_by batch.entry.now turns.entry.now 0 workers) boards.entry.now
                 seats.items v.items) }
         {
-            let joined = fork_groups(rt, alloc, boards, seats, batch, turns, 0, workers, gate);
+            let joined = fork_groups(
+                rt, alloc, boards, seats, batch, turns, 0, workers, threads, gate,
+            );
             turns.posts.end();
             joined
         },
@@ -159,10 +163,11 @@ fn share_beside<R: Threads + Sync, G: Gate, B: Beside>(
         × ((k : ℕ) → k < length groups.now → (p : ℕ) → p < 64
         → IsWithin (place_at (seat_at gone k).view p).seen (reach_of (seen_at (slice_index_or v.0.items k []) p)))) }
 {
+    let threads = threads_of(batch, turns.workers);
     let (boards, seats) = boards_for(alloc, groups.len())?;
     let (seats, others) = halved(alloc, &boards, seats)?;
     let (beside, joined) = fork_beside(
-        rt, alloc, known, groups, &boards, seats, others, batch, turns, gate, beside,
+        rt, alloc, known, groups, &boards, seats, others, batch, turns, threads, gate, beside,
     )?;
     let sheets = close_each(alloc, boards, joined)?;
     Ok((sheets, beside))

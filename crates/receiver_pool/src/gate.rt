@@ -1,21 +1,27 @@
 //! The gate that workers pass before their first reception.
+ghost use Rattle.std.specs.Prelude.{◌≡◌};
 
 /// What each worker, numbered from 0, calls once before its first reception. It answers nothing and changes no result.
 pub trait Gate: Sync {
     fn enter(&self, worker: u32);
 }
 
-/// What a worker has that has entered the gate. `enter` alone makes it, and receptions are read for those who have it, so that a worker
-/// which reads one before it enters doesn't compile.
+/// What workers have that have entered the gate: those from `low` on and below `high`, for whom one thread acts. `enter` alone makes it,
+/// and receptions are read for those who have it, so that a thread which reads one before its workers enter doesn't compile.
 #[derive(Drop)]
 pub(crate) struct Entered {
-    _worker: u32,
+    pub(crate) low: u32,
+    pub(crate) high: u32,
 }
 
-/// Has a worker enter the gate.
-pub(crate) fn enter<G: Gate>(gate: &G, worker: u32) -> Entered {
-    gate.enter(worker);
-    Entered { _worker: worker }
+/// Has the workers from `low` on and below `high` enter the gate, one after the other.
+pub(crate) fn enter<G: Gate>(gate: &G, low: u32, high: u32) -> Entered
+    ensures { (result.low ≡ low) × (result.high ≡ high) }
+{
+    for worker in low..high {
+        gate.enter(worker);
+    }
+    Entered { low, high }
 }
 
 /// The gate of the program, which stands open.

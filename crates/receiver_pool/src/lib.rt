@@ -11,6 +11,7 @@ mod group_entries;
 mod pools;
 mod posts;
 mod rendezvous;
+mod threads;
 mod workers;
 
 pub use batches::{meet_at, pool_groups, take_at};

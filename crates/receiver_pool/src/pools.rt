@@ -9,8 +9,9 @@ ghost use Rattle.receiver_pool.specs.inside.Turns.{is_turn, part};
 
 use crate::boards::post_sheet;
 use crate::gate::{Entered, Gate, enter};
+use crate::threads::{parted, threads_for};
 use evidence_board::{AllFacts, Allowed, Board, Seat};
-use phasing::LONGEST;
+use phasing::{Elements, LONGEST};
 use slot_evidence::{Reception, Sheet, shown_by};
 use std::alloc::{AllocError, Global};
 use std::thread::{Threads, join};
@@ -25,46 +26,64 @@ pub(crate) fn take_turn(sheet: &mut Sheet, heard: &Reception, mine: bool)
     }
 }
 
-/// The sheet of a worker's receptions: those whose index leaves its number when divided by that of all workers.
-fn heard_by(_entered: &Entered, list: &[Reception], workers: u32, worker: u32) -> Sheet
-    requires worker { worker < workers }
+/// Whether the reception with this index is the turn of one of the workers from `low` on and below `high`.
+pub(crate) fn is_mine(index: usize, workers: u32, low: u32, high: u32) -> bool
+    requires { 0 < workers }
+    ensures { result ≡ is_turn workers low high index }
+{
+    let turn = index % workers as usize;
+    (low as usize <= turn) & (turn < high as usize)
+}
+
+/// The sheet of the receptions of workers who have entered: those whose index leaves the number of one of them when divided by that of all.
+fn heard_by(entered: &Entered, list: &[Reception], workers: u32) -> Sheet
+    requires workers { 0 < workers }
     requires short { All (λ heard. length heard ≤ LONGEST) list.now }
-    ensures { IsEnds (part (is_turn workers worker (worker + 1)) list.now (length list.now)) result }
+    ensures { IsEnds (part (is_turn workers entered.now.low entered.now.high) list.now (length list.now)) result }
 {
     let mut sheet = Sheet::empty();
     for (index, heard) in list.iter().enumerate() {
-        let mine = index % workers as usize == worker as usize;
+        let mine = is_mine(index, workers, entered.low, entered.high);
         take_turn(&mut sheet, heard, mine);
     }
     sheet
 }
 
-/// One worker: it enters the gate, joins its receptions, and posts what they showed.
+/// How many elements receptions have together.
+fn elements_of(list: &[Reception]) -> usize {
+    let mut elements: usize = 0;
+    for heard in list {
+        elements = elements.saturating_add(heard.count());
+    }
+    elements
+}
+
+/// One thread, for the workers from `low` on and below `high`: they enter the gate, and it joins their receptions, and posts what these showed.
 fn work<A: Allowed, G: Gate>(
     board: &Board<A>,
     mut seat: Seat<A>,
     list: &[Reception],
+    low: u32,
+    high: u32,
     workers: u32,
-    worker: u32,
     gate: &G,
 ) -> Seat<A>
     requires board { seat.table ≡ board.now }
     requires may { MayAllBePosted A.facts list.now }
-    requires worker { worker < workers }
+    requires workers { 0 < workers }
     requires short { All (λ heard. length heard ≤ LONGEST) list.now }
     ensures board { result.table ≡ board.now }
     ensures share { result.view.share ≡ seat.view.share }
     ensures ends { (F : Facts) → IsEnds F (given_sheet seat.view)
-        → IsEnds (union F (part (is_turn workers worker (worker + 1)) list.now (length list.now)))
-        (given_sheet result.view) }
+        → IsEnds (union F (part (is_turn workers low high) list.now (length list.now))) (given_sheet result.view) }
 {
-    let entered = enter(gate, worker);
-    let sheet = heard_by(&entered, list, workers, worker);
+    let entered = enter(gate, low, high);
+    let sheet = heard_by(&entered, list, workers);
     post_sheet(board, &mut seat, &sheet);
     seat
 }
 
-/// The workers from `low` on and below `high`, by halves of halves in threads of their own.
+/// The workers from `low` on and below `high`, in so many threads by halves of halves, or in one for each of them where that is less.
 #[cycle(workers)]
 fn fork<A: Allowed, R: Threads + Sync, G: Gate>(
     rt: &R,
@@ -74,44 +93,47 @@ fn fork<A: Allowed, R: Threads + Sync, G: Gate>(
     low: u32,
     high: u32,
     workers: u32,
+    threads: u32,
     gate: &G,
 ) -> Seat<A>
     requires sync { IsSync R.row × IsSync A.row × IsSend A.row × IsSync G.row }
     requires board { seat.table ≡ board.now }
     requires may { MayAllBePosted A.facts list.now }
     requires range { (low < high) × (high ≤ workers) }
-    requires share { high ≤ low + seat.view.share }
+    requires share { (1 ≤ threads) × (threads ≤ seat.view.share) }
     requires short { All (λ heard. length heard ≤ LONGEST) list.now }
     ensures board { result.table ≡ board.now }
     ensures share { result.view.share ≡ seat.view.share }
     ensures ends { (F : Facts) → IsEnds F (given_sheet seat.view)
         → IsEnds (union F (part (is_turn workers low high) list.now (length list.now))) (given_sheet result.view) }
 {
-    if high - low == 1 {
-        return work(board, seat, list, workers, low, gate);
+    if threads == 1 || high - low == 1 {
+        return work(board, seat, list, low, high, workers, gate);
     }
-    let middle = low + (high - low).div_ceil(2);
+    let middle = parted(low, high, list.len());
+    let half = threads / 2;
+    let more = threads - half;
     let (first, second) = board.split(seat);
     let (first, second) = join(
         rt,
         move || -> Seat<A>
             requires { IsSync R.row × IsSync A.row × IsSend A.row × IsSync G.row × (first.table ≡ board.now)
                 × MayAllBePosted A.facts list.now × ((low < middle) × (middle ≤ workers))
-                × (middle ≤ low + first.view.share) × All (λ heard. length heard ≤ LONGEST) list.now }
+                × ((1 ≤ more) × (more ≤ first.view.share)) × All (λ heard. length heard ≤ LONGEST) list.now }
             ensures { (result.table ≡ board.entry.now) × (result.view.share ≡ first.view.share)
                 × ((F : Facts) → IsEnds F (given_sheet first.view)
                 → IsEnds (union F (part (is_turn workers low middle) list.entry.now (length list.entry.now)))
                 (given_sheet result.view)) }
-        { fork(rt, board, first, list, low, middle, workers, gate) },
+        { fork(rt, board, first, list, low, middle, workers, more, gate) },
         move || -> Seat<A>
             requires { IsSync R.row × IsSync A.row × IsSend A.row × IsSync G.row × (second.table ≡ board.now)
                 × MayAllBePosted A.facts list.now × ((middle < high) × (high ≤ workers))
-                × (high ≤ middle + second.view.share) × All (λ heard. length heard ≤ LONGEST) list.now }
+                × ((1 ≤ half) × (half ≤ second.view.share)) × All (λ heard. length heard ≤ LONGEST) list.now }
             ensures { (result.table ≡ board.entry.now) × (result.view.share ≡ second.view.share)
                 × ((F : Facts) → IsEnds F (given_sheet second.view)
                 → IsEnds (union F (part (is_turn workers middle high) list.entry.now (length list.entry.now)))
                 (given_sheet result.view)) }
-        { fork(rt, board, second, list, middle, high, workers, gate) },
+        { fork(rt, board, second, list, middle, high, workers, half, gate) },
     );
     board.join(first, second)
 }
@@ -137,7 +159,8 @@ pub fn post_all<A: Allowed, R: Threads + Sync, G: Gate>(
     ensures ends { (F : Facts) → IsEnds F (given_sheet seat.view)
         → IsEnds (union F (facts_of_all list.now)) (given_sheet result.view) }
 {
-    fork(rt, board, seat, list, 0, workers, workers, gate)
+    let threads = threads_for(workers, elements_of(list));
+    fork(rt, board, seat, list, 0, workers, workers, threads, gate)
 }
 
 /// The sheet of all facts that receptions show, joined by 1 to 64 workers: worker w takes those whose index leaves w when divided by
@@ -154,8 +177,8 @@ pub fn pool<R: Threads + Sync, G: Gate>(
     ensures { IfOk result (λ sheet. IsEnds (facts_of_all list.now) sheet) }
 {
     if workers == 1 {
-        let entered = enter(gate, 0);
-        return Ok(heard_by(&entered, list, 1, 0));
+        let entered = enter(gate, 0, 1);
+        return Ok(heard_by(&entered, list, 1));
     }
     let (board, seat) = Board::<AllFacts>::new(alloc)?;
     let seat = post_all(rt, &board, seat, list, workers, gate);

@@ -40,7 +40,7 @@ impl Alone {
     /// Of so many workers. One enters the gate here; several enter it in each batch.
     pub fn of<G: Gate>(workers: u32, gate: &G) -> Alone {
         let entered = if workers == 1 {
-            Some(enter(gate, 0))
+            Some(enter(gate, 0, 1))
         } else {
             None
         };

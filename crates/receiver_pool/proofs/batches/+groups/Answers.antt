@@ -1,18 +1,13 @@
-use Rattle.std.proofs.Common.{rules, ◌≡◌, ℕ, ◌+◌, ◌-◌, ◌/◌, ◌≤◌, Bool, ◌||◌, List, IfOk, length, arith, ap, sym, ◌∙◌, subst}
+use Rattle.std.proofs.Common.{rules, ℕ, ◌+◌, ◌-◌, ◌/◌, ◌≤◌, Bool, ◌||◌, List, IfOk, length, arith, ap, sym, ◌∙◌, subst}
 use Rattle.std.proofs.lemmas.Result.{IfOk-at_ok}
 use Rattle.plain_laws.proofs.Lists.{lent_whole}
 use Rattle.slot_evidence.specs.Facts.{Facts, union}
 use Rattle.evidence_board.specs.Seats.{Held}
-use Rattle.receiver_pool.specs.inside.Numbers.{HavePosted, nth_at, read_by}
+use Rattle.receiver_pool.specs.inside.Numbers.{nth_at, read_by}
 use Rattle.receiver_pool.specs.Rows.{AreSeats}
 use Rattle.receiver_pool.proofs.Parts.{part_halves, fold_twice}
 use Rattle.receiver_pool.proofs.SeatRows.{same_seats}
 use Rattle.receiver_pool.proofs.batches.+groups.Goals as goal
-
-pub returns-then-high-low-eq1 : goal.returns-then-high-low-eq1
-returns-then-high-low-eq1 g t c =
-    let next : c.args.low + 1 ≡ c.args.high = omega arith in
-    subst (λ (h : ℕ). IfOk c.work.result (λ v. HavePosted (read_by c.args.batch.now c.args.turns.now c.args.low h) c.args.boards.now c.args.seats.items v.items)) next c.work.ensures
 
 pub join-first-requires-after_bounds : goal.join-first-requires-after_bounds
 join-first-requires-after_bounds g t c κs lives =
@@ -20,8 +15,8 @@ join-first-requires-after_bounds g t c κs lives =
     let boards = c.args.boards.now in
     let split = c.in_ok-others.ensures.halves sit.share sit.facts (subst (λ (s : List Held). AreSeats sit.share sit.facts boards s) (sym c.deref_mut.ensures.value) sit.are_seats) in
     let whole = lent_whole Held c.args.seats.items c.split_each.new.seats c.args.seats.len c.args.seats.ok.0 (split.0.count ∙ sym sit.are_seats.count) in
-    let low : c.args.low + c.div_ceil.result - c.args.low ≤ sit.share - sit.share / 2 = omega (arith, sit.enough) in
-    let high : c.args.high - (c.args.low + c.div_ceil.result) ≤ sit.share / 2 = omega (arith, sit.enough) in (
+    let low : c.args.threads - c.args.threads / 2 ≤ sit.share - sit.share / 2 = omega (arith, sit.enough) in
+    let high : c.args.threads / 2 ≤ sit.share / 2 = omega (arith, sit.enough) in (
       (
         search rules,
         (
@@ -33,6 +28,7 @@ join-first-requires-after_bounds g t c κs lives =
                 c.requires.sync.0,
                 c.requires.sync.1,
                 (omega arith, omega arith),
+                omega arith,
                 record { share = sit.share - sit.share / 2; enough = low; facts = sit.facts; are_seats = subst (λ (s : List Held). AreSeats (sit.share - sit.share / 2) sit.facts boards s) (sym whole) split.0 },
                 c.requires.turns,
               ),
@@ -52,6 +48,7 @@ join-first-requires-after_bounds g t c κs lives =
                 c.requires.sync.0,
                 c.requires.sync.1,
                 (omega arith, omega arith),
+                omega arith,
                 record { share = sit.share / 2; enough = high; facts = sit.facts; are_seats = split.1 },
                 c.requires.turns,
               ),
@@ -69,7 +66,7 @@ join_each-requires-clause-seats g t c =
     let split = c.in_ok-others.ensures.halves sit.share sit.facts (subst (λ (s : List Held). AreSeats sit.share sit.facts boards s) (sym c.deref_mut.ensures.value) sit.are_seats) in
     let whole = lent_whole Held c.args.seats.items c.split_each.new.seats c.args.seats.len c.args.seats.ok.0 (split.0.count ∙ sym sit.are_seats.count) in
     let half = sit.share - sit.share / 2 in
-    let A : ℕ → Facts = λ k. union (sit.facts k) (read_by c.args.batch.now c.args.turns.now c.args.low (c.args.low + c.div_ceil.result) k) in
+    let A : ℕ → Facts = λ k. union (sit.facts k) (read_by c.args.batch.now c.args.turns.now c.args.low c.parted-middle.result k) in
     let first = IfOk-at_ok _ c.in_ok-joined.was c.join-first.ensures.first half sit.facts (subst (λ (s : List Held). AreSeats half sit.facts boards s) (sym whole) split.0) in
     record { share = half; enough = omega (arith, sit.enough); facts = A; are_seats = subst (λ (s : List Held). AreSeats half A boards s) (sym c.deref_mut-2.ensures.value) first }
 
@@ -87,7 +84,7 @@ returns g t c =
     let boards = c.args.boards.now in
     let batch = c.args.batch.now in
     let turns = c.args.turns.now in
-    let middle = c.args.low + c.div_ceil.result in
+    let middle = c.parted-middle.result in
     let half = share - share / 2 in
     let split = c.in_ok-others.ensures.halves share F (subst (λ (s : List Held). AreSeats share F boards s) (sym c.deref_mut.ensures.value) are) in
     let whole = lent_whole Held c.args.seats.items c.split_each.new.seats c.args.seats.len c.args.seats.ok.0 (split.0.count ∙ sym are.count) in

@@ -1,4 +1,4 @@
-use Rattle.std.proofs.Common.{ℕ, ◌+◌, List, length, sym, ◌∙◌, subst}
+use Rattle.std.proofs.Common.{ℕ, List, length, sym, ◌∙◌, subst}
 use Rattle.plain_laws.proofs.Lists.{lent_whole}
 use Rattle.slot_evidence.specs.declared.places.Seen.{Seen}
 use Rattle.slot_evidence.specs.Facts.{union}
@@ -13,8 +13,11 @@ pub returns : goal.returns
 returns g c =
     λ share F are.
     let boards = c.args.boards.now in
-    let part = read_by c.args.batch.now c.args.turns.now c.args.worker (c.args.worker + 1) in
-    let shown = subst (λ (s : List (List Seen)). AreSheets part s (length boards)) (sym c.deref-2.ensures.value) c.in_ok-sheets-2.ensures in
+    let by = read_by c.args.batch.now c.args.turns.now in
+    let part = by c.args.low c.args.high in
+    let read = subst (λ (h : ℕ). AreSheets (by c.args.low h) c.in_ok-sheets-2.sheets.items (length boards)) c.enter-entered.ensures.1
+    (subst (λ (l : ℕ). AreSheets (by l c.enter-entered.result.high) c.in_ok-sheets-2.sheets.items (length boards)) c.enter-entered.ensures.0 c.in_ok-sheets-2.ensures) in
+    let shown = subst (λ (s : List (List Seen)). AreSheets part s (length boards)) (sym c.deref-2.ensures.value) read in
     let posted = c.post_each.ensures share F part (subst (λ (s : List Held). AreSeats share F boards s) (sym c.deref_mut-2.ensures.value) are) shown in
     subst (λ (s : List Held). AreSeats share (λ k. union (F k) (part k)) boards s)
     (sym (lent_whole Held c.args.seats.items c.post_each.new.seats c.args.seats.len c.args.seats.ok.0 (posted.count ∙ sym are.count)))
@@ -25,10 +28,12 @@ returns-then-is_watched g c =
     λ share F are.
     let boards = c.args.boards.now in
     let batch = c.args.batch.now in
-    let worker = c.args.worker in
-    let part = read_by batch c.args.turns.now worker (worker + 1) in
-    let posted = subst (λ (ps : List ℕ). AreSeats share (λ k. union (F k) (place_part (is_turn c.args.turns.now.workers worker (worker + 1)) batch ps (length batch) k)) boards c.post_turns.new.seats) c.deref.ensures.value
-    (c.post_turns.ensures share F (subst (λ (s : List Held). AreSeats share F boards s) (sym c.deref_mut.ensures.value) are)) in
+    let part = read_by batch c.args.turns.now c.args.low c.args.high in
+    let by : ℕ → ℕ → List ℕ → Type 0 = λ low high ps. AreSeats share (λ k. union (F k) (place_part (is_turn c.args.turns.now.workers low high) batch ps (length batch) k)) boards c.post_turns.new.seats in
+    let posted = subst (by c.args.low c.args.high) c.deref.ensures.value
+    (subst (λ (h : ℕ). by c.args.low h c.deref.result.now) c.enter-entered.ensures.1
+    (subst (λ (l : ℕ). by l c.enter-entered.result.high c.deref.result.now) c.enter-entered.ensures.0
+    (c.post_turns.ensures share F (subst (λ (s : List Held). AreSeats share F boards s) (sym c.deref_mut.ensures.value) are)))) in
     subst (λ (s : List Held). AreSeats share (λ k. union (F k) (part k)) boards s)
     (sym (lent_whole Held c.args.seats.items c.post_turns.new.seats c.args.seats.len c.args.seats.ok.0 (posted.count ∙ sym are.count)))
     posted
