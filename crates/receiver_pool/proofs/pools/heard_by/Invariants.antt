@@ -1,4 +1,3 @@
-use Rattle.std.proofs.Common.{}
 use Rattle.slot_evidence.specs.Sheet.{IsEnds}
 use Rattle.receiver_pool.specs.inside.Turns.{is_turn, part}
 use Rattle.receiver_pool.proofs.pools.heard_by.Given as goal
