@@ -7,7 +7,7 @@ before vectors are made of them, and no other part of `dsc` is asked.
 import functools
 import operator
 
-from symbols import CATEGORIES, NATURES, NO_INFORMATION, NOTICES, SPECIFIERS
+from shared.symbols import CATEGORIES, NATURES, NO_INFORMATION, NOTICES, SPECIFIERS
 
 from . import names
 

@@ -1,7 +1,7 @@
 """Transmissions, and what a reception shows of one: dots, phasing symbols, and two copies of each character, by M.493."""
 
-from shared import word
-from symbols import LAST
+from shared.elements import word
+from shared.symbols import LAST
 
 from . import names
 
