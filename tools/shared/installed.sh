@@ -20,14 +20,14 @@ list_installed() (
         echo "tools/$file $prefix/bin"
     done
     for file in tools/listen/*.py tools/json_lines/*.py tools/report_pages/*.py tools/bench_vectors/*.py \
-        tools/shared/elements.py tools/shared/symbols.py; do
+        tools/shared/__init__.py tools/shared/elements.py tools/shared/symbols.py; do
         folder=${file#tools/}
         echo "$file $prefix/share/dsc/${folder%/*}"
     done
     echo "tools/completion.bash $prefix/share/bash-completion/completions"
     for file in README.md VERSION CHANGELOG.md docs/*.md docs/*.json docs/pictures/*.svg examples/* examples/slurm/* examples/night/* \
         tools/split_groups tools/explain tools/draw_receptions tools/soft_bits tools/make_exchange \
-        tools/shared/elements.py tools/shared/pictures.py tools/shared/program.py tools/shared/symbols.py; do
+        tools/shared/__init__.py tools/shared/elements.py tools/shared/pictures.py tools/shared/program.py tools/shared/symbols.py; do
         [ -f "$file" ] || continue
         folder=$documents/$file
         echo "$file ${folder%/*}"
