@@ -9,6 +9,8 @@ from shared.public_calls import NAME, files_of, offered, subject_of, text_of
 CRATES = os.path.join(TOP, "crates")
 HEAD = re.compile(rf"^(  )?(?:unfoldable |abbrev )*pub (record |data )?((?!use ){NAME}|◌[^ ]+◌)(?= |$)")
 IMPORT = re.compile(rf"^\s*(?:ghost |unfoldable |pub )*use ((?:{NAME}\.)*{NAME})(?:\.\{{(.*?)\}}| as ({NAME}))\s*;?\s*$", re.M)
+# Members of a type that are proofs, or that callers don't see.
+PROOFS = r"invariant|inverse|gives|laws|total|coded|\w+_ok|matches_\w+"
 WORD = re.compile(rf"\b({NAME})(?:\.({NAME}))?")
 
 
@@ -95,7 +97,7 @@ def specs_of(crate):
 
 
 def contracts_of(crate):
-    """What each public call of a crate promises, and what each public type or trait means: a name, its clauses, and its file's imports."""
+    """The contracts of a crate's public calls, and what its public types stand for: a name, the clauses, and the file's imports."""
     root = os.path.join(CRATES, crate, "src")
     public = offered(root)
     for path in files_of(root):
@@ -107,24 +109,31 @@ def contracts_of(crate):
 
 def _contracts_in(lines, is_public):
     """The contracts of a file's public calls, and the ghost members of its public types and traits but for invariants and proofs."""
-    name, clauses, is_ghost, is_offered, has_no_pub = None, [], False, False, False
+    name, clauses, is_open, is_offered, has_no_pub = None, [], False, False, False
     for line in [*lines, "fn"]:
-        if is_ghost:
+        if is_open:
             clauses.append(line)
-            is_ghost = not line.rstrip().endswith(";")
+            is_open = _is_open(clauses)
             continue
         if re.match(r"(pub )?(unsafe )?(trait|impl)\b", line):
             subject, has_no_pub = subject_of(line)
             is_offered = is_public(subject)
         called = re.match(rf"(\s*)(pub |pub\(crate\) )?(?:const )?fn ({NAME})", line)
-        ghost = re.match(rf"\s+ghost (?!(?:use|invariant|inverse|gives|laws|total|coded|\w+_ok|matches_\w+)\b)({NAME})", line)
-        if (called or ghost or re.match(r"[a-z#}]", line)) and not line.startswith("where"):
+        ghost = re.match(rf"\s+ghost (?!(?:use|{PROOFS})\b)({NAME})", line)
+        if called or re.match(r"\s+ghost |(?!where\b)[a-z#}]", line):
             if name and clauses:
                 yield name, "\n".join(clauses)
             name, clauses = None, []
         if ghost and is_offered and has_no_pub:
-            name, clauses, is_ghost = f"{subject}.{ghost[1]}", [line], not line.rstrip().endswith(";")
+            name = f"{subject}.{ghost[1]}"
         elif called and (is_offered and (has_no_pub or called[2] == "pub ") if called[1] else called[2] == "pub " and is_public(called[3])):
             name = called[3]
-        elif name and re.match(r"\s*(requires|ensures|→|×|⊎|≡|\+\+|∷|\()", line):
+        if name and (ghost or re.match(r"\s*(requires|ensures)\b", line)):
             clauses.append(line)
+            is_open = _is_open(clauses)
+
+
+def _is_open(clauses):
+    """Whether the last clause goes on in the next line."""
+    text = "\n".join(clauses)
+    return text.count("{") > text.count("}")
