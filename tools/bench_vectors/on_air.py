@@ -33,7 +33,7 @@ def slot_symbols(symbols):
 
 
 def transmission(symbols, count=DOTS):
-    """The elements of the transmission of a list behind so many dots."""
+    """The elements of the transmission of a list after so many dots."""
     return dots(count) + "".join(WORDS[symbol] for symbol in slot_symbols(symbols))
 
 

@@ -52,7 +52,7 @@ def end(text):
 
 
 def identity(text):
-    """An identity, nine digits; in sentences and rows a 0 stands behind it."""
+    """An identity, nine digits; in sentences and rows a 0 comes after it."""
     return checked(text, r"\d{9}0?")[:9]
 
 

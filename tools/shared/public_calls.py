@@ -49,7 +49,7 @@ def files_of(root):
 
 
 def calls_of(crate_folder):
-    """The signatures of a crate's public calls, methods behind the names of their types."""
+    """The signatures of a crate's public calls, methods with the names of their types before them."""
     root = os.path.join(crate_folder, "src")
     public, found = offered(root), []
     for path in files_of(root):
