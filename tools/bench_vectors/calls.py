@@ -7,7 +7,7 @@ before vectors are made of them, and no other part of `dsc` is asked.
 import functools
 import operator
 
-from symbols import CATEGORIES, NATURES, NO_INFORMATION, NOTICES, SPECIFIERS
+from shared.symbols import CATEGORIES, NATURES, NO_INFORMATION, NOTICES, SPECIFIERS
 
 from . import names
 
@@ -30,7 +30,7 @@ UNKNOWN_POSITION, UNKNOWN_TIME = "9" * 10, "8" * 4
 FIELD_LENGTH, SERVICE_LENGTH = 3, 7
 DIGITS = {"enh": 8, "speed": 4, "course": 4}
 LAST_COURSE = 3599
-# Places of a list from its end: the first end of sequence, and the check behind it.
+# Places of a list from its end: the first end of sequence, and the check after it.
 END_FROM_LAST, CHECK_FROM_LAST = 4, 3
 
 
@@ -40,7 +40,7 @@ def pairs(digits):
 
 
 def identity(digits):
-    """The symbols of an identity, behind whose nine digits stands a 0."""
+    """The symbols of an identity, whose nine digits a 0 follows."""
     return pairs(digits + "0")
 
 
@@ -76,7 +76,7 @@ def casualty(field):
 
 
 def distress(form, field):
-    """The format, the symbols behind it and the end of a call of distress."""
+    """The format, the symbols after it and the end of a call of distress."""
     if form == "alert":
         return names.ALERT, casualty(field), names.NEITHER
     told = names.ACKNOWLEDGED if form == "ack" else names.RELAYED
@@ -86,7 +86,7 @@ def distress(form, field):
 
 
 def service(form, field):
-    """The symbols behind the sender of a call without two telecommands, and its end."""
+    """The symbols after the sender of a call without two telecommands, and its end."""
     if form == "pos":
         symbols = [names.PLACED, NO_INFORMATION, names.POSITION_FOLLOWS] + pairs(field["pos"]) + pairs(field["time"])
         return symbols, names.ANSWERS
@@ -95,7 +95,7 @@ def service(form, field):
 
 
 def traffic(form, field):
-    """The format, the symbols behind it and the end of every other call."""
+    """The format, the symbols after it and the end of every other call."""
     kinds = {"all": "all", "area": f"area:{field.get('to')}", "group": f"group:{field.get('to')}"}
     specifier, address = addressed(kinds.get(form, f"one:{field.get('to')}"))
     symbols = address + [int(field["cat"])] + identity(field["from"])
@@ -115,7 +115,7 @@ def spelled(text):
 
 
 def spelled_expansion(sets, end):
-    """The list of an expansion of these sets, behind a call with this end of sequence."""
+    """The list of an expansion of these sets, after a call with this end of sequence."""
     symbols = []
     for name, value in sets:
         symbols += [SPECIFIERS[name]] + ([NO_INFORMATION] if value == "none" else pairs(value))

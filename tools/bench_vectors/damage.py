@@ -17,7 +17,7 @@ REPEATS, STRETCHES, STRETCH = 5, (1, 3, 6), 100
 # By strength: the signal above white noise in 3 kHz, in decibels; the elements are those of MF.
 NOISE = {"MF": (0, -4, -6), "VHF": (15, 12, 9)}
 NOISE_BAND, NOISE_BAUD = 3000, 100
-# Noise alone is heard in front of a transmission in noise and behind it, for so many elements.
+# Noise alone is heard in front of a transmission in noise and after it, for so many elements.
 NOISE_AROUND = 40
 # An element is in doubt where both tones differ by less than this part of their mean difference, as tools/soft_bits has it.
 DOUBT = 0.2
@@ -31,7 +31,7 @@ class Heard:
 
 
 def stretch(chance, elements, count):
-    """Where a stretch of so many elements behind the dots begins, and how many it has: fewer where there are fewer."""
+    """Where a stretch of so many elements after the dots begins, and how many it has: fewer where there are fewer."""
     count = min(count, len(elements) - on_air.DOTS)
     return on_air.DOTS + chance.below(len(elements) - on_air.DOTS - count + 1), count
 
@@ -109,7 +109,7 @@ def inverted(_chance, subject, elements, strength):
 
 
 def with_second(chance, subject, elements, strength, others):
-    """A second call comes, behind the first or over its end."""
+    """A second call comes, after the first or over its end."""
     other = chance.one_of([it for it in others if it is not subject])
     at = int(SECOND[strength - 1] * len(elements))
     return Heard([elements[:at] + on_air.transmission(other.symbols)], [subject, other], f"a second call begins at {at}")

@@ -1,6 +1,6 @@
-"""The symbols that calls are spelled with, by the names that tools/symbols.py has for them."""
+"""The symbols that calls are spelled with, by the names that tools/shared/symbols.py has for them."""
 
-from symbols import CATEGORIES, ENDS, FORMATS, MESSAGES, NATURES, PHASING, TELECOMMANDS
+from shared.symbols import CATEGORIES, ENDS, FORMATS, MESSAGES, NATURES, PHASING, TELECOMMANDS
 
 
 def number_of(table, words):

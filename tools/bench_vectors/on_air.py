@@ -1,7 +1,7 @@
 """Transmissions, and what a reception shows of one: dots, phasing symbols, and two copies of each character, by M.493."""
 
-from shared import word
-from symbols import LAST
+from shared.elements import word
+from shared.symbols import LAST
 
 from . import names
 
@@ -33,7 +33,7 @@ def slot_symbols(symbols):
 
 
 def transmission(symbols, count=DOTS):
-    """The elements of the transmission of a list behind so many dots."""
+    """The elements of the transmission of a list after so many dots."""
     return dots(count) + "".join(WORDS[symbol] for symbol in slot_symbols(symbols))
 
 

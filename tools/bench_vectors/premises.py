@@ -51,7 +51,7 @@ class Verdict:
         symbols = call.symbols if call and heard else []
         self.lost = {place for place in range(len(symbols)) if not any(it.shows(place) for it in heard)}
         self.has_end = bool(heard) and all(it.ends_within() for it in heard)
-        # The second and the third end behind an expansion aren't needed.
+        # The second and the third end after an expansion aren't needed.
         behind = set(range(len(call.list), len(symbols) - 2)) if call and call.tail else set()
         self.expansion = MUST if word == MUST and behind and not behind & self.lost else MAY
 

@@ -2,7 +2,7 @@
 
 import re
 
-from symbols import LAST
+from shared.symbols import LAST
 
 from .on_air import DOTS, transmission
 from .refusals import at

@@ -14,7 +14,7 @@ RATE = 8000
 # Of each band: elements a second, and the tones of Y and of B in hertz.
 BANDS = {"MF": (100, 1615, 1785), "VHF": (1200, 1300, 2100)}
 LOUDNESS, LOUDEST = 3276, 32767
-# Silence in front of the sound and behind it, in elements: demodulators that take 50 at once lose no end of a call.
+# Silence in front of the sound and after it, in elements: demodulators that take 50 at once lose no end of a call.
 SILENCE = 60
 # The phase counts the parts of a turn, so that a tone goes on by its hertz at each sample.
 SINE = [round(LOUDNESS * math.sin(2 * math.pi * phase / RATE)) for phase in range(RATE)]
@@ -36,7 +36,7 @@ class Tones:
         self.pieces = {}
 
     def piece(self, sign, phase, count):
-        """So many samples of an element from this phase on, and the phase behind them."""
+        """So many samples of an element from this phase on, and the phase after them."""
         hertz = self.hertz[sign]
         samples = array.array("h", [SINE[(phase + at * hertz) % RATE] if hertz else 0 for at in range(count)])
         return samples.tobytes(), (phase + count * hertz) % RATE

@@ -1,6 +1,6 @@
 """Lists of symbols that are no call, each of one kind, made from the lists of calls."""
 
-from symbols import ENDS
+from shared.symbols import ENDS
 
 from . import names
 from .calls import Call, END_FROM_LAST, ended, text_by_chance

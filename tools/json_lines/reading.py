@@ -255,7 +255,7 @@ def sentence(text):
 
 
 def without_stamp(words):
-    """The stamp in front of words, and the words behind it."""
+    """The stamp in front of words, and the words after it."""
     stamp = []
     while words and len(stamp) < 2 and STAMP.fullmatch(words[0]):
         stamp.append(words[0])

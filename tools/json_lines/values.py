@@ -2,8 +2,8 @@
 
 import re
 
-import symbols
-from symbols import CATEGORIES, ENDS, FORMATS, NATURES, NO_INFORMATION, NOTICES, TELECOMMANDS
+from shared import symbols
+from shared.symbols import CATEGORIES, ENDS, FORMATS, NATURES, NO_INFORMATION, NOTICES, TELECOMMANDS
 
 QUADRANTS = ((1, 1), (1, -1), (-1, 1), (-1, -1))
 UNKNOWN_PLACE, UNKNOWN_MINUTE = str(symbols.UNKNOWN_POSITION) * 5, str(symbols.UNKNOWN_TIME) * 2
@@ -52,7 +52,7 @@ def end(text):
 
 
 def identity(text):
-    """An identity, nine digits; in sentences and rows a 0 stands behind it."""
+    """An identity, nine digits; in sentences and rows a 0 comes after it."""
     return checked(text, r"\d{9}0?")[:9]
 
 

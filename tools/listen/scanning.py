@@ -1,12 +1,12 @@
 """The starts of several streams by one run of `capture`, over their newest elements alone.
 
 A start is an origin at which enough of the phasing sequence was heard. Only slots count of which all ten elements were heard, so more
-elements can only add starts, and one needs no element past 160 behind its origin. So the starts of windows that overlap by 160
+elements can only add starts, and one needs no element past 160 after its origin. So the starts of windows that overlap by 160
 elements are those of the whole stream. Between two windows stand more lost elements than a phasing sequence has, so nothing is seen
 over both.
 """
 
-# How far behind an origin elements say whether it is a start, and how far before a stream's beginning one may be.
+# How far after an origin elements say whether it is a start, and how far before a stream's beginning one may be.
 REACH, BEFORE = 160, 150
 GAP = "-" * 200
 # As many elements as decide each start.

@@ -119,7 +119,7 @@ class Station:
         starts = []
         for receiver, (begin, _), origins in zip(receivers, windows, found, strict=True):
             starts += [(receiver, begin + origin) for origin in origins if (receiver.name, begin + origin) not in known]
-        # Nothing fails behind this line.
+        # Nothing fails after this line.
         for receiver in receivers:
             receiver.scanned = len(receiver.stream)
         for receiver, origin in starts:
@@ -144,7 +144,7 @@ class Station:
                     it.is_final = True
         if not grown:
             return
-        # What is behind its head changes no start at or before a reception's beginning.
+        # What is after its head changes no start at or before a reception's beginning.
         young = [(it, elements[:REACH]) for it, elements in grown if len(it.elements) < REACH]
         heads = scan(self.program, [head for _, head in young])
         lines = self.program.lines("evidence", "".join(f"r g{number} {elements}\n" for number, (_, elements) in enumerate(grown)))

@@ -48,7 +48,7 @@ class Casualty:
         return [it for it in self.of_kind("ack") if it.key() == alert.key()]
 
     def state(self, alert):
-        """Whether an alert waits: no acknowledgement fits it, or it was heard again behind all that do."""
+        """Whether an alert waits: no acknowledgement fits it, or it was heard again after all that do."""
         fitting = self.answers(alert)
         if not fitting:
             return "waits"
@@ -81,7 +81,7 @@ def casualties_of(heard):
 
 
 def finer_of(alert, heard):
-    """The finer position that a DSE sentence behind one of its alerts gives, if any."""
+    """The finer position that a DSE sentence after one of its alerts gives, if any."""
     for it in alert.heard:
         if not it.fields["expanded"]:
             continue

@@ -9,7 +9,7 @@ from json_lines.reading import STAMP, sentence
 
 FOUND = re.compile(r"\$CDDS[CE],")
 OTHER = re.compile(r"[$!][A-Z]{5},|\$P[A-Z]+,")
-# A tag block has its moment, in seconds of 1970 or milliseconds, behind `c:`.
+# A tag block has its moment, in seconds of 1970 or milliseconds, after `c:`.
 TAG = re.compile(r"\\[^\\]*\bc:(\d{10,13})\b[^\\]*\\")
 MOST = 60_000
 
