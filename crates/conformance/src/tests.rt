@@ -13,7 +13,6 @@ mod receptions;
 mod replays;
 mod sentences;
 mod sheets;
-mod signals;
 mod streams;
 mod streams_captured;
 mod watches;

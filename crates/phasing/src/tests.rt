@@ -148,11 +148,13 @@ fn noise(alloc: Global, count: u32, mut seed: u32) -> Result<Vec<Element>, Alloc
 /// Two transmissions behind noise, in which most slots of phasing are lost, each time others.
 #[test]
 fn two_alerts_in_noise(rt: HostRuntime) -> Result<(), Fail> {
+    let mut firsts = 0u32;
     for turn in 0..200u32 {
         let seed = turn.wrapping_mul(2654435761);
+        let losses = seed | seed.wrapping_mul(2654435761);
         let mut lost = Vec::new(rt.alloc());
         for slot in 0..16usize {
-            if seed >> slot & 1 == 1 {
+            if losses >> slot & 1 == 1 {
                 lost.push(slot)?;
             }
         }
@@ -161,7 +163,13 @@ fn two_alerts_in_noise(rt: HostRuntime) -> Result<(), Fail> {
         elements.extend_from_slice(&received(rt.alloc(), 7, &ALERT_SLOTS, &[0, 3])?)?;
         assert!(rt; is_found_alike(&elements), "turn {turn}");
         assert!(rt; is_first_alike(&elements), "turn {turn}");
+        let is_first = origin(elements.as_slice()) == Some((seed / 65536 % 256) as i32 + 20);
+        firsts = firsts.saturating_add(u32::from(is_first));
     }
+    assert!(rt;
+        100 < firsts && firsts < 190,
+        "the first one is found in {firsts}"
+    );
     assert!(rt; is_found_alike(&noise(rt.alloc(), 4198, 1)?));
     Ok(())
 }

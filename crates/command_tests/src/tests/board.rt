@@ -145,13 +145,6 @@ fn a_seat_dropped_on_the_way(rt: HostRuntime) -> Result<(), Fail> {
     Ok(())
 }
 
-#[test]
-fn the_open_gate_lets_pass(rt: HostRuntime) -> Result<(), Fail> {
-    Open.enter(0);
-    assert_eq!(rt; Open, Open);
-    Ok(())
-}
-
 /// A reception of the worked alert that begins with slot 0, in which these slots are lost.
 fn reception(alloc: Global, lost: &[usize]) -> Result<Reception, AllocError> {
     reception_with(alloc, lost, &[])

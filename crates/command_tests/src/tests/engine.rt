@@ -165,8 +165,14 @@ fn lines_of_length(alloc: Global, count: u32, length: usize) -> Result<Vec<u8>, 
     Ok(bytes)
 }
 
+// The engine's laws, which do nothing, are met by this command.
 #[test]
 fn lines_are_told(rt: HostRuntime) -> Result<(), Fail> {
+    limits();
+    said_lines();
+    one_first_fault::<Echo>();
+    echoes_are_determined();
+    one_output::<Echo>();
     let rows: [(&[u8], u8, &[u8]); 7] = [
         (b"", 0, b""),
         (b"\n", 0, b"\n"),
@@ -280,13 +286,4 @@ fn quiet_commands_write_at_the_end(rt: HostRuntime) -> Result<(), Fail> {
         assert_eq!(rt; sink.bytes(), text);
     }
     Ok(())
-}
-
-#[test]
-fn laws_are_met() {
-    limits();
-    said_lines();
-    one_first_fault::<Echo>();
-    echoes_are_determined();
-    one_output::<Echo>();
 }

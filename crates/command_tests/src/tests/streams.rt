@@ -1,6 +1,5 @@
 use dsc_streams::{
-    ByteSink, ByteSource, Failed, Sink, Source, Status, StdSink, StdSource, SureSink, SureSource,
-    write_all,
+    ByteSink, ByteSource, Failed, Sink, Source, StdSink, StdSource, SureSink, SureSource, write_all,
 };
 use std::alloc::Global;
 use std::io::{self, ErrorKind, Read, Write};
@@ -157,16 +156,16 @@ fn standard_streams(rt: HostRuntime) -> Result<(), Fail> {
     assert_eq!(rt; source.read(&mut into), Ok(3));
     assert_eq!(rt; into, *b"abc\0");
     assert_eq!(rt; source.read(&mut into), Ok(0));
-    let mut sink = StdSink::new(Vec::<u8>::new(rt.alloc()));
-    write_all(&mut sink, b"abc")?;
-    sink.flush()?;
+    let mut kept = Vec::<u8>::new(rt.alloc());
+    {
+        let mut sink = StdSink::new(&mut kept);
+        write_all(&mut sink, b"abc")?;
+        write_all(&mut sink, b"de")?;
+        sink.flush()?;
+    }
+    assert_eq!(rt; kept.as_slice(), b"abcde".as_slice());
     assert_eq!(rt; write_all(&mut StdSink::new(Full), b"abc"), Err(Failed));
     Ok(())
-}
-
-#[test]
-fn status_numbers(rt: HostRuntime) {
-    assert_eq!(rt; Status::new(7).number(), 7);
 }
 
 #[test]

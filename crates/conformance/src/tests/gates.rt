@@ -93,13 +93,14 @@ fn receptions(alloc: Global, first: &str, count: u32, last: &str) -> Result<Vec<
 
 // Words, the number of receptions, and the entries. One worker enters once, before the first line; several enter once in each
 // batch of at most 256 receptions.
-const ROWS: [(&str, u32, Entries); 9] = [
+const ROWS: [(&str, u32, Entries); 10] = [
     ("", 0, (1, 0, 1)),
     ("", 2, (1, 0, 1)),
     ("", 300, (1, 0, 1)),
     (" --workers 2", 0, (0, 0, 0)),
     (" --workers 2", 2, (2, 1, 0)),
-    (" --workers 2", 300, (4, 2, 0)),
+    (" --workers 2", 256, (2, 1, 0)),
+    (" --workers 2", 257, (4, 2, 0)),
     (" --workers 64", 0, (0, 0, 0)),
     (" --workers 64", 2, (64, 63, 0)),
     (" --workers 64", 300, (128, 126, 0)),

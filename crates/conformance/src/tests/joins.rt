@@ -74,25 +74,14 @@ const DAMAGED_TEST_CALL: [Damaged; 4] = [
     ),
 ];
 
-// Lines at the edges of their grammar.
-const FAULTS: [Run; 18] = [
+// Inputs at their edges, and the first fault of some.
+const FAULTS: [Run; 7] = [
     ("", "", 0),
     ("\n#\n# r\n", "", 0),
     ("r", "g0 missing 0\n", 1),
     ("r\n#", "g0 missing 0\n", 1),
-    ("r \n", "dsc: line 1 column 3\n", 3),
-    ("r YBX\n", "dsc: line 1 column 5\n", 3),
     ("r YB\r\n", "dsc: line 1 column 5\n", 3),
     ("#\n\nr h0\n", "dsc: line 3 column 3\n", 3),
-    ("r g07 Y\n", "dsc: line 1 column 5\n", 3),
-    ("r g4294967296\n", "dsc: line 1 column 13\n", 3),
-    ("r g42949672950\n", "dsc: line 1 column 14\n", 3),
-    ("e 5\n", "dsc: line 1 column 4\n", 3),
-    ("e 64:1\n", "dsc: line 1 column 4\n", 3),
-    ("e 0:128\n", "dsc: line 1 column 7\n", 3),
-    ("e 7:130\n", "dsc: line 1 column 7\n", 3),
-    ("e g5 64:1\n", "dsc: line 1 column 7\n", 3),
-    ("e g5 \n", "dsc: line 1 column 6\n", 3),
     ("r Y\ne 0:1\nx\n", "dsc: line 3 column 1\n", 3),
 ];
 

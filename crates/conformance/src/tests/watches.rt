@@ -1,9 +1,10 @@
 use crate::tests::receptions::{
     Row, THREE_DX, WHOLE, compare, damaged, line, of_group, two_damaged, words_of,
 };
-use dsc_cmd::{ByteSource, SureSink, SureSource, run};
+use dsc_cmd::{ByteSink, ByteSource, SureSink, SureSource, run};
 use dsc_symbols::worked::ALERT_SLOTS;
 use receiver_pool::Open;
+use std::alloc::{AllocError, Global};
 use std::test::Fail;
 
 const CALL: &str = "alert from=338040079 nature=106 pos=1423108312 time=2019 then=100\n";
@@ -79,6 +80,45 @@ fn told_calls_come_in_the_order_of_their_groups(rt: HostRuntime) -> Result<(), F
                 want.extend_from_slice(format!(in alloc; "told g{group} {CALL}")?.as_bytes())?;
             }
             assert!(rt; sink.bytes().starts_with(&want), "{piece}");
+        }
+    }
+    Ok(())
+}
+
+// A full batch of 256 receptions: the one of a call and both of another, or the second one of the first call, and others.
+fn full_batch(alloc: Global, is_second: bool) -> Result<Vec<u8>, AllocError> {
+    let mut batch = of_group(alloc, 5, &damaged(alloc, is_second)?)?;
+    for _ in 0..253 {
+        batch.extend_from_slice(b"r g5 YB\n")?;
+    }
+    for of_both in [false, true] {
+        let line = if is_second {
+            Vec::from_slice(alloc, b"r YB\n")?
+        } else {
+            damaged(alloc, of_both)?
+        };
+        batch.extend_from_slice(&of_group(alloc, 9, &line)?)?;
+    }
+    Ok(batch)
+}
+
+// Each full batch tells the call that is whole at its end, and the write behind it may fail. The second call was named first.
+#[test]
+fn two_full_batches_are_told(rt: HostRuntime) -> Result<(), Fail> {
+    let alloc = rt.alloc();
+    let first = full_batch(alloc, false)?;
+    let mut input = first.to_vec(alloc)?;
+    input.extend_from_slice(&full_batch(alloc, true)?)?;
+    let told = format!(in alloc; "told g9 {CALL}")?;
+    let whole = format!(in alloc; "{told}told g5 {CALL}g5 reported {CALL}g9 reported {CALL}")?;
+    for words in ["dsc watch", "dsc watch --workers 2"] {
+        let words = words_of(alloc, words)?;
+        for (failing, want, status) in [(1, "", 5), (2, told.as_str(), 5), (4, whole.as_str(), 0)] {
+            let mut source = SureSource::new(input.to_vec(alloc)?, first.len().max(1));
+            let mut sink = ByteSink::new(alloc, 4096, 4096, vec![in alloc; failing]?)?;
+            let ended = run(&rt, alloc, &words, &mut source, &mut sink, &Open);
+            assert_eq!(rt; sink.bytes(), want.as_bytes(), "write {failing}");
+            assert_eq!(rt; ended.number(), status, "write {failing}");
         }
     }
     Ok(())

@@ -263,31 +263,80 @@ fn coast_what(choice: u32) -> Result<CoastWhat, Fail> {
     })
 }
 
+/// Whether a distress acknowledgement is sent.
+fn is_acknowledgement(told: &Told) -> bool {
+    match told {
+        Told::Acts(acts) => acts.iter().any(|act| matches!(
+            act,
+            Act::Send {
+                call: Call::Ack { .. },
+                ..
+            }
+        )),
+        _ => false,
+    }
+}
+
+/// Whether what came to the ship ends its alert.
+fn is_end(event: &WorldEvent, told: &Told) -> bool {
+    let is_delivery = matches!(event, WorldEvent::ShipGets { .. });
+    match told {
+        Told::Acts(acts) => is_delivery && acts.contains(&Act::AlertEnded),
+        _ => false,
+    }
+}
+
 fn next(seed: u32) -> u32 {
     seed.wrapping_mul(1664525).wrapping_add(1013904223)
 }
 
+/// How each exchange begins: an alert that comes to the coast station, which accepts it.
+fn opening() -> Result<[WorldEvent; 4], Fail> {
+    Ok([
+        at_ship(0, ship_what(0)?),
+        at_ship(0, ship_what(1)?),
+        coast_gets(0, 0),
+        at_coast(0, coast_what(0)?),
+    ])
+}
+
+/// What happens at this moment, by a random number.
+fn any_event(at: u64, choice: u32) -> Result<WorldEvent, Fail> {
+    let (kind, rest) = (choice / 256 % 6, choice / 1536);
+    Ok(match kind {
+        0 | 1 => at_ship(at, ship_what(rest)?),
+        2 | 3 => at_coast(at, coast_what(rest)?),
+        4 => ship_gets(at, rest % 5),
+        _ => coast_gets(at, rest % 5),
+    })
+}
+
 #[test]
 fn random_exchanges_agree_with_a_plain_program(rt: HostRuntime) -> Result<(), Fail> {
+    let opening = opening()?;
     let mut seed = 1u32;
+    let (mut acknowledged, mut ended, mut refused) = (0u32, 0u32, 0u32);
     for _ in 0..100 {
         let mut world = world(rt.alloc())?;
         let mut accepted = Vec::new(rt.alloc());
         let mut at = 0u64;
-        for _ in 0..40 {
+        for turn in 0..40 {
             seed = next(seed);
             at = at.wrapping_add(u64::from(seed >> 17)).saturating_sub(500);
             seed = next(seed);
-            let (kind, rest) = (seed / 256 % 6, seed / 1536);
-            let event = match kind {
-                0 | 1 => at_ship(at, ship_what(rest)?),
-                2 | 3 => at_coast(at, coast_what(rest)?),
-                4 => ship_gets(at, rest % 5),
-                _ => coast_gets(at, rest % 5),
+            let event = match opening.get(turn) {
+                Some(event) => *event,
+                None => any_event(at, seed)?,
             };
             let want = plain_step(rt.alloc(), &mut accepted, &event)?;
-            assert_eq!(rt; step(&mut world, &event)?, want, "at {event:?}");
+            let told = step(&mut world, &event)?;
+            assert_eq!(rt; told, want, "at {event:?}");
+            acknowledged = acknowledged.saturating_add(u32::from(is_acknowledgement(&told)));
+            ended = ended.saturating_add(u32::from(is_end(&event, &told)));
+            refused = refused.saturating_add(u32::from(matches!(told, Told::Refused(_))));
         }
     }
+    let counts = [acknowledged, ended, refused];
+    assert!(rt; counts.iter().all(|count| 20 < *count), "{counts:?}");
     Ok(())
 }

@@ -35,13 +35,12 @@ const FIXED: [(&str, Result<(u64, usize), usize>); 9] = [
 #[test]
 fn free_numbers_go_as_far_as_their_range(rt: HostRuntime) {
     for (least, most, text, want) in FREE {
-        if most < 1 << 60 && least <= most {
-            let read = free_number(least, most, text.as_bytes()).map(|(number, rest)| (
-                number,
-                rest.len(),
-            ));
-            assert_eq!(rt; read, want, "{text}");
-        }
+        assert!(rt; most < 1 << 60 && least <= most, "{text}");
+        let read = free_number(least, most, text.as_bytes()).map(|(number, rest)| (
+            number,
+            rest.len(),
+        ));
+        assert_eq!(rt; read, want, "{text}");
     }
 }
 
