@@ -10,7 +10,8 @@ use Rattle.expansion.specs.declared.values.Sets.{Sets}
 use Rattle.slot_join.specs.declared.joined.Extra.{Extra}
 use Rattle.slot_join.specs.declared.joined.Extra.TheVariants.{Absent, Whole, Broken}
 use Rattle.line_grammar.specs.Columns.{Begins, IsColumn}
-use Rattle.line_grammar.specs.Grammar.{Grammar, finish, anything, word, either, none, first, second, Spells, Parts, part}
+use Rattle.line_grammar.specs.Grammar as grammars
+use Rattle.line_grammar.specs.Grammar.{Grammar, finish, anything, word, either, Spells, Parts, part}
 use Rattle.line_grammar.proofs.Chains.{finished, word_on, no_word}
 use Rattle.line_grammar.proofs.Grammars.{choice_back}
 use Rattle.line_grammar.proofs.Judged.{HasGrammar, IsJudged, judged, of_grammar, of_alike, of_choice}
@@ -98,7 +99,7 @@ nothing_byte : (b : ℕ) (rest : List ℕ) → IsNothing (b ∷ rest) → b ≡ 
 unfolding first_of
 nothing_byte b rest is = nothing_first (b ∷ rest) is
 
-Nothings : Unit {0} → List ℕ → Type 0
+pub Nothings : Unit {0} → List ℕ → Type 0
 Nothings _ text = IsNothing text
 
 abbrev nothing_grammar : Grammar
@@ -110,12 +111,12 @@ nothing_lines =
     of_alike (Spells nothing_grammar) Nothings
     (record {
       to = λ parts bytes h. (tt, elim (choice_back finish (word (codes "#") anything) parts bytes h) [ inl k ↦ inl (finished k.0 bytes k.1) | inr c ↦ inr (c.1.0, c.1.1) ]);
-      back = λ _ bytes h. elim h [ inl empty ↦ (first none, empty) | inr comment ↦ (second none, (comment.0, comment.1, tt)) ];
+      back = λ _ bytes h. elim h [ inl empty ↦ (grammars.first grammars.none, empty) | inr comment ↦ (grammars.second grammars.none, (comment.0, comment.1, tt)) ];
     })
     (of_grammar nothing_grammar refl)
 
 -- a line that says something has the column of the other kind
-others_column : {V W : Type 0} {K : V → List ℕ → Type 0} {L : W → List ℕ → Type 0} → IsChoice Nothings K L
+pub others_column : {V W : Type 0} {K : V → List ℕ → Type 0} {L : W → List ℕ → Type 0} → IsChoice Nothings K L
     → (text : List ℕ) (n : ℕ) → (IsNothing text → ⊥) → 1 ≤ n → IsColumn K text n → IsColumn L text n
 unfolding Nothings
 others_column choice [] n said some h = absurd (said (inl refl))
@@ -201,7 +202,7 @@ sentences_choice : IsChoice (Spells dollar_grammar) IsCallLine IsSentenceLine
 sentences_choice = record {
   left = λ parts bytes h. (Sentence (record { ref_ptr = (0, 0); now = bytes }), (refl, (h.0, h.1)));
   right = λ w bytes h. (Said w, h);
-  back = elim [ Said w ↦ λ bytes is. inr (w, is) | Sentence text ↦ λ bytes is. inl (none, (is.1.0, is.1.1, tt)) ];
+  back = elim [ Said w ↦ λ bytes is. inr (w, is) | Sentence text ↦ λ bytes is. inl (grammars.none, (is.1.0, is.1.1, tt)) ];
 }
 
 pub sentence_lines_judged : IsJudged IsSentenceLine
@@ -238,7 +239,7 @@ one_book book.Sentence book.Sentence text h k = refl
 
 -- ---- lines of files of exchanges
 
-worlds_choice : (point : ExchangePoint) → IsChoice Nothings (IsWorldLine point) (IsWorldFileLine point)
+pub worlds_choice : (point : ExchangePoint) → IsChoice Nothings (IsWorldLine point) (IsWorldFileLine point)
 unfolding Nothings
 worlds_choice point = record {
   left = λ _ bytes h. (None, h);
@@ -266,9 +267,6 @@ one_exchange one point None (Some b) text h k = absurd (world_first b text k.1 (
 one_exchange one point (Some a) None text h k = absurd (world_first a text h.1 (nothing_first text k))
 one_exchange one point (Some a) (Some b) text h k = ap Some (one a b text h.1 k.1)
 
-pub exchange_column : (point : ExchangePoint) (text : List ℕ) (n : ℕ) → (IsNothing text → ⊥) → 1 ≤ n → IsColumn (IsWorldLine point) text n → IsColumn (IsWorldFileLine point) text n
-exchange_column point = others_column (worlds_choice point)
-
 -- ---- lines of a stream
 
 no_elements : (e : List Element) (text : List ℕ) → IsNothing text → text ≡ codes "s" ++ body_text e → ⊥
@@ -293,7 +291,7 @@ stream_spelled : (e : List Element) (text : List ℕ) → IsStreamLine e text �
 unfolding Nothings
 stream_spelled e text (inl h) = inl (tt, h.1)
 stream_spelled [] text (inr h) = absurd (h.0 refl)
-stream_spelled (x ∷ e) text (inr h) = inr (part (map sign_of (x ∷ e)) none, (body_text (x ∷ e), h.1, signs_spelled x e))
+stream_spelled (x ∷ e) text (inr h) = inr (part (map sign_of (x ∷ e)) grammars.none, (body_text (x ∷ e), h.1, signs_spelled x e))
 
 stream_choice : IsChoice Nothings (Spells elements_line) IsStreamLine
 unfolding Nothings
@@ -332,17 +330,12 @@ abbrev pub StationsBegin : Type 0
 StationsBegin = (line : TrafficLine) (text : List ℕ) → IsLineText line text → (b : ℕ) × (rest : List ℕ) × IsFirstByte line b × (text ≡ b ∷ rest)
 
 -- it is none of those of join's input
-tells : (P : ℕ → Type 0) (b : ℕ) → P b → (P 35 → ⊥) → (P 114 → ⊥) → (P 101 → ⊥) → (b ≡ 35) ⊎ ((b ≡ 114) ⊎ (b ≡ 101)) → ⊥
-tells P b p no_comment no_r no_e (inl h) = no_comment (subst P h p)
-tells P b p no_comment no_r no_e (inr (inl h)) = no_r (subst P h p)
-tells P b p no_comment no_r no_e (inr (inr h)) = no_e (subst P h p)
-
 stations_byte : (line : TrafficLine) (b : ℕ) → IsFirstByte line b → (b ≡ 35) ⊎ ((b ≡ 114) ⊎ (b ≡ 101)) → ⊥
-stations_byte (Ship mmsi) b first = tells (λ n. n ≡ 115) b first (λ h. omega (arith, h)) (λ h. omega (arith, h)) (λ h. omega (arith, h))
-stations_byte (Coast mmsi band) b first = tells (λ n. n ≡ 115) b first (λ h. omega (arith, h)) (λ h. omega (arith, h)) (λ h. omega (arith, h))
-stations_byte (Base second) b first = tells (λ n. n ≡ 98) b first (λ h. omega (arith, h)) (λ h. omega (arith, h)) (λ h. omega (arith, h))
-stations_byte (Group mmsi) b first = tells (λ n. n ≡ 103) b first (λ h. omega (arith, h)) (λ h. omega (arith, h)) (λ h. omega (arith, h))
-stations_byte (Event at what) b first = tells (λ n. is_digit n ≡ true) b first (λ h. cc) (λ h. cc) (λ h. cc)
+stations_byte (Ship mmsi) b first h = omega (arith, first, h)
+stations_byte (Coast mmsi band) b first h = omega (arith, first, h)
+stations_byte (Base second) b first h = omega (arith, first, h)
+stations_byte (Group mmsi) b first h = omega (arith, first, h)
+stations_byte (Event at what) b first h = grind arith
 
 joined_byte : (line : JoinLine) (b : ℕ) (rest : List ℕ) → IsLine line (b ∷ rest) → (b ≡ 35) ⊎ ((b ≡ 114) ⊎ (b ≡ 101))
 joined_byte nothing b rest (inl empty) = absurd (cc)

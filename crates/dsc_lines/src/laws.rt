@@ -52,7 +52,6 @@ pub fn one_sentence_line()
 }
 
 /// The law that a line of a stream adds one list of elements.
-#[tactic(auto, using(crate::proofs::Choices::one_stream))]
 pub fn one_stream_line()
     ensures { (a b : List Element) (text : List ℕ) → IsStreamLine a text → IsStreamLine b text → a ≡ b }
 {}
@@ -73,7 +72,6 @@ pub fn one_exchange_line()
 }
 
 /// The law that the column of a line that says something is the same whether or not lines that say nothing stand in the file.
-#[tactic(auto, using(crate::proofs::Choices::exchange_column))]
 pub fn exchange_columns()
     ensures { (point : ExchangePoint) (text : List ℕ) (n : ℕ) → (IsNothing text → ⊥) → 1 ≤ n
         → IsColumn (IsWorldLine point) text n → IsColumn (IsWorldFileLine point) text n }

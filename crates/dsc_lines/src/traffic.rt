@@ -21,7 +21,6 @@ fn is_body(point: Point) -> bool
 }
 
 /// No line of join's input begins as this line does at this point, so its faults are those of the station's lines.
-#[tactic(auto, using(crate::proofs::Choices::station_column))]
 fn stations_own(point: Point, line: &[u8]) -> Result<Option<JoinLine>, LineFault>
     requires { (b : ℕ) × (rest : List ℕ) × (line.now ≡ b ∷ rest) × IsStationsByte point b }
     ensures { ReadsJoinedAt point line.now result }

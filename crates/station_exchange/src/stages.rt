@@ -51,7 +51,6 @@ impl Stage {
 }
 
 /// The stage behind the line that names the ship.
-#[tactic(auto, using(crate::proofs::Further::names_ship))]
 pub(crate) fn behind_ship(line: &[u8]) -> Result<Stage, Refusal>
     requires { IsOwnLine line.now }
     ensures ok { IfOk result (λ next. LeadsTo stage.Ship line.now next) }
@@ -65,7 +64,6 @@ pub(crate) fn behind_ship(line: &[u8]) -> Result<Stage, Refusal>
 }
 
 /// The stage behind the line that names the coast station, behind that of this ship.
-#[tactic(auto, using(crate::proofs::Further::names_coast))]
 pub(crate) fn behind_coast(ship: Mmsi, line: &[u8]) -> Result<Stage, Refusal>
     requires { IsOwnLine line.now }
     ensures ok { IfOk result (λ next. LeadsTo (stage.Coast ship) line.now next) }
