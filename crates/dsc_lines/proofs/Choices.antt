@@ -1,5 +1,5 @@
 -- files whose lines are of one kind or another: each line says one thing, and a list of bytes is one or has a column
-use Rattle.std.proofs.Common.{◌≡◌, ◌≢◌, ℕ, suc, zero, ◌≤◌, ◌==◌, ◌⊎◌, Bool, true, false, Option, Some, None, inl, inr, refl, sym, ◌∙◌, ap, List, [], ◌∷◌, ◌++◌, take, codes, arith, ◌+◌, map, length, drop, Err, subst, Ok}
+use Rattle.std.proofs.Common.{◌≡◌, ◌≢◌, ℕ, suc, zero, ◌≤◌, ◌==◌, ◌⊎◌, true, false, Option, Some, None, inl, inr, refl, sym, ◌∙◌, ap, List, [], ◌∷◌, ◌++◌, take, codes, arith, ◌+◌, map, length, drop, Err, subst, Ok}
 use Rattle.std.proofs.lemmas.Bool.{eqb-false}
 use mathlib.Core.List.{head-eq_of_cons-eq}
 use Rattle.call_values.specs.declared.calls.Call.{Call}
@@ -39,7 +39,7 @@ use Rattle.dsc_lines.specs.WorldLine.{IsWorldFileLine}
 use Rattle.std.specs.List.{list_all}
 use Rattle.ten_unit.specs.declared.character.Element.{Element}
 use Rattle.ten_unit.specs.Signs.{element_of}
-use Rattle.line_grammar.specs.Tokens.{is_one_of, is_digit}
+use Rattle.line_grammar.specs.Tokens.{is_one_of}
 use Rattle.line_grammar.specs.inside.Reading.{after, read}
 use Rattle.line_grammar.proofs.Repeats.{read_stops}
 use Rattle.dsc_lines.specs.StreamLine.{IsStreamLine}

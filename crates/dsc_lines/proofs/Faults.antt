@@ -1,6 +1,6 @@
 -- where a line is ill-formed
 use Rattle.ten_unit.specs.declared.character.Element.{Element}
-use Rattle.std.proofs.Common.{◌≡◌, ℕ, zero, suc, ◌+◌, ◌≤◌, ◌<◌, min, true, List, [], ◌∷◌, ◌++◌, length, map, codes, Option, Some, IfSome, Err, refl, sym, ◌∙◌, ap, subst, append_assoc, arith}
+use Rattle.std.proofs.Common.{◌≡◌, ℕ, suc, ◌+◌, ◌≤◌, ◌<◌, min, List, [], ◌∷◌, ◌++◌, length, map, codes, Option, Some, IfSome, Err, refl, sym, ◌∙◌, ap, subst, append_assoc, arith}
 use Rattle.std.specs.List.{flat_map, All}
 use Rattle.ten_unit.specs.Signs.{element_of}
 use Rattle.line_grammar.specs.Columns.{IsColumn}

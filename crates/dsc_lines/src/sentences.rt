@@ -16,7 +16,6 @@ pub enum SentenceLine<'a> {
 }
 
 /// Reads a line that doesn't begin with `$`.
-#[tactic(auto, using(crate::proofs::Choices::said_column))]
 fn said_line(line: &[u8]) -> Result<SentenceLine<'_>, usize>
     requires { (rest : List ℕ) → line.now ≢ dollar_sign ∷ rest }
     ensures { Reads IsSentenceLine line.now result }

@@ -1,6 +1,5 @@
 -- the history of the exchange that lines tell is legal
-use Rattle.std.proofs.Common.{◌≡◌, ℕ, Some, None, List, [], ◌∷◌, refl, sym, subst}
-use Rattle.call_values.specs.declared.choices.Band.{Band}
+use Rattle.std.proofs.Common.{◌≡◌, ℕ, Some, None, [], ◌∷◌, refl, sym, subst}
 use Rattle.traffic_lines.specs.declared.lines.Event.TheVariants.{Does, Comes}
 use Rattle.traffic_lines.specs.declared.worlds.Entry as entries
 use Rattle.traffic_lines.specs.declared.worlds.Entry.TheVariants.{AtShip, AtCoast}

@@ -1,6 +1,5 @@
 -- what the first lines of a traffic file said, and their text
 use Rattle.std.proofs.Common.{◌≡◌, ℕ, Bool, true, List, [], ◌∷◌, ◌++◌, refl, sym, ◌∙◌, ap, subst, append-nil, inl, inr}
-use Rattle.call_values.specs.declared.choices.Band.{Band}
 use Rattle.traffic_rules.specs.Rules.{Rules}
 use Rattle.line_engine.specs.Lines.{Lines}
 use Rattle.line_engine.specs.Determined.{BeginsWith}

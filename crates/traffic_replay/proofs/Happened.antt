@@ -14,10 +14,9 @@ use Rattle.dsc_lines.specs.PointLine.{traffic}
 use Rattle.traffic_replay.specs.declared.outcomes.Unreported.{Unreported}
 use Rattle.traffic_replay.specs.Said.{Said, base_of}
 use Rattle.traffic_replay.specs.HeardGroups.{hears, facts_since_heard}
-use Rattle.traffic_replay.specs.Happenings.{Taking, taking_ship, taking_coast, heard_as, ComesOf}
+use Rattle.traffic_replay.specs.Happenings.{Taking, heard_as, ComesOf}
 use Rattle.station_lines.specs.Answers.{answer_lines}
 use Rattle.traffic_replay.specs.Output.{unreported_line}
-use Rattle.traffic_replay.specs.declared.steps.Coming.TheVariants as coming
 use Rattle.traffic_replay.specs.inside.Happens.{IsPlain, Comes, Happens}
 
 -- a line that hears no group gives its event

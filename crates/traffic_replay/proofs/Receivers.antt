@@ -10,7 +10,7 @@ use Rattle.dsc_lines.specs.declared.join.JoinLine.{JoinLine as Got}
 use Rattle.dsc_lines.specs.declared.join.JoinLine.TheVariants as got
 use Rattle.dsc_lines.specs.JoinLine.{JoinLine, nothing, reception, evidence}
 use Rattle.traffic_lines.specs.declared.lines.Point.{Point}
-use Rattle.dsc_lines.specs.PointLine.{PointLine, joined, traffic, MayBeJoined, IsPointLine}
+use Rattle.dsc_lines.specs.PointLine.{joined, traffic, MayBeJoined, IsPointLine}
 use Rattle.dsc_lines.specs.Lines.{Says, ReadsJoinedAt}
 use Rattle.join_groups.specs.Groups.{facts_of_line}
 use Rattle.join_groups.specs.Meanings.{BringsTooMany}
