@@ -107,6 +107,11 @@ fn is_found_alike(e: &[Element]) -> bool {
     e.len() <= LONGEST && lead(e) == plain::lead(e) && origin(e) == plain::origin(e)
 }
 
+/// Whether this is the origin.
+fn has_origin(e: &[Element], o: i32) -> bool {
+    e.len() <= LONGEST && origin(e) == Some(o)
+}
+
 /// Whether the search from the first element on and the test of one origin after another find the same.
 fn is_first_alike(e: &[Element]) -> bool {
     if e.len() > LONGEST {
@@ -163,8 +168,8 @@ fn two_alerts_in_noise(rt: HostRuntime) -> Result<(), Fail> {
         elements.extend_from_slice(&received(rt.alloc(), 7, &ALERT_SLOTS, &[0, 3])?)?;
         assert!(rt; is_found_alike(&elements), "turn {turn}");
         assert!(rt; is_first_alike(&elements), "turn {turn}");
-        let is_first = origin(elements.as_slice()) == Some((seed / 65536 % 256) as i32 + 20);
-        firsts = firsts.saturating_add(u32::from(is_first));
+        let at = (seed / 65536 % 256) as i32 + 20;
+        firsts = firsts.saturating_add(u32::from(has_origin(&elements, at)));
     }
     assert!(rt;
         100 < firsts && firsts < 190,

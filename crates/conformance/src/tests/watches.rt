@@ -109,15 +109,22 @@ fn two_full_batches_are_told(rt: HostRuntime) -> Result<(), Fail> {
     let first = full_batch(alloc, false)?;
     let mut input = first.to_vec(alloc)?;
     input.extend_from_slice(&full_batch(alloc, true)?)?;
-    let told = format!(in alloc; "told g9 {CALL}")?;
-    let whole = format!(in alloc; "{told}told g5 {CALL}g5 reported {CALL}g9 reported {CALL}")?;
+    let first_told = format!(in alloc; "told g9 {CALL}")?;
+    let both_told = format!(in alloc; "{first_told}told g5 {CALL}")?;
+    let whole = format!(in alloc; "{both_told}g5 reported {CALL}g9 reported {CALL}")?;
+    let rows: [(u64, &[u8], u8); 4] = [
+        (1, b"", 5),
+        (2, first_told.as_bytes(), 5),
+        (3, both_told.as_bytes(), 5),
+        (9, whole.as_bytes(), 0),
+    ];
     for words in ["dsc watch", "dsc watch --workers 2"] {
         let words = words_of(alloc, words)?;
-        for (failing, want, status) in [(1, "", 5), (2, told.as_str(), 5), (4, whole.as_str(), 0)] {
+        for (failing, want, status) in rows {
             let mut source = SureSource::new(input.to_vec(alloc)?, first.len().max(1));
             let mut sink = ByteSink::new(alloc, 4096, 4096, vec![in alloc; failing]?)?;
             let ended = run(&rt, alloc, &words, &mut source, &mut sink, &Open);
-            assert_eq!(rt; sink.bytes(), want.as_bytes(), "write {failing}");
+            assert_eq!(rt; sink.bytes(), want, "write {failing}");
             assert_eq!(rt; ended.number(), status, "write {failing}");
         }
     }
