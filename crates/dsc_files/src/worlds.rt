@@ -4,7 +4,7 @@ ghost use Rattle.line_grammar.specs.Columns.{ReadsAs};
 ghost use Rattle.traffic_lines.specs.Readings.{ReadsInWorld};
 ghost use Rattle.traffic_lines.specs.Worlds.{IsWorldLine};
 ghost use Rattle.dsc_lines.specs.Readings.{Reads};
-ghost use Rattle.dsc_lines.specs.StreamLine.{IsNothing};
+ghost use Rattle.dsc_lines.specs.JoinLine.{IsNothing};
 ghost use Rattle.dsc_lines.specs.WorldLine.{IsWorldFileLine};
 
 use dsc_lines::{exchange_columns, says_nothing};

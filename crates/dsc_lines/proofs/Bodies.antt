@@ -1,36 +1,53 @@
 -- reading bodies of signs
-use Rattle.std.proofs.Common.{◌≡◌, ◌≢◌, ℕ, suc, ◌≤◌, ◌==◌, ◌||◌, true, false, List, [], ◌∷◌, ◌++◌, length, map, codes, Result, Option, Some, None, IfOk, IfSome, IsSome, IsNone, Ok, Err, inl, inr, refl, sym, ◌∙◌, ap, subst, append-nil, arith}
+use Rattle.std.proofs.Common.{◌≡◌, ◌≢◌, ℕ, suc, ◌≤◌, ◌==◌, ◌||◌, Bool, true, false, List, [], ◌∷◌, ◌++◌, length, map, codes, Result, Option, Some, None, IfOk, IfSome, IsSome, IsNone, Ok, Err, inl, inr, refl, sym, ◌∙◌, ap, subst, append-nil, arith}
 use Rattle.std.specs.List.{list_all}
 use Rattle.std.proofs.lemmas.Bool.{or_cases, eqb-true, and_parts, and_from, both_ways}
 use Rattle.ten_unit.specs.declared.character.Element.{Element}
 use Rattle.ten_unit.specs.declared.character.Element.TheVariants.{Y, B, Lost}
 use Rattle.ten_unit.specs.Signs.{element_of, is_sign}
 use Rattle.line_grammar.specs.Tokens.{run, is_one_of, IsToken}
-use Rattle.line_grammar.specs.Grammar.{Grammar, finish, word, none}
+use Rattle.std.proofs.Math.Bool.{or-false}
+use Rattle.line_grammar.specs.Grammar.{Grammar, finish, word, Parts, none, part, Spells}
 use Rattle.line_grammar.specs.inside.Reading.{after, ended, read_token, read}
 use Rattle.line_grammar.specs.inside.Soundness.{is_sound}
-use Rattle.line_grammar.proofs.Chains.{after_list, run_list, word_missed, word_on, token_missed, token_on, end_missed, fault_within, both_miss, no_end, end_nil}
+use Rattle.line_grammar.proofs.Chains.{after_list, run_list, word_missed, word_on, token_missed, token_on, end_missed, fault_within, both_miss, no_end, end_nil, finished}
+use Rattle.line_grammar.proofs.Fields.{field_of}
 use Rattle.dsc_lines.specs.JoinLine.{sign_of, body_text}
 use Rattle.dsc_lines.specs.inside.Reading.{behind_blank, blank_and_signs, signs, IsBehindBlank}
 
+same_eqb : (a b : ℕ) → (a == b) ≡ (b == a)
+same_eqb a b = grind arith
+
+-- the bytes that lines have for signs are signs
+same_sign : (b : ℕ) → is_one_of (codes "YB-") b ≡ is_sign b
+same_sign b =
+    ap (λ (t : Bool). t || ((66 == b) || ((45 == b) || false))) (same_eqb 89 b) ∙ ap (λ (t : Bool). (b == 89) || (t || ((45 == b) || false))) (same_eqb 66 b)
+    ∙ ap (λ (t : Bool). (b == 89) || ((b == 66) || t)) (or-false (45 == b) ∙ same_eqb 45 b)
+
+same_signs : (bytes : List ℕ) → list_all (is_one_of (codes "YB-")) bytes ≡ list_all is_sign bytes
+same_signs bytes = ap (λ (p : ℕ → Bool). list_all p bytes) (λ i b. same_sign b i)
+
+all_of_signs : (bytes : List ℕ) → list_all is_sign bytes ≡ true → list_all (is_one_of (codes "YB-")) bytes ≡ true
+all_of_signs bytes h = same_signs bytes ∙ h
+
+pub all_of_bytes : (bytes : List ℕ) → list_all (is_one_of (codes "YB-")) bytes ≡ true → list_all is_sign bytes ≡ true
+all_of_bytes bytes h = sym (same_signs bytes) ∙ h
+
 -- signs and elements
-sign_again : (b : ℕ) → is_one_of (codes "YB-") b ≡ true → sign_of (element_of b) ≡ b
+sign_again : (b : ℕ) → is_sign b ≡ true → sign_of (element_of b) ≡ b
 sign_again b h =
-    elim (or_cases (89 == b) ((66 == b) || ((45 == b) || false)) h) [
-      | inl y ↦ subst (λ (x : ℕ). sign_of (element_of x) ≡ x) (eqb-true 89 b y) refl
-      | inr other ↦ (elim (or_cases (66 == b) ((45 == b) || false) other) [
-        | inl n ↦ subst (λ (x : ℕ). sign_of (element_of x) ≡ x) (eqb-true 66 b n) refl
-        | inr lost ↦ (elim (or_cases (45 == b) false lost) [
-          | inl l ↦ subst (λ (x : ℕ). sign_of (element_of x) ≡ x) (eqb-true 45 b l) refl
-          | inr never ↦ absurd (cc)
-        ])
+    elim (or_cases (b == 89) ((b == 66) || (b == 45)) h) [
+      | inl y ↦ subst (λ (x : ℕ). sign_of (element_of x) ≡ x) (sym (eqb-true b 89 y)) refl
+      | inr other ↦ (elim (or_cases (b == 66) (b == 45) other) [
+        | inl n ↦ subst (λ (x : ℕ). sign_of (element_of x) ≡ x) (sym (eqb-true b 66 n)) refl
+        | inr lost ↦ subst (λ (x : ℕ). sign_of (element_of x) ≡ x) (sym (eqb-true b 45 lost)) refl
       ])
     ]
 
-pub signs_again : (bytes : List ℕ) → list_all (is_one_of (codes "YB-")) bytes ≡ true → map sign_of (map element_of bytes) ≡ bytes
+signs_again : (bytes : List ℕ) → list_all is_sign bytes ≡ true → map sign_of (map element_of bytes) ≡ bytes
 signs_again [] h = refl
 signs_again (b ∷ bytes) h =
-    let k = and_parts (is_one_of (codes "YB-") b) (list_all (is_one_of (codes "YB-")) bytes) h in
+    let k = and_parts (is_sign b) (list_all is_sign bytes) h in
     ap (λ (x : ℕ). x ∷ map sign_of (map element_of bytes)) (sign_again b k.0) ∙ ap (λ (l : List ℕ). b ∷ l) (signs_again bytes k.1)
 
 element_again : (e : Element) → element_of (sign_of e) ≡ e
@@ -53,49 +70,27 @@ pub all_signs : (e : List Element) → list_all is_sign (map sign_of e) ≡ true
 all_signs [] = refl
 all_signs (x ∷ e) = and_from (is_sign (sign_of x)) (list_all is_sign (map sign_of e)) (one_sign x) (all_signs e)
 
--- a sign is one of the bytes that lines have for signs, and each of these is a sign
-one_of_signs : (b : ℕ) → is_sign b ≡ true → is_one_of (codes "YB-") b ≡ true
-one_of_signs b h =
-    elim (or_cases (b == 89) ((b == 66) || (b == 45)) h) [
-      | inl y ↦ subst (λ (x : ℕ). is_one_of (codes "YB-") x ≡ true) (sym (eqb-true b 89 y)) refl
-      | inr other ↦ (elim (or_cases (b == 66) (b == 45) other) [
-        | inl n ↦ subst (λ (x : ℕ). is_one_of (codes "YB-") x ≡ true) (sym (eqb-true b 66 n)) refl
-        | inr lost ↦ subst (λ (x : ℕ). is_one_of (codes "YB-") x ≡ true) (sym (eqb-true b 45 lost)) refl
-      ])
-    ]
-
-all_of_signs : (bytes : List ℕ) → list_all is_sign bytes ≡ true → list_all (is_one_of (codes "YB-")) bytes ≡ true
-all_of_signs [] h = refl
-all_of_signs (b ∷ bytes) h =
-    let k = and_parts (is_sign b) (list_all is_sign bytes) h in
-    and_from (is_one_of (codes "YB-") b) (list_all (is_one_of (codes "YB-")) bytes) (one_of_signs b k.0) (all_of_signs bytes k.1)
-
-one_of_bytes : (b : ℕ) → is_one_of (codes "YB-") b ≡ true → is_sign b ≡ true
-one_of_bytes b h =
-    elim (or_cases (89 == b) ((66 == b) || ((45 == b) || false)) h) [
-      | inl y ↦ subst (λ (x : ℕ). is_sign x ≡ true) (eqb-true 89 b y) refl
-      | inr other ↦ (elim (or_cases (66 == b) ((45 == b) || false) other) [
-        | inl n ↦ subst (λ (x : ℕ). is_sign x ≡ true) (eqb-true 66 b n) refl
-        | inr lost ↦ (elim (or_cases (45 == b) false lost) [
-          | inl l ↦ subst (λ (x : ℕ). is_sign x ≡ true) (eqb-true 45 b l) refl
-          | inr never ↦ absurd (cc)
-        ])
-      ])
-    ]
-
-pub all_of_bytes : (bytes : List ℕ) → list_all (is_one_of (codes "YB-")) bytes ≡ true → list_all is_sign bytes ≡ true
-all_of_bytes [] h = refl
-all_of_bytes (b ∷ bytes) h =
-    let k = and_parts (is_one_of (codes "YB-") b) (list_all (is_one_of (codes "YB-")) bytes) h in
-    and_from (is_sign b) (list_all is_sign bytes) (one_of_bytes b k.0) (all_of_bytes bytes k.1)
-
-pub are_signs : (e : List Element) → list_all (is_one_of (codes "YB-")) (map sign_of e) ≡ true
-are_signs e = all_of_signs (map sign_of e) (all_signs e)
-
 -- a body
 pub body_of : (bytes front : List ℕ) → front ≢ [] → list_all (is_one_of (codes "YB-")) front ≡ true → bytes ≡ codes " " ++ front → bytes ≡ body_text (map element_of front)
 body_of bytes [] some all e = absurd (some refl)
-body_of bytes (b ∷ front) some all e = e ∙ ap (λ (l : List ℕ). codes " " ++ l) (sym (signs_again (b ∷ front) all))
+body_of bytes (b ∷ front) some all e = e ∙ ap (λ (l : List ℕ). codes " " ++ l) (sym (signs_again (b ∷ front) (all_of_bytes (b ∷ front) all)))
+
+pub some_map : {A B : Type 0} (f : A → B) (xs : List A) → xs ≢ [] → map f xs ≢ []
+some_map f [] some e = some refl
+some_map f (x ∷ xs) some e = absurd (cc)
+
+-- some elements are spelled by a blank and their signs, and whatever is so spelled is a body of some
+pub signs_spelled : (x : Element) (e : List Element) → Spells blank_and_signs (part (map sign_of (x ∷ e)) none) (body_text (x ∷ e))
+signs_spelled x e =
+    let front = map sign_of (x ∷ e) in
+    let some : front ≡ [] → ⊥ = λ (k : front ≡ []). absurd (cc) in
+    (front, refl, ((some, all_of_signs front (all_signs (x ∷ e))), ([], sym (append-nil front), refl)))
+
+pub signs_back : (parts : Parts) (bytes : List ℕ) → Spells blank_and_signs parts bytes → (e : List Element) × (e ≢ []) × (bytes ≡ body_text e)
+signs_back parts bytes h =
+    let f = field_of (run (codes "YB-")) finish parts h.0 h.2 in
+    let all = f.list ∙ ap (λ (l : List ℕ). f.front ++ l) (finished f.parts f.back f.spelled) ∙ append-nil f.front in
+    (map element_of f.front, some_map element_of f.front f.is_token.0, body_of bytes f.front f.is_token.0 f.is_token.1 (h.1 ∙ ap (λ (l : List ℕ). codes " " ++ l) all))
 
 pub no_body : (bytes : List ℕ) → length bytes ≡ 0 → bytes ≡ body_text (map element_of bytes)
 no_body [] e = refl

@@ -9,14 +9,7 @@ no_later L bytes m n h k less =
     h.at (omega (arith, less, within)) (k.before m less)
 
 pub one_column : {W : Type 0} (L : Spelling W) (bytes : List ℕ) (m n : ℕ) → IsColumn L bytes m → IsColumn L bytes n → m ≡ n
-one_column L bytes m n h k =
-    elim (cases_lt m n) [
-      | inl less ↦ absurd (no_later L bytes m n h k less)
-      | inr not_less ↦ (elim (cases_lt n m) [
-        | inl less ↦ absurd (no_later L bytes n m k h less)
-        | inr same ↦ omega (arith, not_less, same)
-      ])
-    ]
+one_column L bytes m n h k = omega (arith, no_later L bytes m n h k, no_later L bytes n m k h)
 
 -- whatever a language is, bytes that have no column don't lack being a line
 module _ {W : Type 0} (L : Spelling W) (bytes : List ℕ) (no_line : (w : W) → L w bytes → ⊥) (no_column : (n : ℕ) → IsColumn L bytes n → ⊥) where

@@ -1,20 +1,17 @@
 -- where a line is ill-formed
 use Rattle.ten_unit.specs.declared.character.Element.{Element}
-use Rattle.std.proofs.Common.{◌≡◌, ℕ, zero, suc, ◌+◌, ◌≤◌, ◌<◌, min, true, List, [], ◌∷◌, ◌++◌, length, map, codes, Option, Some, IfSome, Err, refl, sym, ◌∙◌, ap, subst, append_assoc, arith}
+use Rattle.std.proofs.Common.{◌≡◌, ℕ, suc, ◌+◌, ◌≤◌, ◌<◌, min, List, [], ◌∷◌, ◌++◌, length, map, codes, Option, Some, IfSome, Err, refl, sym, ◌∙◌, ap, subst, append_assoc, arith}
 use Rattle.std.specs.List.{flat_map, All}
 use Rattle.ten_unit.specs.Signs.{element_of}
 use Rattle.line_grammar.specs.Columns.{IsColumn}
 use Rattle.line_grammar.specs.Grammar.{finish, anything, word, either}
 use Rattle.line_grammar.specs.Repeats.{repeated}
 use Rattle.line_grammar.specs.inside.Reading.{after, read}
-use Rattle.line_grammar.specs.inside.Soundness.{is_sound}
-use Rattle.std.proofs.lemmas.Bool.{and_from}
-use Rattle.line_grammar.proofs.Stops.{Stops, left_le, IsColumn-stops}
+use Rattle.line_grammar.proofs.Stops.{Stops, IsColumn-stops}
 use Rattle.line_grammar.proofs.Repeats.{Stops-limit, reads_stop}
 use Rattle.line_grammar.proofs.Chains.{word_on, fault_within, both_miss, no_end, no_word}
 use Rattle.dsc_lines.specs.JoinLine.{reception, evidence, NamesGroup, body_text, IsPair, pair_text, IsLine}
 use Rattle.dsc_lines.specs.inside.Reading.{behind_blank, signs, grouped, pair, reception_line, evidence_line, join_lines}
-use Rattle.dsc_lines.proofs.Pairs.{pairs_sound}
 use Rattle.dsc_lines.proofs.WholeLines.{lines_limit, lines_sound}
 
 -- of a line that begins so, the grammar stops where the rest of its kind does
@@ -50,12 +47,8 @@ reception_fault text rest left e h =
     (stops_of (114 ∷ rest) 0 left (λ n large.
     lines_miss n 114 left left (suc (length rest)) rest (λ b. omega (arith, b)) (reception_missed rest left h) (no_evidence n 114 rest (λ b. omega (arith, b))) (omega (arith, few)) (omega arith) (omega (arith, few))))
 
-evidence_sound : (n : ℕ) → is_sound (evidence_line n) ≡ true
-evidence_sound zero = refl
-evidence_sound (suc n) = and_from (is_sound (repeated pair (suc n))) (is_sound (repeated pair (suc n))) (pairs_sound (suc n)) (pairs_sound (suc n))
-
 evidence_within : (n : ℕ) (rest : List ℕ) (left : ℕ) → read (evidence_line n) (101 ∷ rest) ≡ Err left → left ≤ suc (length rest)
-evidence_within n rest left h = fault_within (evidence_line n) (101 ∷ rest) left (evidence_sound n) h
+evidence_within n rest left h = fault_within (evidence_line n) (101 ∷ rest) left (lines_sound n) h
 
 pub evidence_fault : (text rest : List ℕ) (left : ℕ) → text ≡ 101 ∷ rest → ((n : ℕ) → length rest < n → read (grouped (repeated pair n)) rest ≡ Err left) → Stops IsLine text left
 evidence_fault text rest left e h =
@@ -70,14 +63,6 @@ other_fault text rest b e no_comment no_r no_e =
     let all = suc (length rest) in
     let stops = stops_of (b ∷ rest) 0 all (λ n large. lines_miss n b all all all rest no_comment (no_reception b rest no_r) (no_evidence n b rest no_e) (omega arith) (omega arith) (omega arith)) in
     subst (λ (l : List ℕ). IsColumn IsLine l 1) (sym e) (IsColumn-stops IsLine (b ∷ rest) all 1 stops (omega arith))
-
--- no more bytes are left than a line has
-pub within_line : (text : List ℕ) (left : ℕ) → Stops IsLine text left → left ≤ length text
-within_line text left s = left_le IsLine text left s
-
--- where the reading stops is the column of the fault
-pub column_of : (text : List ℕ) (left n : ℕ) → Stops IsLine text left → n + left ≡ length text + 1 → IsColumn IsLine text n
-column_of text left n s e = IsColumn-stops IsLine text left n s e
 
 pub reception_read : (text rest name front : List ℕ) (group : ℕ) → text ≡ 114 ∷ rest → NamesGroup group name → rest ≡ name ++ body_text (map element_of front) → IsLine (reception group (map element_of front)) text
 reception_read text rest name front group e names h =

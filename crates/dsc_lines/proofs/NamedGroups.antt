@@ -20,14 +20,11 @@ group_missed rest digits left blank few h =
     let no_name = word_on (codes " g") (field (free_number 0 4294967295) (behind_blank rest)) (32 ∷ 103 ∷ digits) digits left refl h in
     both_miss (behind_blank rest) (word (codes " g") (field (free_number 0 4294967295) (behind_blank rest))) (32 ∷ 103 ∷ digits) (suc n) left left no_body no_name (omega arith)
 
-number_within : (digits : List ℕ) (left : ℕ) → read_token (free_number 0 4294967295) digits ≡ Err left → left ≤ length digits
-number_within digits left h = fault_within (field (free_number 0 4294967295) finish) digits left refl (token_missed (free_number 0 4294967295) finish digits left h)
-
 pub no_number : (bytes digits : List ℕ) (left : ℕ) → after (codes " g") bytes ≡ Ok digits → read_token (free_number 0 4294967295) digits ≡ Err left
     → (rest : Grammar) → IsBehindBlank rest → read (grouped (behind_blank rest)) bytes ≡ Err left
 no_number bytes digits left e h rest blank =
     subst (λ (l : List ℕ). read (grouped (behind_blank rest)) l ≡ Err left) (sym (after_list (codes " g") bytes digits e))
-    (group_missed rest digits left blank (number_within digits left h) (token_missed (free_number 0 4294967295) (behind_blank rest) digits left h))
+    (group_missed rest digits left blank (fault_within (field (free_number 0 4294967295) finish) digits left refl (token_missed (free_number 0 4294967295) finish digits left h)) (token_missed (free_number 0 4294967295) (behind_blank rest) digits left h))
 
 -- a group was read
 pub group_named : (bytes digits front back : List ℕ) (n : ℕ) → after (codes " g") bytes ≡ Ok digits → read_token (free_number 0 4294967295) digits ≡ Ok (front, back) → value_after 0 front ≡ n

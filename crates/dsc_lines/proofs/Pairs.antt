@@ -88,12 +88,9 @@ begins : (x : ℕ × ℕ) (rest back : List ℕ) → rest ≡ pair_text x ++ bac
 begins x rest back e = ((decimal x.0 ++ (codes ":" ++ decimal x.1)) ++ back, e ∙ pair_text_is x back)
 
 -- one blank at least, and where what follows it misses
-one_less : (n left b : ℕ) (bytes : List ℕ) → read (word (codes " ") (pair (repeated pair n))) (b ∷ bytes) ≡ Err left → read (repeated pair (suc n)) (b ∷ bytes) ≡ Err left
-one_less n left b bytes h = read_one_less pair n b left bytes h (fault_within (word (codes " ") (pair (repeated pair n))) (b ∷ bytes) left (pairs_sound (suc n)) h)
-
 some_less : (n left : ℕ) (bytes : List ℕ) → (length bytes ≡ 0 → ⊥) → read (word (codes " ") (pair (repeated pair n))) bytes ≡ Err left → read (repeated pair (suc n)) bytes ≡ Err left
 some_less n left [] some h = absurd (some refl)
-some_less n left (b ∷ bytes) some h = one_less n left b bytes h
+some_less n left (b ∷ bytes) some h = read_one_less pair n b left bytes h (fault_within (word (codes " ") (pair (repeated pair n))) (b ∷ bytes) left (pairs_sound (suc n)) h)
 
 pub taken_more : (bytes rest back : List ℕ) (old new : List Seen) (x : ℕ × ℕ) → IsTaken bytes rest old → IsPair x → rest ≡ pair_text x ++ back
     → ((K : Grammar) (left : ℕ) → read K back ≡ Err left → read (word (codes " ") (pair K)) rest ≡ Err left)

@@ -1,11 +1,11 @@
 -- whole lines: the grammars have the lines of join's input
-use Rattle.std.proofs.Common.{◌≡◌, ℕ, zero, suc, ◌+◌, ◌≤◌, ◌<◌, true, List, [], ◌∷◌, ◌++◌, length, map, codes, decimal, inl, inr, refl, sym, ◌∙◌, ap, subst, append_assoc, append-nil, arith}
+use Rattle.std.proofs.Common.{◌≡◌, ℕ, zero, suc, ◌+◌, ◌≤◌, ◌<◌, true, List, [], ◌∷◌, ◌++◌, length, map, codes, decimal, inl, inr, refl, sym, ◌∙◌, ap, subst, append_assoc, arith}
 use Rattle.std.specs.List.{flat_map, All}
 use Rattle.std.proofs.lemmas.Bool.{and_from}
 use Rattle.std.proofs.lemmas.List.Elements.{All-append, All-cons, All-nil}
 use Rattle.ten_unit.specs.declared.character.Element.{Element}
 use Rattle.ten_unit.specs.Signs.{element_of}
-use Rattle.line_grammar.specs.Tokens.{run, free_number, value_after, IsNumber}
+use Rattle.line_grammar.specs.Tokens.{free_number, value_after, IsNumber}
 use Rattle.line_grammar.specs.Grammar.{Grammar, finish, anything, word, field, either, Parts, none, part, first, second, Spells}
 use Rattle.line_grammar.specs.Repeats.{repeated}
 use Rattle.line_grammar.specs.inside.Soundness.{is_sound, is_unambiguous}
@@ -17,7 +17,7 @@ use Rattle.line_grammar.proofs.Decimals.{number_text, decimal_number, decimal_va
 use Rattle.line_grammar.proofs.Chains.{finished}
 use Rattle.dsc_lines.specs.JoinLine.{JoinLine, nothing, reception, evidence, sign_of, NamesGroup, body_text, IsPair, pair_text, IsLine}
 use Rattle.dsc_lines.specs.inside.Reading.{behind_blank, signs, grouped, pair, reception_line, evidence_line, join_lines}
-use Rattle.dsc_lines.proofs.Bodies.{body_of, are_signs, elements_again}
+use Rattle.dsc_lines.proofs.Bodies.{signs_spelled, signs_back, elements_again}
 use Rattle.dsc_lines.proofs.Pairs.{pairs_sound, pair_text_is}
 
 -- what the parts of a line say
@@ -52,14 +52,7 @@ pub record IsSpelled (G : Grammar) (text : List ℕ) {A : Type 0} (says : Parts 
 body_spelled : (e : List Element) → IsSpelled (behind_blank signs) (body_text e) elements_in e
 unfolding elements_in
 body_spelled [] = record { parts = first none; spelled = refl; is = refl }
-body_spelled (x ∷ e) =
-    let all = map sign_of (x ∷ e) in
-    let some : all ≡ [] → ⊥ = λ (k : all ≡ []). absurd (cc) in
-    record {
-      parts = second (part all none);
-      spelled = (all, refl, ((some, are_signs (x ∷ e)), ([], sym (append-nil all), refl)));
-      is = elements_again (x ∷ e);
-    }
+body_spelled (x ∷ e) = record { parts = second (part (map sign_of (x ∷ e)) none); spelled = signs_spelled x e; is = elements_again (x ∷ e) }
 
 pairs_spelled : (n : ℕ) (pairs : List (ℕ × ℕ)) → length pairs < n → All IsPair pairs → IsSpelled (repeated pair n) (flat_map pair_text pairs) pairs_in pairs
 unfolding pairs_in
@@ -147,10 +140,7 @@ body_back : (parts : Parts) (bytes : List ℕ) → Spells (behind_blank signs) p
 body_back parts bytes h =
     elim (choice_back finish (word (codes " ") signs) parts bytes h) [
       | inl k ↦ ([], finished k.0 bytes k.1)
-      | inr k ↦
-          let f = field_of (run (codes "YB-")) finish k.0 k.1.0 k.1.2 in
-          let all = f.list ∙ ap (λ (l : List ℕ). f.front ++ l) (finished f.parts f.back f.spelled) ∙ append-nil f.front in
-          (map element_of f.front, body_of bytes f.front f.is_token.0 f.is_token.1 (k.1.1 ∙ ap (λ (l : List ℕ). codes " " ++ l) all))
+      | inr k ↦ (let s = signs_back k.0 bytes k.1 in (s.0, s.2))
     ]
 
 -- pairs, and that each is one

@@ -3,7 +3,7 @@ use Rattle.std.specs.Prelude.{◌≡◌, nat_eq, ℕ, Bool, true, List, codes}
 use Rattle.std.specs.List.{starts_with}
 use Rattle.dsc_lines.specs.declared.books.BookLine.{BookLine}
 use Rattle.dsc_lines.specs.declared.books.BookLine.TheVariants.{Nothing, Sentence}
-use Rattle.dsc_lines.specs.StreamLine.{IsNothing}
+use Rattle.dsc_lines.specs.JoinLine.{IsNothing}
 
 -- the line is a sentence: it begins with $
 abbrev pub is_sentence : List ℕ → Bool

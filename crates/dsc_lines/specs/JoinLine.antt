@@ -34,9 +34,13 @@ IsPair pair = (pair.0 < 64) × (pair.1 < 128)
 abbrev pub pair_text : ℕ × ℕ → List ℕ
 pair_text pair = codes " " ++ decimal pair.0 ++ codes ":" ++ decimal pair.1
 
--- the well-formed lines: the empty line and what begins with # say nothing; r, a group and a body is a reception; e, a group and any
--- number of pairs, in any order, is evidence
+-- the lines that say nothing: the empty line and what begins with #
+abbrev pub IsNothing : List ℕ → Type 0
+IsNothing text = (text ≡ []) ⊎ ((comment : List ℕ) × (text ≡ codes "#" ++ comment))
+
+-- the well-formed lines: those that say nothing; r, a group and a body is a reception; e, a group and any number of pairs, in any order,
+-- is evidence
 abbrev pub IsLine : JoinLine → List ℕ → Type 0
-IsLine nothing text = (text ≡ []) ⊎ ((comment : List ℕ) × (text ≡ codes "#" ++ comment))
+IsLine nothing text = IsNothing text
 IsLine (reception group e) text = (name : List ℕ) × (NamesGroup group name × (text ≡ codes "r" ++ name ++ body_text e))
 IsLine (evidence group pairs) text = (name : List ℕ) × (NamesGroup group name × (All IsPair pairs × (text ≡ codes "e" ++ name ++ flat_map pair_text pairs)))

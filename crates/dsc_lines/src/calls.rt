@@ -1,10 +1,11 @@
 //! The lines of files of calls.
-ghost use Rattle.std.specs.Prelude.{◌≡◌, ◌≢◌, ◌∷◌, ℕ, List};
-ghost use Rattle.line_grammar.specs.Bytes.{number_sign};
+ghost use Rattle.std.specs.Prelude.{◌≡◌};
 ghost use Rattle.dsc_texts.specs.Texts.{IsWholeOrAbsent};
 ghost use Rattle.dsc_lines.specs.CallLine.{extra_of, IsCallLine};
+ghost use Rattle.dsc_lines.specs.JoinLine.{IsNothing};
 ghost use Rattle.dsc_lines.specs.Readings.{Reads};
 
+use crate::worlds::says_nothing;
 use call_values::Call;
 use dsc_texts::read_call;
 use expansion::Expansion;
@@ -33,9 +34,9 @@ fn expansion_in(extra: &Extra) -> Option<Expansion>
     }
 }
 
-/// Reads a line that isn't empty and doesn't begin with `#`.
+/// Reads a line that says something.
 fn whole_call(line: &[u8]) -> Result<CallLine, usize>
-    requires { (b : ℕ) × (rest : List ℕ) × (line.now ≡ b ∷ rest) × (b ≢ number_sign) }
+    requires { IsNothing line.now → ⊥ }
     ensures { Reads IsCallLine line.now result }
 {
     match read_call(line) {
@@ -51,11 +52,8 @@ fn whole_call(line: &[u8]) -> Result<CallLine, usize>
 pub fn call_line(line: &[u8]) -> Result<CallLine, usize>
     ensures { Reads IsCallLine line.now result }
 {
-    let Some((first, _)) = line.split_first() else {
+    if says_nothing(line) {
         return Ok(CallLine::Nothing);
-    };
-    match *first {
-        b'#' => Ok(CallLine::Nothing),
-        _ => whole_call(line),
     }
+    whole_call(line)
 }

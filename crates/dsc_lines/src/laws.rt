@@ -1,6 +1,6 @@
 //! Laws: each function here does nothing, and its contract is a theorem over definitions.
 ghost use Rattle.std.specs.Prelude.{◌≡◌, ◌≤◌, ℕ, List, Option};
-ghost use Rattle.dsc_lines.specs.JoinLine.{JoinLine, IsLine};
+ghost use Rattle.dsc_lines.specs.JoinLine.{JoinLine, IsLine, IsNothing};
 ghost use Rattle.dsc_lines.specs.declared.calls.CallLine.{CallLine};
 ghost use Rattle.dsc_lines.specs.declared.sentences.SentenceLine.{SentenceLine};
 ghost use Rattle.dsc_lines.specs.CallLine.{IsCallLine};
@@ -14,18 +14,20 @@ ghost use Rattle.line_grammar.specs.Columns.{IsColumn};
 ghost use Rattle.traffic_lines.specs.declared.worlds.ExchangePoint.{ExchangePoint};
 ghost use Rattle.traffic_lines.specs.declared.worlds.WorldLine.{WorldLine};
 ghost use Rattle.traffic_lines.specs.Worlds.{IsWorldLine};
-ghost use Rattle.dsc_lines.specs.StreamLine.{IsNothing, IsStreamLine};
+ghost use Rattle.dsc_lines.specs.StreamLine.{IsStreamLine};
 ghost use Rattle.dsc_lines.specs.WorldLine.{IsWorldFileLine};
 
 use dsc_texts::texts_tell_calls_apart;
 use traffic_lines::{one_traffic_line, one_world_line, traffic_lines_begin};
 
 /// The law that a line of join's input says one thing.
+#[tactic(auto, using(crate::proofs::WholeLines::one_line))]
 pub fn one_line()
     ensures { (a b : JoinLine) (text : List ℕ) → IsLine a text → IsLine b text → a ≡ b }
 {}
 
 /// The law that a line at a point of a traffic file says one thing.
+#[tactic(auto, using(crate::proofs::Choices::one_point))]
 pub fn one_point_line()
     ensures { (at : At) (a b : PointLine) (text : List ℕ) → IsPointLine at a text → IsPointLine at b text → a ≡ b }
 {
@@ -34,6 +36,7 @@ pub fn one_point_line()
 }
 
 /// The law that a line of a file of calls says one thing.
+#[tactic(auto, using(crate::proofs::Choices::one_call))]
 pub fn one_call_line()
     ensures { (a b : CallLine) (text : List ℕ) → IsCallLine a text → IsCallLine b text → a ≡ b }
 {
@@ -41,6 +44,7 @@ pub fn one_call_line()
 }
 
 /// The law that a line of a file of calls and sentences says one thing.
+#[tactic(auto, using(crate::proofs::Choices::one_sentence))]
 pub fn one_sentence_line()
     ensures { (a b : SentenceLine) (text : List ℕ) → IsSentenceLine a text → IsSentenceLine b text → SayTheSame a b }
 {
@@ -53,11 +57,13 @@ pub fn one_stream_line()
 {}
 
 /// The law that a line of a log of sentences says one thing.
+#[tactic(auto, using(crate::proofs::Choices::one_book))]
 pub fn one_book_line()
     ensures { (a b : BookLine) (text : List ℕ) → IsBookLine a text → IsBookLine b text → a ≡ b }
 {}
 
 /// The law that a line at a point of a file of an exchange says one thing.
+#[tactic(auto, using(crate::proofs::Choices::one_exchange))]
 pub fn one_exchange_line()
     ensures { (point : ExchangePoint) (a b : Option WorldLine) (text : List ℕ) → IsWorldFileLine point a text
         → IsWorldFileLine point b text → a ≡ b }

@@ -29,6 +29,7 @@ fn stations_own(point: Point, line: &[u8]) -> Result<Option<JoinLine>, LineFault
 }
 
 /// Reads a line that begins with `r` or `e`.
+#[tactic(auto, using(crate::proofs::Choices::joined_line, crate::proofs::Choices::joined_fault))]
 fn line_of_receivers(
     alloc: Global,
     point: Point,

@@ -1,10 +1,11 @@
 use Rattle.std.proofs.Common.{sym, subst}
+use Rattle.line_grammar.proofs.Stops.{left_le, IsColumn-stops}
 use Rattle.dsc_lines.specs.JoinLine.{IsLine}
-use Rattle.dsc_lines.proofs.Faults.{evidence_fault, within_line, column_of}
+use Rattle.dsc_lines.proofs.Faults.{evidence_fault}
 use Rattle.dsc_lines.proofs.evidence.evidence_line.Goals as goal
 
 pub column-requires-clause-left : goal.column-requires-clause-left
-column-requires-clause-left c = within_line _ _ (evidence_fault _ _ _ c.requires c.in-Err.ensures.left)
+column-requires-clause-left c = left_le _ _ _ (evidence_fault _ _ _ c.requires c.in-Err.ensures.left)
 
 pub returns-in-Ok : goal.returns-in-Ok
 returns-in-Ok c =
@@ -12,4 +13,4 @@ returns-in-Ok c =
     (line.0, (subst (IsLine line.0) (sym c.requires) line.1.0, line.1.1))
 
 pub returns-in-Err : goal.returns-in-Err
-returns-in-Err c = column_of _ _ _ (evidence_fault _ _ _ c.requires c.in-Err.ensures.left) c.column.ensures
+returns-in-Err c = IsColumn-stops _ _ _ _ (evidence_fault _ _ _ c.requires c.in-Err.ensures.left) c.column.ensures

@@ -1,4 +1,4 @@
-use Rattle.dsc_lines.proofs.StreamLines.{one_stream}
+use Rattle.dsc_lines.proofs.Choices.{one_stream}
 use Rattle.dsc_lines.proofs.laws.one_stream_line.Goals as goal
 
 pub returns : goal.returns

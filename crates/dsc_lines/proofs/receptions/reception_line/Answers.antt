@@ -1,14 +1,15 @@
 use Rattle.std.proofs.Common.{ap, refl}
+use Rattle.line_grammar.proofs.Stops.{left_le, IsColumn-stops}
 use Rattle.dsc_lines.specs.declared.join.JoinLine.TheVariants as got
 use Rattle.dsc_lines.specs.JoinLine.{reception}
-use Rattle.dsc_lines.proofs.Faults.{reception_fault, within_line, column_of, packed_read, reception_read}
+use Rattle.dsc_lines.proofs.Faults.{reception_fault, packed_read, reception_read}
 use Rattle.dsc_lines.proofs.receptions.reception_line.Goals as goal
 
 pub returns-in-Some : goal.returns-in-Some
 returns-in-Some c = (reception _ _, (packed_read c.in_ok-group.field-0 _ _ c.in-Some.group c.in-Some.elements c.in-Some.is c.requires c.in_ok-group.ensures, refl))
 
 pub column-requires-clause-left : goal.column-requires-clause-left
-column-requires-clause-left c = within_line _ _ (reception_fault _ _ _ c.requires c.in-Err.ensures.left)
+column-requires-clause-left c = left_le _ _ _ (reception_fault _ _ _ c.requires c.in-Err.ensures.left)
 
 pub returns-in_ok-elements-in-Ok : goal.returns-in_ok-elements-in-Ok
 returns-in_ok-elements-in-Ok c =
@@ -16,4 +17,4 @@ returns-in_ok-elements-in-Ok c =
     (reception _ _, (reception_read _ _ line.0 _ _ c.requires line.1.0 line.1.1, ap (λ e. got.Reception c.in-Ok.group e) c.in_ok-elements-in-Ok.ensures))
 
 pub returns-in-Err : goal.returns-in-Err
-returns-in-Err c = column_of _ _ _ (reception_fault _ _ _ c.requires c.in-Err.ensures.left) c.column.ensures
+returns-in-Err c = IsColumn-stops _ _ _ _ (reception_fault _ _ _ c.requires c.in-Err.ensures.left) c.column.ensures

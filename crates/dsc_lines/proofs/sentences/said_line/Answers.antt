@@ -1,4 +1,4 @@
-use Rattle.dsc_lines.proofs.CallLines.{said_column}
+use Rattle.dsc_lines.proofs.Choices.{said_column}
 use Rattle.dsc_lines.proofs.sentences.said_line.Goals as goal
 
 pub returns-in-Err : goal.returns-in-Err

@@ -1,7 +1,5 @@
-use Rattle.std.proofs.Common.{refl}
 use Rattle.dsc_lines.proofs.Bodies.{all_of_bytes}
-use Rattle.dsc_lines.proofs.StreamLines.{elements_read, left_within, elements_column}
-use Rattle.dsc_lines.specs.inside.Reading.{elements_line}
+use Rattle.dsc_lines.proofs.Choices.{elements_read, left_within, elements_column}
 use Rattle.dsc_lines.proofs.streams.elements_line.Goals as goal
 
 pub column-requires-clause-left : goal.column-requires-clause-left
@@ -14,4 +12,4 @@ pub returns-in-Ok-clause-line : goal.returns-in-Ok-clause-line
 returns-in-Ok-clause-line c = let is = c.in-Ok.ensures.signs in elements_read _ _ _ c.requires is.0 is.1.0 is.1.1
 
 pub returns-in-Err-clause-line : goal.returns-in-Err-clause-line
-returns-in-Err-clause-line c = elements_column (λ bytes. c.grammars_are_read.ensures elements_line bytes refl refl) _ _ _ _ c.requires c.in-Err.ensures.left c.column.ensures
+returns-in-Err-clause-line c = elements_column _ _ _ _ c.requires c.in-Err.ensures.left c.column.ensures

@@ -1,4 +1,4 @@
-use Rattle.dsc_lines.proofs.PointLines.{station_column}
+use Rattle.dsc_lines.proofs.Choices.{station_column}
 use Rattle.dsc_lines.proofs.traffic.stations_own.Goals as goal
 
 pub returns : goal.returns
