@@ -1,7 +1,7 @@
 -- the texts of evidence: how long they are, and what is read of them
 use Rattle.std.proofs.Common.{◌≡◌, ℕ, zero, suc, ◌+◌, ◌≤◌, ◌<◌, ◌^◌, ◌==◌, ◌&&◌, ◌||◌, nat_lt, Bool, true, false, List, [], ◌∷◌, ◌++◌, length, codes, decimal, Result, Ok, Err, ◌⊎◌, inl, inr, refl, sym, ◌∙◌, ap, subst, append_assoc, append-nil, arith}
 use Rattle.std.specs.List.{flat_map, list_any, All}
-use Rattle.std.proofs.lemmas.Bool.{eq-eqb, ne_eqb, lt-ltb, le-ltb, cases_lt}
+use Rattle.std.proofs.lemmas.Bool.{eqb-true, lt-ltb, le-ltb, cases_lt}
 use Rattle.std.proofs.lemmas.List.{get_or_past}
 use Rattle.std.proofs.lemmas.List.Elements.{All-append, All-cons, All-nil}
 use Rattle.std.proofs.lemmas.List.Folds.{list_any-append}
@@ -72,38 +72,22 @@ here place p v seen.None = sym (and-false (p == place))
 here place p v (seen.One w) = or-false ((p == place) && (v == w))
 here place p v (seen.Differ least greatest) = spread (p == place) (v == least) (v == greatest)
 
--- of a place the tests tell whether it is one of those before, this one, or one behind
-IsEarlier : Bool → Bool → Bool → Type 0
-IsEarlier before at all = (before ≡ true) × (at ≡ false) × (all ≡ true)
+-- what is below a place or is that place is below the next
+merged : (below at x y : Bool) → (at ≡ true → y ≡ x) → ((below && x) || (at && y)) ≡ ((below || at) && x)
+merged true true true y same = refl
+merged true true false y same = same refl
+merged true false x y same = or-false x
+merged false true x y same = same refl
+merged false false x y same = refl
 
-earlier : (before at all x y : Bool) → IsEarlier before at all → ((before && x) || (at && y)) ≡ (all && x)
-unfolding IsEarlier
-earlier before at all x y h =
-    ap (λ (t : Bool). (t && x) || (at && y)) h.0 ∙ ap (λ (t : Bool). x || (t && y)) h.1 ∙ or-false x ∙ ap (λ (t : Bool). t && x) (sym h.2)
-
-same_place : (before at all x y : Bool) → before ≡ false → at ≡ true → all ≡ true → x ≡ y → ((before && x) || (at && y)) ≡ (all && x)
-same_place before at all x y b a c e =
-    ap (λ (t : Bool). (t && x) || (at && y)) b ∙ ap (λ (t : Bool). t && y) a ∙ sym e ∙ ap (λ (t : Bool). t && x) (sym c)
-
-later : (before at all x y : Bool) → before ≡ false → at ≡ false → all ≡ false → ((before && x) || (at && y)) ≡ (all && x)
-later before at all x y b a c =
-    ap (λ (t : Bool). (t && x) || (at && y)) b ∙ ap (λ (t : Bool). t && y) a ∙ ap (λ (t : Bool). t && x) (sym c)
+below_or_at : (p n : ℕ) → nat_lt p (suc n) ≡ (nat_lt p n || (p == n))
+below_or_at p n = grind arith
 
 one_more : (n : ℕ) (sheet : List Seen) (p v : ℕ)
     → ((nat_lt p n && symbols_in (seen_at sheet p) v) || ((p == n) && symbols_in (seen_at sheet n) v)) ≡ (nat_lt p (suc n) && symbols_in (seen_at sheet p) v)
-unfolding IsEarlier
 one_more n sheet p v =
-    let x = symbols_in (seen_at sheet p) v in
-    let y = symbols_in (seen_at sheet n) v in
-    elim (cases_lt p n) [
-      | inl less ↦ earlier (nat_lt p n) (p == n) (nat_lt p (suc n)) x y (lt-ltb p n less, ne_eqb p n (λ e. omega (arith, less, e)), lt-ltb p (suc n) (omega (arith, less)))
-      | inr more ↦ (elim (cases_lt n p) [
-        | inl greater ↦ later (nat_lt p n) (p == n) (nat_lt p (suc n)) x y (le-ltb p n more) (ne_eqb p n (λ e. omega (arith, greater, e))) (le-ltb p (suc n) (omega (arith, greater)))
-        | inr less ↦
-            let same : p ≡ n = omega (arith, less, more) in
-            same_place (nat_lt p n) (p == n) (nat_lt p (suc n)) x y (le-ltb p n more) (eq-eqb p n same) (lt-ltb p (suc n) (omega (arith, same))) (ap (λ (k : ℕ). symbols_in (seen_at sheet k) v) same)
-      ])
-    ]
+    merged (nat_lt p n) (p == n) (symbols_in (seen_at sheet p) v) (symbols_in (seen_at sheet n) v) (λ e. ap (λ (k : ℕ). symbols_in (seen_at sheet k) v) (sym (eqb-true p n e)))
+    ∙ ap (λ (t : Bool). t && symbols_in (seen_at sheet p) v) (sym (below_or_at p n))
 
 facts_below : (n : ℕ) (sheet : List Seen) (p v : ℕ) → facts_of_pairs (pairs_below n sheet) p v ≡ (nat_lt p n && symbols_in (seen_at sheet p) v)
 unfolding pairs_below

@@ -14,6 +14,7 @@ use slot_evidence::one_sheet;
 
 /// The law that the text of evidence is a line of join's input, whose facts have the same ends: read, it gives the same group and
 /// the same sheet. It does nothing.
+#[tactic(auto, using(crate::proofs::EvidenceTexts::text_is_line, crate::proofs::EvidenceTexts::facts_same, crate::proofs::EvidenceTexts::text_has_ends, crate::proofs::EvidenceTexts::text_is_read))]
 pub fn evidence_is_read()
     ensures line { (group : ℕ) (sheet : List Seen) → group < 2 ^ 32 → IsSheet sheet
         → IsLine (evidence group (pairs_below 64 sheet)) (evidence_text group sheet) }
