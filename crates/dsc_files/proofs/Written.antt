@@ -44,25 +44,16 @@ EvidenceLaw = (group : ℕ) (sheet : List Seen) (answer : Result Got LineFault) 
 ok_same : {a b : Got} → ◌≡◌ {A = Result Got LineFault} (Ok a) (Ok b) → a ≡ b
 ok_same h = cc
 
-no_fault : {a : Got} {f : LineFault} → ◌≡◌ {A = Result Got LineFault} (Ok a) (Err f) → ⊥
-no_fault h = cc
-
-no_answer : {a : Got} {f : LineFault} → ◌≡◌ {A = Result Got LineFault} (Err f) (Ok a) → ⊥
-no_answer h = cc
-
-column_apart : {n : ℕ} → ◌≡◌ {A = Result Got LineFault} (Err (fault.Column n)) (Err fault.NoMemory) → ⊥
-column_apart h = cc
-
 pub evidence_line : EvidenceLaw → (group : ℕ) (sheet : List Seen) (answer : Result Line LineFault) → group < 2 ^ 32 → IsSheet sheet
     → ReadsLine kind.Join (evidence_text group sheet) answer → (answer ≡ Ok (line.Evidence group sheet)) ⊎ (answer ≡ Err fault.NoMemory)
 evidence_line law group sheet (Ok read) small is (says, (here, (one, (told, same)))) =
     elim (law group sheet (Ok one) small is (says, (here, told))) [
       | inl given ↦ inl (ap Ok (same ∙ ap line_of_join (ok_same given)))
-      | inr none ↦ absurd (no_fault none)
+      | inr none ↦ absurd (let e = none in cc)
     ]
 evidence_line law group sheet (Err (fault.Column n)) small is h =
     elim (law group sheet (Err (fault.Column n)) small is h) [
-      | inl given ↦ absurd (no_answer given)
-      | inr none ↦ absurd (column_apart none)
+      | inl given ↦ absurd (let e = given in cc)
+      | inr none ↦ absurd (let e = none in cc)
     ]
 evidence_line law group sheet (Err fault.NoMemory) small is h = inr refl

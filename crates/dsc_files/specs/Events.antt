@@ -1,8 +1,6 @@
 -- The events of traffic lines, as events of any file: this project's profile.
 use Rattle.std.specs.Prelude.{ℕ}
-use Rattle.traffic_lines.specs.declared.lines.ShipOwn.{ShipOwn}
 use Rattle.traffic_lines.specs.declared.lines.ShipOwn.TheVariants as ship
-use Rattle.traffic_lines.specs.declared.lines.CoastOwn.{CoastOwn}
 use Rattle.traffic_lines.specs.declared.lines.CoastOwn.TheVariants as coast
 use Rattle.traffic_lines.specs.declared.lines.StationOwn.{StationOwn}
 use Rattle.traffic_lines.specs.declared.lines.StationOwn.TheVariants as own
@@ -40,11 +38,7 @@ event_line (Does deed) = deed_line deed
 event_line (Comes (Hear call extra)) = line.Hear call
 event_line (Comes (Heard group)) = line.Heard group
 
--- what happens at the ship of an exchange, and at the coast station
-abbrev pub exchange_of_ship : Event ShipOwn ℕ → ExchangeLine
-exchange_of_ship (Does deed) = exchange.Event (deed_line (deed_with own.Ship deed))
-exchange_of_ship (Comes number) = exchange.Get number
-
-abbrev pub exchange_of_coast : Event CoastOwn ℕ → ExchangeLine
-exchange_of_coast (Does deed) = exchange.Event (deed_line (deed_with own.Coast deed))
-exchange_of_coast (Comes number) = exchange.Get number
+-- what happens at an end of an exchange
+abbrev pub exchange_line : {O : Type 0} → (O → StationOwn) → Event O ℕ → ExchangeLine
+exchange_line name (Does deed) = exchange.Event (deed_line (deed_with name deed))
+exchange_line name (Comes number) = exchange.Get number

@@ -4,8 +4,9 @@ use Rattle.ten_unit.specs.declared.character.Element.{Element}
 use Rattle.line_grammar.specs.Columns.{Spelling, IsColumn}
 use Rattle.traffic_lines.specs.declared.lines.Point.{Point}
 use Rattle.traffic_lines.specs.declared.lines.TrafficLine.{TrafficLine}
+use Rattle.traffic_lines.specs.declared.lines.StationOwn.TheVariants as own
 use Rattle.traffic_lines.specs.declared.lines.TrafficLine.TheVariants.{Ship, Coast, Base, Group, Event}
-use Rattle.dsc_files.specs.Events.{event_line, exchange_of_ship, exchange_of_coast}
+use Rattle.dsc_files.specs.Events.{event_line, exchange_line}
 use Rattle.traffic_lines.specs.declared.worlds.Entry as entries
 use Rattle.traffic_lines.specs.declared.worlds.Entry.TheVariants.{AtShip, AtCoast}
 use Rattle.traffic_lines.specs.declared.worlds.WorldLine.{WorldLine}
@@ -98,8 +99,8 @@ ReadsStream text answer = ReadsWithRoom IsStreamLine (λ e read. read ≡ line_o
 
 -- what an event line of an exchange says, and what a line of a file of an exchange says
 abbrev pub line_of_entry : entries.Entry → Line
-line_of_entry (AtShip moment what) = line.AtShip moment (exchange_of_ship what)
-line_of_entry (AtCoast moment what) = line.AtCoast moment (exchange_of_coast what)
+line_of_entry (AtShip moment what) = line.AtShip moment (exchange_line own.Ship what)
+line_of_entry (AtCoast moment what) = line.AtCoast moment (exchange_line own.Coast what)
 
 abbrev pub line_of_world : Option WorldLine → Line
 line_of_world None = line.Nothing

@@ -2,6 +2,7 @@
 ghost use Rattle.std.specs.Prelude.{◌≡◌};
 ghost use Rattle.dsc_files.specs.Events as events;
 ghost use Rattle.traffic_lines.specs.Lines as lines;
+ghost use Rattle.traffic_lines.specs.declared.lines.StationOwn.{StationOwn as AnyOwn};
 ghost use Rattle.traffic_lines.specs.declared.lines.StationOwn.TheVariants as own;
 
 use call_values::{AlertDelay, Call, CoastDelay, Comm, Mmsi, Nature, Position, To};
@@ -46,49 +47,41 @@ pub enum ExchangeLine {
     Get(u32),
 }
 
-/// What a ship does, as a deed of a station.
-fn ship_deed(deed: Deed<ShipOwn>) -> Deed<StationOwn>
-    ensures { result ≡ lines.deed_with own.Ship deed }
+/// What a station of one kind alone does, as what a station of either kind does.
+pub(crate) trait OfKind: Copy {
+    /// Its name there.
+    ghost name: { Self → AnyOwn };
+
+    /// The same under this name.
+    fn named(self) -> StationOwn
+        ensures { result ≡ name self };
+}
+
+impl OfKind for ShipOwn {
+    ghost name = { own.Ship };
+
+    fn named(self) -> StationOwn {
+        StationOwn::Ship(self)
+    }
+}
+
+impl OfKind for CoastOwn {
+    ghost name = { own.Coast };
+
+    fn named(self) -> StationOwn {
+        StationOwn::Coast(self)
+    }
+}
+
+/// What a station of one kind does, as a deed of a station.
+fn deed_of<O: OfKind>(deed: Deed<O>) -> Deed<StationOwn>
+    ensures { result ≡ lines.deed_with O.name deed }
 {
     match deed {
-        Deed::Own(what) => Deed::Own(StationOwn::Ship(what)),
+        Deed::Own(what) => Deed::Own(what.named()),
         Deed::Tick => Deed::Tick,
         Deed::Send(call) => Deed::Send(call),
         Deed::Answer(number, accepts) => Deed::Answer(number, accepts),
-    }
-}
-
-/// What a coast station does, as a deed of a station.
-fn coast_deed(deed: Deed<CoastOwn>) -> Deed<StationOwn>
-    ensures { result ≡ lines.deed_with own.Coast deed }
-{
-    match deed {
-        Deed::Own(what) => Deed::Own(StationOwn::Coast(what)),
-        Deed::Tick => Deed::Tick,
-        Deed::Send(call) => Deed::Send(call),
-        Deed::Answer(number, accepts) => Deed::Answer(number, accepts),
-    }
-}
-
-/// What a ship alone does.
-fn own_of_ship(what: ShipOwn) -> EventLine
-    ensures { result ≡ events.own_line (own.Ship what) }
-{
-    match what {
-        ShipOwn::Position(position) => EventLine::Position(position),
-        ShipOwn::Delay(delay) => EventLine::Delay(delay),
-        ShipOwn::Alert(nature, comm) => EventLine::Alert(nature, comm),
-        ShipOwn::Cancel => EventLine::Cancel,
-    }
-}
-
-/// What a coast station alone does.
-fn own_of_coast(what: CoastOwn) -> EventLine
-    ensures { result ≡ events.own_line (own.Coast what) }
-{
-    match what {
-        CoastOwn::Accept(ship, delay) => EventLine::Accept(ship, delay),
-        CoastOwn::Relay(ship, to, ask) => EventLine::Relay(ship, to, ask),
     }
 }
 
@@ -97,8 +90,12 @@ fn own_line(what: StationOwn) -> EventLine
     ensures { result ≡ events.own_line what }
 {
     match what {
-        StationOwn::Ship(own) => own_of_ship(own),
-        StationOwn::Coast(own) => own_of_coast(own),
+        StationOwn::Ship(ShipOwn::Position(position)) => EventLine::Position(position),
+        StationOwn::Ship(ShipOwn::Delay(delay)) => EventLine::Delay(delay),
+        StationOwn::Ship(ShipOwn::Alert(nature, comm)) => EventLine::Alert(nature, comm),
+        StationOwn::Ship(ShipOwn::Cancel) => EventLine::Cancel,
+        StationOwn::Coast(CoastOwn::Accept(ship, delay)) => EventLine::Accept(ship, delay),
+        StationOwn::Coast(CoastOwn::Relay(ship, to, ask)) => EventLine::Relay(ship, to, ask),
     }
 }
 
@@ -125,22 +122,12 @@ pub(crate) fn event_line(event: Event<StationOwn, Hearing>) -> EventLine
     }
 }
 
-/// What happens at the ship of an exchange.
-pub(crate) fn exchange_of_ship(event: Event<ShipOwn, u32>) -> ExchangeLine
-    ensures { result ≡ events.exchange_of_ship event }
+/// What happens at an end of an exchange.
+pub(crate) fn exchange_line<O: OfKind>(event: Event<O, u32>) -> ExchangeLine
+    ensures { result ≡ events.exchange_line O.name event }
 {
     match event {
-        Event::Does(deed) => ExchangeLine::Event(deed_line(ship_deed(deed))),
-        Event::Comes(number) => ExchangeLine::Get(number),
-    }
-}
-
-/// What happens at the coast station of an exchange.
-pub(crate) fn exchange_of_coast(event: Event<CoastOwn, u32>) -> ExchangeLine
-    ensures { result ≡ events.exchange_of_coast event }
-{
-    match event {
-        Event::Does(deed) => ExchangeLine::Event(deed_line(coast_deed(deed))),
+        Event::Does(deed) => ExchangeLine::Event(deed_line(deed_of(deed))),
         Event::Comes(number) => ExchangeLine::Get(number),
     }
 }
@@ -155,12 +142,12 @@ pub(crate) fn line_of_station(says: StationLine) -> TrafficLine
     }
 }
 
-/// An event in a ship's file.
-fn event_of_ship(event: Event<ShipOwn, Hearing>) -> Event<StationOwn, Hearing>
-    ensures { result ≡ lines.event_with own.Ship event }
+/// An event in the file of a station of one kind.
+pub(crate) fn event_of<O: OfKind>(event: Event<O, Hearing>) -> Event<StationOwn, Hearing>
+    ensures { result ≡ lines.event_with O.name event }
 {
     match event {
-        Event::Does(deed) => Event::Does(ship_deed(deed)),
+        Event::Does(deed) => Event::Does(deed_of(deed)),
         Event::Comes(what) => Event::Comes(what),
     }
 }
@@ -173,17 +160,7 @@ pub(crate) fn line_of_ship(says: ShipLine) -> TrafficLine
         ShipLine::Group(mmsi) => TrafficLine::Group(mmsi),
         ShipLine::Event { at, what } => TrafficLine::Event {
             at,
-            what: event_of_ship(what),
+            what: event_of(what),
         },
-    }
-}
-
-/// An event in a coast station's file.
-pub(crate) fn event_of_coast(event: Event<CoastOwn, Hearing>) -> Event<StationOwn, Hearing>
-    ensures { result ≡ lines.event_with own.Coast event }
-{
-    match event {
-        Event::Does(deed) => Event::Does(coast_deed(deed)),
-        Event::Comes(what) => Event::Comes(what),
     }
 }

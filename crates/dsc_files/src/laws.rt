@@ -19,6 +19,7 @@ use evidence_texts::evidence_is_read;
 
 /// The law that of the text that `put_call` writes of a call and of the expansion behind it, reading a line of calls can answer
 /// nothing but this call and this expansion.
+#[tactic(auto, using(crate::proofs::Written::call_is_read))]
 pub fn written_calls_are_read()
     ensures { (call : Call) (extra : Extra) (answer : Result Line LineFault) → IsCall call → IsWholeOrAbsent extra
         → ReadsLine kind.Call (reported_text call extra) answer → answer ≡ Ok (line.Call call extra) }
@@ -27,6 +28,7 @@ pub fn written_calls_are_read()
 }
 
 /// The law that of the text of evidence reading a line of join's input can answer nothing but its group and its sheet, or want of memory.
+#[tactic(auto, using(crate::proofs::Written::evidence_line))]
 pub fn evidence_lines_are_read()
     ensures { (group : ℕ) (sheet : List Seen) (answer : Result Line LineFault) → group < 2 ^ 32 → IsSheet sheet
         → ReadsLine kind.Join (evidence_text group sheet) answer

@@ -2,7 +2,7 @@ ghost use Rattle.std.specs.Prelude.{◌≡◌, Some};
 ghost use Rattle.dsc_lines.specs.CallLine as calls;
 ghost use Rattle.dsc_files.specs.Files.{line_of_book, line_of_call, line_of_entry, line_of_join, line_of_point, line_of_sentence, line_of_traffic, line_of_world};
 
-use crate::events::{EventLine, ExchangeLine, event_line, exchange_of_coast, exchange_of_ship};
+use crate::events::{EventLine, ExchangeLine, event_line, exchange_line};
 use crate::points::PointLine;
 use call_values::{Band, Call, Mmsi};
 use dsc_lines::{BookLine, CallLine, JoinLine, SentenceLine};
@@ -154,11 +154,11 @@ impl From<Entry> for Line {
         match says {
             Entry::AtShip { at, what } => Line::AtShip {
                 at,
-                what: exchange_of_ship(what),
+                what: exchange_line(what),
             },
             Entry::AtCoast { at, what } => Line::AtCoast {
                 at,
-                what: exchange_of_coast(what),
+                what: exchange_line(what),
             },
         }
     }

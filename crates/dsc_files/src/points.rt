@@ -5,7 +5,7 @@ ghost use Rattle.traffic_lines.specs.Lines.{IsTrafficLine, ship_point};
 ghost use Rattle.traffic_lines.specs.Readings.{ReadsAt};
 ghost use Rattle.dsc_files.specs.Files.{ReadsAtPoint};
 
-use crate::events::{event_of_coast, line_of_ship, line_of_station};
+use crate::events::{event_of, line_of_ship, line_of_station};
 use dsc_lines::{JoinLine, LineFault, joined_line};
 use std::alloc::Global;
 use traffic_lines::{
@@ -49,7 +49,7 @@ fn line_at(point: Point, bytes: &[u8]) -> Result<TrafficLine, usize>
         Point::Coast => match read_coast_line(bytes) {
             Ok((at, what)) => Ok(TrafficLine::Event {
                 at,
-                what: event_of_coast(what),
+                what: event_of(what),
             }),
             Err(n) => Err(n),
         },
