@@ -2,8 +2,8 @@
 use Rattle.std.proofs.Common.{ℕ, if◌then◌else◌, ◌⊎◌, Some, None, List, [], ◌∷◌, ◌++◌, refl, sym, subst, append_assoc, append-nil, inl, inr}
 use Rattle.line_engine.specs.Lines.{Lines}
 use Rattle.line_engine.specs.Faults.{IsFaultless}
-use Rattle.line_engine.specs.Determined.{IsComplete}
-use Rattle.line_engine.proofs.PublicLaws.{sound_line_of}
+use Rattle.line_engine.specs.Determined.{HasOutputs}
+use Rattle.line_engine.proofs.PublicLaws.{has_outputs, sound_line_of}
 use Rattle.traffic_lines.specs.declared.worlds.WorldLine.TheVariants.{Ship, Coast, Base, Entry}
 use Rattle.traffic_lines.proofs.PublicLaws.{IsExchangePoint}
 use Rattle.dsc_lines.proofs.PublicLaws.{world_lines_judged}
@@ -48,10 +48,12 @@ column_of one earlier line none =
       | inr c ↦ inl (c.0, record { said = s.0; are_said = s.1; is_column = c.1 })
     ]
 
-pub exchange_complete : OneWorldLine → IsComplete exchange_meaning
-exchange_complete one = record {
-  column = column_of one;
-  group = λ earlier line none. inr (λ full. full);
-  gives = exchange_of;
-  ends = λ lines none. let e = exchange_of lines none in (e.0, (if all_accepted (world_of e.1.said) then 0 else 1), (e.1, refl));
-}
+pub exchange_has_outputs : OneWorldLine → HasOutputs exchange_meaning
+exchange_has_outputs one =
+    has_outputs exchange_meaning
+    (record {
+      column = column_of one;
+      group = λ earlier line none. inr (λ full. full);
+      gives = exchange_of;
+      ends = λ lines none. let e = exchange_of lines none in (e.0, (if all_accepted (world_of e.1.said) then 0 else 1), (e.1, refl));
+    })

@@ -13,8 +13,8 @@ use Rattle.traffic_lines.specs.declared.worlds.Entry.TheVariants.{AtShip, AtCoas
 use Rattle.station_lines.specs.Events.{ship_deed, coast_deed}
 use Rattle.exchange.specs.declared.events.WorldEvent.{WorldEvent}
 use Rattle.exchange.specs.WorldRules.{IsFromOutside, IsOwnOfShip, IsOwnOfCoast}
-use Rattle.station_exchange.specs.Events.{event_at_ship, event_at_coast, event_of}
-use Rattle.station_exchange.specs.Output.{end_text, moment_of}
+use Rattle.station_exchange.specs.Events.{event_at_ship, event_of}
+use Rattle.station_exchange.specs.Output.{end_text}
 
 -- an event of an end's own is no heard call
 ship_own : (base at : ℕ) (deed : Deed ShipOwn) → IsOwnOfShip (ship_deed base at deed)
@@ -40,22 +40,10 @@ outside base (AtShip at (Comes number)) = tt
 outside base (AtCoast at (Does deed)) = coast_own deed
 outside base (AtCoast at (Comes number)) = tt
 
--- the end of a line is that of its event, and so is its moment
+-- the end of a line is that of its event
 ship_end : (base at : ℕ) (what : Event ShipOwn ℕ) → codes "s " ≡ end_text (event_at_ship base at what)
 ship_end base at (Does deed) = refl
 ship_end base at (Comes number) = refl
-
-ship_moment : (base at : ℕ) (what : Event ShipOwn ℕ) → at ≡ moment_of (event_at_ship base at what)
-ship_moment base at (Does deed) = refl
-ship_moment base at (Comes number) = refl
-
-coast_end : (at : ℕ) (what : Event CoastOwn ℕ) → codes "c " ≡ end_text (event_at_coast at what)
-coast_end at (Does deed) = refl
-coast_end at (Comes number) = refl
-
-coast_moment : (at : ℕ) (what : Event CoastOwn ℕ) → at ≡ moment_of (event_at_coast at what)
-coast_moment at (Does deed) = refl
-coast_moment at (Comes number) = refl
 
 -- the event that was made is that of a line
 pub end_at_ship : (base at : ℕ) (what : Event ShipOwn ℕ) (entry : Entry) (made : WorldEvent)

@@ -1,11 +1,11 @@
 -- the history of the exchange that lines tell is legal
-use Rattle.std.proofs.Common.{◌≡◌, ℕ, Some, None, List, [], ◌∷◌, refl, sym, subst}
-use Rattle.call_values.specs.declared.choices.Band.{Band}
+use Rattle.std.proofs.Common.{◌≡◌, ℕ, Some, None, [], ◌∷◌, refl, sym, subst}
 use Rattle.traffic_lines.specs.declared.lines.Event.TheVariants.{Does, Comes}
 use Rattle.traffic_lines.specs.declared.worlds.Entry as entries
 use Rattle.traffic_lines.specs.declared.worlds.Entry.TheVariants.{AtShip, AtCoast}
 use Rattle.traffic_lines.specs.declared.worlds.ExchangePoint.{ExchangePoint}
 use Rattle.traffic_lines.specs.declared.worlds.ExchangePoint.TheVariants as point
+use Rattle.traffic_lines.specs.declared.worlds.WorldLine.{WorldLine}
 use Rattle.traffic_lines.specs.declared.worlds.WorldLine.TheVariants.{Ship, Coast, Base, Entry}
 use Rattle.traffic_lines.specs.Worlds.{IsEntry, MayStandInWorld}
 use Rattle.line_engine.specs.Lines.{Lines}
@@ -33,31 +33,23 @@ abbrev IsEarly : ExchangePoint → Type 0
 IsEarly point.Events = ⊥
 IsEarly _ = Unit {0}
 
-ship_early : (p : ExchangePoint) (mmsi : ℕ) → MayStandInWorld p (Ship mmsi) → IsEarly p
-ship_early point.Ship mmsi may = tt
-ship_early (point.Coast ship) mmsi may = tt
-ship_early point.Base mmsi may = tt
-ship_early point.Events mmsi may = may
+abbrev Names : WorldLine → Type 0
+Names (Entry entry) = ⊥
+Names _ = Unit {0}
 
-coast_early : (p : ExchangePoint) (mmsi : ℕ) (band : Band) → MayStandInWorld p (Coast mmsi band) → IsEarly p
-coast_early point.Ship mmsi band may = tt
-coast_early (point.Coast ship) mmsi band may = tt
-coast_early point.Base mmsi band may = tt
-coast_early point.Events mmsi band may = may
-
-base_early : (p : ExchangePoint) (second : ℕ) → MayStandInWorld p (Base second) → IsEarly p
-base_early point.Ship second may = tt
-base_early (point.Coast ship) second may = tt
-base_early point.Base second may = tt
-base_early point.Events second may = may
+early : (says : WorldLine) → Names says → (p : ExchangePoint) → MayStandInWorld p says → IsEarly p
+early (Ship mmsi) names = elim [ point.Ship ↦ λ may. tt | point.Coast ship ↦ λ may. tt | point.Base ↦ λ may. tt | point.Events ↦ λ may. may ]
+early (Coast mmsi band) names = elim [ point.Ship ↦ λ may. tt | point.Coast ship ↦ λ may. tt | point.Base ↦ λ may. tt | point.Events ↦ λ may. may ]
+early (Base second) names = elim [ point.Ship ↦ λ may. tt | point.Coast ship ↦ λ may. tt | point.Base ↦ λ may. tt | point.Events ↦ λ may. may ]
+early (Entry entry) names = absurd names
 
 -- nothing happened there
 none_early : (said : Said) (lines : Lines) → AreSaid said lines → IsEarly (point_of said) → world_of said ≡ []
 none_early [] lines are early = refl
 none_early (None ∷ said) lines are early = none_early said are.0 are.4 early
-none_early (Some (Ship mmsi) ∷ said) lines are early = none_early said are.0 are.4 (ship_early (point_of said) mmsi are.3.0)
-none_early (Some (Coast mmsi band) ∷ said) lines are early = none_early said are.0 are.4 (coast_early (point_of said) mmsi band are.3.0)
-none_early (Some (Base second) ∷ said) lines are early = none_early said are.0 are.4 (base_early (point_of said) second are.3.0)
+none_early (Some (Ship mmsi) ∷ said) lines are early = none_early said are.0 are.4 (early (Ship mmsi) tt (point_of said) are.3.0)
+none_early (Some (Coast mmsi band) ∷ said) lines are early = none_early said are.0 are.4 (early (Coast mmsi band) tt (point_of said) are.3.0)
+none_early (Some (Base second) ∷ said) lines are early = none_early said are.0 are.4 (early (Base second) tt (point_of said) are.3.0)
 none_early (Some (Entry entry) ∷ said) lines are early = absurd early
 
 nothing_legal : (who : Parties) (w : WorldHistory) → w ≡ [] → IsLegal who w
@@ -67,9 +59,9 @@ pub said_legal : GoesOn → (said : Said) (lines : Lines) → AreSaid said lines
 said_legal goes [] lines are = nothing_legal (parties_of []) [] refl
 said_legal goes (None ∷ said) lines are = said_legal goes said are.0 are.4
 said_legal goes (Some (Ship mmsi) ∷ said) lines are =
-    nothing_legal (parties_of (Some (Ship mmsi) ∷ said)) (world_of said) (none_early said are.0 are.4 (ship_early (point_of said) mmsi are.3.0))
+    nothing_legal (parties_of (Some (Ship mmsi) ∷ said)) (world_of said) (none_early said are.0 are.4 (early (Ship mmsi) tt (point_of said) are.3.0))
 said_legal goes (Some (Coast mmsi band) ∷ said) lines are =
-    nothing_legal (parties_of (Some (Coast mmsi band) ∷ said)) (world_of said) (none_early said are.0 are.4 (coast_early (point_of said) mmsi band are.3.0))
+    nothing_legal (parties_of (Some (Coast mmsi band) ∷ said)) (world_of said) (none_early said are.0 are.4 (early (Coast mmsi band) tt (point_of said) are.3.0))
 said_legal goes (Some (Base second) ∷ said) lines are = said_legal goes said are.0 are.4
 said_legal goes (Some (Entry entry) ∷ said) lines are =
     goes (parties_of said) (world_of said) (event_of (base_of said) entry) (outside (base_of said) entry) (entry_lawful (base_of said) entry are.3.1.0)

@@ -12,6 +12,7 @@ use dsc_lines::one_exchange_line;
 use exchange::exchanges_go_on_legally;
 
 /// The law that the lines of a file of an exchange determine what `exchange` writes. It does nothing.
+#[tactic(auto, using(crate::proofs::Determined::exchange_determined))]
 pub fn lines_determine_output()
     ensures { IsDetermined exchange_meaning }
 {
@@ -19,6 +20,7 @@ pub fn lines_determine_output()
 }
 
 /// The law that the history of the exchange that lines tell is legal: the laws of exchanges hold of each file. It does nothing.
+#[tactic(auto, using(crate::proofs::Legal::said_legal))]
 pub fn histories_are_legal()
     ensures { (said : Said) (lines : Lines) → AreSaid said lines → IsLegal (parties_of said) (world_of said) }
 {
@@ -38,6 +40,7 @@ pub fn alerts_end_by_cancel_or_acknowledgement()
 }
 
 /// The law that each file of an exchange has an output. It does nothing.
+#[tactic(auto, using(crate::proofs::Complete::exchange_has_outputs))]
 pub fn inputs_have_outputs()
     ensures { HasOutputs exchange_meaning }
 {
