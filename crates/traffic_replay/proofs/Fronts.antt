@@ -1,6 +1,5 @@
 -- what the first lines of a traffic file said, and their text
 use Rattle.std.proofs.Common.{◌≡◌, ℕ, Bool, true, List, [], ◌∷◌, ◌++◌, refl, sym, ◌∙◌, ap, subst, append-nil, inl, inr}
-use Rattle.call_values.specs.declared.choices.Band.{Band}
 use Rattle.traffic_rules.specs.Rules.{Rules}
 use Rattle.line_engine.specs.Lines.{Lines}
 use Rattle.line_engine.specs.Determined.{BeginsWith}
@@ -10,6 +9,7 @@ use Rattle.coast_station.specs.CoastRules.{coast_rules}
 use Rattle.station_lines.specs.Events.{EventLine}
 use Rattle.traffic_lines.specs.declared.lines.Point.{Point}
 use Rattle.traffic_lines.specs.declared.lines.Point.TheVariants as point
+use Rattle.traffic_lines.specs.declared.lines.TrafficLine.{TrafficLine}
 use Rattle.traffic_lines.specs.declared.lines.TrafficLine.TheVariants as line
 use Rattle.traffic_lines.specs.Lines.{MayStand}
 use Rattle.dsc_lines.specs.JoinLine.{JoinLine, nothing, reception, evidence}
@@ -31,33 +31,17 @@ no_more_early : (kind : Kind) → IsBeforeEvents (among_events kind) → ⊥
 no_more_early ship early = early
 no_more_early (coast band) early = early
 
-pub ship_early : (p : Point) (mmsi : ℕ) → MayStand p (line.Ship mmsi) → IsBeforeEvents p
-ship_early point.Station mmsi may = tt
-ship_early point.Base mmsi may = absurd may
-ship_early (point.Groups held) mmsi may = absurd may
-ship_early point.Ship mmsi may = absurd may
-ship_early point.Coast mmsi may = absurd may
+-- a line that names something, and is no event
+abbrev pub Names : TrafficLine → Type 0
+Names (line.Event at what) = ⊥
+Names _ = Unit {0}
 
-pub coast_early : (p : Point) (mmsi : ℕ) (band : Band) → MayStand p (line.Coast mmsi band) → IsBeforeEvents p
-coast_early point.Station mmsi band may = tt
-coast_early point.Base mmsi band may = absurd may
-coast_early (point.Groups held) mmsi band may = absurd may
-coast_early point.Ship mmsi band may = absurd may
-coast_early point.Coast mmsi band may = absurd may
-
-base_early : (p : Point) (second : ℕ) → MayStand p (line.Base second) → IsBeforeEvents p
-base_early point.Station second may = absurd may
-base_early point.Base second may = tt
-base_early (point.Groups held) second may = absurd may
-base_early point.Ship second may = absurd may
-base_early point.Coast second may = absurd may
-
-group_early : (p : Point) (mmsi : ℕ) → MayStand p (line.Group mmsi) → IsBeforeEvents p
-group_early point.Station mmsi may = absurd may
-group_early point.Base mmsi may = absurd may
-group_early (point.Groups held) mmsi may = tt
-group_early point.Ship mmsi may = absurd may
-group_early point.Coast mmsi may = absurd may
+pub early : (says : TrafficLine) → Names says → (p : Point) → MayStand p says → IsBeforeEvents p
+early (line.Ship m) names = elim [ point.Station ↦ λ may. tt | point.Base ↦ λ may. tt | point.Groups held ↦ λ may. tt | point.Ship ↦ λ may. may | point.Coast ↦ λ may. may ]
+early (line.Coast m b) names = elim [ point.Station ↦ λ may. tt | point.Base ↦ λ may. tt | point.Groups held ↦ λ may. tt | point.Ship ↦ λ may. may | point.Coast ↦ λ may. may ]
+early (line.Base s) names = elim [ point.Station ↦ λ may. tt | point.Base ↦ λ may. tt | point.Groups held ↦ λ may. tt | point.Ship ↦ λ may. may | point.Coast ↦ λ may. may ]
+early (line.Group m) names = elim [ point.Station ↦ λ may. tt | point.Base ↦ λ may. tt | point.Groups held ↦ λ may. tt | point.Ship ↦ λ may. may | point.Coast ↦ λ may. may ]
+early (line.Event at what) names = absurd names
 
 -- in front of the first event nothing happened
 pub none_early : {What : Type 0} (taking : Taking What) (said : Said) (lines : Lines) → AreSaid said lines → IsBeforeEvents (point_of said) → AreHappenings taking said []
@@ -65,10 +49,10 @@ none_early taking [] lines are early = refl
 none_early taking (joined nothing ∷ said) lines are early = none_early taking said are.0 are.4 early
 none_early taking (joined (reception group e) ∷ said) lines are early = absurd (no_more_early (kind_of said) early)
 none_early taking (joined (evidence group pairs) ∷ said) lines are early = absurd (no_more_early (kind_of said) early)
-none_early taking (traffic (line.Ship mmsi) ∷ said) lines are early = none_early taking said are.0 are.4 (ship_early (point_of said) mmsi are.3.0)
-none_early taking (traffic (line.Coast mmsi band) ∷ said) lines are early = none_early taking said are.0 are.4 (coast_early (point_of said) mmsi band are.3.0)
-none_early taking (traffic (line.Base second) ∷ said) lines are early = none_early taking said are.0 are.4 (base_early (point_of said) second are.3.0)
-none_early taking (traffic (line.Group mmsi) ∷ said) lines are early = none_early taking said are.0 are.4 (group_early (point_of said) mmsi are.3.0)
+none_early taking (traffic (line.Ship mmsi) ∷ said) lines are early = none_early taking said are.0 are.4 (early (line.Ship mmsi) tt (point_of said) are.3.0)
+none_early taking (traffic (line.Coast mmsi band) ∷ said) lines are early = none_early taking said are.0 are.4 (early (line.Coast mmsi band) tt (point_of said) are.3.0)
+none_early taking (traffic (line.Base second) ∷ said) lines are early = none_early taking said are.0 are.4 (early (line.Base second) tt (point_of said) are.3.0)
+none_early taking (traffic (line.Group mmsi) ∷ said) lines are early = none_early taking said are.0 are.4 (early (line.Group mmsi) tt (point_of said) are.3.0)
 none_early taking (traffic (line.Event at what) ∷ said) lines are early = absurd (no_more_early (kind_of said) early)
 
 -- a text that begins with that of what was said
@@ -126,10 +110,10 @@ behind_event (coast band) at what said whole is_well tells =
 one_less : (last : PointLine) (said : Said) (lines : Lines) (text whole : List ℕ) (is_well : Bool) → AreSaid said lines → IsPointLine (point_of said) last text
     → StationTells (kind_of (last ∷ said)) (last ∷ said) whole is_well → IsBehind (kind_of said) said whole
 one_less (joined l) said lines text whole is_well are is tells = behind_same (kind_of said) said whole is_well (without_joined (kind_of said) l said whole is_well tells)
-one_less (traffic (line.Ship mmsi)) said lines text whole is_well are is tells = behind_none (kind_of said) said lines whole are (ship_early (point_of said) mmsi is.0)
-one_less (traffic (line.Coast mmsi band)) said lines text whole is_well are is tells = behind_none (kind_of said) said lines whole are (coast_early (point_of said) mmsi band is.0)
-one_less (traffic (line.Base second)) said lines text whole is_well are is tells = behind_none (kind_of said) said lines whole are (base_early (point_of said) second is.0)
-one_less (traffic (line.Group mmsi)) said lines text whole is_well are is tells = behind_none (kind_of said) said lines whole are (group_early (point_of said) mmsi is.0)
+one_less (traffic (line.Ship mmsi)) said lines text whole is_well are is tells = behind_none (kind_of said) said lines whole are (early (line.Ship mmsi) tt (point_of said) is.0)
+one_less (traffic (line.Coast mmsi band)) said lines text whole is_well are is tells = behind_none (kind_of said) said lines whole are (early (line.Coast mmsi band) tt (point_of said) is.0)
+one_less (traffic (line.Base second)) said lines text whole is_well are is tells = behind_none (kind_of said) said lines whole are (early (line.Base second) tt (point_of said) is.0)
+one_less (traffic (line.Group mmsi)) said lines text whole is_well are is tells = behind_none (kind_of said) said lines whole are (early (line.Group mmsi) tt (point_of said) is.0)
 one_less (traffic (line.Event at what)) said lines text whole is_well are is tells = behind_event (kind_of said) at what said whole is_well tells
 
 -- what the first lines said

@@ -1,5 +1,5 @@
 -- what comes of an event line
-use Rattle.std.proofs.Common.{◌≡◌, ℕ, Bool, false, Some, List, ◌++◌, is_ok, Result, Ok, Err, OnOk, IfOk, refl, sym, ap}
+use Rattle.std.proofs.Common.{◌≡◌, ℕ, Bool, false, Some, List, ◌++◌, is_ok, Result, Ok, Err, OnOk, IfOk, refl, sym, ap, ◌∙◌}
 use Rattle.call_values.specs.declared.calls.Call.{Call}
 use Rattle.slot_join.specs.declared.joined.Joined.{Joined}
 use Rattle.slot_join.specs.declared.joined.Joined.TheVariants.{Reported, Missing, Differ, Outside, Check}
@@ -14,10 +14,9 @@ use Rattle.dsc_lines.specs.PointLine.{traffic}
 use Rattle.traffic_replay.specs.declared.outcomes.Unreported.{Unreported}
 use Rattle.traffic_replay.specs.Said.{Said, base_of}
 use Rattle.traffic_replay.specs.HeardGroups.{hears, facts_since_heard}
-use Rattle.traffic_replay.specs.Happenings.{Taking, taking_ship, taking_coast, heard_as, ComesOf}
+use Rattle.traffic_replay.specs.Happenings.{Taking, heard_as, ComesOf}
 use Rattle.station_lines.specs.Answers.{answer_lines}
 use Rattle.traffic_replay.specs.Output.{unreported_line}
-use Rattle.traffic_replay.specs.declared.steps.Coming.TheVariants as coming
 use Rattle.traffic_replay.specs.inside.Happens.{IsPlain, Comes, Happens}
 
 -- a line that hears no group gives its event
@@ -45,28 +44,26 @@ pub plain_happens : {What : Type 0} (rules : Rules What) (taking : Taking What) 
 plain_happens rules taking IsAt h said at what old new accepted event comes stands lines well =
     record { outcome = Ok event; comes = comes; stands = stands; lines = lines; well = well }
 
-ok_call : {a b : Call} → ◌≡◌ {A = Result Call Unreported} (Ok a) (Ok b) → a ≡ b
-ok_call h = cc
+-- what is heard comes to the same with an event made of the call
+made : {What : Type 0} → (Call → What) → Result Call Unreported → Result What Unreported
+made make (Ok call) = Ok (make call)
+made make (Err u) = Err u
 
-ok_err : {a : Call} {u : Unreported} → ◌≡◌ {A = Result Call Unreported} (Ok a) (Err u) → ⊥
-ok_err h = cc
-
-err_err : {u v : Unreported} → ◌≡◌ {A = Result Call Unreported} (Err u) (Err v) → u ≡ v
-err_err h = cc
+heard_made : {What : Type 0} (make : Call → What) (group : ℕ) (answer : Joined) → made make (heard_as (λ (c : Call). c) group answer) ≡ heard_as make group answer
+unfolding made
+heard_made make group (Reported found extra) = refl
+heard_made make group (Missing n) = refl
+heard_made make group (Differ n least greatest) = refl
+heard_made make group (Outside n symbol) = refl
+heard_made make group (Check n want got) = refl
 
 heard_event : {What : Type 0} (make : Call → What) (group : ℕ) (answer : Joined) (call : Call) → heard_as (λ (c : Call). c) group answer ≡ Ok call → Ok (make call) ≡ heard_as make group answer
-heard_event make group (Reported found extra) call is = ap (λ (c : Call). Ok (make c)) (sym (ok_call is))
-heard_event make group (Missing n) call is = absurd (ok_err (sym is))
-heard_event make group (Differ n least greatest) call is = absurd (ok_err (sym is))
-heard_event make group (Outside n symbol) call is = absurd (ok_err (sym is))
-heard_event make group (Check n want got) call is = absurd (ok_err (sym is))
+unfolding made
+heard_event make group answer call is = ap (made make) (sym is) ∙ heard_made make group answer
 
 heard_none : {What : Type 0} (make : Call → What) (group : ℕ) (answer : Joined) (u : Unreported) → heard_as (λ (c : Call). c) group answer ≡ Err u → Err u ≡ heard_as make group answer
-heard_none make group (Reported found extra) u is = absurd (ok_err is)
-heard_none make group (Missing n) u is = ap (λ (v : Unreported). Err v) (sym (err_err is))
-heard_none make group (Differ n least greatest) u is = ap (λ (v : Unreported). Err v) (sym (err_err is))
-heard_none make group (Outside n symbol) u is = ap (λ (v : Unreported). Err v) (sym (err_err is))
-heard_none make group (Check n want got) u is = ap (λ (v : Unreported). Err v) (sym (err_err is))
+unfolding made
+heard_none make group answer u is = ap (made make) (sym is) ∙ heard_made make group answer
 
 -- a heard group reports its call
 pub heard_happens : {What : Type 0} (rules : Rules What) (taking : Taking What) (IsAt : History What → Type 0) (h : History What) (said : Said) (at group : ℕ)

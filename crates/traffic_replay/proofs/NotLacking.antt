@@ -3,8 +3,8 @@ use Rattle.std.proofs.Common.{◌≡◌, ℕ, ◌<◌, Bool, true, false, if◌t
 use Rattle.call_values.specs.declared.choices.Band.{Band}
 use Rattle.line_engine.specs.Lines.{Lines}
 use Rattle.line_engine.specs.Faults.{IsFaultless}
-use Rattle.line_engine.specs.Determined.{IsNeverStuck}
-use Rattle.line_engine.proofs.PublicLaws.{sound_line_of}
+use Rattle.line_engine.specs.Determined.{LacksNoOutput}
+use Rattle.line_engine.proofs.PublicLaws.{lacks_no_output, sound_line_of}
 use Rattle.ship_station.specs.ShipRules.{ship_rules}
 use Rattle.ship_station.specs.declared.events.ShipWhat.{ShipWhat}
 use Rattle.ship_station.specs.declared.events.ShipWhat.TheVariants as at_ship
@@ -30,7 +30,7 @@ use Rattle.traffic_replay.specs.HeardGroups.{of_receivers, hears, since_heard, f
 use Rattle.traffic_replay.specs.Happenings.{heard_as, taking_ship, taking_coast, Taking, ComesOf, Happening, AreHappenings}
 use Rattle.traffic_replay.specs.Output.{text_of, all_accepted}
 use Rattle.traffic_replay.specs.Meaning.{StationTells, Replays, replay_meaning}
-use Rattle.traffic_replay.proofs.Fronts.{ship_early, coast_early, none_early}
+use Rattle.traffic_replay.proofs.Fronts.{early, none_early}
 
 -- it can't be that there is none
 abbrev IsThere : Type 0 → Type 0
@@ -99,12 +99,12 @@ ship_event_of point.Coast at what of may = absurd of
 not_ship : (band : Band) → coast band ≡ ship → ⊥
 not_ship band h = cc
 
-coast_event_of : (p : Point) (band : Band) (at : ℕ) (what : EventLine) → IsPointOf p (coast band) → MayStand p (line.Event at what) → IsOfCoast what
-coast_event_of point.Station band at what of may = absurd may
-coast_event_of point.Base band at what of may = absurd may
-coast_event_of (point.Groups held) band at what of may = absurd (not_ship band of)
-coast_event_of point.Ship band at what of may = absurd (not_ship band of)
-coast_event_of point.Coast band at what of may = may
+coast_event_of : (band : Band) (p : Point) (at : ℕ) (what : EventLine) → IsPointOf p (coast band) → MayStand p (line.Event at what) → IsOfCoast what
+coast_event_of band point.Station at what of may = absurd may
+coast_event_of band point.Base at what of may = absurd may
+coast_event_of band (point.Groups held) at what of may = absurd (not_ship band of)
+coast_event_of band point.Ship at what of may = absurd (not_ship band of)
+coast_event_of band point.Coast at what of may = may
 
 -- ---- what comes of event lines
 
@@ -132,37 +132,28 @@ module _ (law : AnswerLaw) where
   abbrev Happened : {What : Type 0} → Taking What → Said → Type 0
   Happened {What} taking said = (happened : List (Happening What)) × AreHappenings taking said happened
 
-  happened_ship : (said : Said) (lines : Lines) → AreSaid said lines → kind_of said ≡ ship → IsThere (Happened taking_ship said)
-  happened_ship [] lines are kind k = k ([], refl)
-  happened_ship (joined l ∷ said) lines are kind k = happened_ship said are.0 are.4 kind k
-  happened_ship (traffic (line.Ship mmsi) ∷ said) lines are kind k = k ([], none_early taking_ship said are.0 are.4 (ship_early (point_of said) mmsi are.3.0))
-  happened_ship (traffic (line.Coast mmsi band) ∷ said) lines are kind k = k ([], none_early taking_ship said are.0 are.4 (coast_early (point_of said) mmsi band are.3.0))
-  happened_ship (traffic (line.Base second) ∷ said) lines are kind k = happened_ship said are.0 are.4 kind k
-  happened_ship (traffic (line.Group mmsi) ∷ said) lines are kind k = happened_ship said are.0 are.4 kind k
-  happened_ship (traffic (line.Event at what) ∷ said) lines are kind k =
-      let of = subst (IsPointOf (point_of said)) kind (point_kind said are.0 are.4) in
-      comes_ship said are.0 are.4 at what (ship_event_of (point_of said) at what of are.3.0) (λ comes.
-      happened_ship said are.0 are.4 kind (λ rest. k (record { at = at; outcome = comes.0 } ∷ rest.0, (refl, comes.1, rest.1))))
-
-  happened_coast : (band : Band) (said : Said) (lines : Lines) → AreSaid said lines → kind_of said ≡ coast band → IsThere (Happened taking_coast said)
-  happened_coast band [] lines are kind k = k ([], refl)
-  happened_coast band (joined l ∷ said) lines are kind k = happened_coast band said are.0 are.4 kind k
-  happened_coast band (traffic (line.Ship mmsi) ∷ said) lines are kind k = k ([], none_early taking_coast said are.0 are.4 (ship_early (point_of said) mmsi are.3.0))
-  happened_coast band (traffic (line.Coast mmsi other) ∷ said) lines are kind k = k ([], none_early taking_coast said are.0 are.4 (coast_early (point_of said) mmsi other are.3.0))
-  happened_coast band (traffic (line.Base second) ∷ said) lines are kind k = happened_coast band said are.0 are.4 kind k
-  happened_coast band (traffic (line.Group mmsi) ∷ said) lines are kind k = happened_coast band said are.0 are.4 kind k
-  happened_coast band (traffic (line.Event at what) ∷ said) lines are kind k =
-      let of = subst (IsPointOf (point_of said)) kind (point_kind said are.0 are.4) in
-      comes_coast said are.0 are.4 at what (coast_event_of (point_of said) band at what of are.3.0) (λ comes.
-      happened_coast band said are.0 are.4 kind (λ rest. k (record { at = at; outcome = comes.0 } ∷ rest.0, (refl, comes.1, rest.1))))
+  module _ {What : Type 0} (taking : Taking What) (kind : Kind) (IsOf : EventLine → Type 0)
+      (of_kind : (p : Point) (at : ℕ) (what : EventLine) → IsPointOf p kind → MayStand p (line.Event at what) → IsOf what)
+      (comes : (said : Said) (lines : Lines) → AreSaid said lines → (at : ℕ) (what : EventLine) → IsOf what → IsThere ((outcome : Result What Unreported) × ComesOf taking said at what outcome)) where
+    happened_there : (said : Said) (lines : Lines) → AreSaid said lines → kind_of said ≡ kind → IsThere (Happened taking said)
+    happened_there [] lines are is k = k ([], refl)
+    happened_there (joined l ∷ said) lines are is k = happened_there said are.0 are.4 is k
+    happened_there (traffic (line.Ship mmsi) ∷ said) lines are is k = k ([], none_early taking said are.0 are.4 (early (line.Ship mmsi) tt (point_of said) are.3.0))
+    happened_there (traffic (line.Coast mmsi band) ∷ said) lines are is k = k ([], none_early taking said are.0 are.4 (early (line.Coast mmsi band) tt (point_of said) are.3.0))
+    happened_there (traffic (line.Base second) ∷ said) lines are is k = happened_there said are.0 are.4 is k
+    happened_there (traffic (line.Group mmsi) ∷ said) lines are is k = happened_there said are.0 are.4 is k
+    happened_there (traffic (line.Event at what) ∷ said) lines are is k =
+        let of = subst (IsPointOf (point_of said)) is (point_kind said are.0 are.4) in
+        comes said are.0 are.4 at what (of_kind (point_of said) at what of are.3.0) (λ came.
+        happened_there said are.0 are.4 is (λ rest. k (record { at = at; outcome = came.0 } ∷ rest.0, (refl, came.1, rest.1))))
 
   tells_there : (kind : Kind) (said : Said) (lines : Lines) → AreSaid said lines → kind_of said ≡ kind → IsThere ((text : List ℕ) × (is_well : Bool) × StationTells kind said text is_well)
   tells_there ship said lines are kind k =
       let rules = ship_rules (identities_of said) in
-      happened_ship said lines are kind (λ h. k (text_of rules h.0, all_accepted rules h.0, record { happened = h.0; are_happenings = h.1; text_is = refl; well_is = refl }))
+      happened_there taking_ship ship IsOfShip ship_event_of comes_ship said lines are kind (λ h. k (text_of rules h.0, all_accepted rules h.0, record { happened = h.0; are_happenings = h.1; text_is = refl; well_is = refl }))
   tells_there (coast band) said lines are kind k =
       let rules = coast_rules (station_of band said) in
-      happened_coast band said lines are kind (λ h. k (text_of rules h.0, all_accepted rules h.0, record { happened = h.0; are_happenings = h.1; text_is = refl; well_is = refl }))
+      happened_there taking_coast (coast band) IsOfCoast (coast_event_of band) comes_coast said lines are kind (λ h. k (text_of rules h.0, all_accepted rules h.0, record { happened = h.0; are_happenings = h.1; text_is = refl; well_is = refl }))
 
   -- lines without a fault say something
   said_there : (earlier : Lines) (said : Said) → AreSaid said earlier → (lines : Lines) → IsFaultless replay_meaning (earlier ++ lines) → IsThere ((all : Said) × AreSaid all (earlier ++ lines))
@@ -179,8 +170,10 @@ module _ (law : AnswerLaw) where
       tells_there (kind_of said.0) said.0 lines said.1 refl (λ told.
       k (told.0, told.1, record { said = said.0; are_said = said.1; tells = told.2 })))
 
-  pub replay_never_stuck : IsNeverStuck replay_meaning
-  replay_never_stuck = record {
-    gives = λ lines none k. replays_there lines none (λ r. k r.0 (r.1, r.2));
-    ends = λ lines none k. replays_there lines none (λ r. k r.0 (if r.1 then 0 else 1) (r.1, r.2, refl));
-  }
+  pub replay_lacks_none : LacksNoOutput replay_meaning
+  replay_lacks_none =
+      lacks_no_output replay_meaning
+      (record {
+        gives = λ lines none k. replays_there lines none (λ r. k r.0 (r.1, r.2));
+        ends = λ lines none k. replays_there lines none (λ r. k r.0 (if r.1 then 0 else 1) (r.1, r.2, refl));
+      })

@@ -10,7 +10,7 @@ use Rattle.dsc_lines.specs.declared.join.JoinLine.{JoinLine as Got}
 use Rattle.dsc_lines.specs.declared.join.JoinLine.TheVariants as got
 use Rattle.dsc_lines.specs.JoinLine.{JoinLine, nothing, reception, evidence}
 use Rattle.traffic_lines.specs.declared.lines.Point.{Point}
-use Rattle.dsc_lines.specs.PointLine.{PointLine, joined, traffic, MayBeJoined, IsPointLine}
+use Rattle.dsc_lines.specs.PointLine.{joined, traffic, MayBeJoined, IsPointLine}
 use Rattle.dsc_lines.specs.Lines.{Says, ReadsJoinedAt}
 use Rattle.join_groups.specs.Groups.{facts_of_line}
 use Rattle.join_groups.specs.Meanings.{BringsTooMany}
@@ -28,21 +28,16 @@ apart h = cc
 apart_too : {group : ℕ} {sheet : List Seen} → got.Evidence group sheet ≡ got.Nothing → ⊥
 apart_too h = cc
 
-body_of_reception : (line : JoinLine) (group : ℕ) (e : List Element) → Says line (got.Reception group e) → (earlier : Said) → point_of (joined line ∷ earlier) ≡ among_events (kind_of earlier)
-body_of_reception nothing group e h earlier = absurd (apart h)
-body_of_reception (reception g f) group e h earlier = refl
-body_of_reception (evidence g pairs) group e h earlier = refl
-
-body_of_evidence : (line : JoinLine) (group : ℕ) (sheet : List Seen) → Says line (got.Evidence group sheet) → (earlier : Said) → point_of (joined line ∷ earlier) ≡ among_events (kind_of earlier)
-body_of_evidence nothing group sheet h earlier = absurd (apart_too h)
-body_of_evidence (reception g f) group sheet h earlier = refl
-body_of_evidence (evidence g pairs) group sheet h earlier = refl
+body_of : (line : JoinLine) (read : Got) → (read ≡ got.Nothing → ⊥) → Says line read → (earlier : Said) → point_of (joined line ∷ earlier) ≡ among_events (kind_of earlier)
+body_of nothing read some h earlier = absurd (some h)
+body_of (reception g f) read some h earlier = refl
+body_of (evidence g pairs) read some h earlier = refl
 
 pub reception_shows : (line : JoinLine) (read : Got) (group : ℕ) (e : List Element) → read ≡ got.Reception group e → Says line read → IsShown line group (facts_of e)
 reception_shows line read group e is h =
     let said : Says line (got.Reception group e) = subst (Says line) is h in
     let parts = says_reception line group e said in
-    record { named = parts.0; facts = parts.1; point = body_of_reception line group e said }
+    record { named = parts.0; facts = parts.1; point = body_of line (got.Reception group e) (λ none. apart none) said }
 
 -- what a line of evidence shows, and that its sheet keeps the ends of it
 pub record Tells (line : JoinLine) (group : ℕ) (sheet : List Seen) : Type 0 where
@@ -53,7 +48,7 @@ pub evidence_shows : (line : JoinLine) (read : Got) (group : ℕ) (sheet : List 
 evidence_shows line read group sheet is h =
     let said : Says line (got.Evidence group sheet) = subst (Says line) is h in
     let parts = says_evidence line group sheet said in
-    record { shown = record { named = parts.0; facts = refl; point = body_of_evidence line group sheet said }; ends = parts.1 }
+    record { shown = record { named = parts.0; facts = refl; point = body_of line (got.Evidence group sheet) (λ none. apart_too none) said }; ends = parts.1 }
 
 same_line : {a b : JoinLine} → joined a ≡ joined b → a ≡ b
 same_line h = cc

@@ -71,43 +71,33 @@ ship_begins g s said text is_well stands keeps = (
 )
 
 -- receivers showed something: the stage goes on to events
-begun : (from to : Stage) (l : JoinLine) (said : Said) (text : List ℕ) (is_well : Bool) → GoesOn from to → IsBody (point_at from) → KeepsStation from said text is_well
-    → KeepsStation to (joined l ∷ said) text is_well
-begun stage.Station to l said text is_well begins body keeps = absurd body
-begun (stage.Base station) to l said text is_well begins body keeps = absurd body
-begun (stage.Groups g) to l said text is_well begins body keeps =
-    subst (λ (t : Stage). KeepsStation t (joined l ∷ said) text is_well) (sym begins.1)
-    (silent (stage.Ship g.base begins.0) l said text is_well (ship_begins g begins.0 said text is_well begins.2 keeps))
-begun (stage.Ship base s) to l said text is_well begins body keeps =
-    subst (λ (t : Stage). KeepsStation t (joined l ∷ said) text is_well) (sym begins) (silent (stage.Ship base s) l said text is_well keeps)
-begun (stage.Coast s) to l said text is_well begins body keeps =
-    subst (λ (t : Stage). KeepsStation t (joined l ∷ said) text is_well) (sym begins) (silent (stage.Coast s) l said text is_well keeps)
+abbrev Begun : Stage → JoinLine → Said → List ℕ → Bool → Type 0
+Begun to l said text is_well = (point_at to ≡ among_events (kind_of said)) × IsReadyAt to × KeepsStation to (joined l ∷ said) text is_well
 
-begun_point : (from to : Stage) (said : Said) (text : List ℕ) (is_well : Bool) → GoesOn from to → IsBody (point_at from) → KeepsStation from said text is_well
-    → point_at to ≡ among_events (kind_of said)
-begun_point stage.Station to said text is_well begins body keeps = absurd body
-begun_point (stage.Base station) to said text is_well begins body keeps = absurd body
-begun_point (stage.Groups g) to said text is_well begins body keeps = ap point_at begins.1 ∙ sym (ap among_events keeps.0)
-begun_point (stage.Ship base s) to said text is_well begins body keeps = ap point_at begins ∙ sym (ap among_events keeps.0)
-begun_point (stage.Coast s) to said text is_well begins body keeps = ap point_at begins ∙ sym (ap among_events keeps.1)
-
-begun_ready : (from to : Stage) → GoesOn from to → IsReadyAt from → IsReadyAt to
-begun_ready stage.Station to begins ready = subst IsReadyAt (sym begins) ready
-begun_ready (stage.Base station) to begins ready = subst IsReadyAt (sym begins) ready
-begun_ready (stage.Groups g) to begins ready = subst IsReadyAt (sym begins.1) ready.0
-begun_ready (stage.Ship base s) to begins ready = subst IsReadyAt (sym begins) ready
-begun_ready (stage.Coast s) to begins ready = subst IsReadyAt (sym begins) ready
+begun : (from to : Stage) (l : JoinLine) (said : Said) (text : List ℕ) (is_well : Bool) → GoesOn from to → IsBody (point_at from) → IsReadyAt from → KeepsStation from said text is_well
+    → Begun to l said text is_well
+begun stage.Station to l said text is_well begins body ready keeps = absurd body
+begun (stage.Base station) to l said text is_well begins body ready keeps = absurd body
+begun (stage.Groups g) to l said text is_well begins body ready keeps =
+    subst (λ (t : Stage). Begun t l said text is_well) (sym begins.1)
+    (sym (ap among_events keeps.0), ready.0, silent (stage.Ship g.base begins.0) l said text is_well (ship_begins g begins.0 said text is_well begins.2 keeps))
+begun (stage.Ship base s) to l said text is_well begins body ready keeps =
+    subst (λ (t : Stage). Begun t l said text is_well) (sym begins) (sym (ap among_events keeps.0), ready, silent (stage.Ship base s) l said text is_well keeps)
+begun (stage.Coast s) to l said text is_well begins body ready keeps =
+    subst (λ (t : Stage). Begun t l said text is_well) (sym begins) (sym (ap among_events keeps.1), ready, silent (stage.Coast s) l said text is_well keeps)
 
 pub keeps_shown : (old new : Replay) (l : JoinLine) (said : Said) (text : List ℕ) → Keeps old said text → new.is_well ≡ old.is_well → GoesOn old.stage new.stage → IsBody (point_at old.stage)
     → point_of (joined l ∷ said) ≡ among_events (kind_of said) → KeepsGroups new.heard (joined l ∷ said) → length new.heard.batch.items < MOST_IN_BATCH
     → Keeps new (joined l ∷ said) text
-keeps_shown old new l said text keeps well begins body point heard few = record {
-  point = begun_point old.stage new.stage said text old.is_well begins body keeps.station ∙ sym point;
-  ready = begun_ready old.stage new.stage begins keeps.ready;
-  heard = heard;
-  few = few;
-  station = subst (λ (w : Bool). KeepsStation new.stage (joined l ∷ said) text w) (sym well) (begun old.stage new.stage l said text old.is_well begins body keeps.station);
-}
+keeps_shown old new l said text keeps well begins body point heard few =
+    let there = begun old.stage new.stage l said text old.is_well begins body keeps.ready keeps.station in
+    record {
+      point = there.0 ∙ sym point;
+      ready = there.1;
+      heard = heard;
+      few = few;
+      station = subst (λ (w : Bool). KeepsStation new.stage (joined l ∷ said) text w) (sym well) there.2;
+    }
 
 -- a text is appended behind what was there
 behind : (text out new lines all : List ℕ) → new ≡ out ++ lines → text ++ out ≡ all → text ++ new ≡ all ++ lines

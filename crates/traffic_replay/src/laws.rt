@@ -19,6 +19,7 @@ use dsc_lines::one_point_line;
 use slot_join::{no_answer_is_lacking, one_answer};
 
 /// The law that the lines of a traffic file determine what `replay` writes. It does nothing.
+#[tactic(auto, using(crate::proofs::Determined::replay_determined))]
 pub fn lines_determine_output()
     ensures { IsDetermined replay_meaning }
 {
@@ -49,6 +50,7 @@ pub fn alerts_end_by_hand_or_acknowledgement()
 }
 
 /// The law that no traffic file lacks an output. It does nothing.
+#[tactic(auto, using(crate::proofs::NotLacking::replay_lacks_none))]
 pub fn no_output_is_lacking()
     ensures { LacksNoOutput replay_meaning }
 {
