@@ -55,6 +55,10 @@ pub(crate) trait OfKind: Copy {
     /// The same under this name.
     fn named(self) -> StationOwn
         ensures { result ≡ name self };
+
+    /// The same as an event line of any file says it.
+    fn line(self) -> EventLine
+        ensures { result ≡ events.own_line (name self) };
 }
 
 impl OfKind for ShipOwn {
@@ -63,6 +67,15 @@ impl OfKind for ShipOwn {
     fn named(self) -> StationOwn {
         StationOwn::Ship(self)
     }
+
+    fn line(self) -> EventLine {
+        match self {
+            ShipOwn::Position(position) => EventLine::Position(position),
+            ShipOwn::Delay(delay) => EventLine::Delay(delay),
+            ShipOwn::Alert(nature, comm) => EventLine::Alert(nature, comm),
+            ShipOwn::Cancel => EventLine::Cancel,
+        }
+    }
 }
 
 impl OfKind for CoastOwn {
@@ -70,6 +83,13 @@ impl OfKind for CoastOwn {
 
     fn named(self) -> StationOwn {
         StationOwn::Coast(self)
+    }
+
+    fn line(self) -> EventLine {
+        match self {
+            CoastOwn::Accept(ship, delay) => EventLine::Accept(ship, delay),
+            CoastOwn::Relay(ship, to, ask) => EventLine::Relay(ship, to, ask),
+        }
     }
 }
 
@@ -85,26 +105,13 @@ fn deed_of<O: OfKind>(deed: Deed<O>) -> Deed<StationOwn>
     }
 }
 
-/// What a station of one kind alone does.
-fn own_line(what: StationOwn) -> EventLine
-    ensures { result ≡ events.own_line what }
-{
-    match what {
-        StationOwn::Ship(ShipOwn::Position(position)) => EventLine::Position(position),
-        StationOwn::Ship(ShipOwn::Delay(delay)) => EventLine::Delay(delay),
-        StationOwn::Ship(ShipOwn::Alert(nature, comm)) => EventLine::Alert(nature, comm),
-        StationOwn::Ship(ShipOwn::Cancel) => EventLine::Cancel,
-        StationOwn::Coast(CoastOwn::Accept(ship, delay)) => EventLine::Accept(ship, delay),
-        StationOwn::Coast(CoastOwn::Relay(ship, to, ask)) => EventLine::Relay(ship, to, ask),
-    }
-}
-
 /// What a station does.
 fn deed_line(deed: Deed<StationOwn>) -> EventLine
     ensures { result ≡ events.deed_line deed }
 {
     match deed {
-        Deed::Own(own) => own_line(own),
+        Deed::Own(StationOwn::Ship(own)) => own.line(),
+        Deed::Own(StationOwn::Coast(own)) => own.line(),
         Deed::Tick => EventLine::Tick,
         Deed::Send(call) => EventLine::Send(call),
         Deed::Answer(number, accepts) => EventLine::Answer(number, accepts),
