@@ -48,33 +48,53 @@ pub enum ExchangeLine {
 }
 
 /// What a station of one kind alone does, as what a station of either kind does.
-pub(crate) trait Own: Copy {
+pub(crate) trait OfKind: Copy {
     /// Its name there.
     ghost name: { Self → AnyOwn };
 
     /// The same under this name.
     fn named(self) -> StationOwn
         ensures { result ≡ name self };
+
+    /// The same as an event line of any file says it.
+    fn line(self) -> EventLine
+        ensures { result ≡ events.own_line (name self) };
 }
 
-impl Own for ShipOwn {
+impl OfKind for ShipOwn {
     ghost name = { own.Ship };
 
     fn named(self) -> StationOwn {
         StationOwn::Ship(self)
     }
+
+    fn line(self) -> EventLine {
+        match self {
+            ShipOwn::Position(position) => EventLine::Position(position),
+            ShipOwn::Delay(delay) => EventLine::Delay(delay),
+            ShipOwn::Alert(nature, comm) => EventLine::Alert(nature, comm),
+            ShipOwn::Cancel => EventLine::Cancel,
+        }
+    }
 }
 
-impl Own for CoastOwn {
+impl OfKind for CoastOwn {
     ghost name = { own.Coast };
 
     fn named(self) -> StationOwn {
         StationOwn::Coast(self)
     }
+
+    fn line(self) -> EventLine {
+        match self {
+            CoastOwn::Accept(ship, delay) => EventLine::Accept(ship, delay),
+            CoastOwn::Relay(ship, to, ask) => EventLine::Relay(ship, to, ask),
+        }
+    }
 }
 
 /// What a station of one kind does, as a deed of a station.
-fn deed_of<O: Own>(deed: Deed<O>) -> Deed<StationOwn>
+fn deed_of<O: OfKind>(deed: Deed<O>) -> Deed<StationOwn>
     ensures { result ≡ lines.deed_with O.name deed }
 {
     match deed {
@@ -85,26 +105,13 @@ fn deed_of<O: Own>(deed: Deed<O>) -> Deed<StationOwn>
     }
 }
 
-/// What a station of one kind alone does.
-fn own_line(what: StationOwn) -> EventLine
-    ensures { result ≡ events.own_line what }
-{
-    match what {
-        StationOwn::Ship(ShipOwn::Position(position)) => EventLine::Position(position),
-        StationOwn::Ship(ShipOwn::Delay(delay)) => EventLine::Delay(delay),
-        StationOwn::Ship(ShipOwn::Alert(nature, comm)) => EventLine::Alert(nature, comm),
-        StationOwn::Ship(ShipOwn::Cancel) => EventLine::Cancel,
-        StationOwn::Coast(CoastOwn::Accept(ship, delay)) => EventLine::Accept(ship, delay),
-        StationOwn::Coast(CoastOwn::Relay(ship, to, ask)) => EventLine::Relay(ship, to, ask),
-    }
-}
-
 /// What a station does.
 fn deed_line(deed: Deed<StationOwn>) -> EventLine
     ensures { result ≡ events.deed_line deed }
 {
     match deed {
-        Deed::Own(own) => own_line(own),
+        Deed::Own(StationOwn::Ship(own)) => own.line(),
+        Deed::Own(StationOwn::Coast(own)) => own.line(),
         Deed::Tick => EventLine::Tick,
         Deed::Send(call) => EventLine::Send(call),
         Deed::Answer(number, accepts) => EventLine::Answer(number, accepts),
@@ -123,7 +130,7 @@ pub(crate) fn event_line(event: Event<StationOwn, Hearing>) -> EventLine
 }
 
 /// What happens at an end of an exchange.
-pub(crate) fn exchange_line<O: Own>(event: Event<O, u32>) -> ExchangeLine
+pub(crate) fn exchange_line<O: OfKind>(event: Event<O, u32>) -> ExchangeLine
     ensures { result ≡ events.exchange_line O.name event }
 {
     match event {
@@ -143,7 +150,7 @@ pub(crate) fn line_of_station(says: StationLine) -> TrafficLine
 }
 
 /// An event in the file of a station of one kind.
-pub(crate) fn event_of<O: Own>(event: Event<O, Hearing>) -> Event<StationOwn, Hearing>
+pub(crate) fn event_of<O: OfKind>(event: Event<O, Hearing>) -> Event<StationOwn, Hearing>
     ensures { result ≡ lines.event_with O.name event }
 {
     match event {
