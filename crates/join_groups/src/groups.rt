@@ -155,10 +155,8 @@ impl NamedGroups {
             → (refusal ≡ Refusal.TooManyGroups) × IsFull named group)) }
         ensures kept { IfErr result (λ refusal. refusal ≢ Refusal.Memory → self.new ≡ self.old) }
     {
-        if let Some(read) = workers.read_alone(&heard) {
-            if !is_watched || !self.is_news(group, &read) {
-                return self.meet(group, &read);
-            }
+        if let Some(read) = self.read_at_once(workers, is_watched, group, &heard) {
+            return self.meet(group, &read);
         }
         match self.number_of(group) {
             Ok(number) => {
@@ -167,6 +165,26 @@ impl NamedGroups {
             }
             Err(refusal) => Err(refusal),
         }
+    }
+
+    /// What a reception shows that waits for no batch, if it waits for none.
+    fn read_at_once<W: WatchedJoiner>(
+        &self,
+        workers: &W,
+        is_watched: bool,
+        group: u32,
+        heard: &Reception,
+    ) -> Option<Sheet>
+        requires { length heard.now ≤ LONGEST }
+        ensures { IfSome result (λ read. IsEnds (facts_of heard.now) read) }
+    {
+        let Some(read) = workers.read_alone(heard) else {
+            return None;
+        };
+        if is_watched && self.is_news(group, &read) {
+            return None;
+        }
+        Some(read)
     }
 
     /// Whether a sheet shows something of a group beyond what is known of it.
