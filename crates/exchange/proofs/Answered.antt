@@ -38,13 +38,10 @@ pub record AtShip (calls : List Call) (event : WorldEvent) (g : Given) (is_such 
   pub is : entry_of (ship_what calls event) g ≡ Some entry
   pub does_it : does is_such entry ≡ true
 
-did_is_nothing : (acts : List Act) (number : ℕ) → did acts ≡ nothing number → ⊥
-did_is_nothing acts number h = cc
-
 module _ (who : Parties) (is_such : Act → Bool) (w : WorldHistory) where
   got_there : (at number : ℕ) (o : Option Call) (g : Given) → g ≡ given_at (ship_rules who.ship) (ends_of w).ship at number at_ship.Heard o → gives is_such g ≡ true
       → (x : Entry ShipWhat) × (entry_of (option_map (λ (call : Call). (at, at_ship.Heard call)) o) g ≡ Some x) × (does is_such x ≡ true)
-  got_there at number None (did acts) gave h = absurd (did_is_nothing acts number gave)
+  got_there at number None (did acts) gave h = absurd (let h : did acts ≡ nothing number = gave in cc)
   got_there at number (Some c) (did acts) gave h = (record { at = at; what = at_ship.Heard c; acts = acts }, refl, h)
   got_there at number o (refuses refusal) gave h = absurd (false≢true h)
   got_there at number o (nothing n) gave h = absurd (false≢true h)

@@ -31,9 +31,6 @@ use Rattle.exchange.proofs.Answered.{answered_before, coast_legal, ship_at, ship
 use Rattle.exchange.proofs.Deliveries.{Sends, sent_at}
 use Rattle.exchange.proofs.Splits.{accepted_there, lift}
 
-heard_same : (a b : Call) → at_coast.Heard a ≡ at_coast.Heard b → a ≡ b
-heard_same a b h = cc
-
 -- an entry of the coast station that sends a call, in the exchange
 module _ (c : Call) where
   got_and_sent : (at number : ℕ) (o : Option Call) (g : Given) (y : Entry CoastWhat)
@@ -65,7 +62,7 @@ module _ (c : Call) (before : WorldHistory) where
   got_by at number None g y found is hears = absurd (none-some y is)
   got_by at number (Some d) (did acts) y found is hears =
       let same = ap (λ (z : Entry CoastWhat). z.what) (same_Some (record { at = at; what = at_coast.Heard d; acts = acts }) y is) in
-      record { at = at; number = number; event = refl; sent = found ∙ ap (λ (x : Call). Some x) (heard_same d c (same ∙ hears)); accepted = refl }
+      record { at = at; number = number; event = refl; sent = found ∙ ap (λ (x : Call). Some x) (let h : at_coast.Heard d ≡ at_coast.Heard c = same ∙ hears in let e : d ≡ c = cc in e); accepted = refl }
   got_by at number (Some d) (refuses refusal) y found is hears = absurd (none-some y is)
   got_by at number (Some d) (nothing n) y found is hears = absurd (none-some y is)
 

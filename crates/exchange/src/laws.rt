@@ -26,7 +26,6 @@ pub fn alerts_end_by_cancel_or_acknowledgement()
 
 /// The law that in an exchange the ship sends no distress alert after the end of one, before the next event that begins one, however many
 /// acknowledgements come, in every legal history.
-#[tactic(auto, using(crate::proofs::Silence::silent_after_end))]
 pub fn no_alert_after_an_end()
     ensures { (who : Parties) (later earlier : WorldHistory) (ended : WorldEntry)
         → IsLegal who (later ++ ended ∷ earlier)
@@ -37,7 +36,6 @@ pub fn no_alert_after_an_end()
 }
 
 /// The law that an exchange goes on legally with each event from outside whose own parts are in their ranges, whatever it gives.
-#[tactic(auto, using(crate::proofs::Going::world_goes_on))]
 pub fn exchanges_go_on_legally()
     ensures { (who : Parties) (w : WorldHistory) (event : Happens) → IsFromOutside event → IsWorldEvent event
         → IsLegal who w → IsLegal who (world_continued who w event) }

@@ -47,9 +47,9 @@ early (Entry entry) names = absurd names
 none_early : (said : Said) (lines : Lines) → AreSaid said lines → IsEarly (point_of said) → world_of said ≡ []
 none_early [] lines are early = refl
 none_early (None ∷ said) lines are early = none_early said are.0 are.4 early
-none_early (Some (Ship mmsi) ∷ said) lines are early = none_early said are.0 are.4 (early (Ship mmsi) tt (point_of said) are.3.0)
-none_early (Some (Coast mmsi band) ∷ said) lines are early = none_early said are.0 are.4 (early (Coast mmsi band) tt (point_of said) are.3.0)
-none_early (Some (Base second) ∷ said) lines are early = none_early said are.0 are.4 (early (Base second) tt (point_of said) are.3.0)
+none_early (Some (Ship mmsi) ∷ said) lines are in_front = none_early said are.0 are.4 (early (Ship mmsi) tt (point_of said) are.3.0)
+none_early (Some (Coast mmsi band) ∷ said) lines are in_front = none_early said are.0 are.4 (early (Coast mmsi band) tt (point_of said) are.3.0)
+none_early (Some (Base second) ∷ said) lines are in_front = none_early said are.0 are.4 (early (Base second) tt (point_of said) are.3.0)
 none_early (Some (Entry entry) ∷ said) lines are early = absurd early
 
 nothing_legal : (who : Parties) (w : WorldHistory) → w ≡ [] → IsLegal who w

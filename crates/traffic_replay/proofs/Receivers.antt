@@ -57,11 +57,8 @@ same_line h = cc
 pub joined_taken : (said : Said) (line : JoinLine) → (BringsTooMany (of_receivers said) line → ⊥) → BringsGroup said (joined line) → ⊥
 joined_taken said line few b = few (subst (λ (l : JoinLine). BringsTooMany (of_receivers said) l) (same_line (sym b.is_joined)) b.brings)
 
-station_taken : {line : JoinLine} {says : TrafficLine} → traffic says ≡ joined line → ⊥
-station_taken h = cc
-
 pub traffic_taken : (said : Said) (says : TrafficLine) → BringsGroup said (traffic says) → ⊥
-traffic_taken said says b = station_taken b.is_joined
+traffic_taken said says b = absurd (let h : traffic says ≡ joined b.line = b.is_joined in cc)
 
 -- a line of receivers at a point, or one that says nothing
 pub record IsReceivers (at_point : Point) (read : Got) (text : List ℕ) : Type 0 where
