@@ -49,10 +49,10 @@ none_early taking [] lines are early = refl
 none_early taking (joined nothing ∷ said) lines are early = none_early taking said are.0 are.4 early
 none_early taking (joined (reception group e) ∷ said) lines are early = absurd (no_more_early (kind_of said) early)
 none_early taking (joined (evidence group pairs) ∷ said) lines are early = absurd (no_more_early (kind_of said) early)
-none_early taking (traffic (line.Ship mmsi) ∷ said) lines are early = none_early taking said are.0 are.4 (early (line.Ship mmsi) tt (point_of said) are.3.0)
-none_early taking (traffic (line.Coast mmsi band) ∷ said) lines are early = none_early taking said are.0 are.4 (early (line.Coast mmsi band) tt (point_of said) are.3.0)
-none_early taking (traffic (line.Base second) ∷ said) lines are early = none_early taking said are.0 are.4 (early (line.Base second) tt (point_of said) are.3.0)
-none_early taking (traffic (line.Group mmsi) ∷ said) lines are early = none_early taking said are.0 are.4 (early (line.Group mmsi) tt (point_of said) are.3.0)
+none_early taking (traffic (line.Ship mmsi) ∷ said) lines are in_front = none_early taking said are.0 are.4 (early (line.Ship mmsi) tt (point_of said) are.3.0)
+none_early taking (traffic (line.Coast mmsi band) ∷ said) lines are in_front = none_early taking said are.0 are.4 (early (line.Coast mmsi band) tt (point_of said) are.3.0)
+none_early taking (traffic (line.Base second) ∷ said) lines are in_front = none_early taking said are.0 are.4 (early (line.Base second) tt (point_of said) are.3.0)
+none_early taking (traffic (line.Group mmsi) ∷ said) lines are in_front = none_early taking said are.0 are.4 (early (line.Group mmsi) tt (point_of said) are.3.0)
 none_early taking (traffic (line.Event at what) ∷ said) lines are early = absurd (no_more_early (kind_of said) early)
 
 -- a text that begins with that of what was said
