@@ -87,11 +87,24 @@ def left_out_part(left_out):
     return f"<ul>{items}</ul>"
 
 
+def counted(number, one):
+    """A number of things, by the word for one."""
+    return f"{number} {one}" + ("" if number == 1 else "s")
+
+
+def waiting_text(report):
+    """How many casualties there are, and how many of them wait."""
+    number, waiting = len(report.casualties), sum(it.waits() for it in report.casualties)
+    return f"{number} {'casualty' if number == 1 else 'casualties'}, {waiting} {'waits' if waiting == 1 else 'wait'}"
+
+
 def page(report):
     """The page of a report."""
-    waiting = [it for it in report.casualties if it.waits()]
     refused = [it for it in report.heard if it.verdict != "accepted"]
-    counts = f"{len(report.casualties)} casualties, {len(waiting)} of them wait; {len(report.heard)} DSC and DSE sentences, {len(refused)} refused; {report.sentences} other sentences and {report.lines} other lines left out."
+    counts = (
+        f"{waiting_text(report)}; {counted(len(report.heard), 'DSC or DSE sentence')}, {len(refused)} refused; "
+        f"{counted(report.sentences, 'other sentence')} and {counted(report.lines, 'other line')} left out."
+    )
     casualties = "".join(map(casualty_part, report.casualties)) or "<p>None.</p>"
     parts = [
         "<!DOCTYPE html>", '<html lang="en"><head><meta charset="utf-8"><meta name="viewport" content="width=device-width, initial-scale=1">',
