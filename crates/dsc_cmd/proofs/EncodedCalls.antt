@@ -1,6 +1,5 @@
 -- `join` gives back what `encode` wrote.
-use Rattle.std.proofs.Common.{◌≡◌, ℕ, ◌<◌, ◌^◌, ◌==◌, Bool, true, false, Option, Some, None, IfSome, ◌||◌, List, [], ◌∷◌, ◌++◌, refl, sym, ap, subst, ◌∙◌, inl, inr, append_assoc, append-nil}
-use Rattle.std.specs.Prelude.{codes, decimal}
+use Rattle.std.proofs.Common.{◌≡◌, ℕ, ◌<◌, ◌^◌, ◌==◌, Bool, true, false, Option, Some, None, IfSome, ◌||◌, List, [], ◌∷◌, ◌++◌, refl, sym, ap, subst, ◌∙◌, inl, inr, append-nil}
 use Rattle.std.specs.List.{list_any, AllByRecursion}
 use Rattle.std.proofs.lemmas.Bool.{or_cases, and_parts, and_from, or_right, eq-eqb}
 use Rattle.call_values.specs.declared.calls.Call.{Call}
@@ -23,7 +22,7 @@ use Rattle.expansion.specs.declared.values.Sets.{Sets}
 use Rattle.expansion.specs.Expansions.{IsExpansion}
 use Rattle.slot_evidence.proofs.PublicLaws.{itself}
 use Rattle.dsc_lines.specs.CallLine.{extra_of}
-use Rattle.dsc_lines.specs.JoinLine.{JoinLine, nothing, reception, evidence, body_text}
+use Rattle.dsc_lines.specs.JoinLine.{JoinLine, nothing, reception, evidence, text_of_reception}
 use Rattle.dsc_lines.specs.Lines.{facts_of_pairs}
 use Rattle.join_groups.specs.Groups.{names, is_named, facts_of_line, group_facts}
 use Rattle.join_groups.specs.Output.{TellsAnswer, answer_line, is_reported, IsJoinText}
@@ -34,15 +33,14 @@ use Rattle.dsc_cmd.proofs.SentGroups.{AlikeLaw, found}
 
 -- ---- the line
 
--- the blank and the letter of the group, its number, and the body
+-- it is what the row of receptions writes of the group and of the transmission
 pub heard_whole : (long : Bool) (k : ℕ) (call : Call) (expansion : Option Sets) → k < 2 ^ 32 → IsHeardWhole long k call expansion
 unfolding encoded_line
-heard_whole long k call expansion small =
-    let body = body_text (transmitted long call expansion) in record {
-      line = codes "r" ++ ((codes " g" ++ decimal k) ++ body);
-      line_is = ap (λ (l : List ℕ). codes "r g" ++ l) (sym (append_assoc (decimal k) body (10 ∷ [])));
-      says = (codes " g" ++ decimal k, (inr (small, refl), refl));
-    }
+heard_whole long k call expansion small = record {
+  line = text_of_reception true k (transmitted long call expansion);
+  line_is = refl;
+  says = (true, (small, refl));
+}
 
 -- ---- the facts
 

@@ -1,19 +1,21 @@
 -- reading bodies of signs
-use Rattle.std.proofs.Common.{◌≡◌, ◌≢◌, ℕ, suc, ◌≤◌, ◌==◌, ◌||◌, Bool, true, false, List, [], ◌∷◌, ◌++◌, length, map, codes, Result, Option, Some, None, IfOk, IfSome, IsSome, IsNone, Ok, Err, inl, inr, refl, sym, ◌∙◌, ap, subst, append-nil, arith}
+use Rattle.std.proofs.Common.{◌≡◌, ◌≢◌, ℕ, suc, ◌≤◌, ◌==◌, ◌||◌, Bool, true, false, List, [], ◌∷◌, ◌++◌, length, map, codes, decimal, Result, Option, Some, None, IfOk, IfSome, IsSome, IsNone, Ok, Err, inl, inr, refl, sym, ◌∙◌, ap, subst, append-nil, length-append, arith}
 use Rattle.std.specs.List.{list_all}
+use Rattle.std.proofs.lemmas.List.{length-map}
 use Rattle.std.proofs.lemmas.Bool.{or_cases, eqb-true, and_parts, and_from, both_ways}
 use Rattle.ten_unit.specs.declared.character.Element.{Element}
 use Rattle.ten_unit.specs.declared.character.Element.TheVariants.{Y, B, Lost}
 use Rattle.ten_unit.specs.Signs.{element_of, is_sign}
 use Rattle.line_grammar.specs.Tokens.{run, is_one_of, IsToken}
 use Rattle.std.proofs.Math.Bool.{or-false}
-use Rattle.line_grammar.specs.Grammar.{Grammar, finish, word, Parts, none, part, Spells}
+use Rattle.line_grammar.specs.Grammar.{Grammar, finish, word, Parts, none, Spells, AreParts, written}
 use Rattle.line_grammar.specs.inside.Reading.{after, ended, read_token, read}
 use Rattle.line_grammar.specs.inside.Soundness.{is_sound}
-use Rattle.line_grammar.proofs.Chains.{after_list, run_list, word_missed, word_on, token_missed, token_on, end_missed, fault_within, both_miss, no_end, end_nil, finished}
+use Rattle.line_grammar.proofs.Chains.{after_list, run_list, fault_within, both_miss, no_end, end_nil, finished}
 use Rattle.line_grammar.proofs.Fields.{field_of}
-use Rattle.dsc_lines.specs.JoinLine.{sign_of, body_text}
-use Rattle.dsc_lines.specs.inside.Reading.{behind_blank, blank_and_signs, signs, IsBehindBlank}
+use Rattle.dsc_lines.specs.JoinLine.{sign_of, signs, signs_parts, behind_blank, reception, text_of_reception, IsLine}
+use Rattle.dsc_lines.specs.StreamLine.{IsStreamLine}
+use Rattle.dsc_lines.specs.inside.Reading.{blank_and_signs, body_text, IsBehindBlank}
 
 same_eqb : (a b : ℕ) → (a == b) ≡ (b == a)
 same_eqb a b = grind arith
@@ -70,31 +72,35 @@ pub all_signs : (e : List Element) → list_all is_sign (map sign_of e) ≡ true
 all_signs [] = refl
 all_signs (x ∷ e) = and_from (is_sign (sign_of x)) (list_all is_sign (map sign_of e)) (one_sign x) (all_signs e)
 
--- a body
-pub body_of : (bytes front : List ℕ) → front ≢ [] → list_all (is_one_of (codes "YB-")) front ≡ true → bytes ≡ codes " " ++ front → bytes ≡ body_text (map element_of front)
-body_of bytes [] some all e = absurd (some refl)
-body_of bytes (b ∷ front) some all e = e ∙ ap (λ (l : List ℕ). codes " " ++ l) (sym (signs_again (b ∷ front) (all_of_bytes (b ∷ front) all)))
+-- signs are written of the elements that they are
+signs_written : (front : List ℕ) → list_all (is_one_of (codes "YB-")) front ≡ true → front ≡ map sign_of (map element_of front) ++ []
+signs_written front all = sym (append-nil (map sign_of (map element_of front)) ∙ signs_again front (all_of_bytes front all))
+
+pub blank_written : (bytes front : List ℕ) → list_all (is_one_of (codes "YB-")) front ≡ true → bytes ≡ codes " " ++ front → bytes ≡ written blank_and_signs (signs_parts (map element_of front))
+blank_written bytes front all e = e ∙ ap (λ (l : List ℕ). codes " " ++ l) (signs_written front all)
 
 pub some_map : {A B : Type 0} (f : A → B) (xs : List A) → xs ≢ [] → map f xs ≢ []
 some_map f [] some e = some refl
 some_map f (x ∷ xs) some e = absurd (cc)
 
--- some elements are spelled by a blank and their signs, and whatever is so spelled is a body of some
-pub signs_spelled : (x : Element) (e : List Element) → Spells blank_and_signs (part (map sign_of (x ∷ e)) none) (body_text (x ∷ e))
-signs_spelled x e =
-    let front = map sign_of (x ∷ e) in
-    let some : front ≡ [] → ⊥ = λ (k : front ≡ []). absurd (cc) in
-    (front, refl, ((some, all_of_signs front (all_signs (x ∷ e))), ([], sym (append-nil front), refl)))
+-- the row of some elements has a sign for each
+pub signs_are : (e : List Element) → e ≢ [] → AreParts signs (signs_parts e)
+signs_are e some = ((some_map sign_of e some, all_of_signs (map sign_of e) (all_signs e)), tt)
 
-pub signs_back : (parts : Parts) (bytes : List ℕ) → Spells blank_and_signs parts bytes → (e : List Element) × (e ≢ []) × (bytes ≡ body_text e)
+-- a body
+pub some_body : (e : List Element) → e ≢ [] → written blank_and_signs (signs_parts e) ≡ body_text e
+some_body [] some = absurd (some refl)
+some_body (x ∷ e) some = refl
+
+pub body_of : (bytes front : List ℕ) → front ≢ [] → list_all (is_one_of (codes "YB-")) front ≡ true → bytes ≡ codes " " ++ front → bytes ≡ body_text (map element_of front)
+body_of bytes front some all e = blank_written bytes front all e ∙ some_body (map element_of front) (some_map element_of front some)
+
+-- whatever is spelled by a blank and signs is written of some elements
+pub signs_back : (parts : Parts) (bytes : List ℕ) → Spells blank_and_signs parts bytes → (e : List Element) × (e ≢ []) × (bytes ≡ written blank_and_signs (signs_parts e))
 signs_back parts bytes h =
     let f = field_of (run (codes "YB-")) finish parts h.0 h.2 in
     let all = f.list ∙ ap (λ (l : List ℕ). f.front ++ l) (finished f.parts f.back f.spelled) ∙ append-nil f.front in
-    (map element_of f.front, some_map element_of f.front f.is_token.0, body_of bytes f.front f.is_token.0 f.is_token.1 (h.1 ∙ ap (λ (l : List ℕ). codes " " ++ l) all))
-
-pub no_body : (bytes : List ℕ) → length bytes ≡ 0 → bytes ≡ body_text (map element_of bytes)
-no_body [] e = refl
-no_body (b ∷ bytes) e = absurd (omega (arith, e))
+    (map element_of f.front, some_map element_of f.front f.is_token.0, blank_written bytes f.front f.is_token.1 (h.1 ∙ ap (λ (l : List ℕ). codes " " ++ l) all))
 
 pub checked_signs : (bytes front : List ℕ) → after (codes " ") bytes ≡ Ok front → (length front ≡ 0 → ⊥) → list_all (is_one_of (codes "YB-")) front ≡ true
     → (bytes ≡ codes " " ++ front) × IsToken (run (codes "YB-")) front
@@ -112,16 +118,6 @@ blank_missed rest [] left sound some h = absurd (some refl)
 blank_missed rest (b ∷ bytes) left sound some h =
     let few : left ≤ suc (length bytes) = fault_within (word (codes " ") rest) (b ∷ bytes) left sound h in
     both_miss finish (word (codes " ") rest) (b ∷ bytes) (suc (length bytes)) left left (no_end b bytes) h (omega (arith, few))
-
-pub no_blank : (bytes : List ℕ) (left : ℕ) → after (codes " ") bytes ≡ Err left → read blank_and_signs bytes ≡ Err left
-no_blank bytes left h = word_missed (codes " ") signs bytes left h
-
-pub no_sign : (bytes rest : List ℕ) (left : ℕ) → after (codes " ") bytes ≡ Ok rest → read_token (run (codes "YB-")) rest ≡ Err left → read blank_and_signs bytes ≡ Err left
-no_sign bytes rest left h k = word_on (codes " ") signs bytes rest left h (token_missed (run (codes "YB-")) finish rest left k)
-
-pub no_line_end : (bytes rest front back : List ℕ) (left : ℕ) → after (codes " ") bytes ≡ Ok rest → read_token (run (codes "YB-")) rest ≡ Ok (front, back) → ended back ≡ Err left
-    → read blank_and_signs bytes ≡ Err left
-no_line_end bytes rest front back left h k m = word_on (codes " ") signs bytes rest left h (token_on (run (codes "YB-")) finish rest front back left k (end_missed back left m))
 
 pub signs_behind_blank : IsBehindBlank signs
 unfolding read read_token
@@ -143,3 +139,19 @@ packed_body_of bytes front b (Ok (Some e)) list blank some is =
     body_of bytes front (λ (e : front ≡ []). some (ap length e)) (all_of_signs front is.0) (list ∙ ap (λ (x : ℕ). x ∷ front) blank) ∙ ap body_text (sym is.1)
 packed_body_of bytes front b (Ok None) list blank some is = tt
 packed_body_of bytes front b (Err e) list blank some is = tt
+
+-- a line has no fewer bytes than elements
+body_few : (e : List Element) → length e ≤ length (body_text e)
+body_few [] = omega arith
+body_few (x ∷ e) = omega (arith, length-map (x ∷ e) sign_of, length-append (map sign_of (x ∷ e)) [])
+
+text_few : (named : Bool) (group : ℕ) (e : List Element) → length e ≤ length (text_of_reception named group e)
+text_few false group e = omega (arith, body_few e)
+text_few true group e = omega (arith, length-append (decimal group) (body_text e), body_few e)
+
+pub reception_few : (group : ℕ) (e : List Element) (text : List ℕ) → IsLine (reception group e) text → length e ≤ length text
+reception_few group e text is = omega (arith, ap length is.1.1, text_few is.0 group e)
+
+pub stream_few : (e : List Element) (text : List ℕ) → IsStreamLine e text → length e ≤ length text
+stream_few e text (inl is) = omega (arith, ap length is.0)
+stream_few e text (inr is) = omega (arith, ap length is.1, length-map e sign_of, length-append (map sign_of e) [])

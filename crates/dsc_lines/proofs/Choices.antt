@@ -1,5 +1,5 @@
 -- files whose lines are of one kind or another: each line says one thing, and a list of bytes is one or has a column
-use Rattle.std.proofs.Common.{◌≡◌, ◌≢◌, ℕ, suc, zero, ◌≤◌, ◌==◌, ◌⊎◌, true, false, Option, Some, None, inl, inr, refl, sym, ◌∙◌, ap, List, [], ◌∷◌, ◌++◌, take, codes, arith, ◌+◌, map, length, drop, Err, subst, Ok}
+use Rattle.std.proofs.Common.{◌≡◌, ◌≢◌, ℕ, suc, zero, ◌≤◌, ◌==◌, ◌⊎◌, true, false, Option, Some, None, inl, inr, refl, sym, ◌∙◌, ap, List, [], ◌∷◌, ◌++◌, take, codes, arith, ◌+◌, map, length, drop, append-nil, Err, subst, Ok}
 use Rattle.std.proofs.lemmas.Bool.{eqb-false}
 use mathlib.Core.List.{head-eq_of_cons-eq}
 use Rattle.call_values.specs.declared.calls.Call.{Call}
@@ -11,7 +11,7 @@ use Rattle.slot_join.specs.declared.joined.Extra.{Extra}
 use Rattle.slot_join.specs.declared.joined.Extra.TheVariants.{Absent, Whole, Broken}
 use Rattle.line_grammar.specs.Columns.{Begins, IsColumn}
 use Rattle.line_grammar.specs.Grammar as grammars
-use Rattle.line_grammar.specs.Grammar.{Grammar, finish, anything, word, either, Spells, Parts, part}
+use Rattle.line_grammar.specs.Grammar.{Grammar, finish, anything, word, either, Spells, Parts, written}
 use Rattle.line_grammar.proofs.Chains.{finished, word_on, no_word}
 use Rattle.line_grammar.proofs.Grammars.{choice_back}
 use Rattle.line_grammar.proofs.Judged.{HasGrammar, IsJudged, judged, of_grammar, of_alike, of_choice}
@@ -34,7 +34,7 @@ use Rattle.dsc_lines.specs.declared.sentences.SentenceLine.TheVariants.{Said, Se
 use Rattle.dsc_lines.specs.BookLine.{is_sentence, IsBookLine}
 use Rattle.dsc_lines.specs.CallLine.{extra_of, IsCallLine}
 use Rattle.dsc_lines.specs.SentenceLine.{IsSentenceLine, SayTheSame}
-use Rattle.dsc_lines.specs.JoinLine.{IsNothing, sign_of, body_text, JoinLine, nothing, reception, evidence, IsLine}
+use Rattle.dsc_lines.specs.JoinLine.{IsNothing, sign_of, signs_parts, JoinLine, nothing, reception, evidence, IsLine}
 use Rattle.dsc_lines.specs.WorldLine.{IsWorldFileLine}
 use Rattle.std.specs.List.{list_all}
 use Rattle.ten_unit.specs.declared.character.Element.{Element}
@@ -42,9 +42,10 @@ use Rattle.ten_unit.specs.Signs.{element_of}
 use Rattle.line_grammar.specs.Tokens.{is_one_of}
 use Rattle.line_grammar.specs.inside.Reading.{after, read}
 use Rattle.line_grammar.proofs.Repeats.{read_stops}
-use Rattle.dsc_lines.specs.StreamLine.{IsStreamLine}
-use Rattle.dsc_lines.specs.inside.Reading.{blank_and_signs, elements_line}
-use Rattle.dsc_lines.proofs.Bodies.{body_of, some_map, signs_spelled, signs_back, elements_again}
+use Rattle.line_grammar.proofs.Written.{written_spells}
+use Rattle.dsc_lines.specs.StreamLine.{elements_line, IsStreamLine}
+use Rattle.dsc_lines.specs.inside.Reading.{blank_and_signs}
+use Rattle.dsc_lines.proofs.Bodies.{blank_written, some_map, signs_are, signs_back, elements_again}
 use Rattle.traffic_lines.specs.declared.lines.Point.{Point}
 use Rattle.traffic_lines.specs.declared.lines.TrafficLine.{TrafficLine}
 use Rattle.traffic_lines.specs.declared.lines.TrafficLine.TheVariants.{Ship, Coast, Base, Group, Event}
@@ -269,29 +270,28 @@ one_exchange one point (Some a) (Some b) text h k = ap Some (one a b text h.1 k.
 
 -- ---- lines of a stream
 
-no_elements : (e : List Element) (text : List ℕ) → IsNothing text → text ≡ codes "s" ++ body_text e → ⊥
-no_elements e text none is = let byte = nothing_byte 115 (body_text e) (subst IsNothing is none) in omega (arith, byte)
+no_elements : (e : List Element) (text : List ℕ) → IsNothing text → text ≡ written elements_line (signs_parts e) → ⊥
+no_elements e text none is = let byte = nothing_byte 115 (written blank_and_signs (signs_parts e)) (subst IsNothing is none) in omega (arith, byte)
 
-again : (e : List Element) → e ≢ [] → map element_of (drop 2 (codes "s" ++ body_text e)) ≡ e
-again [] some = absurd (some refl)
-again (x ∷ e) some = elements_again (x ∷ e)
+again : (e : List Element) → map element_of (drop 2 (written elements_line (signs_parts e))) ≡ e
+again e = ap (map element_of) (append-nil (map sign_of e)) ∙ elements_again e
 
 pub one_stream : (a b : List Element) (text : List ℕ) → IsStreamLine a text → IsStreamLine b text → a ≡ b
 one_stream a b text (inl h) (inl k) = h.0 ∙ sym k.0
 one_stream a b text (inl h) (inr k) = absurd (no_elements b text h.1 k.1)
 one_stream a b text (inr h) (inl k) = absurd (no_elements a text k.1 h.1)
-one_stream a b text (inr h) (inr k) = sym (again a h.0) ∙ ap (λ (l : List ℕ). map element_of (drop 2 l)) (sym h.1 ∙ k.1) ∙ again b k.0
+one_stream a b text (inr h) (inr k) = sym (again a) ∙ ap (λ (l : List ℕ). map element_of (drop 2 l)) (sym h.1 ∙ k.1) ∙ again b
 
 -- a line that was read
 pub elements_read : (text rest front : List ℕ) → text ≡ 115 ∷ rest → rest ≡ codes " " ++ front → front ≢ [] → list_all (is_one_of (codes "YB-")) front ≡ true → IsStreamLine (map element_of front) text
 elements_read text rest front e f some all =
-    inr (some_map element_of front some, e ∙ ap (λ (l : List ℕ). 115 ∷ l) (body_of rest front some all f))
+    inr (some_map element_of front some, e ∙ ap (λ (l : List ℕ). 115 ∷ l) (blank_written rest front all f))
 
 stream_spelled : (e : List Element) (text : List ℕ) → IsStreamLine e text → ((u : Unit {0}) × Nothings u text) ⊎ ((parts : Parts) × Spells elements_line parts text)
 unfolding Nothings
 stream_spelled e text (inl h) = inl (tt, h.1)
-stream_spelled [] text (inr h) = absurd (h.0 refl)
-stream_spelled (x ∷ e) text (inr h) = inr (part (map sign_of (x ∷ e)) grammars.none, (body_text (x ∷ e), h.1, signs_spelled x e))
+stream_spelled e text (inr h) =
+    inr (signs_parts e, subst (Spells elements_line (signs_parts e)) (sym h.1) (written_spells elements_line (signs_parts e) (signs_are e h.0)))
 
 stream_choice : IsChoice Nothings (Spells elements_line) IsStreamLine
 unfolding Nothings

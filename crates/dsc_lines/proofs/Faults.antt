@@ -1,8 +1,5 @@
 -- where a line is ill-formed
-use Rattle.ten_unit.specs.declared.character.Element.{Element}
-use Rattle.std.proofs.Common.{◌≡◌, ℕ, suc, ◌+◌, ◌≤◌, ◌<◌, min, List, [], ◌∷◌, ◌++◌, length, map, codes, Option, Some, IfSome, Err, refl, sym, ◌∙◌, ap, subst, append_assoc, arith}
-use Rattle.std.specs.List.{flat_map, All}
-use Rattle.ten_unit.specs.Signs.{element_of}
+use Rattle.std.proofs.Common.{◌≡◌, ℕ, suc, ◌≤◌, ◌<◌, min, List, [], ◌∷◌, length, codes, Option, Some, IfSome, Err, refl, sym, subst, arith}
 use Rattle.line_grammar.specs.Columns.{IsColumn}
 use Rattle.line_grammar.specs.Grammar.{finish, anything, word, either}
 use Rattle.line_grammar.specs.Repeats.{repeated}
@@ -10,8 +7,9 @@ use Rattle.line_grammar.specs.inside.Reading.{after, read}
 use Rattle.line_grammar.proofs.Stops.{Stops, IsColumn-stops}
 use Rattle.line_grammar.proofs.Repeats.{Stops-limit, reads_stop}
 use Rattle.line_grammar.proofs.Chains.{word_on, fault_within, both_miss, no_end, no_word}
-use Rattle.dsc_lines.specs.JoinLine.{reception, evidence, NamesGroup, body_text, IsPair, pair_text, IsLine}
-use Rattle.dsc_lines.specs.inside.Reading.{behind_blank, signs, grouped, pair, reception_line, evidence_line, join_lines}
+use Rattle.ten_unit.specs.declared.character.Element.{Element}
+use Rattle.dsc_lines.specs.JoinLine.{reception, behind_blank, signs, grouped, pair, reception_line, evidence_line, IsLine}
+use Rattle.dsc_lines.specs.inside.Reading.{join_lines}
 use Rattle.dsc_lines.proofs.WholeLines.{lines_limit, lines_sound}
 
 -- of a line that begins so, the grammar stops where the rest of its kind does
@@ -64,19 +62,9 @@ other_fault text rest b e no_comment no_r no_e =
     let stops = stops_of (b ∷ rest) 0 all (λ n large. lines_miss n b all all all rest no_comment (no_reception b rest no_r) (no_evidence n b rest no_e) (omega arith) (omega arith) (omega arith)) in
     subst (λ (l : List ℕ). IsColumn IsLine l 1) (sym e) (IsColumn-stops IsLine (b ∷ rest) all 1 stops (omega arith))
 
-pub reception_read : (text rest name front : List ℕ) (group : ℕ) → text ≡ 114 ∷ rest → NamesGroup group name → rest ≡ name ++ body_text (map element_of front) → IsLine (reception group (map element_of front)) text
-reception_read text rest name front group e names h =
-    (name, (names, e ∙ ap (λ (l : List ℕ). 114 ∷ l) h ∙ sym (append_assoc (codes "r") name (body_text (map element_of front)))))
-
-abbrev IsPacked : List ℕ → ℕ × List Element → Type 0
-IsPacked rest parts = (name : List ℕ) × (NamesGroup parts.0 name × (rest ≡ name ++ body_text parts.1))
-
+-- a reception that was packed
 pub packed_read : (read : Option (ℕ × List Element)) (text rest : List ℕ) (group : ℕ) (e : List Element) → read ≡ Some (group, e) → text ≡ 114 ∷ rest
-    → IfSome read (IsPacked rest) → IsLine (reception group e) text
+    → IfSome read (λ parts. IsLine (reception parts.0 parts.1) (114 ∷ rest)) → IsLine (reception group e) text
 packed_read read text rest group e here is packed =
-    let line = subst (λ (o : Option (ℕ × List Element)). IfSome o (IsPacked rest)) here packed in
-    (line.0, (line.1.0, is ∙ ap (λ (l : List ℕ). 114 ∷ l) line.1.1 ∙ sym (append_assoc (codes "r") line.0 (body_text e))))
-
-pub evidence_read : (text rest name : List ℕ) (pairs : List (ℕ × ℕ)) (group : ℕ) → text ≡ 101 ∷ rest → NamesGroup group name → All IsPair pairs → rest ≡ name ++ flat_map pair_text pairs → IsLine (evidence group pairs) text
-evidence_read text rest name pairs group e names all h =
-    (name, (names, (all, e ∙ ap (λ (l : List ℕ). 101 ∷ l) h ∙ sym (append_assoc (codes "e") name (flat_map pair_text pairs)))))
+    let line = subst (λ (o : Option (ℕ × List Element)). IfSome o (λ parts. IsLine (reception parts.0 parts.1) (114 ∷ rest))) here packed in
+    subst (IsLine (reception group e)) (sym is) line

@@ -1,13 +1,13 @@
 -- reading the group that a line names
-use Rattle.std.proofs.Common.{◌≡◌, ℕ, suc, ◌≤◌, min, Bool, true, false, ◌==◌, if◌then◌else◌, List, [], ◌∷◌, ◌++◌, length, codes, decimal, Result, Ok, Err, ◌⊎◌, inl, inr, refl, sym, ◌∙◌, ap, subst, length-append, arith}
+use Rattle.std.proofs.Common.{◌≡◌, ℕ, suc, ◌≤◌, min, Bool, true, false, ◌==◌, if◌then◌else◌, List, [], ◌∷◌, ◌++◌, length, codes, decimal, Result, Ok, Err, ◌⊎◌, inl, inr, refl, sym, ◌∙◌, ap, subst, append-nil, length-append, arith}
 use Rattle.std.proofs.lemmas.Bool.{eqb-true}
 use Rattle.line_grammar.specs.Tokens.{free_number, value_after}
-use Rattle.line_grammar.specs.Grammar.{Grammar, finish, word, field, Parts, second}
+use Rattle.line_grammar.specs.Grammar.{Grammar, finish, word, field, Parts, second, written}
 use Rattle.line_grammar.specs.inside.Reading.{after, ended, read_token, named, further, read}
 use Rattle.line_grammar.proofs.Chains.{after_list, word_missed, word_on, token_missed, token_on, fault_within, both_miss, no_end}
 use Rattle.line_grammar.proofs.Decimals.{number_read}
-use Rattle.dsc_lines.specs.JoinLine.{NamesGroup}
-use Rattle.dsc_lines.specs.inside.Reading.{IsBehindBlank, behind_blank, grouped}
+use Rattle.dsc_lines.specs.JoinLine.{behind_blank, grouped, group_parts}
+use Rattle.dsc_lines.specs.inside.Reading.{IsBehindBlank, IsNamed, group_text}
 
 -- a group's digits miss
 group_missed : (rest : Grammar) (digits : List ℕ) (left : ℕ) → IsBehindBlank rest → left ≤ length digits → read (field (free_number 0 4294967295) (behind_blank rest)) digits ≡ Err left
@@ -28,10 +28,19 @@ no_number bytes digits left e h rest blank =
 
 -- a group was read
 pub group_named : (bytes digits front back : List ℕ) (n : ℕ) → after (codes " g") bytes ≡ Ok digits → read_token (free_number 0 4294967295) digits ≡ Ok (front, back) → value_after 0 front ≡ n
-    → (name : List ℕ) × (NamesGroup n name × (bytes ≡ name ++ back))
+    → IsNamed n bytes back
 group_named bytes digits front back n e h v =
     let number = number_read 0 4294967295 n digits front back (omega arith) (omega arith) h v in
-    (codes " g" ++ decimal n, (inr (omega (arith, number.2), refl), after_list (codes " g") bytes digits e ∙ ap (λ (l : List ℕ). codes " g" ++ l) number.0))
+    let text = number.0 ∙ ap (λ (l : List ℕ). l ++ back) (sym (append-nil (decimal n))) in
+    (true, (omega (arith, number.2), after_list (codes " g") bytes digits e ∙ ap (λ (l : List ℕ). codes " g" ++ l) text))
+
+-- what a group and what follows it are written of
+joined : (named : Bool) (group : ℕ) (G : Grammar) (q : Parts) → group_text named group ++ written G q ≡ written (grouped G) (group_parts named group q)
+joined false group G q = refl
+joined true group G q = ap (λ (l : List ℕ). codes " g" ++ (l ++ written G q)) (append-nil (decimal group))
+
+pub named_written : (group : ℕ) (bytes back : List ℕ) (name : IsNamed group bytes back) (G : Grammar) (q : Parts) → back ≡ written G q → bytes ≡ written (grouped G) (group_parts name.0 group q)
+named_written group bytes back name G q e = name.1.1 ∙ ap (λ (l : List ℕ). group_text name.0 group ++ l) e ∙ joined name.0 group G q
 
 pub no_rest : (bytes digits front back : List ℕ) (n : ℕ) → after (codes " g") bytes ≡ Ok digits → read_token (free_number 0 4294967295) digits ≡ Ok (front, back) → value_after 0 front ≡ n
     → (rest : Grammar) (left : ℕ) → IsBehindBlank rest → read (behind_blank rest) back ≡ Err left → read (grouped (behind_blank rest)) bytes ≡ Err left

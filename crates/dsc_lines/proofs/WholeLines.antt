@@ -1,44 +1,47 @@
 -- whole lines: the grammars have the lines of join's input
-use Rattle.std.proofs.Common.{◌≡◌, ℕ, zero, suc, ◌+◌, ◌≤◌, ◌<◌, true, List, [], ◌∷◌, ◌++◌, length, map, codes, decimal, inl, inr, refl, sym, ◌∙◌, ap, subst, append_assoc, arith}
-use Rattle.std.specs.List.{flat_map, All}
+use Rattle.std.proofs.Common.{◌≡◌, ℕ, zero, suc, ◌+◌, ◌≤◌, ◌<◌, Bool, true, false, List, [], ◌∷◌, ◌++◌, length, map, codes, decimal, inl, inr, refl, sym, ◌∙◌, ap, subst, append-nil, arith}
+use Rattle.std.specs.List.{All}
 use Rattle.std.proofs.lemmas.Bool.{and_from}
 use Rattle.std.proofs.lemmas.List.Elements.{All-append, All-cons, All-nil}
 use Rattle.ten_unit.specs.declared.character.Element.{Element}
 use Rattle.ten_unit.specs.Signs.{element_of}
 use Rattle.line_grammar.specs.Tokens.{free_number, value_after, IsNumber}
-use Rattle.line_grammar.specs.Grammar.{Grammar, finish, anything, word, field, either, Parts, none, part, first, second, Spells}
+use Rattle.line_grammar.specs.Grammar.{Grammar, finish, anything, word, field, either, Parts, none, part, first, second, Spells, written}
 use Rattle.line_grammar.specs.Repeats.{repeated}
 use Rattle.line_grammar.specs.inside.Soundness.{is_sound, is_unambiguous}
+use Rattle.line_grammar.specs.Bytes.{letter_e, letter_r}
 use Rattle.line_grammar.proofs.Fields.{field_of}
+use Rattle.line_grammar.proofs.Written.{written_spells}
 use Rattle.line_grammar.proofs.Grammars.{choice_back}
 use Rattle.line_grammar.proofs.Apart.{one_reading}
 use Rattle.line_grammar.proofs.Repeats.{IsLimit}
 use Rattle.line_grammar.proofs.Decimals.{number_text, decimal_number, decimal_value}
 use Rattle.line_grammar.proofs.Chains.{finished}
-use Rattle.dsc_lines.specs.JoinLine.{JoinLine, nothing, reception, evidence, sign_of, NamesGroup, body_text, IsPair, pair_text, IsLine}
-use Rattle.dsc_lines.specs.inside.Reading.{behind_blank, signs, grouped, pair, reception_line, evidence_line, join_lines}
-use Rattle.dsc_lines.proofs.Bodies.{signs_spelled, signs_back, elements_again}
-use Rattle.dsc_lines.proofs.Pairs.{pairs_sound, pair_text_is}
+use Rattle.dsc_lines.specs.JoinLine.{JoinLine, nothing, reception, evidence, signs, behind_blank, body_parts, grouped, group_parts, IsGroup, pair, pairs_parts, IsPair, reception_line, evidence_line, IsLine}
+use Rattle.dsc_lines.specs.inside.Reading.{join_lines, body_text, pairs_text, IsNamed}
+use Rattle.dsc_lines.proofs.Bodies.{signs_are, some_body, signs_back, elements_again}
+use Rattle.dsc_lines.proofs.NamedGroups.{named_written}
+use Rattle.dsc_lines.proofs.Pairs.{pairs_sound}
 
 -- what the parts of a line say
-pub group_in : Parts → ℕ
+abbrev pub group_in : Parts → ℕ
 group_in (second (part digits rest)) = value_after 0 digits
 group_in _ = 0
 
-pub rest_in : Parts → Parts
+abbrev pub rest_in : Parts → Parts
 rest_in (first rest) = rest
 rest_in (second (part digits rest)) = rest
 rest_in _ = none
 
-pub elements_in : Parts → List Element
+abbrev pub elements_in : Parts → List Element
 elements_in (second (part front rest)) = map element_of front
 elements_in _ = []
 
-pub pairs_in : Parts → List (ℕ × ℕ)
+abbrev pub pairs_in : Parts → List (ℕ × ℕ)
 pairs_in (second (part place (part symbol rest))) = (value_after 0 place, value_after 0 symbol) ∷ pairs_in rest
 pairs_in _ = []
 
-pub line_in : Parts → JoinLine
+abbrev pub line_in : Parts → JoinLine
 line_in (second (second (first parts))) = reception (group_in parts) (elements_in (rest_in parts))
 line_in (second (second (second parts))) = evidence (group_in parts) (pairs_in (rest_in parts))
 line_in _ = nothing
@@ -50,34 +53,25 @@ pub record IsSpelled (G : Grammar) (text : List ℕ) {A : Type 0} (says : Parts 
   pub is : says parts ≡ value
 
 body_spelled : (e : List Element) → IsSpelled (behind_blank signs) (body_text e) elements_in e
-unfolding elements_in
 body_spelled [] = record { parts = first none; spelled = refl; is = refl }
-body_spelled (x ∷ e) = record { parts = second (part (map sign_of (x ∷ e)) none); spelled = signs_spelled x e; is = elements_again (x ∷ e) }
+body_spelled (x ∷ e) = record {
+  parts = body_parts (x ∷ e);
+  spelled = written_spells (behind_blank signs) (body_parts (x ∷ e)) (signs_are (x ∷ e) (λ (k : x ∷ e ≡ []). absurd (cc)));
+  is = elements_again (x ∷ e);
+}
 
-pairs_spelled : (n : ℕ) (pairs : List (ℕ × ℕ)) → length pairs < n → All IsPair pairs → IsSpelled (repeated pair n) (flat_map pair_text pairs) pairs_in pairs
-unfolding pairs_in
+pairs_spelled : (n : ℕ) (pairs : List (ℕ × ℕ)) → length pairs < n → All IsPair pairs → IsSpelled (repeated pair n) (pairs_text pairs) pairs_in pairs
 pairs_spelled zero pairs few all = absurd (omega (arith, few))
 pairs_spelled (suc n) [] few all = record { parts = first none; spelled = refl; is = refl }
 pairs_spelled (suc n) (x ∷ pairs) few all =
     let is = all 0 x (omega arith) in
     let more = pairs_spelled n pairs (omega (arith, few)) (λ k d below. all (suc k) d (omega (arith, below))) in
-    let text = flat_map pair_text pairs in
-    let symbol = decimal x.1 ++ text in
-    let place = decimal x.0 ++ (codes ":" ++ symbol) in
+    let place = decimal_number 0 63 x.0 (omega arith) (omega (arith, is.0)) (omega arith) in
+    let symbol = decimal_number 0 127 x.1 (omega arith) (omega (arith, is.1)) (omega arith) in
+    let text = decimal x.1 ++ pairs_text pairs in
     record {
       parts = second (part (decimal x.0) (part (decimal x.1) more.parts));
-      spelled = (
-        place,
-        pair_text_is x text ∙ ap (λ (l : List ℕ). codes " " ++ l) (append_assoc (decimal x.0) (codes ":" ++ decimal x.1) text),
-        (
-          decimal_number 0 63 x.0 (omega arith) (omega (arith, is.0)) (omega arith),
-          (
-            codes ":" ++ symbol,
-            refl,
-            (symbol, refl, (decimal_number 0 127 x.1 (omega arith) (omega (arith, is.1)) (omega arith), (text, refl, more.spelled))),
-          ),
-        ),
-      );
+      spelled = (decimal x.0 ++ (codes ":" ++ text), refl, (place, (codes ":" ++ text, refl, (text, refl, (symbol, (pairs_text pairs, refl, more.spelled))))));
       is = ap (λ (p : ℕ). (p, value_after 0 (decimal x.1)) ∷ pairs_in more.parts) (decimal_value x.0 (omega (arith, is.0)))
           ∙ ap (λ (v : ℕ). (x.0, v) ∷ pairs_in more.parts) (decimal_value x.1 (omega (arith, is.1)))
           ∙ ap (λ (l : List (ℕ × ℕ)). x ∷ l) more.is;
@@ -90,48 +84,38 @@ pub record IsGrouped (G : Grammar) (text : List ℕ) (group : ℕ) (rest : Parts
   pub group_is : group_in parts ≡ group
   pub rest_is : rest_in parts ≡ rest
 
-group_spelled : (G : Grammar) (group : ℕ) (name body : List ℕ) (rest : Parts) → NamesGroup group name → Spells G rest body → IsGrouped G (name ++ body) group rest
-unfolding group_in rest_in
-group_spelled G group name body rest (inl h) spelled = record {
-  parts = first rest;
-  spelled = subst (λ (l : List ℕ). Spells G rest (l ++ body)) (sym h.1) spelled;
-  group_is = sym h.0;
-  rest_is = refl;
-}
-group_spelled G group name body rest (inr h) spelled = record {
+-- whatever grammar wrote what follows, another one spells it
+group_spelled : (G H : Grammar) (named : Bool) (group : ℕ) (q rest : Parts) → IsGroup named group → Spells G rest (written H q) → IsGrouped G (written (grouped H) (group_parts named group q)) group rest
+group_spelled G H false group q rest is spelled = record { parts = first rest; spelled = spelled; group_is = sym is; rest_is = refl }
+group_spelled G H true group q rest is spelled = record {
   parts = second (part (decimal group) rest);
-  spelled = (
-    decimal group ++ body,
-    ap (λ (l : List ℕ). l ++ body) h.1 ∙ append_assoc (codes " g") (decimal group) body,
-    (decimal_number 0 4294967295 group (omega arith) (omega (arith, h.0)) (omega arith), (body, refl, spelled)),
-  );
-  group_is = decimal_value group (omega (arith, h.0));
+  spelled = (decimal group ++ written H q, refl, (decimal_number 0 4294967295 group (omega arith) (omega (arith, is)) (omega arith), (written H q, refl, spelled)));
+  group_is = decimal_value group (omega (arith, is));
   rest_is = refl;
 }
 
 -- how many pairs a line has
-pub pairs_of : JoinLine → List (ℕ × ℕ)
+abbrev pub pairs_of : JoinLine → List (ℕ × ℕ)
 pairs_of (evidence group pairs) = pairs
 pairs_of _ = []
 
 pub line_spelled : (w : JoinLine) (text : List ℕ) (n : ℕ) → IsLine w text → length (pairs_of w) < n → IsSpelled (join_lines n) text line_in w
-unfolding line_in pairs_of
 line_spelled nothing text n (inl e) few = record { parts = first none; spelled = e; is = refl }
 line_spelled nothing text n (inr h) few = record { parts = second (first none); spelled = (h.0, h.1, tt); is = refl }
 line_spelled (reception group e) text n h few =
     let body = body_spelled e in
-    let g = group_spelled (behind_blank signs) group h.0 (body_text e) body.parts h.1.0 body.spelled in
+    let g = group_spelled (behind_blank signs) (behind_blank signs) h.0 group (body_parts e) body.parts h.1.0 body.spelled in
     record {
       parts = second (second (first g.parts));
-      spelled = (h.0 ++ body_text e, h.1.1 ∙ append_assoc (codes "r") h.0 (body_text e), g.spelled);
+      spelled = (written (grouped (behind_blank signs)) (group_parts h.0 group (body_parts e)), h.1.1, g.spelled);
       is = ap (λ (k : ℕ). reception k (elements_in (rest_in g.parts))) g.group_is ∙ ap (λ (p : Parts). reception group (elements_in p)) g.rest_is ∙ ap (reception group) body.is;
     }
 line_spelled (evidence group pairs) text n h few =
     let all = pairs_spelled n pairs few h.1.1.0 in
-    let g = group_spelled (repeated pair n) group h.0 (flat_map pair_text pairs) all.parts h.1.0 all.spelled in
+    let g = group_spelled (repeated pair n) (repeated pair (length pairs)) h.0 group (pairs_parts pairs) all.parts h.1.0 all.spelled in
     record {
       parts = second (second (second g.parts));
-      spelled = (h.0 ++ flat_map pair_text pairs, h.1.1.1 ∙ append_assoc (codes "e") h.0 (flat_map pair_text pairs), g.spelled);
+      spelled = (written (grouped (repeated pair (length pairs))) (group_parts h.0 group (pairs_parts pairs)), h.1.1.1, g.spelled);
       is = ap (λ (k : ℕ). evidence k (pairs_in (rest_in g.parts))) g.group_is ∙ ap (λ (p : Parts). evidence group (pairs_in p)) g.rest_is ∙ ap (evidence group) all.is;
     }
 
@@ -140,29 +124,25 @@ body_back : (parts : Parts) (bytes : List ℕ) → Spells (behind_blank signs) p
 body_back parts bytes h =
     elim (choice_back finish (word (codes " ") signs) parts bytes h) [
       | inl k ↦ ([], finished k.0 bytes k.1)
-      | inr k ↦ (let s = signs_back k.0 bytes k.1 in (s.0, s.2))
+      | inr k ↦ (let s = signs_back k.0 bytes k.1 in (s.0, s.2 ∙ some_body s.0 s.1))
     ]
 
 -- pairs, and that each is one
-AreAll : List ℕ → Type 0
-AreAll text = (pairs : List (ℕ × ℕ)) × (All IsPair pairs × (text ≡ flat_map pair_text pairs))
+abbrev AreAll : List ℕ → Type 0
+AreAll text = (pairs : List (ℕ × ℕ)) × (All IsPair pairs × (text ≡ pairs_text pairs))
 
 pair_more : (bytes a place b d symbol back : List ℕ) → bytes ≡ codes " " ++ a → IsNumber 0 63 place → a ≡ place ++ b → b ≡ codes ":" ++ d → IsNumber 0 127 symbol → d ≡ symbol ++ back → AreAll back → AreAll bytes
-unfolding AreAll
 pair_more bytes a place b d symbol back e is_place f g is_symbol h more =
     let p = value_after 0 place in
     let v = value_after 0 symbol in
     let x : ℕ × ℕ = (p, v) in
-    let text = flat_map pair_text more.0 in
     let is : IsPair x = (omega (arith, is_place.high), omega (arith, is_symbol.high)) in
-    let symbol_on : d ≡ decimal v ++ text = h ∙ ap (λ (l : List ℕ). l ++ back) (sym (number_text 0 127 symbol (omega arith) is_symbol)) ∙ ap (λ (l : List ℕ). decimal v ++ l) more.1.1 in
-    let colon_on : b ≡ (codes ":" ++ decimal v) ++ text = g ∙ ap (λ (l : List ℕ). codes ":" ++ l) symbol_on in
-    let place_on : a ≡ (decimal p ++ (codes ":" ++ decimal v)) ++ text =
-    f ∙ ap (λ (l : List ℕ). l ++ b) (sym (number_text 0 63 place (omega arith) is_place)) ∙ ap (λ (l : List ℕ). decimal p ++ l) colon_on ∙ sym (append_assoc (decimal p) (codes ":" ++ decimal v) text) in
-    (x ∷ more.0, (All-append IsPair (x ∷ []) more.0 (All-cons IsPair x [] is (All-nil IsPair)) more.1.0, e ∙ ap (λ (l : List ℕ). codes " " ++ l) place_on ∙ sym (pair_text_is x text)))
+    let symbol_on : d ≡ decimal v ++ pairs_text more.0 = h ∙ ap (λ (l : List ℕ). l ++ back) (sym (number_text 0 127 symbol (omega arith) is_symbol)) ∙ ap (λ (l : List ℕ). decimal v ++ l) more.1.1 in
+    let place_on : a ≡ decimal p ++ (codes ":" ++ (decimal v ++ pairs_text more.0)) =
+    f ∙ ap (λ (l : List ℕ). l ++ b) (sym (number_text 0 63 place (omega arith) is_place)) ∙ ap (λ (l : List ℕ). decimal p ++ l) (g ∙ ap (λ (l : List ℕ). codes ":" ++ l) symbol_on) in
+    (x ∷ more.0, (All-append IsPair (x ∷ []) more.0 (All-cons IsPair x [] is (All-nil IsPair)) more.1.0, e ∙ ap (λ (l : List ℕ). codes " " ++ l) place_on))
 
 no_more_pairs : (bytes : List ℕ) → bytes ≡ [] → AreAll bytes
-unfolding AreAll
 no_more_pairs bytes e = ([], ((λ k d below. absurd (omega (arith, below))), e))
 
 pairs_back : (n : ℕ) (parts : Parts) (bytes : List ℕ) → Spells (repeated pair n) parts bytes → AreAll bytes
@@ -178,43 +158,47 @@ pairs_back (suc n) parts bytes h =
 
 pub record HasGroup (G : Grammar) (bytes : List ℕ) : Type 0 where
   pub group : ℕ
-  pub name : List ℕ
   pub body : List ℕ
   pub parts : Parts
-  pub names : NamesGroup group name
-  pub list : bytes ≡ name ++ body
+  pub name : IsNamed group bytes body
   pub spelled : Spells G parts body
 
 group_back : (G : Grammar) (parts : Parts) (bytes : List ℕ) → Spells (grouped G) parts bytes → HasGroup G bytes
 group_back G parts bytes h =
     elim (choice_back G (word (codes " g") (field (free_number 0 4294967295) G)) parts bytes h) [
-      | inl k ↦ record { group = 0; name = []; body = bytes; parts = k.0; names = inl (refl, refl); list = refl; spelled = k.1 }
+      | inl k ↦ record { group = 0; body = bytes; parts = k.0; name = (false, (refl, refl)); spelled = k.1 }
       | inr k ↦
           let f = field_of (free_number 0 4294967295) G k.0 k.1.0 k.1.2 in
           let n = value_after 0 f.front in
+          let digits = sym (number_text 0 4294967295 f.front (omega arith) f.is_token) ∙ sym (append-nil (decimal n)) in
           record {
             group = n;
-            name = codes " g" ++ decimal n;
             body = f.back;
             parts = f.parts;
-            names = inr (omega (arith, f.is_token.high), refl);
-            list = k.1.1 ∙ ap (λ (l : List ℕ). codes " g" ++ l) (f.list ∙ ap (λ (l : List ℕ). l ++ f.back) (sym (number_text 0 4294967295 f.front (omega arith) f.is_token)));
+            name = (true, (omega (arith, f.is_token.high), k.1.1 ∙ ap (λ (l : List ℕ). codes " g" ++ l) (f.list ∙ ap (λ (l : List ℕ). l ++ f.back) digits)));
             spelled = f.spelled;
           }
     ]
+
+-- a group and a body are a reception behind an r, and a group and pairs evidence behind an e
+pub reception_of : (group : ℕ) (e : List Element) (bytes back : List ℕ) → IsNamed group bytes back → back ≡ body_text e → IsLine (reception group e) (letter_r ∷ bytes)
+reception_of group e bytes back name is = (name.0, (name.1.0, ap (λ (l : List ℕ). letter_r ∷ l) (named_written group bytes back name (behind_blank signs) (body_parts e) is)))
+
+pub evidence_of : (group : ℕ) (pairs : List (ℕ × ℕ)) (bytes back : List ℕ) → IsNamed group bytes back → All IsPair pairs → back ≡ pairs_text pairs → IsLine (evidence group pairs) (letter_e ∷ bytes)
+evidence_of group pairs bytes back name all is =
+    (name.0, (name.1.0, (all, ap (λ (l : List ℕ). letter_e ∷ l) (named_written group bytes back name (repeated pair (length pairs)) (pairs_parts pairs) is))))
 
 reception_back : (parts : Parts) (bytes : List ℕ) → Spells reception_line parts bytes → (w : JoinLine) × IsLine w bytes
 reception_back parts bytes h =
     let g = group_back (behind_blank signs) parts h.0 h.2 in
     let body = body_back g.parts g.body g.spelled in
-    (reception g.group body.0, (g.name, (g.names, h.1 ∙ ap (λ (l : List ℕ). codes "r" ++ l) (g.list ∙ ap (λ (l : List ℕ). g.name ++ l) body.1))))
+    (reception g.group body.0, subst (IsLine (reception g.group body.0)) (sym h.1) (reception_of g.group body.0 h.0 g.body g.name body.1))
 
 evidence_back : (n : ℕ) (parts : Parts) (bytes : List ℕ) → Spells (evidence_line n) parts bytes → (w : JoinLine) × IsLine w bytes
-unfolding AreAll
 evidence_back n parts bytes h =
     let g = group_back (repeated pair n) parts h.0 h.2 in
     let all = pairs_back n g.parts g.body g.spelled in
-    (evidence g.group all.0, (g.name, (g.names, (all.1.0, h.1 ∙ ap (λ (l : List ℕ). codes "e" ++ l) (g.list ∙ ap (λ (l : List ℕ). g.name ++ l) all.1.1)))))
+    (evidence g.group all.0, subst (IsLine (evidence g.group all.0)) (sym h.1) (evidence_of g.group all.0 h.0 g.body g.name all.1.0 all.1.1))
 
 line_back : (n : ℕ) (parts : Parts) (bytes : List ℕ) → Spells (join_lines n) parts bytes → (w : JoinLine) × IsLine w bytes
 line_back n parts bytes h =

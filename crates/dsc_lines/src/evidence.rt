@@ -1,15 +1,13 @@
 //! Lines of evidence.
-ghost use Rattle.std.specs.Prelude.{◌≡◌, ◌∷◌, ◌++◌, ◌<◌, ℕ, List, length, codes, All, IfOk, IfErr, Err};
-ghost use Rattle.std.specs.List.{flat_map};
+ghost use Rattle.std.specs.Prelude.{◌≡◌, ◌∷◌, ◌++◌, ◌<◌, ℕ, List, [], length, codes, All, IfOk, IfErr, Err};
 ghost use Rattle.line_grammar.specs.Bytes.{letter_e};
 ghost use Rattle.slot_evidence.specs.Sheet.{IsEnds};
 ghost use Rattle.line_grammar.specs.Grammar.{Grammar, word as behind};
 ghost use Rattle.line_grammar.specs.Repeats.{repeated};
 ghost use Rattle.line_grammar.specs.inside.Reading.{read};
-ghost use Rattle.dsc_lines.specs.JoinLine.{JoinLine as Line, IsLine, IsPair, pair_text};
+ghost use Rattle.dsc_lines.specs.JoinLine.{JoinLine as Line, IsLine, IsPair, grouped, pair as pair_row};
 ghost use Rattle.dsc_lines.specs.Lines.{ReadsJoin, Says, facts_of_pairs};
-ghost use Rattle.dsc_lines.specs.inside.Reading as reading;
-ghost use Rattle.dsc_lines.specs.inside.Reading.{grouped};
+ghost use Rattle.dsc_lines.specs.inside.Reading.{pairs_text};
 
 use crate::fault::LineFault;
 use crate::groups::group;
@@ -19,11 +17,11 @@ use slot_evidence::Sheet;
 
 /// A place and a symbol behind a blank, and what follows them.
 fn pair(bytes: &[u8]) -> Result<((u8, u8), &[u8]), Left>
-    ensures pair { IfOk result (λ parts. IsPair parts.0 × (bytes.now ≡ pair_text parts.0 ++ parts.1.now)) }
+    ensures pair { IfOk result (λ parts. IsPair parts.0 × (bytes.now ≡ pairs_text (parts.0 ∷ []) ++ parts.1.now)) }
     ensures goes_on { IfOk result (λ parts. (rest : Grammar) (left : ℕ) → read rest parts.1.now ≡ Err left
-        → read (behind (codes " ") (reading.pair rest)) bytes.now ≡ Err left) }
+        → read (behind (codes " ") (pair_row rest)) bytes.now ≡ Err left) }
     ensures left { IfErr result (λ left. (rest : Grammar)
-        → read (behind (codes " ") (reading.pair rest)) bytes.now ≡ Err left) }
+        → read (behind (codes " ") (pair_row rest)) bytes.now ≡ Err left) }
 {
     let rest = word(b" ", bytes)?;
     let (place, rest) = free_number(0, 63, rest)?;
@@ -35,9 +33,9 @@ fn pair(bytes: &[u8]) -> Result<((u8, u8), &[u8]), Left>
 /// The sheet of any number of pairs, up to the end of the line.
 fn pairs(bytes: &[u8]) -> Result<Sheet, Left>
     ensures pairs { IfOk result (λ sheet. (pairs : List (ℕ × ℕ))
-        × (All IsPair pairs × ((bytes.now ≡ flat_map pair_text pairs) × IsEnds (facts_of_pairs pairs) sheet))) }
+        × (All IsPair pairs × ((bytes.now ≡ pairs_text pairs) × IsEnds (facts_of_pairs pairs) sheet))) }
     ensures left { IfErr result (λ left. (n : ℕ) → length bytes.now < n
-        → read (repeated reading.pair n) bytes.now ≡ Err left) }
+        → read (repeated pair_row n) bytes.now ≡ Err left) }
 {
     let mut sheet = Sheet::empty();
     let mut rest = bytes;
@@ -53,7 +51,7 @@ fn pairs(bytes: &[u8]) -> Result<Sheet, Left>
 fn evidence(bytes: &[u8]) -> Result<JoinLine, Left>
     ensures line { IfOk result (λ read. (says : Line) × (IsLine says (letter_e ∷ bytes.now) × Says says read)) }
     ensures left { IfErr result (λ left. (n : ℕ) → length bytes.now < n
-        → read (grouped (repeated reading.pair n)) bytes.now ≡ Err left) }
+        → read (grouped (repeated pair_row n)) bytes.now ≡ Err left) }
 {
     let (group, rest) = group(bytes)?;
     let sheet = pairs(rest)?;

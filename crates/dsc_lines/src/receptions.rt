@@ -1,15 +1,15 @@
 //! Lines of receptions.
-ghost use Rattle.std.specs.Prelude.{◌≡◌, ◌∷◌, ◌++◌, ℕ, true, List, map, codes, IfOk, IfErr, IfSome, Err};
+ghost use Rattle.std.specs.Prelude.{◌≡◌, ◌∷◌, ◌++◌, true, map, codes, IfOk, IfErr, IfSome, Err};
 ghost use Rattle.std.specs.List.{list_all};
 ghost use Rattle.ten_unit.specs.Signs.{element_of, is_sign};
 ghost use Rattle.line_grammar.specs.Bytes.{letter_r};
 ghost use Rattle.line_grammar.specs.Tokens as tokens;
 ghost use Rattle.line_grammar.specs.Tokens.{is_one_of, IsToken};
 ghost use Rattle.line_grammar.specs.inside.Reading.{read};
-ghost use Rattle.dsc_lines.specs.JoinLine.{NamesGroup, body_text};
+ghost use Rattle.dsc_lines.specs.JoinLine as lines;
+ghost use Rattle.dsc_lines.specs.JoinLine.{behind_blank, grouped, reception, IsLine};
 ghost use Rattle.dsc_lines.specs.Lines.{ReadsJoin};
-ghost use Rattle.dsc_lines.specs.inside.Reading as reading;
-ghost use Rattle.dsc_lines.specs.inside.Reading.{behind_blank, blank_and_signs, grouped};
+ghost use Rattle.dsc_lines.specs.inside.Reading.{blank_and_signs, body_text};
 
 use crate::fault::LineFault;
 use crate::groups::group;
@@ -48,7 +48,7 @@ pub(crate) fn signs(bytes: &[u8]) -> Result<&[u8], Left>
 fn body(bytes: &[u8]) -> Result<&[u8], Left>
     ensures signs { IfOk result (λ signs. (list_all is_sign signs.now ≡ true)
         × (bytes.now ≡ body_text (map element_of signs.now))) }
-    ensures left { IfErr result (λ left. read (behind_blank reading.signs) bytes.now ≡ Err left) }
+    ensures left { IfErr result (λ left. read (behind_blank lines.signs) bytes.now ≡ Err left) }
 {
     if bytes.is_empty() {
         return Ok(bytes);
@@ -59,9 +59,8 @@ fn body(bytes: &[u8]) -> Result<&[u8], Left>
 /// The group and the signs of a reception, behind its `r`.
 fn group_and_signs(bytes: &[u8]) -> Result<(u32, &[u8]), Left>
     ensures signs { IfOk result (λ parts. list_all is_sign parts.1.now ≡ true) }
-    ensures line { IfOk result (λ parts. (name : List ℕ)
-        × (NamesGroup parts.0 name × (bytes.now ≡ name ++ body_text (map element_of parts.1.now)))) }
-    ensures left { IfErr result (λ left. read (grouped (behind_blank reading.signs)) bytes.now ≡ Err left) }
+    ensures line { IfOk result (λ parts. IsLine (reception parts.0 (map element_of parts.1.now)) (letter_r ∷ bytes.now)) }
+    ensures left { IfErr result (λ left. read (grouped (behind_blank lines.signs)) bytes.now ≡ Err left) }
 {
     let (group, rest) = group(bytes)?;
     let signs = body(rest)?;
@@ -91,8 +90,7 @@ fn packed_body(alloc: Global, bytes: &[u8]) -> Result<Option<Reception>, AllocEr
 
 /// The group and the elements of a reception, behind its `r`, where it has some. Most lines are read by this.
 fn packed_line(alloc: Global, bytes: &[u8]) -> Result<Option<(u32, Reception)>, AllocError>
-    ensures { IfOk result (λ read. IfSome read (λ parts. (name : List ℕ)
-        × (NamesGroup parts.0 name × (bytes.now ≡ name ++ body_text parts.1)))) }
+    ensures { IfOk result (λ read. IfSome read (λ parts. IsLine (reception parts.0 parts.1) (letter_r ∷ bytes.now))) }
 {
     let Ok((group, body)) = group(bytes) else {
         return Ok(None);

@@ -1,12 +1,12 @@
 -- What `encode` writes: this project's profile.
-use Rattle.std.specs.Prelude.{◌≡◌, ℕ, suc, Bool, Option, List, [], ◌∷◌, ◌++◌, codes, decimal}
+use Rattle.std.specs.Prelude.{◌≡◌, ℕ, suc, Bool, true, Option, List, [], ◌∷◌, ◌++◌}
 use Rattle.line_grammar.specs.Bytes.{line_feed}
 use Rattle.call_values.specs.declared.calls.Call.{Call}
 use Rattle.expansion.specs.declared.values.Sets.{Sets}
 use Rattle.line_grammar.specs.Columns.{IsColumn}
 use Rattle.line_engine.specs.Lines.{Lines}
 use Rattle.line_engine.specs.Meaning.{Meaning}
-use Rattle.dsc_lines.specs.JoinLine.{body_text}
+use Rattle.dsc_lines.specs.JoinLine.{text_of_reception}
 use Rattle.dsc_lines.specs.declared.calls.CallLine.{CallLine}
 use Rattle.dsc_lines.specs.declared.calls.CallLine.TheVariants as line
 use Rattle.dsc_lines.specs.CallLine.{IsCallLine}
@@ -27,7 +27,7 @@ calls_of (line.Call c expansion ∷ said) = (c, expansion) ∷ calls_of said
 
 -- the reception line of a call: its group has the call's number
 unfoldable pub encoded_line : Bool → ℕ → Call × Option Sets → List ℕ
-encoded_line long number (c, expansion) = codes "r g" ++ (decimal number ++ (body_text (transmitted long c expansion) ++ line_feed ∷ []))
+encoded_line long number (c, expansion) = text_of_reception true number (transmitted long c expansion) ++ line_feed ∷ []
 
 -- the lines of calls, numbered from here on
 unfoldable pub encoded : Bool → ℕ → List (Call × Option Sets) → List ℕ

@@ -1,11 +1,10 @@
 -- the texts of evidence: how long they are, and what is read of them
 use Rattle.std.proofs.Common.{◌≡◌, ℕ, zero, suc, ◌+◌, ◌≤◌, ◌<◌, ◌^◌, ◌==◌, ◌&&◌, ◌||◌, nat_lt, Bool, true, false, List, [], ◌∷◌, ◌++◌, length, codes, decimal, Result, Ok, Err, ◌⊎◌, inl, inr, refl, sym, ◌∙◌, ap, subst, append_assoc, append-nil, arith}
-use Rattle.std.specs.List.{flat_map, list_any, All}
+use Rattle.std.specs.List.{list_any, All}
 use Rattle.std.proofs.lemmas.Bool.{eqb-true, lt-ltb, le-ltb, cases_lt}
 use Rattle.std.proofs.lemmas.List.{get_or_past}
 use Rattle.std.proofs.lemmas.List.Elements.{All-append, All-cons, All-nil}
 use Rattle.std.proofs.lemmas.List.Folds.{list_any-append}
-use Rattle.std.proofs.lemmas.Grind.{flat_map-append}
 use Rattle.std.proofs.lemmas.Fmt.{length-decimal-le}
 use Rattle.std.proofs.Math.Bool.{or-false, and-false}
 use Rattle.slot_evidence.specs.declared.places.Seen.{Seen}
@@ -14,12 +13,14 @@ use Rattle.slot_evidence.specs.Facts.{Facts, Symbols}
 use Rattle.slot_evidence.specs.Seen.{IsSeen, IsLawful, symbols_in}
 use Rattle.slot_evidence.specs.Sheet.{IsSheet, IsEnds, seen_at, facts_in}
 use Rattle.slot_evidence.proofs.PublicLaws.{seen_by}
-use Rattle.dsc_lines.specs.JoinLine.{JoinLine, IsPair, pair_text, IsLine, evidence}
+use Rattle.dsc_lines.specs.JoinLine.{JoinLine, IsPair, IsLine, evidence}
 use Rattle.dsc_lines.specs.declared.join.JoinLine.{JoinLine as Got}
 use Rattle.dsc_lines.specs.declared.join.JoinLine.TheVariants as got
 use Rattle.dsc_lines.specs.declared.fault.LineFault.{LineFault}
 use Rattle.dsc_lines.specs.declared.fault.LineFault.TheVariants as fault
 use Rattle.dsc_lines.specs.Lines.{Says, ReadsJoin, facts_of_pairs}
+use Rattle.dsc_lines.specs.inside.Reading.{pairs_text}
+use Rattle.dsc_lines.proofs.PublicLaws.{pairs_append}
 use Rattle.evidence_texts.specs.Evidence.{pairs_at, pairs_below, evidence_text}
 
 -- how long a number is
@@ -28,23 +29,23 @@ number_length k n m e some small fits = omega (arith, ap (λ (x : ℕ). length (
 
 -- the text of no place, and of one place more
 pub text_begun : (old front new : List ℕ) (group n : ℕ) (sheet : List Seen) → front ≡ old ++ codes "e g" → n ≡ group → new ≡ front ++ decimal n
-    → new ≡ old ++ (codes "e g" ++ decimal group ++ flat_map pair_text (pairs_below 0 sheet))
+    → new ≡ old ++ (codes "e g" ++ decimal group ++ pairs_text (pairs_below 0 sheet))
 unfolding pairs_below
 text_begun old front new group n sheet e same h =
     h ∙ ap (λ (k : ℕ). front ++ decimal k) same ∙ ap (λ (l : List ℕ). l ++ decimal group) e ∙ append_assoc old (codes "e g") (decimal group)
     ∙ ap (λ (l : List ℕ). old ++ l) (sym (append-nil (codes "e g" ++ decimal group)))
 
-pub text_more : (old front out new : List ℕ) (n : ℕ) (sheet : List Seen) (s : Seen) → out ≡ old ++ (front ++ flat_map pair_text (pairs_below n sheet)) → s ≡ seen_at sheet n
-    → new ≡ out ++ flat_map pair_text (pairs_at n s) → new ≡ old ++ (front ++ flat_map pair_text (pairs_below (n + 1) sheet))
+pub text_more : (old front out new : List ℕ) (n : ℕ) (sheet : List Seen) (s : Seen) → out ≡ old ++ (front ++ pairs_text (pairs_below n sheet)) → s ≡ seen_at sheet n
+    → new ≡ out ++ pairs_text (pairs_at n s) → new ≡ old ++ (front ++ pairs_text (pairs_below (n + 1) sheet))
 unfolding pairs_below
 text_more old front out new n sheet s e seen h =
-    let before = flat_map pair_text (pairs_below n sheet) in
-    let here = flat_map pair_text (pairs_at n (seen_at sheet n)) in
+    let before = pairs_text (pairs_below n sheet) in
+    let here = pairs_text (pairs_at n (seen_at sheet n)) in
     let next : suc n ≡ n + 1 = omega arith in
-    h ∙ ap (λ (x : Seen). out ++ flat_map pair_text (pairs_at n x)) seen ∙ ap (λ (l : List ℕ). l ++ here) e
+    h ∙ ap (λ (x : Seen). out ++ pairs_text (pairs_at n x)) seen ∙ ap (λ (l : List ℕ). l ++ here) e
     ∙ append_assoc old (front ++ before) here ∙ ap (λ (l : List ℕ). old ++ l) (append_assoc front before here)
-    ∙ ap (λ (l : List ℕ). old ++ (front ++ l)) (sym (flat_map-append pair_text (pairs_below n sheet) (pairs_at n (seen_at sheet n))))
-    ∙ ap (λ (k : ℕ). old ++ (front ++ flat_map pair_text (pairs_below k sheet))) next
+    ∙ ap (λ (l : List ℕ). old ++ (front ++ l)) (sym (pairs_append (pairs_below n sheet) (pairs_at n (seen_at sheet n))))
+    ∙ ap (λ (k : ℕ). old ++ (front ++ pairs_text (pairs_below k sheet))) next
 
 -- the pairs of a sheet are pairs
 are_pairs_at : (place : ℕ) (s : Seen) → place < 64 → IsLawful s → All IsPair (pairs_at place s)
@@ -60,7 +61,7 @@ are_pairs (suc n) sheet few h =
     All-append IsPair (pairs_below n sheet) (pairs_at n (seen_at sheet n)) (are_pairs n sheet (omega (arith, few)) h) (are_pairs_at n (seen_at sheet n) (omega (arith, few)) (h.lawful n))
 
 pub text_is_line : (group : ℕ) (sheet : List Seen) → group < 2 ^ 32 → IsSheet sheet → IsLine (evidence group (pairs_below 64 sheet)) (evidence_text group sheet)
-text_is_line group sheet small h = (codes " g" ++ decimal group, (inr (small, refl), (are_pairs 64 sheet (omega arith) h, refl)))
+text_is_line group sheet small h = (true, (small, (are_pairs 64 sheet (omega arith) h, refl)))
 
 -- the facts of a sheet's pairs are the sheet's
 spread : (b x y : Bool) → ((b && x) || ((b && y) || false)) ≡ (b && (x || y))

@@ -1,10 +1,9 @@
 -- The texts of evidence: this project's profile.
-use Rattle.std.specs.Prelude.{ℕ, zero, suc, List, [], ◌∷◌, ◌++◌, codes, decimal}
-use Rattle.std.specs.List.{flat_map}
+use Rattle.std.specs.Prelude.{ℕ, zero, suc, true, List, [], ◌∷◌, ◌++◌}
 use Rattle.slot_evidence.specs.declared.places.Seen.{Seen}
 use Rattle.slot_evidence.specs.declared.places.Seen.TheVariants as seen
 use Rattle.slot_evidence.specs.Sheet.{seen_at}
-use Rattle.dsc_lines.specs.JoinLine.{pair_text}
+use Rattle.dsc_lines.specs.JoinLine.{text_of_evidence}
 
 -- the pairs of a place: none, that of its one symbol, or those of the least and of the greatest
 abbrev pub pairs_at : ℕ → Seen → List (ℕ × ℕ)
@@ -19,4 +18,4 @@ pairs_below (suc place) sheet = pairs_below place sheet ++ pairs_at place (seen_
 
 -- a group's evidence, without the end of its line: the pairs of all 64 places
 abbrev pub evidence_text : ℕ → List Seen → List ℕ
-evidence_text group sheet = codes "e g" ++ decimal group ++ flat_map pair_text (pairs_below 64 sheet)
+evidence_text group sheet = text_of_evidence true group (pairs_below 64 sheet)

@@ -1,9 +1,8 @@
 ghost use Rattle.std.specs.Prelude.{◌≡◌, ◌+◌, ◌≤◌, ◌<◌, ◌++◌, ◌∷◌, []};
-ghost use Rattle.std.specs.List.{flat_map};
 ghost use Rattle.arrayvec.specs.ArrayVec.{array_vec_len};
 ghost use Rattle.line_grammar.specs.Bytes.{line_feed};
 ghost use Rattle.slot_evidence.specs.Seen.{IsLawful};
-ghost use Rattle.dsc_lines.specs.JoinLine.{pair_text};
+ghost use Rattle.dsc_lines.specs.inside.Reading.{pairs_text};
 ghost use Rattle.evidence_texts.specs.Evidence.{pairs_at, evidence_text};
 
 use arrayvec::ArrayVec;
@@ -48,7 +47,7 @@ fn append_seen<const N: usize>(out: &mut ArrayVec<u8, N>, place: u8, seen: Seen)
     requires place { place < 64 }
     requires lawful { IsLawful seen }
     requires room { array_vec_len out.old + 49 ≤ N }
-    ensures items { out.new.items ≡ out.old.items ++ flat_map pair_text (pairs_at place seen) }
+    ensures items { out.new.items ≡ out.old.items ++ pairs_text (pairs_at place seen) }
     ensures len { array_vec_len out.new ≤ array_vec_len out.old + 14 }
 {
     match seen {
@@ -66,7 +65,7 @@ fn append_pair<const N: usize>(out: &mut ArrayVec<u8, N>, place: u8, symbol: u8)
     requires place { place < 64 }
     requires symbol { symbol < 128 }
     requires room { array_vec_len out.old + 42 ≤ N }
-    ensures items { out.new.items ≡ out.old.items ++ pair_text (place, symbol) }
+    ensures items { out.new.items ≡ out.old.items ++ pairs_text ((place, symbol) ∷ []) }
     ensures len { array_vec_len out.new ≤ array_vec_len out.old + 7 }
 {
     append(out, b" ");

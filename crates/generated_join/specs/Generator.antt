@@ -1,5 +1,5 @@
 -- The input of `make N`: this project's profile, over the distress alert, the dot pattern and the time diversity of ITU-R M.493.
-use Rattle.std.specs.Prelude.{ℕ, ◌+◌, ◌%◌, ◌==◌, nat_le, Bool, ◌&&◌, ◌||◌, if◌then◌else◌, List, ◌++◌, map, length, slice_index, replicate, Some, codes, decimal}
+use Rattle.std.specs.Prelude.{ℕ, ◌+◌, ◌%◌, ◌==◌, nat_le, Bool, true, ◌&&◌, ◌||◌, if◌then◌else◌, List, ◌++◌, map, length, slice_index, replicate, Some}
 use Rattle.std.specs.List.{flat_map, range_with_len}
 use Rattle.dsc_symbols.specs.declared.natures.TheConstants.{FIRE_OR_EXPLOSION}
 use Rattle.dsc_symbols.specs.declared.telecommands.TheConstants.{ALL_MODES}
@@ -13,7 +13,7 @@ use Rattle.time_diversity.specs.Slots.{dx_slot, rx_slot}
 use Rattle.time_diversity.specs.OnAir.{on_air}
 use Rattle.phasing.specs.Sent.{dots}
 use Rattle.line_engine.specs.Lines.{Lines}
-use Rattle.dsc_lines.specs.JoinLine.{JoinLine, reception, body_text}
+use Rattle.dsc_lines.specs.JoinLine.{JoinLine, reception, text_of_reception}
 
 -- the distress alert of group k, from 42 degrees 31 minutes north, 83 degrees 12 minutes west
 abbrev pub alert_of : ℕ → Call
@@ -51,10 +51,6 @@ lines_of_group k = map (λ j. reception k (heard k j)) (range_with_len 0 4)
 unfoldable pub generated : ℕ → List JoinLine
 generated n = flat_map lines_of_group (range_with_len 0 n)
 
--- the text of a reception's line
-abbrev pub reception_text : ℕ → List Element → List ℕ
-reception_text k e = codes "r g" ++ (decimal k ++ body_text e)
-
 -- the texts of the lines of n groups
 unfoldable pub generated_texts : ℕ → Lines
-generated_texts n = flat_map (λ k. map (λ j. reception_text k (heard k j)) (range_with_len 0 4)) (range_with_len 0 n)
+generated_texts n = flat_map (λ k. map (λ j. text_of_reception true k (heard k j)) (range_with_len 0 4)) (range_with_len 0 n)

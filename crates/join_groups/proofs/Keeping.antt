@@ -1,14 +1,13 @@
 -- What is kept after one line more.
-use Rattle.std.proofs.Common.{◌≡◌, ℕ, ◌≤◌, Bool, true, false, ◌&&◌, ◌||◌, ◌==◌, List, [], ◌∷◌, ◌++◌, length, refl, sym, ap, subst, ◌∙◌, inl, inr, length-append, arith}
-use Rattle.std.specs.Prelude.{codes, map}
+use Rattle.std.proofs.Common.{◌≡◌, ℕ, ◌≤◌, Bool, true, false, ◌&&◌, ◌||◌, ◌==◌, List, [], ◌∷◌, ◌++◌, length, refl, sym, ap, subst, ◌∙◌, inl, inr, arith}
 use Rattle.std.proofs.lemmas.Bool.{cases_eq, eq-eqb, ne_eqb, eqb-true}
-use Rattle.std.proofs.lemmas.List.{length-map}
 use Rattle.slot_evidence.specs.declared.places.Seen.{Seen}
 use Rattle.slot_evidence.specs.Facts.{Facts, facts_of, no_facts}
 use Rattle.slot_evidence.specs.Sheet.{IsEnds}
 use Rattle.ten_unit.specs.declared.character.Element.{Element}
-use Rattle.dsc_lines.specs.JoinLine.{JoinLine, nothing, reception, evidence, IsLine, body_text, sign_of}
+use Rattle.dsc_lines.specs.JoinLine.{JoinLine, nothing, reception, evidence, IsLine}
 use Rattle.dsc_lines.specs.Lines.{Says, facts_of_pairs}
+use Rattle.dsc_lines.proofs.PublicLaws.{reception_few}
 use Rattle.dsc_lines.specs.declared.join.JoinLine.{JoinLine as Got}
 use Rattle.dsc_lines.specs.declared.join.JoinLine.TheVariants as got
 use Rattle.join_groups.specs.declared.groups.NamedGroups.{NamedGroups}
@@ -78,18 +77,11 @@ short_read (evidence g pairs) read text is says few = λ group e this. absurd (t
     two : {g group : ℕ} {sheet : List Seen} {e : List Element} → got.Evidence g sheet ≡ got.Reception group e → ⊥
     two h = cc
 short_read (reception g heard) read text is says few = λ group e this.
-    let count : length text ≡ length (codes "r" ++ is.0 ++ body_text heard) = ap length is.1.1 in
     let same : length heard ≡ length e = ap length (elements (sym says ∙ this)) in
-    omega (arith, count, same, few, length-append (codes "r" ++ is.0) (body_text heard), body_long heard)
+    omega (arith, reception_few g heard text is, same, few)
   where
     elements : {g group : ℕ} {heard e : List Element} → got.Reception g heard ≡ got.Reception group e → heard ≡ e
     elements h = cc
-
-    body_long : (e : List Element) → length e ≤ length (body_text e)
-    body_long [] = omega arith
-    body_long (x ∷ rest) =
-        let m : length (map sign_of (x ∷ rest)) ≡ length (x ∷ rest) = length-map (x ∷ rest) sign_of in
-        omega (arith, length-append (codes " ") (map sign_of (x ∷ rest)), m)
 
 -- what a line says, once it is read
 pub says_reception : (line : JoinLine) (group : ℕ) (e : List Element) → Says line (got.Reception group e) → ((k : ℕ) → names k line ≡ (group == k)) × (facts_of_line group line ≡ facts_of e)

@@ -1,27 +1,16 @@
 -- a line more, and the end of the lines
-use Rattle.std.proofs.Common.{◌≡◌, ℕ, ◌+◌, ◌<◌, ◌≤◌, ◌^◌, true, false, cond, List, [], ◌∷◌, ◌++◌, length, inl, inr, sym, ◌∙◌, ap, subst, arith, append-nil, length-append}
-use Rattle.std.proofs.lemmas.List.{length-map}
+use Rattle.std.proofs.Common.{◌≡◌, ℕ, ◌+◌, ◌<◌, ◌≤◌, ◌^◌, true, false, cond, List, [], ◌∷◌, ◌++◌, length, sym, ◌∙◌, ap, subst, arith, append-nil, length-append}
 use Rattle.ten_unit.specs.declared.character.Element.{Element}
 use Rattle.line_engine.specs.declared.bounds.TheConstants.{LONGEST_LINE, MOST_LINES}
 use Rattle.line_engine.specs.Lines.{Lines}
-use Rattle.dsc_lines.specs.JoinLine.{sign_of, body_text}
 use Rattle.dsc_lines.specs.StreamLine.{IsStreamLine}
+use Rattle.dsc_lines.proofs.PublicLaws.{stream_few}
 use Rattle.long_capture.specs.Captures.{Ending, decided}
 use Rattle.stream_capture.specs.declared.command.Capturing.{Capturing}
 use Rattle.stream_capture.specs.Telling.{AreStreamLines, stream_of, AreTold, EndsStarts}
 use Rattle.stream_capture.specs.inside.Progress.{HasTold, EndsTold, HasToldAll, HasRoom, StandsFor}
 use Rattle.stream_capture.proofs.Ready.{few_told}
 use Rattle.stream_capture.proofs.Determined.{stream_append}
-
--- ---- a line adds no more elements than it has bytes
-
-body_length : (e : List Element) → length e ≤ length (body_text e)
-body_length [] = omega arith
-body_length (x ∷ e) = omega (arith, length-map (x ∷ e) sign_of)
-
-pub added_short : (e : List Element) (line : List ℕ) → IsStreamLine e line → length e ≤ length line
-added_short e line (inl is) = omega (arith, ap length is.0)
-added_short e line (inr is) = omega (arith, ap length is.1, body_length e)
 
 -- ---- one line further
 
@@ -45,7 +34,7 @@ line_taken old new lines line before after e h is short told = record {
     ap length (stream_more h.said e),
     length-append (stream_of h.said) e,
     length-append lines (line ∷ []),
-    added_short e line is,
+    stream_few e line is,
     short,
     h.short,
   );

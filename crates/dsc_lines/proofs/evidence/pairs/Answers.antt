@@ -3,15 +3,14 @@ use Rattle.std.proofs.lemmas.Bool.{eqb-false}
 use Rattle.line_grammar.specs.Repeats.{repeated}
 use Rattle.line_grammar.specs.inside.Reading.{read}
 use Rattle.line_grammar.proofs.Chains.{passed}
-use Rattle.dsc_lines.specs.inside.Reading.{pair}
+use Rattle.dsc_lines.specs.JoinLine.{pair}
 use Rattle.dsc_lines.proofs.Pairs.{taken_more, taken_fault}
 use Rattle.dsc_lines.proofs.evidence.pairs.Goals as goal
 
-IsMissed : List ℕ → ℕ → Type 0
+abbrev IsMissed : List ℕ → ℕ → Type 0
 IsMissed bytes left = (n : ℕ) → length bytes < n → read (repeated pair n) bytes ≡ Err left
 
 pub returns-in_err-place-clause-left : goal.returns-in_err-place-clause-left
-unfolding IsMissed
 returns-in_err-place-clause-left c =
     passed (IsMissed c.args.bytes.now) c.from_residual.result _ c.from_residual.ensures.1
     (taken_fault _ _ _ _ c.loop-rest.invariant (eqb-false _ 0 (sym c.loop-rest-test.ensures)) c.in_err-place.ensures.left)

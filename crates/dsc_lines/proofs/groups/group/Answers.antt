@@ -1,7 +1,8 @@
-use Rattle.std.proofs.Common.{◌≡◌, ℕ, Err}
+use Rattle.std.proofs.Common.{◌≡◌, ℕ, false, Err, refl}
 use Rattle.line_grammar.specs.Grammar.{Grammar}
 use Rattle.line_grammar.specs.inside.Reading.{read}
-use Rattle.dsc_lines.specs.inside.Reading.{IsBehindBlank, behind_blank, grouped}
+use Rattle.dsc_lines.specs.JoinLine.{behind_blank, grouped}
+use Rattle.dsc_lines.specs.inside.Reading.{IsBehindBlank}
 use Rattle.dsc_lines.proofs.NamedGroups.{no_number, group_named, no_rest, no_name}
 use Rattle.line_grammar.proofs.Chains.{passed}
 use Rattle.dsc_lines.proofs.groups.group.Goals as goal
@@ -19,6 +20,9 @@ pub returns-in_ok-number-in-Ok-clause-goes_on : goal.returns-in_ok-number-in-Ok-
 returns-in_ok-number-in-Ok-clause-goes_on c =
     let number = c.in_ok-number-in-Ok.ensures.number in
     no_rest _ _ number.0 _ _ c.in-Ok.ensures.rest number.1 number.2
+
+pub returns-in-Err-clause-named : goal.returns-in-Err-clause-named
+returns-in-Err-clause-named c = (false, (refl, refl))
 
 pub returns-in-Err-clause-goes_on : goal.returns-in-Err-clause-goes_on
 returns-in-Err-clause-goes_on c = no_name _ _ c.in-Err.ensures.left

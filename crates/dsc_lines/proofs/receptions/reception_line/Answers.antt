@@ -1,8 +1,8 @@
-use Rattle.std.proofs.Common.{ap, refl}
+use Rattle.std.proofs.Common.{ap, refl, sym, subst}
 use Rattle.line_grammar.proofs.Stops.{left_le, IsColumn-stops}
 use Rattle.dsc_lines.specs.declared.join.JoinLine.TheVariants as got
-use Rattle.dsc_lines.specs.JoinLine.{reception}
-use Rattle.dsc_lines.proofs.Faults.{reception_fault, packed_read, reception_read}
+use Rattle.dsc_lines.specs.JoinLine.{reception, IsLine}
+use Rattle.dsc_lines.proofs.Faults.{reception_fault, packed_read}
 use Rattle.dsc_lines.proofs.receptions.reception_line.Goals as goal
 
 pub returns-in-Some : goal.returns-in-Some
@@ -13,8 +13,7 @@ column-requires-clause-left c = left_le _ _ _ (reception_fault _ _ _ c.requires 
 
 pub returns-in_ok-elements-in-Ok : goal.returns-in_ok-elements-in-Ok
 returns-in_ok-elements-in-Ok c =
-    let line = c.in-Ok.ensures.line in
-    (reception _ _, (reception_read _ _ line.0 _ _ c.requires line.1.0 line.1.1, ap (λ e. got.Reception c.in-Ok.group e) c.in_ok-elements-in-Ok.ensures))
+    (reception _ _, (subst (IsLine (reception _ _)) (sym c.requires) c.in-Ok.ensures.line, ap (λ e. got.Reception c.in-Ok.group e) c.in_ok-elements-in-Ok.ensures))
 
 pub returns-in-Err : goal.returns-in-Err
 returns-in-Err c = IsColumn-stops _ _ _ _ (reception_fault _ _ _ c.requires c.in-Err.ensures.left) c.column.ensures
