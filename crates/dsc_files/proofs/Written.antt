@@ -8,7 +8,7 @@ use Rattle.slot_evidence.specs.Sheet.{IsSheet}
 use Rattle.slot_join.specs.declared.joined.Extra.{Extra}
 use Rattle.slot_join.specs.declared.joined.Extra.TheVariants.{Absent, Whole, Broken}
 use Rattle.dsc_texts.specs.Texts.{IsWholeOrAbsent, reported_text}
-use Rattle.evidence_texts.specs.Evidence.{evidence_text}
+use Rattle.dsc_lines.specs.Evidence.{evidence_text}
 use Rattle.dsc_lines.specs.declared.fault.LineFault.{LineFault}
 use Rattle.dsc_lines.specs.declared.fault.LineFault.TheVariants as fault
 use Rattle.dsc_lines.specs.declared.join.JoinLine.{JoinLine as Got}

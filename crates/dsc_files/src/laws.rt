@@ -6,7 +6,7 @@ ghost use Rattle.slot_evidence.specs.declared.places.Seen.{Seen};
 ghost use Rattle.slot_evidence.specs.Sheet.{IsSheet};
 ghost use Rattle.slot_join.specs.declared.joined.Extra.{Extra};
 ghost use Rattle.dsc_texts.specs.Texts.{IsWholeOrAbsent, reported_text};
-ghost use Rattle.evidence_texts.specs.Evidence.{evidence_text};
+ghost use Rattle.dsc_lines.specs.Evidence.{evidence_text};
 ghost use Rattle.dsc_lines.specs.declared.fault.LineFault.{LineFault};
 ghost use Rattle.dsc_lines.specs.declared.fault.LineFault.TheVariants.{NoMemory};
 ghost use Rattle.dsc_files.specs.declared.lines.Line.{Line};
@@ -14,8 +14,7 @@ ghost use Rattle.dsc_files.specs.declared.lines.Line.TheVariants as line;
 ghost use Rattle.dsc_files.specs.declared.lines.FileKind.TheVariants as kind;
 ghost use Rattle.dsc_files.specs.Files.{ReadsLine};
 
-use dsc_lines::one_call_line;
-use evidence_texts::evidence_is_read;
+use dsc_lines::{evidence_is_read, one_call_line};
 
 /// The law that of the text that `put_call` writes of a call and of the expansion behind it, reading a line of calls can answer
 /// nothing but this call and this expansion.

@@ -6,7 +6,5 @@ pub use Rattle.dsc_lines.proofs.Columns.{one_column, line_there}
 pub use Rattle.dsc_lines.proofs.Bodies.{all_signs, elements_again, packed_some, packed_are}
 -- a line has no fewer bytes than the elements that it tells
 pub use Rattle.dsc_lines.proofs.Bodies.{reception_few, stream_few}
--- pairs are written one after the other
-pub use Rattle.dsc_lines.proofs.Pairs.{pairs_append}
 -- each list of bytes is a line, or has a column: of calls, of calls and sentences, and at a point of a file of an exchange
 pub use Rattle.dsc_lines.proofs.Choices.{call_lines_judged, sentence_lines_judged, world_lines_judged}

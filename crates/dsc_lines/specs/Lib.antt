@@ -1,5 +1,6 @@
 pub mod Readings
 pub mod JoinLine
+pub mod Evidence
 pub mod CallLine
 pub mod SentenceLine
 pub mod StreamLine

@@ -1,6 +1,14 @@
 //! Laws: each function here does nothing, and its contract is a theorem over definitions.
-ghost use Rattle.std.specs.Prelude.{◌≡◌, ◌≤◌, ℕ, List, Option};
-ghost use Rattle.dsc_lines.specs.JoinLine.{JoinLine, IsLine, IsNothing};
+ghost use Rattle.std.specs.Prelude.{◌≡◌, ◌≤◌, ◌<◌, ◌^◌, ◌⊎◌, ℕ, List, Option, Result, Ok, Err};
+ghost use Rattle.slot_evidence.specs.declared.places.Seen.{Seen};
+ghost use Rattle.slot_evidence.specs.Sheet.{IsSheet, IsEnds, facts_in};
+ghost use Rattle.dsc_lines.specs.declared.join.JoinLine.{JoinLine as Got};
+ghost use Rattle.dsc_lines.specs.declared.join.JoinLine.TheVariants.{Evidence};
+ghost use Rattle.dsc_lines.specs.declared.fault.LineFault.{LineFault};
+ghost use Rattle.dsc_lines.specs.declared.fault.LineFault.TheVariants.{NoMemory};
+ghost use Rattle.dsc_lines.specs.Evidence.{pairs_below, evidence_text};
+ghost use Rattle.dsc_lines.specs.JoinLine.{JoinLine, evidence, IsLine, IsNothing};
+ghost use Rattle.dsc_lines.specs.Lines.{ReadsJoin, facts_of_pairs};
 ghost use Rattle.dsc_lines.specs.declared.calls.CallLine.{CallLine};
 ghost use Rattle.dsc_lines.specs.declared.sentences.SentenceLine.{SentenceLine};
 ghost use Rattle.dsc_lines.specs.CallLine.{IsCallLine};
@@ -18,6 +26,7 @@ ghost use Rattle.dsc_lines.specs.StreamLine.{IsStreamLine};
 ghost use Rattle.dsc_lines.specs.WorldLine.{IsWorldFileLine};
 
 use dsc_texts::texts_tell_calls_apart;
+use slot_evidence::one_sheet;
 use traffic_lines::{one_traffic_line, one_world_line, traffic_lines_begin};
 
 /// The law that a line of join's input says one thing.
@@ -76,3 +85,20 @@ pub fn exchange_columns()
     ensures { (point : ExchangePoint) (text : List ℕ) (n : ℕ) → (IsNothing text → ⊥) → 1 ≤ n
         → IsColumn (IsWorldLine point) text n → IsColumn (IsWorldFileLine point) text n }
 {}
+
+/// The law that the text of evidence is a line of join's input, whose facts have the same ends: read, it gives the same group and
+/// the same sheet. It does nothing.
+#[tactic(auto, using(crate::proofs::SheetTexts::text_is_line, crate::proofs::SheetTexts::facts_same, crate::proofs::SheetTexts::text_has_ends, crate::proofs::SheetTexts::text_is_read))]
+pub fn evidence_is_read()
+    ensures line { (group : ℕ) (sheet : List Seen) → group < 2 ^ 32 → IsSheet sheet
+        → IsLine (evidence group (pairs_below 64 sheet)) (evidence_text group sheet) }
+    ensures facts { (sheet : List Seen) (place symbol : ℕ) → IsSheet sheet
+        → facts_of_pairs (pairs_below 64 sheet) place symbol ≡ facts_in sheet place symbol }
+    ensures ends { (sheet : List Seen) → IsSheet sheet → IsEnds (facts_of_pairs (pairs_below 64 sheet)) sheet }
+    ensures read { (group : ℕ) (sheet : List Seen) (answer : Result Got LineFault) → group < 2 ^ 32 → IsSheet sheet
+        → ReadsJoin (evidence_text group sheet) answer
+        → (answer ≡ Ok (Evidence group sheet)) ⊎ (answer ≡ Err NoMemory) }
+{
+    one_line();
+    one_sheet();
+}

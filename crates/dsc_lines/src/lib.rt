@@ -10,6 +10,7 @@ mod join;
 mod laws;
 mod receptions;
 mod sentences;
+mod sheets;
 mod streams;
 mod traffic;
 mod worlds;
@@ -24,10 +25,11 @@ pub use dsc_texts::{put_answer, put_answer_line, put_call};
 pub use fault::LineFault;
 pub use join::{JoinLine, join_line};
 pub use laws::{
-    exchange_columns, one_book_line, one_call_line, one_exchange_line, one_line, one_point_line,
-    one_sentence_line, one_stream_line,
+    evidence_is_read, exchange_columns, one_book_line, one_call_line, one_exchange_line, one_line,
+    one_point_line, one_sentence_line, one_stream_line,
 };
 pub use sentences::{SentenceLine, sentence_line};
+pub use sheets::{put_evidence, put_evidence_line};
 pub use streams::stream_line;
 pub use traffic::joined_line;
 pub use worlds::says_nothing;

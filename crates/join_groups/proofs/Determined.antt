@@ -7,7 +7,7 @@ use Rattle.slot_evidence.specs.Facts.{Facts}
 use Rattle.slot_evidence.specs.Sheet.{IsEnds}
 use Rattle.slot_join.specs.declared.joined.Joined.{Joined}
 use Rattle.slot_join.specs.Answer.{IsAnswer}
-use Rattle.evidence_texts.specs.Evidence.{evidence_text}
+use Rattle.dsc_lines.specs.Evidence.{evidence_text}
 use Rattle.line_engine.specs.Lines.{Lines}
 use Rattle.line_engine.specs.Determined.{IsDetermined}
 use Rattle.dsc_lines.specs.JoinLine.{JoinLine, IsLine}

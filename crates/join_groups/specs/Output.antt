@@ -9,7 +9,7 @@ use Rattle.slot_join.specs.declared.joined.Joined.{Joined}
 use Rattle.slot_join.specs.declared.joined.Joined.TheVariants.{Reported, Missing, Differ, Outside, Check}
 use Rattle.slot_join.specs.Answer.{IsAnswer}
 use Rattle.dsc_texts.specs.Texts.{answer_text}
-use Rattle.evidence_texts.specs.Evidence.{evidence_text}
+use Rattle.dsc_lines.specs.Evidence.{evidence_text}
 use Rattle.dsc_lines.specs.JoinLine.{JoinLine}
 use Rattle.join_groups.specs.Groups.{group_facts, AreGroups}
 

@@ -4,7 +4,7 @@ ghost use Rattle.slot_evidence.specs.declared.places.Seen.{Seen};
 ghost use Rattle.slot_evidence.specs.Sheet.{IsSheet, IsEnds};
 ghost use Rattle.line_engine.specs.Determined.{IsDetermined, LacksNoOutput};
 ghost use Rattle.dsc_lines.specs.JoinLine.{JoinLine, IsLine, evidence};
-ghost use Rattle.evidence_texts.specs.Evidence.{pairs_below, evidence_text};
+ghost use Rattle.dsc_lines.specs.Evidence.{pairs_below, evidence_text};
 ghost use Rattle.line_engine.specs.Lines.{Lines};
 ghost use Rattle.join_groups.specs.Groups.{AreLines, group_facts};
 ghost use Rattle.join_groups.specs.Output.{TellsAnswer, TellsEvidence, IsJoinText, IsEvidenceText};
@@ -12,8 +12,7 @@ ghost use Rattle.join_groups.specs.Meanings.{EndsTelling, groups_meaning};
 ghost use Rattle.join_groups.specs.Laws.{AreOfGroup, HaveAlikeFacts};
 
 use crate::groups::{MOST_GROUPS, MOST_IN_BATCH};
-use dsc_lines::one_line;
-use evidence_texts::evidence_is_read;
+use dsc_lines::{evidence_is_read, one_line};
 use slot_evidence::{ends_are_kept, one_sheet};
 use slot_join::{alike_facts_have_one_answer, no_answer_is_lacking, one_answer};
 

@@ -8,8 +8,8 @@ ghost use Rattle.join_groups.specs.Holds.{HoldsSome};
 ghost use Rattle.join_groups.specs.inside.Kept.{Keeps};
 
 use crate::groups::NamedGroups;
+use dsc_lines::put_evidence_line;
 use dsc_texts::put_answer_line;
-use evidence_texts::put_evidence_line;
 use slot_evidence::Sheet;
 use slot_join::{Joined, report};
 use std::alloc::AllocError;

@@ -1,4 +1,4 @@
-use evidence_texts::{put_evidence, put_evidence_line};
+use dsc_lines::{put_evidence, put_evidence_line};
 use slot_evidence::Sheet;
 
 #[test]

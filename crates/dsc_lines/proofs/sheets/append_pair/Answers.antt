@@ -1,6 +1,6 @@
 use Rattle.std.proofs.Common.{length, decimal, ap, length-append, arith}
-use Rattle.evidence_texts.proofs.EvidenceTexts.{number_length}
-use Rattle.evidence_texts.proofs.evidence.append_pair.Goals as goal
+use Rattle.dsc_lines.proofs.SheetTexts.{number_length}
+use Rattle.dsc_lines.proofs.sheets.append_pair.Goals as goal
 
 pub returns-clause-len : goal.returns-clause-len
 returns-clause-len g c =

@@ -20,8 +20,8 @@ use Rattle.dsc_lines.specs.declared.fault.LineFault.{LineFault}
 use Rattle.dsc_lines.specs.declared.fault.LineFault.TheVariants as fault
 use Rattle.dsc_lines.specs.Lines.{Says, ReadsJoin, facts_of_pairs}
 use Rattle.dsc_lines.specs.inside.Reading.{pairs_text}
-use Rattle.dsc_lines.proofs.PublicLaws.{pairs_append}
-use Rattle.evidence_texts.specs.Evidence.{pairs_at, pairs_below, evidence_text}
+use Rattle.dsc_lines.proofs.Pairs.{pairs_append}
+use Rattle.dsc_lines.specs.Evidence.{pairs_at, pairs_below, evidence_text}
 
 -- how long a number is
 pub number_length : (k n m : ℕ) → n ≡ m → 0 < k → m < 10 ^ k → m < 2 ^ 64 → length (decimal n) ≤ k

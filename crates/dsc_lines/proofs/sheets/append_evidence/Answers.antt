@@ -1,6 +1,6 @@
 use Rattle.std.proofs.Common.{◌++◌, codes, decimal, arith}
-use Rattle.evidence_texts.proofs.EvidenceTexts.{text_begun, text_more}
-use Rattle.evidence_texts.proofs.evidence.append_evidence.Goals as goal
+use Rattle.dsc_lines.proofs.SheetTexts.{text_begun, text_more}
+use Rattle.dsc_lines.proofs.sheets.append_evidence.Goals as goal
 
 pub loop-place-init : goal.loop-place-init
 loop-place-init g c = record {

@@ -1,8 +1,8 @@
 use Rattle.std.proofs.Common.{◌≡◌, ◌+◌, ◌*◌, ◌≤◌, ◌++◌, codes, decimal}
 use Rattle.arrayvec.specs.ArrayVec.{array_vec_len}
 use Rattle.dsc_lines.specs.inside.Reading.{pairs_text}
-use Rattle.evidence_texts.specs.Evidence.{pairs_below}
-use Rattle.evidence_texts.proofs.evidence.append_evidence.Given as goal
+use Rattle.dsc_lines.specs.Evidence.{pairs_below}
+use Rattle.dsc_lines.proofs.sheets.append_evidence.Given as goal
 
 abbrev pub invariant-loop-place : goal.invariant-loop-place
 invariant-loop-place g l = record {

@@ -1,9 +1,10 @@
+//! The lines of evidence that stand for all that receivers of a group showed.
 ghost use Rattle.std.specs.Prelude.{◌≡◌, ◌+◌, ◌≤◌, ◌<◌, ◌++◌, ◌∷◌, []};
 ghost use Rattle.arrayvec.specs.ArrayVec.{array_vec_len};
 ghost use Rattle.line_grammar.specs.Bytes.{line_feed};
 ghost use Rattle.slot_evidence.specs.Seen.{IsLawful};
 ghost use Rattle.dsc_lines.specs.inside.Reading.{pairs_text};
-ghost use Rattle.evidence_texts.specs.Evidence.{pairs_at, evidence_text};
+ghost use Rattle.dsc_lines.specs.Evidence.{pairs_at, evidence_text};
 
 use arrayvec::ArrayVec;
 use slot_evidence::{Seen, Sheet};
