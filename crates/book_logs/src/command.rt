@@ -78,11 +78,7 @@ impl Command for Logs {
 
     fn finish(&mut self, out: &mut Vec<u8>) -> Result<Status, AllocError> {
         self.book.append_text(out)?;
-        if self.refused {
-            Ok(Status::new(1))
-        } else {
-            Ok(Status::new(0))
-        }
+        Ok(Status::of(!self.refused))
     }
 
     ghost gives = { λ command lines text stands. stands.unwritten };

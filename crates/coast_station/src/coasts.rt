@@ -1,12 +1,12 @@
 ghost use Rattle.std.specs.Prelude.{◌≡◌, true, [], Ok, OnOk, OnErr};
-ghost use Rattle.traffic_rules.specs.Histories.{History};
-ghost use Rattle.traffic_rules.specs.Rules.{listed, answer_to, continued};
+ghost use Rattle.traffic_rules.specs.Rules.{listed};
 ghost use Rattle.traffic_rules.specs.Giving.{answer_with};
+ghost use Rattle.traffic_rules.specs.Stepping.{IsStep, AnswersByRules, GoesOnByRules};
 ghost use Rattle.call_values.specs.declared.calls.Call.TheVariants as form;
 ghost use Rattle.coast_station.specs.declared.events.CoastWhat.{CoastWhat as What};
 ghost use Rattle.coast_station.specs.Accepting as accepting;
 ghost use Rattle.coast_station.specs.CoastRules as rules;
-ghost use Rattle.coast_station.specs.CoastRules.{Station, coast_rules};
+ghost use Rattle.coast_station.specs.CoastRules.{coast_rules};
 ghost use Rattle.coast_station.specs.Stands.{Stands};
 ghost use Rattle.coast_station.specs.inside.Afterwards.{answer_by, afterwards};
 
@@ -45,30 +45,15 @@ impl Coast {
         }
     }
 
-    /// Does what is due at an event (when an alert is acknowledged is ITU-R M.541's; all else is this project's profile). The acts are at most 32. Refused, in this
+    /// Does what is due at an event (when an alert is acknowledged is ITU-R M.541's; all else is this project's profile). The acts are at most 32; they are in a list
+    /// of the caller, which is cleared first and is empty where the event is refused. Refused, in this
     /// order: an event before the last accepted one (`TimeBack`); accepting or telling on an alert of a ship of which no
     /// casualty is open (`NoCasualty`); accepting on MF or HF without a delay (`NeedsDelay`); a call that the operator may not
     /// send (`NotSendable`); an answer to a number under which no call that was got is held (`NoSuchCall`); what would begin a
     /// seventeenth casualty or held call (`Full`).
-    pub fn step(&mut self, event: &CoastEvent) -> Result<Acts, StationRefusal>
-        ensures answer { (who : Station) (h : History What) → Stands self.old who h
-            → listed result ≡ answer_to (coast_rules who) h event.now.at event.now.what }
-        ensures stands { (who : Station) (h : History What) → Stands self.old who h
-            → Stands self.new who (continued (coast_rules who) h event.now.at event.now.what) }
-        ensures unchanged { OnErr result (self.new ≡ self.old) }
-    {
-        let mut acts = ArrayVec::new();
-        self.step_into(event, &mut acts)?;
-        Ok(acts)
-    }
-
-    /// The same as `step`, with the acts in a list of the caller, which is cleared first. Where the event is refused, the list is
-    /// empty.
     pub fn step_into(&mut self, event: &CoastEvent, acts: &mut Acts) -> Result<(), StationRefusal>
-        ensures answer { (who : Station) (h : History What) → Stands self.old who h
-            → answer_with result acts.new.items ≡ answer_to (coast_rules who) h event.now.at event.now.what }
-        ensures stands { (who : Station) (h : History What) → Stands self.old who h
-            → Stands self.new who (continued (coast_rules who) h event.now.at event.now.what) }
+        ensures answers { AnswersByRules coast_rules Stands self.old event.now.at event.now.what (answer_with result acts.new.items) }
+        ensures goes_on { GoesOnByRules coast_rules Stands self.old event.now.at event.now.what self.new }
         ensures none { OnErr result (acts.new.items ≡ []) }
         ensures unchanged { OnErr result (self.new ≡ self.old) }
     {
@@ -82,6 +67,15 @@ impl Coast {
         }
     }
 
+    /// The same as `step_into`, with the acts in a list of its own.
+    pub fn step(&mut self, event: &CoastEvent) -> Result<Acts, StationRefusal>
+        ensures { IsStep coast_rules Stands self.old event.now.at event.now.what (listed result) self.new }
+    {
+        let mut acts = ArrayVec::new();
+        self.step_into(event, &mut acts)?;
+        Ok(acts)
+    }
+
     /// Does what is due at an event that isn't before the last accepted one.
     fn handle(&mut self, at: u64, what: &CoastWhat, acts: &mut Acts) -> Result<(), StationRefusal>
         requires { acts.old.items ≡ [] }
@@ -93,7 +87,13 @@ impl Coast {
         match *what {
             CoastWhat::Accept(mmsi, delay) => self.accept(at, mmsi, delay, acts)?,
             CoastWhat::Tick => self.tick(at, acts),
-            CoastWhat::Relay(mmsi, to, ask) => self.relay(at, mmsi, to, ask, acts)?,
+            CoastWhat::Relay(mmsi, to, ask) => {
+                let Some(told) = self.casualties.find(mmsi) else {
+                    return Err(StationRefusal::NoCasualty(mmsi));
+                };
+                let relay = relay(self.own, to, &told.alert, ask);
+                send(&mut self.held, self.own, &relay, at, acts)?;
+            }
             CoastWhat::Send(call) => send(&mut self.held, self.own, &call, at, acts)?,
             CoastWhat::Answer(number, accepts) => {
                 answer(&mut self.held, self.own, number, accepts, acts)?;
@@ -145,29 +145,6 @@ impl Coast {
     {
         self.casualties.acknowledge_due(self.own, at, acts);
         repeat(&mut self.held, at, acts);
-    }
-
-    /// Tells the alert of a ship on.
-    fn relay(
-        &mut self,
-        at: u64,
-        mmsi: Mmsi,
-        to: To,
-        ask: bool,
-        acts: &mut Acts,
-    ) -> Result<(), StationRefusal>
-        requires { acts.old.items ≡ [] }
-        ensures answer { answer_with result acts.new.items ≡ answer_by self.old at (What.Relay mmsi to ask) }
-        ensures after { OnOk result (self.new ≡ afterwards self.old at (What.Relay mmsi to ask)) }
-        ensures none { OnErr result (acts.new.items ≡ []) }
-        ensures unchanged { OnErr result (self.new ≡ self.old) }
-    {
-        let Some(told) = self.casualties.find(mmsi) else {
-            return Err(StationRefusal::NoCasualty(mmsi));
-        };
-        let relay = relay(self.own, to, &told.alert, ask);
-        send(&mut self.held, self.own, &relay, at, acts)?;
-        Ok(())
     }
 
     /// Hears a call, which is for the station where another station sent it and it reaches this one.

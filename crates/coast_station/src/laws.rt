@@ -1,5 +1,5 @@
 //! Laws: each function here does nothing, and its contract is a theorem over definitions.
-ghost use Rattle.std.specs.Prelude.{◌≡◌, ◌==◌, ◌+◌, ◌≤◌, ◌∷◌, ◌++◌, ℕ, Bool, List, false, length, IsTrue};
+ghost use Rattle.std.specs.Prelude.{◌≡◌, ◌==◌, ◌+◌, ◌≤◌, ◌∷◌, ◌++◌, ℕ, List, false, length, IsTrue};
 ghost use Rattle.std.specs.List.{list_any};
 ghost use Rattle.traffic_rules.specs.declared.acts.Act.{Act};
 ghost use Rattle.traffic_rules.specs.declared.acts.Act.TheVariants as act;
@@ -7,8 +7,6 @@ ghost use Rattle.traffic_rules.specs.Histories.{Entry, History, does};
 ghost use Rattle.traffic_rules.specs.Holding.{calls_held};
 ghost use Rattle.traffic_rules.specs.Repeating.{repeats};
 ghost use Rattle.traffic_rules.specs.Rules.{Legal};
-ghost use Rattle.traffic_rules.specs.Sending.{is_sendable};
-ghost use Rattle.call_values.specs.declared.calls.Call.{Call};
 ghost use Rattle.call_values.specs.declared.calls.Call.TheVariants as call;
 ghost use Rattle.call_values.specs.declared.calls.Casualty.{Casualty};
 ghost use Rattle.coast_station.specs.declared.events.CoastWhat.{CoastWhat};
@@ -16,8 +14,8 @@ ghost use Rattle.coast_station.specs.Acknowledged.{GoesBackToAlert};
 ghost use Rattle.coast_station.specs.Casualties.{acknowledges, born, is_alert, is_born, open_casualties};
 ghost use Rattle.coast_station.specs.CoastRules.{Station, held, coast_rules};
 ghost use Rattle.coast_station.specs.Events.{coast_occurs};
-ghost use Rattle.traffic_rules.specs.Sendings.{asking, times_held, times_sent, times_sent_again, waiting};
-ghost use Rattle.traffic_rules.specs.TrafficActs.{is_of_traffic, AreSentSuch, AreTrafficActs};
+ghost use Rattle.traffic_rules.specs.Sendings.{AreSentAtMostTwice};
+ghost use Rattle.traffic_rules.specs.TrafficActs.{AreRepeatedAsTraffic};
 
 use crate::casualties::MOST_CASUALTIES;
 
@@ -59,29 +57,14 @@ pub fn an_identity_is_acknowledged_once()
 /// then waits to be sent again, waited as the part began or was held in it; so a holding that was answered leaves its second sending to
 /// no other. Of such calls any may be counted: one call alone, those to one station, or all of them.
 pub fn held_calls_are_sent_at_most_twice()
-    ensures first { (who : Station) (h : History CoastWhat) (is_such : Call → Bool) → Legal (coast_rules who) h
-        → times_sent (asking is_such) h
-        ≡ times_held (asking is_such) h + times_sent_again coast_occurs (asking is_such) h }
-    ensures again { (who : Station) (h : History CoastWhat) (is_such : Call → Bool) → Legal (coast_rules who) h
-        → times_sent_again coast_occurs (asking is_such) h ≤ times_held (asking is_such) h }
-    ensures parts { (who : Station) (later earlier : History CoastWhat) (is_such : Call → Bool)
-        → Legal (coast_rules who) (later ++ earlier)
-        → times_sent_again coast_occurs (asking is_such) later + waiting (asking is_such) (held (later ++ earlier))
-        ≤ waiting (asking is_such) (held earlier) + times_held (asking is_such) later }
-{}
-
-/// The law that a coast station holds sixteen calls at most, behind every history.
-pub fn sixteen_calls_are_held()
-    ensures { (h : History CoastWhat) → calls_held (held h) ≤ 16 }
+    ensures { (who : Station) → AreSentAtMostTwice coast_occurs (coast_rules who) }
 {}
 
 /// The law that an operator may send each call that a coast station holds as sent, so that all that it repeats at a tick is of traffic,
 /// in every legal history.
 pub fn repeated_calls_are_sendable()
-    ensures held { (who : Station) (h : History CoastWhat) → Legal (coast_rules who) h
-        → AreSentSuch (is_sendable who.own) (held h) }
-    ensures repeated { (who : Station) (h : History CoastWhat) (at : ℕ) → Legal (coast_rules who) h
-        → AreTrafficActs (is_of_traffic who.own) (repeats at 1 (held h)) }
+    ensures { (who : Station) (h : History CoastWhat) → Legal (coast_rules who) h
+        → AreRepeatedAsTraffic who.own (held h) }
 {}
 
 /// The law that sixteen casualties are open at most, in every legal history.
@@ -89,4 +72,9 @@ pub fn sixteen_casualties()
     ensures places { MOST_CASUALTIES ≡ 16 }
     ensures casualties { (who : Station) (h : History CoastWhat) → Legal (coast_rules who) h
         → length (open_casualties who.own h) ≤ 16 }
+{}
+
+/// The law that a coast station holds sixteen calls at most, behind every history.
+pub fn sixteen_calls_are_held()
+    ensures { (h : History CoastWhat) → calls_held (held h) ≤ 16 }
 {}

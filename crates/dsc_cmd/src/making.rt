@@ -20,11 +20,7 @@ fn status_of(summary: &Summary) -> Status
     ensures whole { (said : List JoinLine) (is : IsSummary said summary.now)
         → result ≡ (if list_all (λ one. output.is_reported one.answer) is.all then 0 else 1) }
 {
-    if summary.is_whole() {
-        Status::new(0)
-    } else {
-        Status::new(1)
-    }
+    Status::of(summary.is_whole())
 }
 
 /// Writes the summary of so many generated groups. It ends with status 0 where a call was reported of every group, with 1 where not, or

@@ -1,4 +1,4 @@
-ghost use Rattle.std.specs.Prelude.{◌≡◌, ℕ, ◌≤◌};
+ghost use Rattle.std.specs.Prelude.{◌≡◌, ℕ, ◌≤◌, if◌then◌else◌};
 
 use std::marker::Model;
 
@@ -25,6 +25,13 @@ impl Status {
         ensures { result ≡ n }
     {
         Status { number: n }
+    }
+
+    /// The status of a run that was finished: 0 where all is well, and else 1.
+    pub fn of(is_well: bool) -> Status
+        ensures { result ≡ if is_well then 0 else 1 }
+    {
+        Status::new(u8::from(!is_well))
     }
 
     /// The number that the status was made from.

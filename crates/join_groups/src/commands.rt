@@ -52,11 +52,7 @@ impl<W: Joiner, T: Teller> Command for TellGroups<W, T> {
 
     fn finish(&mut self, out: &mut Vec<u8>) -> Result<Status, AllocError> {
         self.groups.close_batch(&self.workers)?;
-        if tell_all::<T>(&self.groups, out)? {
-            Ok(Status::new(0))
-        } else {
-            Ok(Status::new(1))
-        }
+        Ok(Status::of(tell_all::<T>(&self.groups, out)?))
     }
 
     ghost gives = { λ command lines text stands. stands.1.text_is };

@@ -89,11 +89,7 @@ impl Command for Sentences {
     }
 
     fn finish(&mut self, _out: &mut Vec<u8>) -> Result<Status, AllocError> {
-        if self.refused {
-            Ok(Status::new(1))
-        } else {
-            Ok(Status::new(0))
-        }
+        Ok(Status::of(!self.refused))
     }
 
     ghost gives = { λ command lines text stands. record {

@@ -1,5 +1,5 @@
 //! Laws: each function here does nothing, and its contract is a theorem over definitions.
-ghost use Rattle.std.specs.Prelude.{◌≡◌, ℕ, ◌+◌, ◌≤◌, ◌⊎◌, Bool, false, List, ◌∷◌, ◌++◌, IsTrue};
+ghost use Rattle.std.specs.Prelude.{◌≡◌, ℕ, ◌+◌, ◌≤◌, ◌⊎◌, false, List, ◌∷◌, ◌++◌, IsTrue};
 ghost use Rattle.call_values.specs.declared.calls.Call.{Call};
 ghost use Rattle.traffic_rules.specs.declared.acts.Act.{Act};
 ghost use Rattle.traffic_rules.specs.declared.acts.Act.TheVariants as act;
@@ -7,9 +7,8 @@ ghost use Rattle.traffic_rules.specs.Histories.{Entry, History, does, NoneIs};
 ghost use Rattle.traffic_rules.specs.Holding.{calls_held};
 ghost use Rattle.traffic_rules.specs.Repeating.{repeats};
 ghost use Rattle.traffic_rules.specs.Rules.{Legal};
-ghost use Rattle.traffic_rules.specs.Sending.{is_sendable};
-ghost use Rattle.traffic_rules.specs.Sendings.{asking, is_alert, sends, times_held, times_sent, times_sent_again, waiting};
-ghost use Rattle.traffic_rules.specs.TrafficActs.{is_of_traffic, AreSentSuch, AreTrafficActs};
+ghost use Rattle.traffic_rules.specs.Sendings.{AreSentAtMostTwice, is_alert, sends};
+ghost use Rattle.traffic_rules.specs.TrafficActs.{AreRepeatedAsTraffic};
 ghost use Rattle.ship_station.specs.declared.events.ShipWhat.{ShipWhat};
 ghost use Rattle.ship_station.specs.Attempted.{IsAttempted};
 ghost use Rattle.ship_station.specs.Events.{ship_occurs, begins_alert, MayEndAlert};
@@ -67,15 +66,7 @@ pub fn alerts_are_sent_as_attempts()
 /// then waits to be sent again, waited as the part began or was held in it; so a holding that was answered leaves its second sending to
 /// no other. Of such calls any may be counted: one call alone, those to one station, or all of them.
 pub fn held_calls_are_sent_at_most_twice()
-    ensures first { (who : Identities) (h : History ShipWhat) (is_such : Call → Bool) → Legal (ship_rules who) h
-        → times_sent (asking is_such) h
-        ≡ times_held (asking is_such) h + times_sent_again ship_occurs (asking is_such) h }
-    ensures again { (who : Identities) (h : History ShipWhat) (is_such : Call → Bool) → Legal (ship_rules who) h
-        → times_sent_again ship_occurs (asking is_such) h ≤ times_held (asking is_such) h }
-    ensures parts { (who : Identities) (later earlier : History ShipWhat) (is_such : Call → Bool)
-        → Legal (ship_rules who) (later ++ earlier)
-        → times_sent_again ship_occurs (asking is_such) later + waiting (asking is_such) (held (later ++ earlier))
-        ≤ waiting (asking is_such) (held earlier) + times_held (asking is_such) later }
+    ensures { (who : Identities) → AreSentAtMostTwice ship_occurs (ship_rules who) }
 {}
 
 /// The law that a ship holds sixteen calls at most, behind every history.
@@ -86,8 +77,6 @@ pub fn sixteen_calls_are_held()
 /// The law that an operator may send each call that a ship holds as sent, so that all that it repeats at a tick is of traffic, in every
 /// legal history.
 pub fn repeated_calls_are_sendable()
-    ensures held { (who : Identities) (h : History ShipWhat) → Legal (ship_rules who) h
-        → AreSentSuch (is_sendable who.own) (held h) }
-    ensures repeated { (who : Identities) (h : History ShipWhat) (at : ℕ) → Legal (ship_rules who) h
-        → AreTrafficActs (is_of_traffic who.own) (repeats at 1 (held h)) }
+    ensures { (who : Identities) (h : History ShipWhat) → Legal (ship_rules who) h
+        → AreRepeatedAsTraffic who.own (held h) }
 {}

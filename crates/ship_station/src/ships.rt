@@ -6,11 +6,11 @@ ghost use Rattle.traffic_rules.specs.Hearing.{heard_refusal, heard_due};
 ghost use Rattle.traffic_rules.specs.After.{after_hearing};
 ghost use Rattle.ship_station.specs.Past.{is_attempt};
 ghost use Rattle.traffic_rules.specs.declared.acts.Act.TheVariants.{AlertEnded};
-ghost use Rattle.traffic_rules.specs.Histories.{History};
-ghost use Rattle.traffic_rules.specs.Rules.{listed, refusal_or, answer_to, continued};
+ghost use Rattle.traffic_rules.specs.Rules.{listed, refusal_or};
 ghost use Rattle.traffic_rules.specs.Giving.{answer_with};
+ghost use Rattle.traffic_rules.specs.Stepping.{IsStep, AnswersByRules, GoesOnByRules};
 ghost use Rattle.ship_station.specs.declared.events.ShipWhat.{ShipWhat as What};
-ghost use Rattle.ship_station.specs.ShipRules.{Identities, attempt, at_tick, ship_rules};
+ghost use Rattle.ship_station.specs.ShipRules.{attempt, at_tick, ship_rules};
 ghost use Rattle.ship_station.specs.Stands.{Stands};
 ghost use Rattle.ship_station.specs.inside.Handling.{AnswersEvent, GoesOn};
 
@@ -67,30 +67,15 @@ impl Ship {
     }
 
     /// Does what is due at an event (the attempts of its distress alert are those of ITU-R M.541; all else is this project's
-    /// profile). The acts are at most 32. Refused, in this order: an event before the last accepted one
+    /// profile). The acts are at most 32; they are in a list
+    /// of the caller, which is cleared first and is empty where the event is refused. Refused, in this order: an event before the last accepted one
     /// (`TimeBack`); a delay where 16 are held (`Full`); an alert where one is on (`AlertActive`) or no delay is held
     /// (`NeedsDelay`); a cancel where no alert is on (`NoAlert`); a tick where an alert is on and no delay is held (`NeedsDelay`);
     /// a call that the operator may not send (`NotSendable`); an answer to a number under which no call that was got is held
     /// (`NoSuchCall`); a sent or heard call that must be held where no number is free (`Full`).
-    pub fn step(&mut self, event: &ShipEvent) -> Result<Acts, StationRefusal>
-        ensures answer { (who : Identities) (h : History What) → Stands self.old who h
-            → listed result ≡ answer_to (ship_rules who) h event.now.at event.now.what }
-        ensures stands { (who : Identities) (h : History What) → Stands self.old who h
-            → Stands self.new who (continued (ship_rules who) h event.now.at event.now.what) }
-        ensures unchanged { OnErr result (self.new ≡ self.old) }
-    {
-        let mut acts = ArrayVec::new();
-        self.step_into(event, &mut acts)?;
-        Ok(acts)
-    }
-
-    /// The same as `step`, with the acts in a list of the caller, which is cleared first. Where the event is refused, the list is
-    /// empty.
     pub fn step_into(&mut self, event: &ShipEvent, acts: &mut Acts) -> Result<(), StationRefusal>
-        ensures answer { (who : Identities) (h : History What) → Stands self.old who h
-            → answer_with result acts.new.items ≡ answer_to (ship_rules who) h event.now.at event.now.what }
-        ensures stands { (who : Identities) (h : History What) → Stands self.old who h
-            → Stands self.new who (continued (ship_rules who) h event.now.at event.now.what) }
+        ensures answers { AnswersByRules ship_rules Stands self.old event.now.at event.now.what (answer_with result acts.new.items) }
+        ensures goes_on { GoesOnByRules ship_rules Stands self.old event.now.at event.now.what self.new }
         ensures none { OnErr result (acts.new.items ≡ []) }
         ensures unchanged { OnErr result (self.new ≡ self.old) }
     {
@@ -112,6 +97,15 @@ impl Ship {
             ShipWhat::Answer(number, accepts) => self.answer(event.at, number, accepts, acts),
             ShipWhat::Heard(call) => self.hear(event.at, &call, acts),
         }
+    }
+
+    /// The same as `step_into`, with the acts in a list of its own.
+    pub fn step(&mut self, event: &ShipEvent) -> Result<Acts, StationRefusal>
+        ensures { IsStep ship_rules Stands self.old event.now.at event.now.what (listed result) self.new }
+    {
+        let mut acts = ArrayVec::new();
+        self.step_into(event, &mut acts)?;
+        Ok(acts)
     }
 
     fn keep_position(&mut self, at: u64, position: Position, time: HourMinute)

@@ -128,11 +128,7 @@ impl Command for Exchanging {
     }
 
     fn finish(&mut self, _out: &mut Vec<u8>) -> Result<Status, AllocError> {
-        if self.stage.is_well() {
-            Ok(Status::new(0))
-        } else {
-            Ok(Status::new(1))
-        }
+        Ok(Status::of(self.stage.is_well()))
     }
 
     ghost gives = { gives_text };

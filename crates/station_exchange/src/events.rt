@@ -3,10 +3,10 @@ ghost use Rattle.std.specs.Prelude.{◌≡◌, ◌≤◌};
 ghost use Rattle.station_exchange.specs.Events as events;
 
 use call_values::bounds::LAST_BASE;
-use coast_station::CoastEvent;
+use coast_station::{Coast, CoastEvent};
 use exchange::WorldEvent;
-use ship_station::ShipEvent;
-use station_lines::{coast_event, ship_event};
+use ship_station::{Ship, ShipEvent};
+use station_lines::OfLines;
 use traffic_lines::{CoastOwn, Entry, Event, ShipOwn};
 
 /// What happens at the ship.
@@ -17,7 +17,7 @@ fn event_at_ship(base: u64, at: u32, what: &Event<ShipOwn, u32>) -> WorldEvent
     match *what {
         Event::Does(deed) => WorldEvent::Ship(ShipEvent {
             at: u64::from(at),
-            what: ship_event(base, at, &deed),
+            what: Ship::deed(base, at, &deed),
         }),
         Event::Comes(number) => WorldEvent::ShipGets {
             at: u64::from(at),
@@ -27,13 +27,14 @@ fn event_at_ship(base: u64, at: u32, what: &Event<ShipOwn, u32>) -> WorldEvent
 }
 
 /// What happens at the coast station.
-fn event_at_coast(at: u32, what: &Event<CoastOwn, u32>) -> WorldEvent
+fn event_at_coast(base: u64, at: u32, what: &Event<CoastOwn, u32>) -> WorldEvent
+    requires { base ≤ LAST_BASE }
     ensures { result ≡ events.event_at_coast at what.now }
 {
     match *what {
         Event::Does(deed) => WorldEvent::Coast(CoastEvent {
             at: u64::from(at),
-            what: coast_event(&deed),
+            what: Coast::deed(base, at, &deed),
         }),
         Event::Comes(number) => WorldEvent::CoastGets {
             at: u64::from(at),
@@ -49,6 +50,6 @@ pub(crate) fn event_of(base: u64, entry: &Entry) -> WorldEvent
 {
     match *entry {
         Entry::AtShip { at, what } => event_at_ship(base, at, &what),
-        Entry::AtCoast { at, what } => event_at_coast(at, &what),
+        Entry::AtCoast { at, what } => event_at_coast(base, at, &what),
     }
 }

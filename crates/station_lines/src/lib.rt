@@ -5,4 +5,4 @@ mod answers;
 mod events;
 
 pub use answers::{append_acts, append_answer, append_refusal};
-pub use events::{coast_event, ship_event};
+pub use events::OfLines;

@@ -1,7 +1,8 @@
 ghost use Rattle.std.specs.Prelude.{◌≡◌, [], OnErr};
 ghost use Rattle.traffic_rules.specs.Histories.{History};
-ghost use Rattle.traffic_rules.specs.Rules.{Rules, answer_to, continued};
+ghost use Rattle.traffic_rules.specs.Rules.{Rules};
 ghost use Rattle.traffic_rules.specs.Giving.{answer_with};
+ghost use Rattle.traffic_rules.specs.Stepping.{AnswersByRules, GoesOnByRules};
 ghost use Rattle.ship_station.specs.declared.events.ShipWhat.TheVariants as at_ship;
 ghost use Rattle.ship_station.specs.ShipRules.{Identities, ship_rules};
 ghost use Rattle.ship_station.specs.Stands.{Stands as ShipStands};
@@ -39,10 +40,8 @@ pub trait Station {
     /// Does what is due at an event, with the acts in a list of the caller, which is cleared first. Where the event is refused, the list
     /// is empty.
     fn happen(&mut self, at: u64, what: &Self::What, acts: &mut Acts) -> Result<(), StationRefusal>
-        ensures answer { (who : Who) (h : History Self.What) → stands self.old who h
-            → answer_with result acts.new.items ≡ answer_to (rules who) h at what.now }
-        ensures stands { (who : Who) (h : History Self.What) → stands self.old who h
-            → stands self.new who (continued (rules who) h at what.now) }
+        ensures answers { AnswersByRules rules stands self.old at what.now (answer_with result acts.new.items) }
+        ensures goes_on { GoesOnByRules rules stands self.old at what.now self.new }
         ensures none { OnErr result (acts.new.items ≡ []) }
         ensures unchanged { OnErr result (self.new ≡ self.old) };
 }

@@ -1,5 +1,5 @@
 -- a line more, and the end of the lines
-use Rattle.std.proofs.Common.{◌≡◌, ℕ, ◌+◌, ◌<◌, ◌≤◌, ◌^◌, true, false, cond, List, [], ◌∷◌, ◌++◌, length, sym, ◌∙◌, ap, subst, arith, append-nil, length-append}
+use Rattle.std.proofs.Common.{◌≡◌, ℕ, ◌+◌, ◌<◌, ◌≤◌, ◌^◌, cond, List, [], ◌∷◌, ◌++◌, length, sym, ◌∙◌, ap, subst, arith, append-nil, length-append}
 use Rattle.ten_unit.specs.declared.character.Element.{Element}
 use Rattle.line_engine.specs.declared.bounds.TheConstants.{LONGEST_LINE, MOST_LINES}
 use Rattle.line_engine.specs.Lines.{Lines}
@@ -69,24 +69,13 @@ ends_told command e text ending h = record {
   counts = h.counts;
 }
 
-pub ends_well : (command : Capturing) (lines : Lines) (said : List (List Element)) (text : List ℕ) (status : ℕ) → AreStreamLines said lines → HasToldAll command (stream_of said) text
-    → command.is_well ≡ true → status ≡ 0 → EndsStarts lines text status
-ends_well command lines said text status are h well is = record {
+pub ends_so : (command : Capturing) (lines : Lines) (said : List (List Element)) (text : List ℕ) (status : ℕ) → AreStreamLines said lines → HasToldAll command (stream_of said) text
+    → status ≡ cond command.is_well 0 1 → EndsStarts lines text status
+ends_so command lines said text status are h is = record {
   said = said;
   are_lines = are;
   told = h.told;
   are_told = h.are_told;
   text_is = h.text_is;
-  status_is = is ∙ ap (λ b. cond {A = ℕ} b 0 1) (sym well ∙ h.well_is);
-}
-
-pub ends_ill : (command : Capturing) (lines : Lines) (said : List (List Element)) (text : List ℕ) (status : ℕ) → AreStreamLines said lines → HasToldAll command (stream_of said) text
-    → command.is_well ≡ false → status ≡ 1 → EndsStarts lines text status
-ends_ill command lines said text status are h ill is = record {
-  said = said;
-  are_lines = are;
-  told = h.told;
-  are_told = h.are_told;
-  text_is = h.text_is;
-  status_is = is ∙ ap (λ b. cond {A = ℕ} b 0 1) (sym ill ∙ h.well_is);
+  status_is = is ∙ ap (λ b. cond {A = ℕ} b 0 1) h.well_is;
 }

@@ -131,11 +131,7 @@ impl Command for Capturing {
     fn finish(&mut self, out: &mut Vec<u8>) -> Result<Status, AllocError> {
         taking_ends();
         self.take_end(out)?;
-        if self.is_well {
-            Ok(Status::new(0))
-        } else {
-            Ok(Status::new(1))
-        }
+        Ok(Status::of(self.is_well))
     }
 
     ghost gives = { λ command lines text stands. gives_text command lines text stands };

@@ -1,35 +1,49 @@
 -- what comes of an event line
-use Rattle.std.proofs.Common.{◌≡◌, ℕ, Bool, false, Some, List, ◌++◌, is_ok, Result, Ok, Err, OnOk, IfOk, refl, sym, ap, ◌∙◌}
+use Rattle.std.proofs.Common.{◌≡◌, ℕ, Bool, false, Some, List, ◌++◌, is_ok, Result, Ok, Err, OnOk, IfOk, refl, sym, ap, ◌∙◌, subst}
 use Rattle.call_values.specs.declared.calls.Call.{Call}
 use Rattle.slot_join.specs.declared.joined.Joined.{Joined}
 use Rattle.slot_join.specs.declared.joined.Joined.TheVariants.{Reported, Missing, Differ, Outside, Check}
 use Rattle.slot_join.specs.Answer.{IsAnswer}
 use Rattle.traffic_rules.specs.Histories.{History}
 use Rattle.traffic_rules.specs.Rules.{Rules, answer_to, continued}
-use Rattle.station_lines.specs.Events.{EventLine}
+use Rattle.ship_station.specs.declared.events.ShipWhat.TheVariants as at_ship
+use Rattle.coast_station.specs.declared.events.CoastWhat.TheVariants as at_coast
+use Rattle.station_lines.specs.Events.{EventLine, ship_deed, coast_deed, ship_event, coast_event}
+use Rattle.traffic_lines.specs.declared.lines.ShipOwn.{ShipOwn}
+use Rattle.traffic_lines.specs.declared.lines.CoastOwn.{CoastOwn}
+use Rattle.traffic_lines.specs.declared.lines.StationOwn.TheVariants as own
+use Rattle.traffic_lines.specs.declared.lines.Deed.{Deed}
+use Rattle.traffic_lines.specs.declared.lines.Deed.TheVariants.{Own, Tick, Send, Answer}
+use Rattle.traffic_lines.specs.Lines.{deed_with}
 use Rattle.traffic_lines.specs.declared.lines.Event.TheVariants as event
-use Rattle.traffic_lines.specs.declared.lines.Hearing.TheVariants.{Hear, Heard}
-use Rattle.traffic_lines.specs.declared.lines.TrafficLine.TheVariants.{Event}
-use Rattle.dsc_lines.specs.PointLine.{traffic}
+use Rattle.traffic_lines.specs.declared.lines.Hearing.TheVariants.{Heard}
 use Rattle.traffic_replay.specs.declared.outcomes.Unreported.{Unreported}
-use Rattle.traffic_replay.specs.Said.{Said, base_of}
-use Rattle.traffic_replay.specs.HeardGroups.{hears, facts_since_heard}
-use Rattle.traffic_replay.specs.Happenings.{Taking, heard_as, ComesOf}
+use Rattle.traffic_replay.specs.Said.{Said}
+use Rattle.traffic_replay.specs.HeardGroups.{facts_since_heard}
+use Rattle.traffic_replay.specs.Happenings.{Taking, taking_ship, taking_coast, heard_as, ComesOf}
 use Rattle.station_lines.specs.Answers.{answer_lines}
 use Rattle.traffic_replay.specs.Output.{unreported_line}
-use Rattle.traffic_replay.specs.inside.Happens.{IsPlain, Comes, Happens}
+use Rattle.traffic_replay.specs.inside.Happens.{Takes, Happens}
 
--- a line that hears no group gives its event
-pub comes_plain : {What : Type 0} (taking : Taking What) (said : Said) (at : ℕ) (l : EventLine) (what : What) → IsPlain l → taking.event (base_of said) at l ≡ Some what
-    → ComesOf taking said at l (Ok what)
-comes_plain taking said at (event.Does deed) what plain e = (what, e, refl)
-comes_plain taking said at (event.Comes (Hear call extra)) what plain e = (what, e, refl)
-comes_plain taking said at (event.Comes (Heard group)) what plain e = absurd plain
+-- both kinds of station take lines by their deeds and by the calls that they hear
+ship_deeds : (base at : ℕ) (deed : Deed ShipOwn) → ship_event base at (event.Does (deed_with own.Ship deed)) ≡ Some (ship_deed base at deed)
+ship_deeds base at (Own what) = refl
+ship_deeds base at Tick = refl
+ship_deeds base at (Send call) = refl
+ship_deeds base at (Answer number accepts) = refl
 
-pub plain_quiet : (at : ℕ) (l : EventLine) → IsPlain l → (k : ℕ) → hears k (traffic (Event at l)) ≡ false
-plain_quiet at (event.Does deed) plain k = refl
-plain_quiet at (event.Comes (Hear call extra)) plain k = refl
-plain_quiet at (event.Comes (Heard group)) plain k = absurd plain
+pub ship_takes : (base at : ℕ) → base ≡ at → Takes taking_ship own.Ship (ship_deed base) at_ship.Heard at
+ship_takes base at same = subst (λ (b : ℕ). Takes taking_ship own.Ship (ship_deed base) at_ship.Heard b) same
+    (record { deeds = ship_deeds base; calls = λ at call extra. refl; heard = refl })
+
+coast_deeds : (base at : ℕ) (deed : Deed CoastOwn) → coast_event base at (event.Does (deed_with own.Coast deed)) ≡ Some (coast_deed deed)
+coast_deeds base at (Own what) = refl
+coast_deeds base at Tick = refl
+coast_deeds base at (Send call) = refl
+coast_deeds base at (Answer number accepts) = refl
+
+pub coast_takes : (base : ℕ) → Takes taking_coast own.Coast (λ at. coast_deed) at_coast.Heard base
+coast_takes base = record { deeds = coast_deeds base; calls = λ at call extra. refl; heard = refl }
 
 -- what a step tells where it ends well
 pub tell : {E : Type 0} {S L : Type 0} {A B : Bool → Type 0} (r : Result Bool E) → ((b : Bool) → S → L → A b → B b) → OnOk r S → OnOk r L → IfOk r A → IfOk r B

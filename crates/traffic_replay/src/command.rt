@@ -5,7 +5,6 @@ ghost use Rattle.dsc_lines.specs.JoinLine.{JoinLine as ReceiverLine};
 ghost use Rattle.dsc_lines.specs.Lines.{Says};
 ghost use Rattle.slot_evidence.specs.Facts.{Facts, facts_of};
 ghost use Rattle.slot_evidence.specs.Sheet.{IsEnds};
-ghost use Rattle.join_groups.specs.Holds.{HoldsSome};
 ghost use Rattle.join_groups.specs.Meanings.{BringsTooMany};
 ghost use Rattle.traffic_replay.specs.Said.{Said};
 ghost use Rattle.traffic_replay.specs.HeardGroups.{of_receivers};
@@ -15,7 +14,7 @@ ghost use Rattle.traffic_replay.specs.inside.Progress.{Begins, Keeps, StandsFor,
 ghost use Rattle.traffic_replay.specs.inside.Gives.{gives_text};
 
 use crate::stages::{Stage, behind_base};
-use crate::steps::{at_coast, at_ship, happen};
+use crate::steps::happen;
 use arrayvec::ArrayVec;
 use dsc_lines::{JoinLine, LineFault, Status, joined_line, one_point_line};
 use join_groups::NamedGroups;
@@ -228,8 +227,9 @@ impl Replay {
                         let (base, mut ship) = (groups.base, groups.ship());
                         let heard = &mut self.heard;
                         let acts = &mut self.acts;
-                        let coming = at_ship(base, at, &what);
-                        self.is_well &= happen(&mut ship, heard, workers, at, &coming, acts, out)?;
+                        self.is_well &= happen(
+                            &mut ship, heard, workers, base, at, &what, acts, out,
+                        )?;
                         self.stage = Stage::Ship { base, ship };
                     }
                 }
@@ -244,8 +244,7 @@ impl Replay {
                     ShipLine::Event { at, what } => {
                         let heard = &mut self.heard;
                         let acts = &mut self.acts;
-                        let coming = at_ship(*base, at, &what);
-                        self.is_well &= happen(ship, heard, workers, at, &coming, acts, out)?;
+                        self.is_well &= happen(ship, heard, workers, *base, at, &what, acts, out)?;
                     }
                 }
             }
@@ -256,8 +255,7 @@ impl Replay {
                 };
                 let heard = &mut self.heard;
                 let acts = &mut self.acts;
-                let coming = at_coast(&what);
-                self.is_well &= happen(coast, heard, workers, at, &coming, acts, out)?;
+                self.is_well &= happen(coast, heard, workers, 0, at, &what, acts, out)?;
             }
         }
         Ok(())
@@ -297,11 +295,7 @@ impl<W: Joiner> Command for Replaying<W> {
     }
 
     fn finish(&mut self, _out: &mut Vec<u8>) -> Result<Status, AllocError> {
-        if self.replay.is_well {
-            Ok(Status::new(0))
-        } else {
-            Ok(Status::new(1))
-        }
+        Ok(Status::of(self.replay.is_well))
     }
 
     ghost gives = { λ command lines text stands. gives_text command.replay lines text stands.1 };

@@ -25,7 +25,7 @@ use Rattle.traffic_rules.specs.Sending.{asks, acknowledges, is_sendable, held_un
 use Rattle.traffic_rules.specs.Answering.{reply_to, reply_due_to, answer_due}
 use Rattle.traffic_rules.specs.Repeating.{is_overdue, repeated, repeats}
 use Rattle.traffic_rules.specs.Hearing.{Whereabouts, is_question, is_got, distress_told, question_due, answered_number, answered_or_shown, position_told, due_at_once, heard_due}
-use Rattle.traffic_rules.specs.Sendings.{asking, sends, is_holding, times_in, waiting, sends_and_holds, times_held, times_sent, times_sent_again}
+use Rattle.traffic_rules.specs.Sendings.{asking, sends, is_holding, times_in, waiting, sends_and_holds, times_held, times_sent, times_sent_again, AreSentAtMostTwice}
 use Rattle.traffic_rules.specs.TrafficActs.{AreSentSuch}
 use Rattle.traffic_rules.specs.After.{held_at, freed_at, after_sending, after_answering, after_tick, after_question, after_hearing}
 use Rattle.traffic_rules.proofs.Counts.{times_append, all_sent_again, placed, none_in, placed_such, ticked_such}
@@ -280,3 +280,13 @@ module _ {What : Type 0} (occurs : What → Occurrence) (rules : Rules What) (ow
   pub held_sendable : (h : History What) → Legal rules h → AreSentSuch (is_sendable own) (all_held occurs h)
   held_sendable [] legal = subst (λ (places : Places). AreSentSuch (is_sendable own) places) (sym (nothing_held occurs)) (none_such (is_sendable own) MOST_HELD)
   held_sendable (e ∷ h) legal = (each e h legal.0).may_still (held_sendable h legal.1)
+
+-- where each entry does so, calls are sent at most twice for each time that they are held
+pub sent_at_most_twice : {What : Type 0} (occurs : What → Occurrence) (rules : Rules What) (own : ℕ)
+    → ((is_such : Call → Bool) (e : Entry What) (h : History What) → Follows rules e h → Handles own (asking is_such) (is_tick (occurs e.what)) e.acts (all_held occurs h) (all_held occurs (e ∷ h)))
+    → AreSentAtMostTwice occurs rules
+sent_at_most_twice occurs rules own each = record {
+  first = λ h is_such legal. sent_or_again occurs rules own is_such (each is_such) h legal;
+  again = λ h is_such legal. again_at_most occurs rules own is_such (each is_such) h legal;
+  parts = λ later earlier is_such legal. again_in_part occurs rules own is_such (each is_such) later earlier legal;
+}

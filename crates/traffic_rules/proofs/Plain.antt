@@ -18,7 +18,7 @@ use Rattle.traffic_rules.specs.Sending.{asks, acknowledges, is_sendable, held_un
 use Rattle.traffic_rules.specs.Answering.{reply_to, reply_due_to, answer_due}
 use Rattle.traffic_rules.specs.Repeating.{repeated, repeats}
 use Rattle.traffic_rules.specs.Hearing.{Whereabouts, is_question, is_got, distress_told, question_due, answered_number, answered_or_shown, position_told, due_at_once, heard_due}
-use Rattle.traffic_rules.specs.TrafficActs.{is_reply, is_of_traffic, AreTrafficActs, IsSentSuch, AreSentSuch}
+use Rattle.traffic_rules.specs.TrafficActs.{is_reply, is_of_traffic, AreTrafficActs, IsSentSuch, AreSentSuch, AreRepeatedAsTraffic}
 
 module _ (q : Call → Bool) where
   both : (xs ys : List Act) → AreTrafficActs q xs → AreTrafficActs q ys → AreTrafficActs q (xs ++ ys)
@@ -131,3 +131,10 @@ pub wider_such : (p q : Call → Bool) → ((call : Call) → p call ≡ true �
 wider_such p q wider [] are = tt
 wider_such p q wider (None ∷ places) are = (tt, wider_such p q wider places are.1)
 wider_such p q wider (Some x ∷ places) are = (λ sent. wider x.call (are.0 sent), wider_such p q wider places are.1)
+
+-- what is repeated of held calls that an operator may send is of traffic
+pub repeated_as_traffic : (own : ℕ) (places : Places) → AreSentSuch (is_sendable own) places → AreRepeatedAsTraffic own places
+repeated_as_traffic own places are = record {
+  held = are;
+  repeated = λ at. plain_repeats (is_of_traffic own) at 1 places (wider_such (is_sendable own) (is_of_traffic own) (sendable_of_traffic own) places are);
+}

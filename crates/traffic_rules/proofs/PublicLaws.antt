@@ -20,10 +20,9 @@ pub use Rattle.traffic_rules.proofs.HeldRules.{after_nothing, after_hearing_noth
 pub use Rattle.traffic_rules.proofs.Unmet.{Misses, none_sent, none_replied, none_repeated, none_heard, MissesSuch, none_such}
 -- what an event of each kind does with sent calls that wait, and with those that it sends
 pub use Rattle.traffic_rules.proofs.Handled.{Handles, handles_nothing, handles_tick, handles_heard, handles_answer, handles_send}
--- how often calls that ask for an acknowledgement are sent, and sent again, in a whole history and in a part of one; what is held as sent may
--- be sent
-pub use Rattle.traffic_rules.proofs.Handled.{sent_or_again, again_at_most, again_in_part, held_sendable}
+-- calls that ask for an acknowledgement are sent at most twice for each time that they are held; what is held as sent may be sent
+pub use Rattle.traffic_rules.proofs.Handled.{sent_at_most_twice, held_sendable}
 -- acts of sending, answering, repeating and hearing send such calls alone, and each once
 pub use Rattle.traffic_rules.proofs.Plain.{plain_send, plain_answer, plain_repeats, plain_heard}
 -- which calls are of traffic
-pub use Rattle.traffic_rules.proofs.Plain.{may_be_sent, sendable_of_traffic, reply_of_traffic, wider_such}
+pub use Rattle.traffic_rules.proofs.Plain.{may_be_sent, sendable_of_traffic, reply_of_traffic, wider_such, repeated_as_traffic}

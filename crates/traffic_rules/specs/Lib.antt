@@ -4,6 +4,7 @@ pub mod Holding
 pub mod Histories
 pub mod Rules
 pub mod Giving
+pub mod Stepping
 pub mod Occurrences
 pub mod HeldTold
 pub mod Sending

@@ -1,13 +1,14 @@
 -- How often calls are sent and held: this project's profile.
-use Rattle.std.specs.Prelude.{ℕ, ◌+◌, ◌==◌, ◌&&◌, Bool, true, false, Option, Some, None, List, [], ◌∷◌, if◌then◌else◌}
+use Rattle.std.specs.Prelude.{◌≡◌, ℕ, ◌+◌, ◌≤◌, ◌==◌, ◌&&◌, Bool, true, false, Option, Some, None, List, [], ◌∷◌, ◌++◌, if◌then◌else◌}
 use Rattle.call_values.specs.declared.calls.Call.{Call}
 use Rattle.call_values.specs.declared.calls.Call.TheVariants.{Alert}
 use Rattle.traffic_rules.specs.declared.acts.Act.{Act}
 use Rattle.traffic_rules.specs.declared.acts.Act.TheVariants.{Send, Held}
 use Rattle.traffic_rules.specs.declared.held.Holding.{Holding}
 use Rattle.traffic_rules.specs.Histories.{Entry, History, does, how_many}
-use Rattle.traffic_rules.specs.HeldTold.{is_sent}
+use Rattle.traffic_rules.specs.HeldTold.{is_sent, all_held}
 use Rattle.traffic_rules.specs.Holding.{Places}
+use Rattle.traffic_rules.specs.Rules.{Rules, Legal}
 use Rattle.traffic_rules.specs.Occurrences.{Occurrence, is_tick}
 use Rattle.traffic_rules.specs.Sending.{asks}
 
@@ -69,3 +70,15 @@ module _ {What : Type 0} (occurs : What → Occurrence) where
   abbrev pub times_sent_again : (Call → Bool) → History What → ℕ
   times_sent_again is_such [] = 0
   times_sent_again is_such (e ∷ h) = (if is_tick (occurs e.what) then times_in is_such e.acts else 0) + times_sent_again is_such h
+
+  -- in each legal history by these rules, of whichever calls that ask for an acknowledgement one picks: each sending is the first one of a
+  -- holding, or at a tick; there are no more of those at ticks than holdings; and what a part of the history sends again, and leaves waiting,
+  -- waited before that part or was held in it
+  pub record AreSentAtMostTwice (rules : Rules What) : Type 0 where
+    pub first : (h : History What) (is_such : Call → Bool) → Legal rules h
+        → times_sent (asking is_such) h ≡ times_held (asking is_such) h + times_sent_again (asking is_such) h
+    pub again : (h : History What) (is_such : Call → Bool) → Legal rules h
+        → times_sent_again (asking is_such) h ≤ times_held (asking is_such) h
+    pub parts : (later earlier : History What) (is_such : Call → Bool) → Legal rules (later ++ earlier)
+        → times_sent_again (asking is_such) later + waiting (asking is_such) (all_held occurs (later ++ earlier))
+        ≤ waiting (asking is_such) (all_held occurs earlier) + times_held (asking is_such) later

@@ -11,6 +11,7 @@ use Rattle.traffic_rules.specs.declared.held.Holding.{Holding}
 use Rattle.traffic_rules.specs.Holding.{Places}
 use Rattle.traffic_rules.specs.HeldTold.{is_sent}
 use Rattle.traffic_rules.specs.Sending.{is_sendable}
+use Rattle.traffic_rules.specs.Repeating.{repeats}
 
 -- a reply of this station: an answer to an individual call, an acknowledgement of a relay, a test reply or a position answer
 abbrev pub is_reply : (own : ℕ) → Call → Bool
@@ -45,3 +46,8 @@ IsSentSuch is_such (Some x) = is_sent x.side ≡ true → is_such x.call ≡ tru
 abbrev pub AreSentSuch : (Call → Bool) → Places → Type 0
 AreSentSuch is_such [] = Unit {0}
 AreSentSuch is_such (held ∷ places) = IsSentSuch is_such held × AreSentSuch is_such places
+
+-- an operator of this station may send each call that is held as sent, so all that is repeated at a tick is of traffic
+pub record AreRepeatedAsTraffic (own : ℕ) (places : Places) : Type 0 where
+  pub held : AreSentSuch (is_sendable own) places
+  pub repeated : (at : ℕ) → AreTrafficActs (is_of_traffic own) (repeats at 1 places)

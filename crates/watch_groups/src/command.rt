@@ -200,11 +200,7 @@ impl<W: WatchedJoiner> Command for WatchGroups<W> {
 
     fn finish(&mut self, out: &mut Vec<u8>) -> Result<Status, AllocError> {
         self.end_batch(out)?;
-        if tell_all::<Answers>(&self.groups, out)? {
-            Ok(Status::new(0))
-        } else {
-            Ok(Status::new(1))
-        }
+        Ok(Status::of(tell_all::<Answers>(&self.groups, out)?))
     }
 
     ghost gives = { λ command lines text stands. gives_told stands.1 };

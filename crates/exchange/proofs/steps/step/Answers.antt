@@ -10,5 +10,5 @@ returns-clause-stands g c = λ who h stands.
     let step = c.happen-answer in
     let gave = given_with c.outcome_of.result step.new.acts.items in
     subst (λ (x : History _). g.S.Station.stands step.new.self who x)
-    (sym (goes_on (g.S.Station.rules who) h c.args.at c.args.what.now gave (c.outcome_of.ensures.gave ∙ ap given_by (step.ensures.answer who h stands))))
-    (step.ensures.stands who h stands)
+    (sym (goes_on (g.S.Station.rules who) h c.args.at c.args.what.now gave (c.outcome_of.ensures.gave ∙ ap given_by (step.ensures.answers who h stands))))
+    (step.ensures.goes_on who h stands)

@@ -1,14 +1,7 @@
-use Rattle.traffic_rules.specs.Sending.{is_sendable}
-use Rattle.traffic_rules.specs.TrafficActs.{is_of_traffic}
-use Rattle.traffic_rules.proofs.PublicLaws.{plain_repeats, sendable_of_traffic, wider_such}
+use Rattle.traffic_rules.proofs.PublicLaws.{repeated_as_traffic}
 use Rattle.ship_station.specs.ShipRules.{held}
 use Rattle.ship_station.proofs.Sendings.{ship_held_sendable}
 use Rattle.ship_station.proofs.laws.repeated_calls_are_sendable.Goals as goal
 
-pub returns-clause-held : goal.returns-clause-held
-returns-clause-held c who h legal = ship_held_sendable who h legal
-
-pub returns-clause-repeated : goal.returns-clause-repeated
-returns-clause-repeated c who h at legal =
-    plain_repeats (is_of_traffic who.own) at 1 (held h)
-    (wider_such (is_sendable who.own) (is_of_traffic who.own) (sendable_of_traffic who.own) (held h) (ship_held_sendable who h legal))
+pub returns : goal.returns
+returns c = λ who h legal. repeated_as_traffic who.own (held h) (ship_held_sendable who h legal)

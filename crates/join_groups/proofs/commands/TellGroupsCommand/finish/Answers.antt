@@ -26,16 +26,9 @@ tell_all-requires g c =
       holds = c.in_ok-close_batch.ensures.holds (is_named stands.said) (group_facts stands.said) stands.keeps;
     }
 
-pub returns-then-branch-clause-ends : goal.returns-then-branch-clause-ends
-returns-then-branch-clause-ends g c = λ lines written stands.
+pub returns-clause-ends : goal.returns-clause-ends
+returns-clause-ends g c = λ lines written stands.
     let said = stands.1.said in
     let told = c.in_ok-tell_all.ensures said (c.in_ok-close_batch.ensures.holds (is_named said) (group_facts said) stands.1.keeps) c.in_ok-close_batch.ensures.empty in
-    ends_so g.T.Teller.tells c.args.self.now.groups lines written c.args.out.now.items c.tell_all.new.out.items told.0 c.in_ok-tell_all.field-0 c.new.result stands.1 told.1.0 told.1.1
-    (c.new.ensures ∙ sym (ap (λ (b : Bool). cond {A = ℕ} b 0 1) c.if-branch.true))
-
-pub returns-else-branch-clause-ends : goal.returns-else-branch-clause-ends
-returns-else-branch-clause-ends g c = λ lines written stands.
-    let said = stands.1.said in
-    let told = c.in_ok-tell_all.ensures said (c.in_ok-close_batch.ensures.holds (is_named said) (group_facts said) stands.1.keeps) c.in_ok-close_batch.ensures.empty in
-    ends_so g.T.Teller.tells c.args.self.now.groups lines written c.args.out.now.items c.tell_all.new.out.items told.0 c.in_ok-tell_all.field-0 c.new-else-branch.result stands.1 told.1.0 told.1.1
-    (c.new-else-branch.ensures ∙ sym (ap (λ (b : Bool). cond {A = ℕ} b 0 1) c.if-branch.false))
+    ends_so g.T.Teller.tells c.args.self.now.groups lines written c.args.out.now.items c.tell_all.new.out.items told.0 c.in_ok-tell_all.field-0 c.of.result stands.1 told.1.0 told.1.1
+    c.of.ensures

@@ -7,8 +7,8 @@ use Rattle.ship_station.specs.Stands.{Stands}
 use Rattle.traffic_rules.proofs.PublicLaws.{not_before}
 use Rattle.ship_station.proofs.ships.Ship.step_into.Goals as goal
 
-pub returns-in-Alert-clause-stands : goal.returns-in-Alert-clause-stands
-returns-in-Alert-clause-stands c who h stands =
+pub returns-in-Alert-clause-goes_on : goal.returns-in-Alert-clause-goes_on
+returns-in-Alert-clause-goes_on c who h stands =
     let late = not_before c.args.self.now.last h c.args.event.now.at stands.1.last c.in_default.ensures in
     let event = subst IsShipWhat c.in-Alert.is c.lawful.ensures in
     subst (λ (what : ShipWhat). Stands c.alert.new.self who (continued (ship_rules who) h c.args.event.now.at what)) (sym c.in-Alert.is)

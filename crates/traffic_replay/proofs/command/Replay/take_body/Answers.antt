@@ -8,8 +8,8 @@ use Rattle.traffic_lines.specs.Lines.{IsTrafficLine}
 use Rattle.traffic_replay.specs.declared.stages.Stage.TheVariants as stage
 use Rattle.traffic_replay.specs.Said.{base_of}
 use Rattle.traffic_replay.specs.Happenings.{taking_ship, taking_coast}
-use Rattle.traffic_replay.specs.inside.Happens.{Comes}
 use Rattle.traffic_replay.proofs.Bodies.{takes_own, kept_at, ready_at}
+use Rattle.traffic_replay.proofs.Happened.{ship_takes, coast_takes}
 use Rattle.traffic_replay.proofs.Told.{ship_begins, keeps_group, keeps_at_ship, keeps_at_coast}
 use Rattle.traffic_replay.proofs.command.Replay.take_body.Goals as goal
 
@@ -39,8 +39,8 @@ returns-in_ok-self-in-Event-clause-ok g c = λ said text keeps.
     (keeps_at_ship old _ from.base c.ship-ship.result c.happen.new.station said text out c.happen.new.out.items c.in_ok-self-in-Event.field-0 c.in-Event.at what
     (ready_at old (stage.Groups from) c.in-Groups.is c.requires.ready.stage).0
     (ship_begins from c.ship-ship.result said (text ++ out) old.is_well c.ship-ship.ensures (kept_at old (stage.Groups from) said (text ++ out) c.in-Groups.is keeps))
-    (λ who h based stands. did.happens said taking_ship what who h refl (subst (λ (b : ℕ). Comes taking_ship b c.in-Event.at what c.at_ship-coming.result) based c.at_ship-coming.ensures) keeps.heard stands)
-    (did.kept said taking_ship from.base what c.at_ship-coming.ensures keeps.heard) (did.few keeps.few) refl refl)
+    (λ who h based stands. did.happens said taking_ship own.Ship who h (ship_takes from.base (base_of said) based) keeps.heard stands)
+    (did.kept said own.Ship keeps.heard) (did.few keeps.few) refl refl)
 
 pub returns-in_ok-self-in-Event-says-clause-ok : goal.returns-in_ok-self-in-Event-says-clause-ok
 returns-in_ok-self-in-Event-says-clause-ok g c = λ said text keeps.
@@ -53,8 +53,8 @@ returns-in_ok-self-in-Event-says-clause-ok g c = λ said text keeps.
     (subst (λ (says : ShipLine). IsTrafficLine point.Ship (line_of_ship says) c.args.line.now) c.in-Event-says.is c.in-Ok-read_ship_line.ensures)
     (keeps_at_ship old _ c.in-Ship.base c.in-Ship.ship c.happen-in-Event-says.new.station said text out c.happen-in-Event-says.new.out.items
     c.in_ok-self-in-Event-says.field-0 c.in-Event-says.at what (ready_at old at c.in-Ship.is c.requires.ready.stage) (kept_at old at said (text ++ out) c.in-Ship.is keeps)
-    (λ who h based stands. did.happens said taking_ship what who h refl (subst (λ (b : ℕ). Comes taking_ship b c.in-Event-says.at what c.at_ship-coming-in-Event-says.result) based c.at_ship-coming-in-Event-says.ensures) keeps.heard stands)
-    (did.kept said taking_ship c.in-Ship.base what c.at_ship-coming-in-Event-says.ensures keeps.heard) (did.few keeps.few) refl refl)
+    (λ who h based stands. did.happens said taking_ship own.Ship who h (ship_takes c.in-Ship.base (base_of said) based) keeps.heard stands)
+    (did.kept said own.Ship keeps.heard) (did.few keeps.few) refl refl)
 
 pub returns-in_ok-self-in-Coast-clause-ok : goal.returns-in_ok-self-in-Coast-clause-ok
 returns-in_ok-self-in-Coast-clause-ok g c = λ said text keeps.
@@ -65,5 +65,5 @@ returns-in_ok-self-in-Coast-clause-ok g c = λ said text keeps.
     let did = c.in_ok-self-in-Coast.ensures in
     takes_own old _ at said c.args.line.now (text ++ out) (text ++ c.happen-in-Coast.new.out.items) (line_of_coast says) c.in-Coast.is keeps c.in-Ok-read_coast_line.ensures
     (keeps_at_coast old _ c.in-Coast.coast c.happen-in-Coast.new.station said text out c.happen-in-Coast.new.out.items c.in_ok-self-in-Coast.field-0 says.0 (event_with own.Coast says.1)
-    (kept_at old at said (text ++ out) c.in-Coast.is keeps) (λ who h stands. did.happens said taking_coast (event_with own.Coast says.1) who h refl (c.at_coast-coming.ensures (base_of said) says.0) keeps.heard stands)
-    (did.kept said taking_coast 0 (event_with own.Coast says.1) (c.at_coast-coming.ensures 0 says.0) keeps.heard) (did.few keeps.few) refl refl)
+    (kept_at old at said (text ++ out) c.in-Coast.is keeps) (λ who h stands. did.happens said taking_coast own.Coast who h (coast_takes (base_of said)) keeps.heard stands)
+    (did.kept said own.Coast keeps.heard) (did.few keeps.few) refl refl)
