@@ -25,6 +25,8 @@ use Rattle.call_values.specs.Clock.{IsHourMinute}
 use Rattle.call_values.specs.Calls.{IsCasualty, IsRequest, IsCall}
 use Rattle.call_values.specs.Views.{address_of}
 use Rattle.call_values.proofs.PublicLaws.{end_small}
+use Rattle.dsc_symbols.specs.declared.ends.TheConstants.{ACKNOWLEDGE_BQ, ACKNOWLEDGE_RQ, EOS}
+use Rattle.dsc_symbols.specs.declared.telecommands.TheConstants.{DISTRESS_ACKNOWLEDGEMENT, DISTRESS_RELAY}
 use Rattle.call_grammar.specs.Spelling.{position_digits, identity_symbols, position_symbols, time_symbols, casualty_symbols, area_digits, area_symbols, blanks, field_symbols, message_symbols, category_symbol, format_to, address_symbols, distress_symbols, request_symbols, kind_symbols, kind_end, format_of, end_of, fields_of, covered, check_of, spell}
 
 of_position : (p : Option Fix) → IsPosition p → AreCharacters (position_symbols p)
@@ -102,9 +104,9 @@ of_kind (Position p t) lawful =
 
 of_fields : (c : Call) → IsCall c → AreCharacters (fields_of c)
 of_fields (Alert casualty) lawful = of_casualty casualty lawful
-of_fields (Ack from k) lawful = of_distress from 110 k lawful.0 (omega arith) lawful.1
-of_fields (Relay t from k ask) lawful = both (address_symbols t) (distress_symbols from 112 k) (of_address t lawful.0) (of_distress from 112 k lawful.1 (omega arith) lawful.2)
-of_fields (RelayAck t from k) lawful = both (address_symbols t) (distress_symbols from 112 k) (of_address t lawful.0) (of_distress from 112 k lawful.1 (omega arith) lawful.2)
+of_fields (Ack from k) lawful = of_distress from DISTRESS_ACKNOWLEDGEMENT k lawful.0 (omega arith) lawful.1
+of_fields (Relay t from k ask) lawful = both (address_symbols t) (distress_symbols from DISTRESS_RELAY k) (of_address t lawful.0) (of_distress from DISTRESS_RELAY k lawful.1 (omega arith) lawful.2)
+of_fields (RelayAck t from k) lawful = both (address_symbols t) (distress_symbols from DISTRESS_RELAY k) (of_address t lawful.0) (of_distress from DISTRESS_RELAY k lawful.1 (omega arith) lawful.2)
 of_fields (AllShips g from x y f1 f2) lawful = of_request g from x y (Fields f1 f2) lawful.0 lawful.1
 of_fields (AreaCall a g from x y f1 f2) lawful = both (area_symbols a) (request_symbols g from x y (Fields f1 f2)) (of_area a lawful.0) (of_request g from x y (Fields f1 f2) lawful.1 lawful.2)
 of_fields (GroupCall m g from x y f1 f2) lawful = both (identity_symbols m) (request_symbols g from x y (Fields f1 f2)) (of_identity m lawful.0) (of_request g from x y (Fields f1 f2) lawful.1 lawful.2)
@@ -128,14 +130,14 @@ of_choice true x y a b = a
 of_choice false x y a b = b
 
 of_kind_end : (k : Kind) → kind_end k < 128
-of_kind_end (Test reply) = of_choice reply 122 117 (omega arith) (omega arith)
+of_kind_end (Test reply) = of_choice reply ACKNOWLEDGE_BQ ACKNOWLEDGE_RQ (omega arith) (omega arith)
 of_kind_end AskPosition = omega arith
 of_kind_end (Position p t) = omega arith
 
 of_end : (c : Call) → end_of c < 128
 of_end (Alert casualty) = omega arith
 of_end (Ack from k) = omega arith
-of_end (Relay t from k ask) = of_choice ask 117 127 (omega arith) (omega arith)
+of_end (Relay t from k ask) = of_choice ask ACKNOWLEDGE_RQ EOS (omega arith) (omega arith)
 of_end (RelayAck t from k) = omega arith
 of_end (AllShips g from x y f1 f2) = omega arith
 of_end (AreaCall a g from x y f1 f2) = omega arith

@@ -10,6 +10,7 @@ use Rattle.call_values.specs.declared.calls.Call.{Call}
 use Rattle.call_values.specs.declared.calls.Call.TheVariants.{Alert, Ack, Relay, RelayAck, AllShips, AreaCall, GroupCall, Individual, Service}
 use Rattle.call_values.specs.declared.choices.End.TheVariants.{Ask, Reply, Plain}
 use Rattle.call_values.specs.declared.parts.Kind.TheVariants.{Test, AskPosition, Position}
+use Rattle.dsc_symbols.specs.declared.ends.TheConstants.{ACKNOWLEDGE_BQ, ACKNOWLEDGE_RQ, EOS}
 use Rattle.call_grammar.specs.Spelling.{format_of, fields_of, end_of, covered, check_of, through_check}
 use Rattle.call_grammar.specs.inside.Grammar.{CheckedCharacters}
 use Rattle.call_grammar.specs.Walk.{IsDone, IsAtEnd}
@@ -72,7 +73,7 @@ end_at l e (inr (inr d)) w =
     let none : k ∷ e ∷ [] ≡ [] = same.2 in
     absurd (cc)
 
-end_known : (c : Call) → (end_of c ≡ 117) ⊎ (end_of c ≡ 122) ⊎ (end_of c ≡ 127)
+end_known : (c : Call) → (end_of c ≡ ACKNOWLEDGE_RQ) ⊎ (end_of c ≡ ACKNOWLEDGE_BQ) ⊎ (end_of c ≡ EOS)
 end_known (Alert k) = inr (inr refl)
 end_known (Ack from k) = inr (inr refl)
 end_known (Relay t from k true) = inl refl
@@ -96,8 +97,8 @@ covered_as l e a k =
 
 -- before the first end of sequence, one of the three would be followed by a check
 pub at_end : (l : List ℕ) → IsAtEnd l
-    → IsCovered (drop 1 (l ++ (117 ∷ []))) ⊎ IsCovered (drop 1 (l ++ (122 ∷ []))) ⊎ IsCovered (drop 1 (l ++ (127 ∷ [])))
+    → IsCovered (drop 1 (l ++ (ACKNOWLEDGE_RQ ∷ []))) ⊎ IsCovered (drop 1 (l ++ (ACKNOWLEDGE_BQ ∷ []))) ⊎ IsCovered (drop 1 (l ++ (EOS ∷ [])))
 at_end l a = elim (end_known a.call) [
-  | inl k ↦ inl (covered_as l 117 a k)
-  | inr h ↦ elim h [ inl k ↦ inr (inl (covered_as l 122 a k)) | inr k ↦ inr (inr (covered_as l 127 a k)) ]
+  | inl k ↦ inl (covered_as l ACKNOWLEDGE_RQ a k)
+  | inr h ↦ elim h [ inl k ↦ inr (inl (covered_as l ACKNOWLEDGE_BQ a k)) | inr k ↦ inr (inr (covered_as l EOS a k)) ]
 ]

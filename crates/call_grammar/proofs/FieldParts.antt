@@ -10,6 +10,7 @@ use Rattle.symbol_reader.proofs.Steps.{letter_good, one_then, joined}
 use Rattle.call_values.specs.declared.fields.FieldKind.{FieldKind}
 use Rattle.call_values.specs.declared.fields.FieldKind.TheVariants.{Absent, Hundreds, Hf, Vhf, Tens}
 use Rattle.call_values.specs.Fields.{IsField}
+use Rattle.dsc_symbols.specs.declared.messages.TheConstants.{NO_INFORMATION, VHF_CHANNEL}
 use Rattle.call_grammar.specs.Spelling.{field_symbols}
 use Rattle.symbol_reader.proofs.Digits.{six-of, eight-of, three}
 use Rattle.call_grammar.specs.inside.Grammar.{Symbol, FieldWords, FieldRest, field_letter, short_field, long_field}
@@ -39,31 +40,31 @@ field_rest_good initial = then_good _ _ (letter_good (field_letter initial)) (λ
 parts_good : Good FieldParts
 parts_good = then_good _ _ (letter_good letter.Field) (λ initial _ _. field_rest_good initial)
 
-letter_at : (x : ℕ) (t : Bool) → Allows (if t then Exactly 126 else UpTo 99) x → t ≡ false → x ≤ 99
+letter_at : (x : ℕ) (t : Bool) → Allows (if t then Exactly NO_INFORMATION else UpTo 99) x → t ≡ false → x ≤ 99
 letter_at x true h e = absurd (cc)
 letter_at x false h e = h
 
 -- the letter of a field that is not absent
-pub letter_up : (initial x : ℕ) → (initial ≡ 126 → ⊥) → Allows (field_letter initial) x → x ≤ 99
-letter_up initial x n h = letter_at x (initial == 126) h (ne_eqb initial 126 n)
+pub letter_up : (initial x : ℕ) → (initial ≡ NO_INFORMATION → ⊥) → Allows (field_letter initial) x → x ≤ 99
+letter_up initial x n h = letter_at x (initial == NO_INFORMATION) h (ne_eqb initial NO_INFORMATION n)
 
-letter_same : (x : ℕ) (t : Bool) → t ≡ true → Allows (if t then Exactly 126 else UpTo 99) x → x ≡ 126
+letter_same : (x : ℕ) (t : Bool) → t ≡ true → Allows (if t then Exactly NO_INFORMATION else UpTo 99) x → x ≡ NO_INFORMATION
 letter_same x true e h = h
 letter_same x false e h = absurd (cc)
 
 -- where a field is told to have three characters
 short_at : (initial b c : ℕ) (absent vhf hf : Bool) → Allows letter.Field initial → (initial / 10 ≡ 4 → ⊥)
-    → (initial == 126) ≡ absent → (initial == 90) ≡ vhf → (initial / 10 == 3) ≡ hf
-    → Allows (if absent then Exactly 126 else UpTo 99) b → Allows (if absent then Exactly 126 else UpTo 99) c
+    → (initial == NO_INFORMATION) ≡ absent → (initial == VHF_CHANNEL) ≡ vhf → (initial / 10 == 3) ≡ hf
+    → Allows (if absent then Exactly NO_INFORMATION else UpTo 99) b → Allows (if absent then Exactly NO_INFORMATION else UpTo 99) c
     → Spelled IsField field_symbols (if absent then Absent else (if vhf then Vhf (b * 100 + c) else
     (if hf then Hf (initial % 10 * 10000 + (b * 100 + c)) else Hundreds (initial * 10000 + (b * 100 + c))))) (initial ∷ b ∷ c ∷ [])
 short_at initial b c true vhf hf h n ea ev eh hb hc =
-    let k : initial ≡ 126 = eqb-true initial 126 ea in
-    let kb : b ≡ 126 = hb in
-    let kc : c ≡ 126 = hc in
+    let k : initial ≡ NO_INFORMATION = eqb-true initial NO_INFORMATION ea in
+    let kb : b ≡ NO_INFORMATION = hb in
+    let kc : c ≡ NO_INFORMATION = hc in
     record { is_lawful = tt; list = three k kb kc }
 short_at initial b c false true hf h n ea ev eh hb hc =
-    let k : initial ≡ 90 = eqb-true initial 90 ev in
+    let k : initial ≡ VHF_CHANNEL = eqb-true initial VHF_CHANNEL ev in
     let kb : b ≤ 99 = hb in
     let kc : c ≤ 99 = hc in
     record { is_lawful = omega arith; list = sym (six-of (900000 + (b * 100 + c)) initial b c kb kc (omega arith)) }
@@ -76,8 +77,8 @@ short_at initial b c false false true h n ea ev eh hb hc =
       list = sym (six-of (300000 + (initial % 10 * 10000 + (b * 100 + c))) initial b c kb kc (omega arith));
     }
 short_at initial b c false false false h n ea ev eh hb hc =
-    let ka : initial ≡ 126 → ⊥ = eqb-false initial 126 ea in
-    let kv : initial ≡ 90 → ⊥ = eqb-false initial 90 ev in
+    let ka : initial ≡ NO_INFORMATION → ⊥ = eqb-false initial NO_INFORMATION ea in
+    let kv : initial ≡ VHF_CHANNEL → ⊥ = eqb-false initial VHF_CHANNEL ev in
     let kh : initial / 10 ≡ 3 → ⊥ = eqb-false (initial / 10) 3 eh in
     let low : initial ≤ 49 = elim h [ inl l ↦ l | inr r ↦ elim r [ inl e ↦ absurd (kv e) | inr e ↦ absurd (ka e) ] ] in
     let few : initial ≤ 29 = grind arith in
@@ -87,7 +88,7 @@ short_at initial b c false false false h n ea ev eh hb hc =
 
 pub short_words : (initial b c : ℕ) → Allows letter.Field initial → (initial / 10 ≡ 4 → ⊥) → Allows (field_letter initial) b → Allows (field_letter initial) c
     → Spelled IsField field_symbols (short_field initial b c) (initial ∷ b ∷ c ∷ [])
-short_words initial b c h n hb hc = short_at initial b c (initial == 126) (initial == 90) (initial / 10 == 3) h n refl refl refl hb hc
+short_words initial b c h n hb hc = short_at initial b c (initial == NO_INFORMATION) (initial == VHF_CHANNEL) (initial / 10 == 3) h n refl refl refl hb hc
 
 long_words : (initial b c d : ℕ) → initial / 10 ≡ 4 → b ≤ 99 → c ≤ 99 → d ≤ 99
     → Spelled IsField field_symbols (long_field initial b c d) (initial ∷ b ∷ c ∷ d ∷ [])
@@ -100,7 +101,7 @@ to_end : (initial b c : ℕ) (t : Bool) (v : FieldKind) (l : List ℕ) → (init
     → Allows (field_letter initial) b → Allows (field_letter initial) c → FieldEnd initial b c v l → FieldWords v (initial ∷ b ∷ c ∷ l)
 to_end initial b c true v l e h hb hc p =
     let k : initial / 10 ≡ 4 = eqb-true (initial / 10) 4 e in
-    let n : initial ≡ 126 → ⊥ = λ m. omega arith in
+    let n : initial ≡ NO_INFORMATION → ⊥ = λ m. omega arith in
     let q = p.yes e in
     let value : v ≡ long_field initial b c q.chosen = q.after.value in
     let tail : l ≡ q.chosen ∷ [] = joined q q.after.list in
@@ -124,12 +125,12 @@ to_rest initial v l h p =
 to_field : (v : FieldKind) (word : List ℕ) → FieldParts v word → FieldWords v word
 to_field v word p = subst (FieldWords v) (sym (joined p refl)) (to_rest p.chosen v p.back p.before.allowed p.after)
 
-letter_from : (x : ℕ) (t : Bool) → t ≡ false → x ≤ 99 → Allows (if t then Exactly 126 else UpTo 99) x
+letter_from : (x : ℕ) (t : Bool) → t ≡ false → x ≤ 99 → Allows (if t then Exactly NO_INFORMATION else UpTo 99) x
 letter_from x true e h = absurd (cc)
 letter_from x false e h = h
 
-letter_ok : (initial x : ℕ) → (initial ≡ 126 → ⊥) → x ≤ 99 → Allows (field_letter initial) x
-letter_ok initial x n h = letter_from x (initial == 126) (ne_eqb initial 126 n) h
+letter_ok : (initial x : ℕ) → (initial ≡ NO_INFORMATION → ⊥) → x ≤ 99 → Allows (field_letter initial) x
+letter_ok initial x n h = letter_from x (initial == NO_INFORMATION) (ne_eqb initial NO_INFORMATION n) h
 
 -- a field of three characters, and its first
 short_rest : (v : FieldKind) (initial b c : ℕ) → (initial / 10 ≡ 4 → ⊥) → Allows (field_letter initial) b → Allows (field_letter initial) c → v ≡ short_field initial b c
@@ -149,17 +150,17 @@ pub record FieldSplit (v : FieldKind) : Type 0 where
 
 pub split_field : (v : FieldKind) → IsField v → FieldSplit v
 split_field Absent h = record {
-  initial = 126;
-  rest = 126 ∷ 126 ∷ [];
+  initial = NO_INFORMATION;
+  rest = NO_INFORMATION ∷ NO_INFORMATION ∷ [];
   allowed = inr (inr refl);
   list = refl;
-  word = short_rest Absent 126 126 126 (λ e. omega (arith, e)) refl refl refl;
+  word = short_rest Absent NO_INFORMATION NO_INFORMATION NO_INFORMATION (λ e. omega (arith, e)) refl refl refl;
 }
 split_field (Hundreds n) h =
     let k : n ≤ 299999 = h in
     let a : ℕ = n / 10000 in let b : ℕ = n / 100 % 100 in let c : ℕ = n % 100 in
-    let not_absent : a ≡ 126 → ⊥ = λ e. omega arith in
-    let not_vhf : a ≡ 90 → ⊥ = λ e. omega arith in
+    let not_absent : a ≡ NO_INFORMATION → ⊥ = λ e. omega arith in
+    let not_vhf : a ≡ VHF_CHANNEL → ⊥ = λ e. omega arith in
     let not_hf : a / 10 ≡ 3 → ⊥ = λ e. omega arith in
     let value : n ≡ a * 10000 + (b * 100 + c) = omega arith in
     record {
@@ -168,13 +169,13 @@ split_field (Hundreds n) h =
       allowed = inl (omega arith);
       list = six-of n a b c (omega arith) (omega arith) (omega arith);
       word = short_rest (Hundreds n) a b c (λ e. omega arith) (letter_ok a b not_absent (omega arith)) (letter_ok a c not_absent (omega arith))
-          (rw (ne_eqb a 126 not_absent, ne_eqb a 90 not_vhf, ne_eqb (a / 10) 3 not_hf) (ap (λ x. Hundreds x) value));
+          (rw (ne_eqb a NO_INFORMATION not_absent, ne_eqb a VHF_CHANNEL not_vhf, ne_eqb (a / 10) 3 not_hf) (ap (λ x. Hundreds x) value));
     }
 split_field (Hf n) h =
     let k : n ≤ 99999 = h in
     let a : ℕ = 30 + n / 10000 in let b : ℕ = n / 100 % 100 in let c : ℕ = n % 100 in
-    let not_absent : a ≡ 126 → ⊥ = λ e. omega arith in
-    let not_vhf : a ≡ 90 → ⊥ = λ e. omega arith in
+    let not_absent : a ≡ NO_INFORMATION → ⊥ = λ e. omega arith in
+    let not_vhf : a ≡ VHF_CHANNEL → ⊥ = λ e. omega arith in
     let is_hf : a / 10 ≡ 3 = omega arith in
     let value : n ≡ a % 10 * 10000 + (b * 100 + c) = omega arith in
     record {
@@ -183,24 +184,24 @@ split_field (Hf n) h =
       allowed = inl (omega arith);
       list = six-of (300000 + n) a b c (omega arith) (omega arith) (omega arith);
       word = short_rest (Hf n) a b c (λ e. omega arith) (letter_ok a b not_absent (omega arith)) (letter_ok a c not_absent (omega arith))
-          (rw (ne_eqb a 126 not_absent, ne_eqb a 90 not_vhf, eq-eqb (a / 10) 3 is_hf) (ap (λ x. Hf x) value));
+          (rw (ne_eqb a NO_INFORMATION not_absent, ne_eqb a VHF_CHANNEL not_vhf, eq-eqb (a / 10) 3 is_hf) (ap (λ x. Hf x) value));
     }
 split_field (Vhf n) h =
     let k : n ≤ 9999 = h in
     let b : ℕ = n / 100 in let c : ℕ = n % 100 in
     let value : n ≡ b * 100 + c = omega arith in
     record {
-      initial = 90;
+      initial = VHF_CHANNEL;
       rest = b ∷ c ∷ [];
       allowed = inr (inl refl);
-      list = six-of (900000 + n) 90 b c (omega arith) (omega arith) (omega arith);
-      word = short_rest (Vhf n) 90 b c (λ e. omega (arith, e)) (letter_ok 90 b (λ e. omega (arith, e)) (omega arith)) (letter_ok 90 c (λ e. omega (arith, e)) (omega arith))
+      list = six-of (900000 + n) VHF_CHANNEL b c (omega arith) (omega arith) (omega arith);
+      word = short_rest (Vhf n) VHF_CHANNEL b c (λ e. omega (arith, e)) (letter_ok VHF_CHANNEL b (λ e. omega (arith, e)) (omega arith)) (letter_ok VHF_CHANNEL c (λ e. omega (arith, e)) (omega arith))
           (ap (λ x. Vhf x) value);
     }
 split_field (Tens n) h =
     let k : n ≤ 9999999 = h in
     let a : ℕ = 40 + n / 1000000 in let b : ℕ = n / 10000 % 100 in let c : ℕ = n / 100 % 100 in let d : ℕ = n % 100 in
-    let not_absent : a ≡ 126 → ⊥ = λ e. omega arith in
+    let not_absent : a ≡ NO_INFORMATION → ⊥ = λ e. omega arith in
     let is_long : a / 10 ≡ 4 = omega arith in
     let value : n ≡ a % 10 * 1000000 + (b * 10000 + (c * 100 + d)) = omega arith in
     record {

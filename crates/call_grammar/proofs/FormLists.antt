@@ -5,16 +5,17 @@ use Rattle.call_values.specs.declared.choices.Category.{Category}
 use Rattle.call_values.specs.declared.fields.FieldKind.{FieldKind}
 use Rattle.call_values.specs.declared.parts.Message.{Message}
 use Rattle.call_values.specs.declared.parts.Message.TheVariants.{Fields}
+use Rattle.dsc_symbols.specs.declared.categories.TheConstants as categories
 use Rattle.call_grammar.specs.Spelling.{identity_symbols, casualty_symbols, category_symbol, field_symbols, message_symbols, distress_symbols, request_symbols}
 
 -- a distress call and what follows it
 pub distress-list : (from telecommand : ℕ) (k : Casualty) (l : List ℕ)
-    → distress_symbols from telecommand k ++ l ≡ 112 ∷ (identity_symbols from ++ (telecommand ∷ (casualty_symbols k ++ l)))
-distress-list from telecommand k l = ap (λ a. 112 ∷ a) (append_assoc (identity_symbols from) (telecommand ∷ casualty_symbols k) l)
+    → distress_symbols from telecommand k ++ l ≡ categories.DISTRESS ∷ (identity_symbols from ++ (telecommand ∷ (casualty_symbols k ++ l)))
+distress-list from telecommand k l = ap (λ a. categories.DISTRESS ∷ a) (append_assoc (identity_symbols from) (telecommand ∷ casualty_symbols k) l)
 
 -- behind an address
 pub relay-list : (a : List ℕ) (from telecommand : ℕ) (k : Casualty) (l : List ℕ)
-    → (a ++ distress_symbols from telecommand k) ++ l ≡ a ++ (112 ∷ (identity_symbols from ++ (telecommand ∷ (casualty_symbols k ++ l))))
+    → (a ++ distress_symbols from telecommand k) ++ l ≡ a ++ (categories.DISTRESS ∷ (identity_symbols from ++ (telecommand ∷ (casualty_symbols k ++ l))))
 relay-list a from telecommand k l = append_assoc a (distress_symbols from telecommand k) l ∙ ap (λ b. a ++ b) (distress-list from telecommand k l)
 
 -- a call with a message, and what follows it, behind an address

@@ -6,6 +6,8 @@ use Rattle.symbol_reader.proofs.Steps.{letter_good}
 use Rattle.call_values.specs.declared.choices.Category.{Category}
 use Rattle.call_values.specs.declared.parts.To.{To}
 use Rattle.call_values.specs.declared.parts.To.TheVariants as to
+use Rattle.dsc_symbols.specs.declared.ends.TheConstants.{ACKNOWLEDGE_BQ, ACKNOWLEDGE_RQ, EOS}
+use Rattle.dsc_symbols.specs.declared.messages.TheConstants.{NO_INFORMATION, POSITION_FOLLOWS}
 use Rattle.call_grammar.specs.declared.symbols.Specifier.{Specifier}
 use Rattle.call_grammar.specs.declared.symbols.Specifier.TheVariants as format
 use Rattle.call_grammar.specs.declared.symbols.Telecommand.{Telecommand}
@@ -24,7 +26,7 @@ pub relays_good : (t : To) (from : ℕ) → Good (Relays t from)
 relays_good t from = then_good _ _ casualty_good (λ _ _ _. then_good _ _ endings_good (λ _ _ _. only_good _))
 
 pub acks_good : (from : ℕ) → Good (Acks from)
-acks_good from = then_good _ _ casualty_good (λ _ _ _. then_good _ _ (letter_good (Exactly 127)) (λ _ _ _. only_good _))
+acks_good from = then_good _ _ casualty_good (λ _ _ _. then_good _ _ (letter_good (Exactly EOS)) (λ _ _ _. only_good _))
 
 pub after_distress_telecommand_good : (t : To) (from : ℕ) (is_ack : Bool) → Good (AfterDistressTelecommand t from is_ack)
 after_distress_telecommand_good t from true = acks_good from
@@ -39,19 +41,19 @@ distress_good t = then_good _ _ identity_good (λ from _ _. after_relayer_good t
 pub requests_good : (t : To) (g : Category) (from : ℕ) → Good (Requests t g from)
 requests_good t g from =
     then_good _ _ first_good (λ _ _ _. then_good _ _ second_good (λ _ _ _. then_good _ _ field_good (λ _ _ _. then_good _ _ field_good (λ _ _ _.
-    then_good _ _ (letter_good (Exactly 127)) (λ _ _ _. only_good _)))))
+    then_good _ _ (letter_good (Exactly EOS)) (λ _ _ _. only_good _)))))
 
 pub tests_good : (m : ℕ) (g : Category) (from : ℕ) → Good (Tests m g from)
 tests_good m g from =
-    then_good _ _ (letter_good (Exactly 126)) (λ _ _ _. then_good _ _ (letter_good (Exactly 126)) (λ _ _ _. then_good _ _ (blanks_good 5) (λ _ _ _.
-    then_good _ _ (eithers_good 122 117 (λ e. omega (arith, e))) (λ _ _ _. only_good _))))
+    then_good _ _ (letter_good (Exactly NO_INFORMATION)) (λ _ _ _. then_good _ _ (letter_good (Exactly NO_INFORMATION)) (λ _ _ _. then_good _ _ (blanks_good 5) (λ _ _ _.
+    then_good _ _ (eithers_good ACKNOWLEDGE_BQ ACKNOWLEDGE_RQ (λ e. omega (arith, e))) (λ _ _ _. only_good _))))
 
 pub answers_good : (m : ℕ) (g : Category) (from : ℕ) → Good (PositionAnswers m g from)
 answers_good m g from =
-    then_good _ _ position_good (λ _ _ _. then_good _ _ time_good (λ _ _ _. then_good _ _ (letter_good (Exactly 122)) (λ _ _ _. only_good _)))
+    then_good _ _ position_good (λ _ _ _. then_good _ _ time_good (λ _ _ _. then_good _ _ (letter_good (Exactly ACKNOWLEDGE_BQ)) (λ _ _ _. only_good _)))
 
 pub questions_good : (m : ℕ) (g : Category) (from : ℕ) → Good (PositionRequests m g from)
-questions_good m g from = then_good _ _ (blanks_good 5) (λ _ _ _. then_good _ _ (letter_good (Exactly 117)) (λ _ _ _. only_good _))
+questions_good m g from = then_good _ _ (blanks_good 5) (λ _ _ _. then_good _ _ (letter_good (Exactly ACKNOWLEDGE_RQ)) (λ _ _ _. only_good _))
 
 pub after_told_good : (m : ℕ) (g : Category) (from : ℕ) (is_told : Bool) → Good (AfterTold m g from is_told)
 after_told_good m g from true = answers_good m g from
@@ -59,7 +61,7 @@ after_told_good m g from false = questions_good m g from
 
 pub places_good : (m : ℕ) (g : Category) (from : ℕ) → Good (ShipPositions m g from)
 places_good m g from =
-    then_good _ _ (letter_good (Exactly 126)) (λ _ _ _. then_good _ _ (eithers_good 55 126 (λ e. omega (arith, e))) (λ b _ _. after_told_good m g from b))
+    then_good _ _ (letter_good (Exactly NO_INFORMATION)) (λ _ _ _. then_good _ _ (eithers_good POSITION_FOLLOWS NO_INFORMATION (λ e. omega (arith, e))) (λ b _ _. after_told_good m g from b))
 
 pub others_good : (m : ℕ) (g : Category) (from first : ℕ) → Good (Others m g from first)
 others_good m g from first =
@@ -94,7 +96,7 @@ pub addressed_one_good : (m : ℕ) → Good (AddressedOne m)
 addressed_one_good m = then_good _ _ categories_good (λ category _ _. after_category_to_one_good m category)
 
 pub alerts_good : Good Alerts
-alerts_good = then_good _ _ casualty_good (λ _ _ _. then_good _ _ (letter_good (Exactly 127)) (λ _ _ _. only_good _))
+alerts_good = then_good _ _ casualty_good (λ _ _ _. then_good _ _ (letter_good (Exactly EOS)) (λ _ _ _. only_good _))
 
 -- what follows a format specifier reads back
 pub after_format_good : (f : Specifier) → Good (AfterFormat f)

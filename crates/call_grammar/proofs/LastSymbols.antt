@@ -12,6 +12,8 @@ use Rattle.call_values.specs.declared.choices.Category.{Category}
 use Rattle.call_values.specs.declared.parts.To.{To}
 use Rattle.call_values.specs.declared.parts.To.TheVariants as to
 use Rattle.call_values.specs.declared.calls.Call.{Call}
+use Rattle.dsc_symbols.specs.declared.ends.TheConstants.{ACKNOWLEDGE_BQ, ACKNOWLEDGE_RQ, EOS}
+use Rattle.dsc_symbols.specs.declared.messages.TheConstants.{NO_INFORMATION, POSITION_FOLLOWS}
 use Rattle.call_grammar.specs.declared.symbols.Specifier.{Specifier}
 use Rattle.call_grammar.specs.declared.symbols.Specifier.TheVariants as format
 use Rattle.call_grammar.specs.declared.symbols.Telecommand.{Telecommand}
@@ -121,7 +123,7 @@ relays_last : (t : To) (from : ℕ) → LacksOne (Relays t from)
 relays_last t from = then_last _ _ casualty_good (λ _ _ _. ends _ _ (code_one _ _))
 
 acks_last : (from : ℕ) → LacksOne (Acks from)
-acks_last from = then_last _ _ casualty_good (λ _ _ _. ends _ _ (letter_one (Exactly 127)))
+acks_last from = then_last _ _ casualty_good (λ _ _ _. ends _ _ (letter_one (Exactly EOS)))
 
 after_distress_telecommand_last : (t : To) (from : ℕ) (is_ack : Bool) → LacksOne (AfterDistressTelecommand t from is_ack)
 after_distress_telecommand_last t from true = acks_last from
@@ -133,18 +135,18 @@ distress_last t = then_last _ _ identity_good (λ from _ _. then_last _ _ (distr
 requests_last : (t : To) (g : Category) (from : ℕ) → LacksOne (Requests t g from)
 requests_last t g from =
     then_last _ _ first_good (λ _ _ _. then_last _ _ second_good (λ _ _ _. then_last _ _ field_good (λ _ _ _. then_last _ _ field_good (λ _ _ _.
-    ends _ _ (letter_one (Exactly 127))))))
+    ends _ _ (letter_one (Exactly EOS))))))
 
 tests_last : (m : ℕ) (g : Category) (from : ℕ) → LacksOne (Tests m g from)
 tests_last m g from =
-    then_last _ _ (letter_good (Exactly 126)) (λ _ _ _. then_last _ _ (letter_good (Exactly 126)) (λ _ _ _. then_last _ _ (blanks_good 5) (λ _ _ _.
+    then_last _ _ (letter_good (Exactly NO_INFORMATION)) (λ _ _ _. then_last _ _ (letter_good (Exactly NO_INFORMATION)) (λ _ _ _. then_last _ _ (blanks_good 5) (λ _ _ _.
     ends _ _ (code_one _ _))))
 
 answers_last : (m : ℕ) (g : Category) (from : ℕ) → LacksOne (PositionAnswers m g from)
-answers_last m g from = then_last _ _ position_good (λ _ _ _. then_last _ _ time_good (λ _ _ _. ends _ _ (letter_one (Exactly 122))))
+answers_last m g from = then_last _ _ position_good (λ _ _ _. then_last _ _ time_good (λ _ _ _. ends _ _ (letter_one (Exactly ACKNOWLEDGE_BQ))))
 
 questions_last : (m : ℕ) (g : Category) (from : ℕ) → LacksOne (PositionRequests m g from)
-questions_last m g from = then_last _ _ (blanks_good 5) (λ _ _ _. ends _ _ (letter_one (Exactly 117)))
+questions_last m g from = then_last _ _ (blanks_good 5) (λ _ _ _. ends _ _ (letter_one (Exactly ACKNOWLEDGE_RQ)))
 
 after_told_last : (m : ℕ) (g : Category) (from : ℕ) (is_told : Bool) → LacksOne (AfterTold m g from is_told)
 after_told_last m g from true = answers_last m g from
@@ -152,7 +154,7 @@ after_told_last m g from false = questions_last m g from
 
 places_last : (m : ℕ) (g : Category) (from : ℕ) → LacksOne (ShipPositions m g from)
 places_last m g from =
-    then_last _ _ (letter_good (Exactly 126)) (λ _ _ _. then_last _ _ (eithers_good 55 126 (λ e. omega (arith, e))) (λ b _ _. after_told_last m g from b))
+    then_last _ _ (letter_good (Exactly NO_INFORMATION)) (λ _ _ _. then_last _ _ (eithers_good POSITION_FOLLOWS NO_INFORMATION (λ e. omega (arith, e))) (λ b _ _. after_told_last m g from b))
 
 others_last : (m : ℕ) (g : Category) (from first : ℕ) → LacksOne (Others m g from first)
 others_last m g from first = then_last _ _ second_good (λ _ _ _. then_last _ _ message_good (λ _ _ _. ends _ _ (code_one _ _)))
@@ -180,7 +182,7 @@ addressed_one_last : (m : ℕ) → LacksOne (AddressedOne m)
 addressed_one_last m = then_last _ _ categories_good (λ category _ _. after_category_to_one_last m category)
 
 alerts_last : LacksOne Alerts
-alerts_last = then_last _ _ casualty_good (λ _ _ _. ends _ _ (letter_one (Exactly 127)))
+alerts_last = then_last _ _ casualty_good (λ _ _ _. ends _ _ (letter_one (Exactly EOS)))
 
 after_format_last : (f : Specifier) → LacksOne (AfterFormat f)
 after_format_last format.Alert = alerts_last

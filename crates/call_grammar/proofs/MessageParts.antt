@@ -10,6 +10,7 @@ use Rattle.call_values.specs.declared.positions.Fix.{Fix}
 use Rattle.call_values.specs.declared.fields.FieldKind.{FieldKind}
 use Rattle.call_values.specs.declared.parts.Message.{Message}
 use Rattle.call_values.specs.declared.parts.Message.TheVariants.{Fields, At}
+use Rattle.dsc_symbols.specs.declared.messages.TheConstants.{POSITION_FOLLOWS}
 use Rattle.call_grammar.specs.Spelling.{field_symbols, position_symbols}
 use Rattle.call_grammar.specs.inside.Grammar.{Symbol, Positions, FieldWords, FieldRest, Messages}
 use Rattle.call_grammar.proofs.PositionParts.{position_good}
@@ -22,7 +23,7 @@ abbrev pub FieldsRest : ℕ → Message → List ℕ → Type 0
 FieldsRest initial = Then (FieldRest initial) (λ f. Then FieldWords (λ g. Only (Fields f g)))
 
 abbrev pub MessageRest : ℕ → Message → List ℕ → Type 0
-MessageRest initial = Choice (initial == 55) AtRest (FieldsRest initial)
+MessageRest initial = Choice (initial == POSITION_FOLLOWS) AtRest (FieldsRest initial)
 
 abbrev pub MessageParts : Message → List ℕ → Type 0
 MessageParts = Then (Symbol letter.Message) MessageRest
@@ -40,21 +41,21 @@ pub fields_rest_good : (initial : ℕ) → Good (FieldsRest initial)
 fields_rest_good initial = then_good _ _ (field_rest_good initial) (λ f _ _. second_field_good f)
 
 pub message_rest_good : (initial : ℕ) → Good (MessageRest initial)
-message_rest_good initial = choice_good (initial == 55) _ _ (λ _. at_rest_good) (λ _. fields_rest_good initial)
+message_rest_good initial = choice_good (initial == POSITION_FOLLOWS) _ _ (λ _. at_rest_good) (λ _. fields_rest_good initial)
 
 parts_good : Good MessageParts
 parts_good = then_good _ _ (letter_good letter.Message) (λ initial _ _. message_rest_good initial)
 
--- what begins a message and is not 55 begins a field
-pub field_initial : (initial : ℕ) → Allows letter.Message initial → (initial ≡ 55 → ⊥) → Allows letter.Field initial
+-- what begins a message and no position begins a field
+pub field_initial : (initial : ℕ) → Allows letter.Message initial → (initial ≡ POSITION_FOLLOWS → ⊥) → Allows letter.Field initial
 field_initial initial (inl e) n = absurd (n e)
 field_initial initial (inr h) n = h
 
-to_message_at : (initial : ℕ) (v : Message) (l : List ℕ) → initial ≡ 55 → AtRest v l → Messages v (initial ∷ l)
+to_message_at : (initial : ℕ) (v : Message) (l : List ℕ) → initial ≡ POSITION_FOLLOWS → AtRest v l → Messages v (initial ∷ l)
 to_message_at initial v l e p =
     let value : v ≡ At p.chosen = p.after.value in
     let list : l ≡ position_symbols p.chosen = spelt p p.after.list ∙ append-nil (position_symbols p.chosen) in
-    let whole : initial ∷ l ≡ 55 ∷ position_symbols p.chosen = cc in
+    let whole : initial ∷ l ≡ POSITION_FOLLOWS ∷ position_symbols p.chosen = cc in
     subst (λ x. Messages x (initial ∷ l)) (sym value) (record { is_lawful = p.before.is_lawful; list = whole })
 
 to_message_fields : (initial : ℕ) (v : Message) (l : List ℕ) → Allows letter.Field initial → FieldsRest initial v l → Messages v (initial ∷ l)
@@ -69,20 +70,20 @@ to_message_fields initial v l h p =
     ap (λ a. initial ∷ a) list ∙ ap (λ a. a ++ p.back) one ∙ ap (λ a. field_symbols p.chosen ++ a) two in
     subst (λ x. Messages x (initial ∷ l)) (sym value) (record { is_lawful = (first.is_lawful, q.before.is_lawful); list = whole })
 
-to_message_rest : (initial : ℕ) (t : Bool) (v : Message) (l : List ℕ) → (initial == 55) ≡ t → Allows letter.Message initial → MessageRest initial v l → Messages v (initial ∷ l)
-to_message_rest initial true v l e h p = to_message_at initial v l (eqb-true initial 55 e) (p.yes e)
-to_message_rest initial false v l e h p = to_message_fields initial v l (field_initial initial h (eqb-false initial 55 e)) (p.no e)
+to_message_rest : (initial : ℕ) (t : Bool) (v : Message) (l : List ℕ) → (initial == POSITION_FOLLOWS) ≡ t → Allows letter.Message initial → MessageRest initial v l → Messages v (initial ∷ l)
+to_message_rest initial true v l e h p = to_message_at initial v l (eqb-true initial POSITION_FOLLOWS e) (p.yes e)
+to_message_rest initial false v l e h p = to_message_fields initial v l (field_initial initial h (eqb-false initial POSITION_FOLLOWS e)) (p.no e)
 
 to_message : (v : Message) (word : List ℕ) → MessageParts v word → Messages v word
 to_message v word p =
-    subst (Messages v) (sym (joined p refl)) (to_message_rest p.chosen (p.chosen == 55) v p.back refl p.before.allowed p.after)
+    subst (Messages v) (sym (joined p refl)) (to_message_rest p.chosen (p.chosen == POSITION_FOLLOWS) v p.back refl p.before.allowed p.after)
 
-not_55 : (initial : ℕ) → Allows letter.Field initial → initial ≡ 55 → ⊥
-not_55 initial h e = grind arith
+begins_no_position : (initial : ℕ) → Allows letter.Field initial → initial ≡ POSITION_FOLLOWS → ⊥
+begins_no_position initial h e = grind arith
 
 from_message : (v : Message) (word : List ℕ) → Messages v word → MessageParts v word
 from_message (At p) word m =
-    subst (MessageParts (At p)) (sym m.list) (one_then 55 (inl refl) (record {
+    subst (MessageParts (At p)) (sym m.list) (one_then POSITION_FOLLOWS (inl refl) (record {
       yes = λ _. subst (AtRest (At p)) (append-nil (position_symbols p)) (spelled_then p [] m.is_lawful (record { value = refl; list = refl }));
       no = λ (e : true ≡ false). absurd (cc);
     }))
@@ -93,7 +94,7 @@ from_message (Fields f g) word m =
     (spelled_then g [] m.is_lawful.1 (record { value = refl; list = refl })) in
     subst (MessageParts (Fields f g)) (sym (m.list ∙ ap (λ a. a ++ field_symbols g) s.list))
     (one_then s.initial (inr s.allowed) (record {
-      yes = λ e. absurd (not_55 s.initial s.allowed (eqb-true s.initial 55 e));
+      yes = λ e. absurd (begins_no_position s.initial s.allowed (eqb-true s.initial POSITION_FOLLOWS e));
       no = λ _. record { chosen = f; front = s.rest; back = field_symbols g; before = s.word; after = second; list = refl };
     }))
 

@@ -17,7 +17,7 @@ use Rattle.symbol_reader.proofs.Steps.{length_left}
 use Rattle.call_grammar.specs.Walk.{IsViable, IsOpen}
 use Rattle.call_grammar.specs.Reading.{IsPart, EndsShort, EndsOutside, IsTwice}
 use Rattle.call_grammar.specs.inside.Forms.{format_symbol}
-use Rattle.call_grammar.proofs.CodedParts.{format_told, format_there}
+use Rattle.call_grammar.proofs.CodedParts.{format_of_symbol, format_there}
 use Rattle.call_grammar.proofs.FormParts.{after_format_good}
 use Rattle.call_grammar.proofs.ToForms.{to_format}
 use Rattle.call_grammar.proofs.CallParts.{checked_characters_good}
@@ -46,9 +46,9 @@ format_lawful c = format_to_lawful (address_of c)
 -- each format specifier begins a call
 pub format_call : (f : ℕ) → IsFormat f → (c : Call) × IsCall c × (format_of c ≡ f)
 format_call f h =
-    let g = after_format_good (format_told f) in
-    let o = to_format (format_told f) g.value g.text g.word in
-    let list : format_symbol (format_told f) ∷ g.text ≡ covered g.value = o.list in
+    let g = after_format_good (format_of_symbol f) in
+    let o = to_format (format_of_symbol f) g.value g.text g.word in
+    let list : format_symbol (format_of_symbol f) ∷ g.text ≡ covered g.value = o.list in
     (g.value, o.is_lawful, sym (head-eq_of_cons-eq list) ∙ format_there f h)
 
 pub empty_short : (l : List ℕ) → length l < 1 → EndsShort l 0

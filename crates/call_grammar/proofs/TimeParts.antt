@@ -5,10 +5,11 @@ use Rattle.symbol_reader.specs.declared.letters.Letter.TheVariants.{Exactly, UpT
 use Rattle.symbol_reader.specs.inside.Languages.{Only, Then, Choice}
 use Rattle.symbol_reader.proofs.Laws.{Good, Alike, then_good, only_good, choice_good, alike_good}
 use Rattle.symbol_reader.proofs.Steps.{letter_good, one_then, joined}
+use Rattle.dsc_symbols.specs.declared.messages.TheConstants.{UNKNOWN_TIME}
 use Rattle.call_grammar.specs.inside.Grammar.{Symbol, Times}
 
-pub unknown_good : Good (Then {V = Option (ℕ × ℕ)} (Symbol (Exactly 88)) (λ _. Only None))
-unknown_good = then_good _ _ (letter_good (Exactly 88)) (λ _ _ _. only_good None)
+pub unknown_good : Good (Then {V = Option (ℕ × ℕ)} (Symbol (Exactly UNKNOWN_TIME)) (λ _. Only None))
+unknown_good = then_good _ _ (letter_good (Exactly UNKNOWN_TIME)) (λ _ _ _. only_good None)
 
 pub known_good : (hour : ℕ) → Good (Then {V = Option (ℕ × ℕ)} (Symbol (UpTo 59)) (λ minute. Only (Some (hour, minute))))
 known_good hour = then_good _ _ (letter_good (UpTo 59)) (λ minute _ _. only_good (Some (hour, minute)))
@@ -16,29 +17,29 @@ known_good hour = then_good _ _ (letter_good (UpTo 59)) (λ minute _ _. only_goo
 -- the rest of a time, after its first character
 abbrev pub TimeRest : ℕ → Option (ℕ × ℕ) → List ℕ → Type 0
 TimeRest hour =
-    Choice (hour == 88) (Then (Symbol (Exactly 88)) (λ _. Only None)) (Then (Symbol (UpTo 59)) (λ minute. Only (Some (hour, minute))))
+    Choice (hour == UNKNOWN_TIME) (Then (Symbol (Exactly UNKNOWN_TIME)) (λ _. Only None)) (Then (Symbol (UpTo 59)) (λ minute. Only (Some (hour, minute))))
 
 pub rest_good : (hour : ℕ) → Good (TimeRest hour)
-rest_good hour = choice_good (hour == 88) _ _ (λ _. unknown_good) (λ _. known_good hour)
+rest_good hour = choice_good (hour == UNKNOWN_TIME) _ _ (λ _. unknown_good) (λ _. known_good hour)
 
 abbrev pub TimeParts : Option (ℕ × ℕ) → List ℕ → Type 0
-TimeParts = Then (Symbol (UpToOr 23 88)) TimeRest
+TimeParts = Then (Symbol (UpToOr 23 UNKNOWN_TIME)) TimeRest
 
 parts_good : Good TimeParts
-parts_good = then_good _ _ (letter_good (UpToOr 23 88)) (λ hour _ _. rest_good hour)
+parts_good = then_good _ _ (letter_good (UpToOr 23 UNKNOWN_TIME)) (λ hour _ _. rest_good hour)
 
--- an hour of the letter that isn't 88 is an hour of the day
-hour_of_day : (hour : ℕ) → (hour ≤ 23) ⊎ (hour ≡ 88) → (hour == 88) ≡ false → hour < 24
+-- an hour of the letter that is known is an hour of the day
+hour_of_day : (hour : ℕ) → (hour ≤ 23) ⊎ (hour ≡ UNKNOWN_TIME) → (hour == UNKNOWN_TIME) ≡ false → hour < 24
 hour_of_day hour h e = grind (arith, nat_tests)
 
-to_unknown : (hour : ℕ) (v : Option (ℕ × ℕ)) (back word : List ℕ) → (hour == 88) ≡ true
-    → Then (Symbol (Exactly 88)) (λ _. Only None) v back → word ≡ hour ∷ back → Times v word
+to_unknown : (hour : ℕ) (v : Option (ℕ × ℕ)) (back word : List ℕ) → (hour == UNKNOWN_TIME) ≡ true
+    → Then (Symbol (Exactly UNKNOWN_TIME)) (λ _. Only None) v back → word ≡ hour ∷ back → Times v word
 to_unknown hour v back word test p e =
-    let hour_is : hour ≡ 88 = grind (arith, nat_tests) in
-    let second : p.chosen ≡ 88 = p.before.allowed in
+    let hour_is : hour ≡ UNKNOWN_TIME = grind (arith, nat_tests) in
+    let second : p.chosen ≡ UNKNOWN_TIME = p.before.allowed in
     let value : v ≡ None = p.after.value in
     let tail : back ≡ p.chosen ∷ [] = joined p p.after.list in
-    let list : word ≡ 88 ∷ 88 ∷ [] = cc in
+    let list : word ≡ UNKNOWN_TIME ∷ UNKNOWN_TIME ∷ [] = cc in
     subst (λ x. Times x word) (sym value) (record { is_lawful = tt; list = list })
 
 to_known : (hour : ℕ) (v : Option (ℕ × ℕ)) (back word : List ℕ) → hour < 24
@@ -50,22 +51,22 @@ to_known hour v back word h p e =
     let list : word ≡ hour ∷ p.chosen ∷ [] = cc in
     subst (λ x. Times x word) (sym value) (record { is_lawful = (h, omega arith); list = list })
 
-to_rest : (hour : ℕ) (test : Bool) (v : Option (ℕ × ℕ)) (back word : List ℕ) → (hour ≤ 23) ⊎ (hour ≡ 88) → (hour == 88) ≡ test
+to_rest : (hour : ℕ) (test : Bool) (v : Option (ℕ × ℕ)) (back word : List ℕ) → (hour ≤ 23) ⊎ (hour ≡ UNKNOWN_TIME) → (hour == UNKNOWN_TIME) ≡ test
     → TimeRest hour v back → word ≡ hour ∷ back → Times v word
 to_rest hour true v back word h test p e = to_unknown hour v back word test (p.yes test) e
 to_rest hour false v back word h test p e = to_known hour v back word (hour_of_day hour h test) (p.no test) e
 
 to_time : (v : Option (ℕ × ℕ)) (word : List ℕ) → TimeParts v word → Times v word
-to_time v word p = to_rest p.chosen (p.chosen == 88) v p.back word p.before.allowed refl p.after (joined p refl)
+to_time v word p = to_rest p.chosen (p.chosen == UNKNOWN_TIME) v p.back word p.before.allowed refl p.after (joined p refl)
 
-not_unknown : (hour : ℕ) → hour < 24 → (hour == 88) ≡ true → ⊥
+not_unknown : (hour : ℕ) → hour < 24 → (hour == UNKNOWN_TIME) ≡ true → ⊥
 not_unknown hour h e = grind (arith, nat_tests)
 
 from_time : (v : Option (ℕ × ℕ)) (word : List ℕ) → Times v word → TimeParts v word
 from_time None word p =
     subst (λ w. TimeParts None w) (sym p.list)
-    (one_then 88 (inr refl) (record {
-      yes = λ _. one_then 88 refl (record { value = refl; list = refl });
+    (one_then UNKNOWN_TIME (inr refl) (record {
+      yes = λ _. one_then UNKNOWN_TIME refl (record { value = refl; list = refl });
       no = λ (e : true ≡ false). absurd (cc);
     }))
 from_time (Some t) word p =
@@ -84,8 +85,8 @@ time_alike = record { to = to_time; back = from_time }
 pub time_good : Good Times
 time_good = alike_good _ _ time_alike parts_good
 
-pub is_88 : (hour : ℕ) → hour ≡ 88 → (hour == 88) ≡ true
-is_88 hour h = grind (arith, nat_tests)
+pub unknown_hour : (hour : ℕ) → hour ≡ UNKNOWN_TIME → (hour == UNKNOWN_TIME) ≡ true
+unknown_hour hour h = grind (arith, nat_tests)
 
-pub is_not_88 : (hour : ℕ) → (hour ≡ 88 → ⊥) → (hour == 88) ≡ false
-is_not_88 hour h = grind (arith, nat_tests)
+pub known_hour : (hour : ℕ) → (hour ≡ UNKNOWN_TIME → ⊥) → (hour == UNKNOWN_TIME) ≡ false
+known_hour hour h = grind (arith, nat_tests)

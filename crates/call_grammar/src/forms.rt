@@ -6,7 +6,9 @@ ghost use Rattle.call_grammar.specs.inside.Forms as forms;
 use crate::fields::{casualty, identity};
 use crate::individuals::individual;
 use crate::messages::{area, field};
-use crate::symbols::{Specifier, category, distress_telecommand, end, first, format, second};
+use crate::symbols::{
+    Specifier, category_unless_distress, distress_telecommand, end, first, format, second,
+};
 use call_values::{Call, Casualty, Category, End, Field, First, Message, Mmsi, Second, To};
 use cursor::Cursor;
 use dsc_symbols::ends::EOS;
@@ -53,7 +55,7 @@ fn alert(list: &mut Cursor) -> Result<Call, Stop>
 fn addressed_to_one(list: &mut Cursor, to: Mmsi) -> Result<Call, Stop>
     ensures { Reads (forms.AddressedOne to) list.old result list.new }
 {
-    let category = category(list)?;
+    let category = category_unless_distress(list)?;
     after_category_to_one(list, to, category)
 }
 
@@ -82,7 +84,7 @@ fn sender_and_individual(list: &mut Cursor, to: Mmsi, category: Category) -> Res
 fn addressed(list: &mut Cursor, to: &To) -> Result<Call, Stop>
     ensures { Reads (forms.Addressed to.now) list.old result list.new }
 {
-    let category = category(list)?;
+    let category = category_unless_distress(list)?;
     after_category(list, to, category)
 }
 

@@ -34,10 +34,10 @@ pub fn format(list: &mut Cursor) -> Result<Specifier, Stop>
     ensures { Reads forms.Formats list.old result list.new }
 {
     let symbol = symbol(list, Letter::Format)?;
-    Ok(format_told(symbol))
+    Ok(format_of_symbol(symbol))
 }
 
-fn format_told(symbol: u8) -> Specifier
+fn format_of_symbol(symbol: u8) -> Specifier
     requires { Allows Letter.Format symbol }
     ensures { forms.format_symbol result ≡ symbol }
 {
@@ -50,15 +50,15 @@ fn format_told(symbol: u8) -> Specifier
     }
 }
 
-/// Reads the category of a call, or `None` where the call is a distress call.
-pub fn category(list: &mut Cursor) -> Result<Option<Category>, Stop>
+/// Reads the category of a call; `None` where it is distress.
+pub fn category_unless_distress(list: &mut Cursor) -> Result<Option<Category>, Stop>
     ensures { Reads forms.Categories list.old result list.new }
 {
     let symbol = symbol(list, Letter::Category)?;
-    Ok(category_told(symbol))
+    Ok(category_of_symbol(symbol))
 }
 
-fn category_told(symbol: u8) -> Option<Category>
+fn category_of_symbol(symbol: u8) -> Option<Category>
     requires { Allows Letter.Category symbol }
     ensures { forms.category_or_distress result ≡ symbol }
 {
@@ -75,10 +75,10 @@ pub fn end(list: &mut Cursor) -> Result<End, Stop>
     ensures { Reads forms.Endings list.old result list.new }
 {
     let symbol = symbol(list, Letter::End)?;
-    Ok(end_told(symbol))
+    Ok(end_of_symbol(symbol))
 }
 
-fn end_told(symbol: u8) -> End
+fn end_of_symbol(symbol: u8) -> End
     requires { Allows Letter.End symbol }
     ensures { end_symbol result ≡ symbol }
 {
@@ -123,10 +123,10 @@ pub fn first_to_one(list: &mut Cursor) -> Result<Telecommand, Stop>
     ensures { Reads forms.Telecommands list.old result list.new }
 {
     let symbol = symbol(list, Letter::FirstToOne)?;
-    Ok(telecommand_told(symbol))
+    Ok(telecommand_of_symbol(symbol))
 }
 
-fn telecommand_told(symbol: u8) -> Telecommand
+fn telecommand_of_symbol(symbol: u8) -> Telecommand
     requires { Allows Letter.FirstToOne symbol }
     ensures lawful { forms.IsTelecommand result }
     ensures symbol { forms.telecommand_symbol result ≡ symbol }

@@ -3,6 +3,7 @@ use Rattle.std.proofs.Common.{ℕ, ◌==◌, ◌≤◌, Bool, true, false, if◌
 use Rattle.sentence_frame.specs.Texts.{IsDigits}
 use Rattle.dsc_sentences.specs.declared.dsc.DscFields.{DscFields}
 use Rattle.dsc_sentences.specs.Dsc.{IsDsc}
+use Rattle.dsc_symbols.specs.declared.last_digits.TheConstants.{ALERT, DISTRESS}
 use Rattle.casualty_book.specs.declared.rows.BookKind.{BookKind}
 use Rattle.casualty_book.specs.declared.rows.BookKind.TheVariants.{Alert}
 use Rattle.casualty_book.specs.Rows.{IsLawful}
@@ -25,4 +26,4 @@ module _ (s : DscFields) (is : IsDsc s) where
 
   pub row_lawful : IfSome (row_of s) IsLawful
   unfolding row_of
-  row_lawful = row_by (s.format == 12) (says s.category 12)
+  row_lawful = row_by (s.format == ALERT) (says s.category DISTRESS)

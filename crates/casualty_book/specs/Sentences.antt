@@ -1,5 +1,6 @@
 -- Which row of the book a DSC sentence gives: this project's profile.
 use Rattle.std.specs.Prelude.{ℕ, ◌==◌, Bool, false, if◌then◌else◌, Option, Some, None, List}
+use Rattle.dsc_symbols.specs.declared.last_digits.TheConstants.{ALERT, DISTRESS, DISTRESS_ACKNOWLEDGEMENT, DISTRESS_RELAY}
 use Rattle.call_values.specs.declared.choices.End.{End}
 use Rattle.call_values.specs.declared.choices.End.TheVariants.{Ask, Reply, Plain}
 use Rattle.dsc_sentences.specs.declared.dsc.DscFields.{DscFields}
@@ -25,10 +26,10 @@ relay_kind Ask = Relay
 relay_kind Reply = RelayAck
 relay_kind Plain = Relay
 
--- the kind of a distress call by its first telecommand: 110 is an acknowledgement, 112 a relay
+-- the kind of a distress call by its first telecommand: of an acknowledgement or of a relay
 abbrev pub kind_of : Option ℕ → End → Option BookKind
 kind_of None end = None
-kind_of (Some first) end = if first == 10 then Some Ack else if first == 12 then Some (relay_kind end) else None
+kind_of (Some first) end = if first == DISTRESS_ACKNOWLEDGEMENT then Some Ack else if first == DISTRESS_RELAY then Some (relay_kind end) else None
 
 -- the row of a kind about the ship that a sentence tells to be in distress, where there are both
 abbrev pub row_about : Option BookKind → Option (List ℕ) → DscFields → Option BookRow
@@ -44,6 +45,6 @@ says (Some m) n = m == n
 -- the row of a sentence: an alert is about its sender, a call of the category distress about the ship that it tells to be in distress
 unfoldable pub row_of : DscFields → Option BookRow
 row_of s =
-    if s.format == 12 then Some (row_with Alert s.address s.first s)
-    else if says s.category 12 then row_about (kind_of s.first s.end) s.distress s
+    if s.format == ALERT then Some (row_with Alert s.address s.first s)
+    else if says s.category DISTRESS then row_about (kind_of s.first s.end) s.distress s
     else None

@@ -6,19 +6,8 @@ use crate::rows::{BookKind, BookRow};
 use arrayvec::ArrayVec;
 use call_values::End;
 use dsc_sentences::{DscFields, DscSentence};
+use dsc_symbols::last_digits::{ALERT, DISTRESS, DISTRESS_ACKNOWLEDGEMENT, DISTRESS_RELAY};
 use text_pieces::append;
-
-/// The format specifier of an alert, by its last two digits (ITU-R M.493, format specifier).
-const ALERT: u8 = 12;
-
-/// The category distress (ITU-R M.493, category).
-const DISTRESS: u8 = 12;
-
-/// The first telecommand of a distress acknowledgement (ITU-R M.493, telecommands).
-const ACKNOWLEDGEMENT: u8 = 10;
-
-/// The first telecommand of a distress relay (ITU-R M.493, telecommands).
-const RELAY: u8 = 12;
 
 /// The row of a sentence: that of an alert, or of an acknowledgement, a relay or a relay's acknowledgement that tells which ship is in
 /// distress. None for every other sentence.
@@ -61,9 +50,9 @@ fn kind_of(first: Option<u8>, end: End) -> Option<BookKind>
     ensures { result ≡ rows.kind_of first end }
 {
     match (first, end) {
-        (Some(ACKNOWLEDGEMENT), _) => Some(BookKind::Ack),
-        (Some(RELAY), End::Reply) => Some(BookKind::RelayAck),
-        (Some(RELAY), _) => Some(BookKind::Relay),
+        (Some(DISTRESS_ACKNOWLEDGEMENT), _) => Some(BookKind::Ack),
+        (Some(DISTRESS_RELAY), End::Reply) => Some(BookKind::RelayAck),
+        (Some(DISTRESS_RELAY), _) => Some(BookKind::Relay),
         _ => None,
     }
 }

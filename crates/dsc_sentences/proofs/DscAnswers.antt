@@ -11,8 +11,9 @@ use Rattle.sentence_frame.specs.Refusals as refusal
 use Rattle.sentence_frame.proofs.FieldLaws.{digits_kind, up_to_kind}
 use Rattle.sentence_frame.proofs.Reading.{Agrees, agree_step, firsts, firsts_behind}
 use Rattle.sentence_frame.proofs.Sentences.{opened_sound, framed_cut, texts_sound, texts_back}
+use Rattle.dsc_symbols.specs.declared.last_digits.TheConstants.{CATEGORIES, FORMATS}
 use Rattle.dsc_sentences.specs.declared.dsc.DscFields.{DscFields}
-use Rattle.dsc_sentences.specs.Dsc.{texts, shapes, formats, categories, IsDsc, IsReading, dsc}
+use Rattle.dsc_sentences.specs.Dsc.{texts, shapes, IsDsc, IsReading, dsc}
 use Rattle.dsc_sentences.specs.inside.DscReading.{read_fields, FieldsAnswer, end_in}
 use Rattle.dsc_sentences.proofs.Letters.{end_kind, mark_kind, is_there}
 use Rattle.dsc_sentences.proofs.DscFieldLaws.{format_kind, category_kind, two_kind, four_kind, ten_kind, head_is, dsc_texts, one_record}
@@ -37,9 +38,9 @@ agrees b =
     let b9 = rest_of b8 in
     let b10 = rest_of b9 in
     let b11 = rest_of b10 in
-    agree_step 1 (shape.code formats) number_of (first_of b1) _ (judged 2 (drop 1 shapes) (firsts 10 (rest_of b1)) ts) ts (Has ts) (λ y1.
+    agree_step 1 (shape.code FORMATS) number_of (first_of b1) _ (judged 2 (drop 1 shapes) (firsts 10 (rest_of b1)) ts) ts (Has ts) (λ y1.
     agree_step 2 (shape.digits 10) digits_of (first_of b2) _ (judged 3 (drop 2 shapes) (firsts 9 (rest_of b2)) ts) ts (Has ts) (λ y2.
-    agree_step 3 (shape.maybe (shape.code categories)) (perhaps number_of) (first_of b3) _ (judged 4 (drop 3 shapes) (firsts 8 (rest_of b3)) ts) ts (Has ts) (λ y3.
+    agree_step 3 (shape.maybe (shape.code CATEGORIES)) (perhaps number_of) (first_of b3) _ (judged 4 (drop 3 shapes) (firsts 8 (rest_of b3)) ts) ts (Has ts) (λ y3.
     agree_step 4 (shape.maybe (shape.number 2 99)) (perhaps number_of) (first_of b4) _ (judged 5 (drop 4 shapes) (firsts 7 (rest_of b4)) ts) ts (Has ts) (λ y4.
     agree_step 5 (shape.maybe (shape.number 2 99)) (perhaps number_of) (first_of b5) _ (judged 6 (drop 5 shapes) (firsts 6 (rest_of b5)) ts) ts (Has ts) (λ y5.
     agree_step 6 (shape.at_most 16) (λ t. record { items = digits_of t }) (first_of b6) _ (judged 7 (drop 6 shapes) (firsts 5 (rest_of b6)) ts) ts (Has ts) (λ y6.

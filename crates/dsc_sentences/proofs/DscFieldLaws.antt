@@ -11,13 +11,14 @@ use Rattle.sentence_frame.proofs.Sentences.{accepted}
 use Rattle.sentence_frame.proofs.Rooms.{are_texts}
 use Rattle.arrayvec.specs.ArrayVec.{ArrayVec}
 use Rattle.call_values.specs.declared.choices.End.{End}
+use Rattle.dsc_symbols.specs.declared.last_digits.TheConstants.{CATEGORIES, FORMATS}
 use Rattle.dsc_sentences.specs.declared.dsc.DscFields.{DscFields}
-use Rattle.dsc_sentences.specs.Dsc.{texts, shapes, formats, categories, IsDsc, dsc, end_text, expanded_text}
+use Rattle.dsc_sentences.specs.Dsc.{texts, shapes, IsDsc, dsc, end_text, expanded_text}
 use Rattle.dsc_sentences.proofs.Letters.{end_kind, mark_kind, is_there}
 use Rattle.dsc_sentences.specs.inside.DscReading.{end_in}
 
-pub format_kind : IsKind (shape.code formats) (digits 2) number_of (λ n. is_among formats n ≡ true)
-format_kind = code_kind formats refl
+pub format_kind : IsKind (shape.code FORMATS) (digits 2) number_of (λ n. is_among FORMATS n ≡ true)
+format_kind = code_kind FORMATS refl
 
 nothing_code : (numbers : List ℕ) → accepts (shape.code numbers) [] ≡ false
 unfolding accepts
@@ -35,8 +36,8 @@ nothing_ten : accepts (shape.digits 10) [] ≡ false
 unfolding accepts
 nothing_ten = refl
 
-pub category_kind : IsKind (shape.maybe (shape.code categories)) (perhaps_text (digits 2)) (perhaps number_of) (λ o. IfSome o (λ n. is_among categories n ≡ true))
-category_kind = maybe_kind (shape.code categories) (digits 2) number_of (λ n. is_among categories n ≡ true) (code_kind categories refl) (nothing_code categories)
+pub category_kind : IsKind (shape.maybe (shape.code CATEGORIES)) (perhaps_text (digits 2)) (perhaps number_of) (λ o. IfSome o (λ n. is_among CATEGORIES n ≡ true))
+category_kind = maybe_kind (shape.code CATEGORIES) (digits 2) number_of (λ n. is_among CATEGORIES n ≡ true) (code_kind CATEGORIES refl) (nothing_code CATEGORIES)
 
 pub two_kind : IsKind (shape.maybe (shape.number 2 99)) (perhaps_text (digits 2)) (perhaps number_of) (λ o. IfSome o (λ n. n ≤ 99))
 two_kind = maybe_kind (shape.number 2 99) (digits 2) number_of (λ n. n ≤ 99) (number_kind 2 99 (omega arith)) nothing_two
@@ -116,9 +117,9 @@ same_fields v w h = made_same v w h
 pub one_record : (v w : DscFields) → IsDsc v → IsDsc w → texts v ≡ texts w → v ≡ w
 unfolding texts
 one_record v w hv hw e =
-    let e1 = one_value (shape.code formats) (digits 2) number_of (λ n. is_among formats n ≡ true) format_kind v.format w.format hv.format hw.format (cc) in
+    let e1 = one_value (shape.code FORMATS) (digits 2) number_of (λ n. is_among FORMATS n ≡ true) format_kind v.format w.format hv.format hw.format (cc) in
     let e2 = one_value (shape.digits 10) digit_text digits_of (IsDigits 10) (digits_kind 10) v.address w.address hv.address hw.address (cc) in
-    let e3 = one_value (shape.maybe (shape.code categories)) (perhaps_text (digits 2)) (perhaps number_of) (λ o. IfSome o (λ n. is_among categories n ≡ true)) category_kind v.category w.category hv.category hw.category (cc) in
+    let e3 = one_value (shape.maybe (shape.code CATEGORIES)) (perhaps_text (digits 2)) (perhaps number_of) (λ o. IfSome o (λ n. is_among CATEGORIES n ≡ true)) category_kind v.category w.category hv.category hw.category (cc) in
     let two = one_value (shape.maybe (shape.number 2 99)) (perhaps_text (digits 2)) (perhaps number_of) (λ o. IfSome o (λ n. n ≤ 99)) two_kind in
     let e4 = two v.first w.first hv.first hw.first (cc) in
     let e5 = two v.second w.second hv.second hw.second (cc) in

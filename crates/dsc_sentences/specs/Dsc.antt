@@ -1,6 +1,7 @@
 -- DSC sentences: the frame is that of IEC 61162-1; the fields, the values that each accepts, and the shortening of symbols to two
 -- digits are this project's profile.
 use Rattle.std.specs.Prelude.{◌≡◌, ◌↔◌, ℕ, ◌≤◌, Bool, true, false, List, [], ◌∷◌, IfSome, IfOk, Result, Ok, Err, codes}
+use Rattle.dsc_symbols.specs.declared.last_digits.TheConstants.{CATEGORIES, FORMATS}
 use Rattle.call_values.specs.declared.choices.End.{End}
 use Rattle.call_values.specs.declared.choices.End.TheVariants.{Ask, Reply, Plain}
 use Rattle.sentence_frame.specs.Shapes.{Shape, number, code, digits, at_most, letter, maybe, is_among}
@@ -38,20 +39,12 @@ texts s =
     ∷ expanded_text s.expanded
     ∷ []
 
--- the last two digits of the format specifiers of calls to all ships, to an area, to a group and to one station, and of alerts
-abbrev pub formats : List ℕ
-formats = 12 ∷ 16 ∷ 14 ∷ 20 ∷ 2 ∷ []
-
--- those of the categories routine, safety, urgency and distress
-abbrev pub categories : List ℕ
-categories = 0 ∷ 8 ∷ 10 ∷ 12 ∷ []
-
 -- what the eleven fields may be
 unfoldable pub shapes : List Shape
 shapes =
-    code formats
+    code FORMATS
     ∷ digits 10
-    ∷ maybe (code categories)
+    ∷ maybe (code CATEGORIES)
     ∷ maybe (number 2 99)
     ∷ maybe (number 2 99)
     ∷ at_most 16
@@ -64,9 +57,9 @@ shapes =
 
 -- what values the eleven fields may have
 pub record IsDsc (s : DscFields) : Type 0 where
-  pub format : is_among formats s.format ≡ true
+  pub format : is_among FORMATS s.format ≡ true
   pub address : IsDigits 10 s.address
-  pub category : IfSome s.category (λ n. is_among categories n ≡ true)
+  pub category : IfSome s.category (λ n. is_among CATEGORIES n ≡ true)
   pub first : IfSome s.first (λ n. n ≤ 99)
   pub second : IfSome s.second (λ n. n ≤ 99)
   pub place : IsUpToDigits 16 s.place.items

@@ -6,6 +6,7 @@ use Rattle.sentence_frame.specs.Texts as text
 use Rattle.sentence_frame.specs.Texts.{digit_text, IsDigits}
 use Rattle.sentence_frame.specs.Frames.{sentence}
 use Rattle.sentence_frame.specs.Refusals.{Form, texts_of}
+use Rattle.expansion.specs.declared.last_digits.TheConstants.{COURSE, ENHANCED_POSITION, SPEED}
 use Rattle.expansion.specs.declared.bounds.TheConstants.{LAST_ENHANCEMENT, LAST_SPEED, LAST_COURSE}
 use Rattle.expansion.specs.declared.parts.PartKind.{PartKind}
 use Rattle.expansion.specs.declared.parts.PartKind.TheVariants.{LeftOut, NoInformation, Digits}
@@ -29,7 +30,7 @@ set_texts set width (Digits n) = text.digits 2 set ∷ text.digits width n ∷ [
 
 -- the sets of an expansion, each by the last two digits of its specifier
 abbrev pub expansion_texts : Sets → List (List ℕ)
-expansion_texts x = set_texts 0 8 x.enhanced ++ (set_texts 2 4 x.speed ++ set_texts 3 4 x.course)
+expansion_texts x = set_texts ENHANCED_POSITION 8 x.enhanced ++ (set_texts SPEED 4 x.speed ++ set_texts COURSE 4 x.course)
 
 -- the texts of the fields: total, number, flag, address, and the sets
 unfoldable pub texts : DseFields → List (List ℕ)
@@ -37,7 +38,8 @@ texts s = codes "1" ∷ codes "1" ∷ flag_text s.flag ∷ digit_text s.address 
 
 -- what the data behind a code may be
 abbrev pub data_shape : ℕ → Shape
-data_shape set = maybe (if set == 0 then number 8 LAST_ENHANCEMENT else if set == 2 then number 4 LAST_SPEED else number 4 LAST_COURSE)
+data_shape set =
+    maybe (if set == ENHANCED_POSITION then number 8 LAST_ENHANCEMENT else if set == SPEED then number 4 LAST_SPEED else number 4 LAST_COURSE)
 
 -- what pairs of a code and data may be, where these codes may come: each code passes the one before it
 unfoldable pub pair_shapes : List ℕ → List (List ℕ) → List Shape
@@ -47,7 +49,8 @@ pair_shapes codes _ = []
 
 -- what the fields may be: two ones, a flag, ten digits, and pairs of a code and data
 abbrev pub shapes : List (List ℕ) → List Shape
-shapes texts = letter (codes "1") ∷ letter (codes "1") ∷ letter (codes "AQR") ∷ digits 10 ∷ pair_shapes (0 ∷ 2 ∷ 3 ∷ []) (drop 4 texts)
+shapes texts =
+    letter (codes "1") ∷ letter (codes "1") ∷ letter (codes "AQR") ∷ digits 10 ∷ pair_shapes (ENHANCED_POSITION ∷ SPEED ∷ COURSE ∷ []) (drop 4 texts)
 
 -- DSE sentences: the head, and one, two or three pairs behind four fields
 abbrev pub dse : Form

@@ -4,7 +4,7 @@ ghost use Rattle.sentence_frame.specs.Shapes.{is_among};
 ghost use Rattle.sentence_frame.specs.Texts.{AreDigits, IsDigits, IsUpToDigits};
 ghost use Rattle.call_grammar.specs.Spelling as sequence;
 ghost use Rattle.call_values.specs.Parts.{IsMessage, IsKind, IsTo};
-ghost use Rattle.dsc_sentences.specs.Dsc as dsc;
+ghost use Rattle.dsc_symbols.specs.declared.last_digits.TheConstants as last_digits;
 ghost use Rattle.dsc_sentences.specs.Calls as rows;
 
 use crate::decimals::{append_decimals, ten_digits};
@@ -51,7 +51,7 @@ fn last_two(symbol: u8) -> u8
 /// The last two digits of a call's format specifier.
 fn format_of(call: &Call) -> u8
     ensures value { result ≡ rows.last_two (sequence.format_of call.now) }
-    ensures range { is_among dsc.formats result ≡ true }
+    ensures range { is_among last_digits.FORMATS result ≡ true }
 {
     last_two(call_grammar::format_of(call))
 }
@@ -78,7 +78,7 @@ fn address_of(to: &To, sender: &Mmsi) -> [u8; 10]
 /// The last two digits of the category.
 fn category_of(body: &Body) -> u8
     ensures value { result ≡ rows.last_two (rows.category_of body.now) }
-    ensures range { is_among dsc.categories result ≡ true }
+    ensures range { is_among last_digits.CATEGORIES result ≡ true }
 {
     match body {
         Body::Alert(_) | Body::Distress { .. } => last_two(categories::DISTRESS),

@@ -5,6 +5,7 @@ ghost use Rattle.dsc_sentences.specs.Dse.{SentenceText, flag_text, set_texts};
 
 use crate::dse::{DseSentence, Flag};
 use arrayvec::ArrayVec;
+use expansion::last_digits::{COURSE, ENHANCED_POSITION, SPEED};
 use expansion::{Part, PartKind};
 use sentence_frame::{
     append_digits_field, append_field, append_number_field, begin_sentence, close,
@@ -21,9 +22,9 @@ pub fn print_dse(s: &DseSentence) -> ArrayVec<u8, 82>
     append_field(&mut out, b"1");
     append_field(&mut out, flag_letter(fields.flag));
     append_digits_field(&mut out, &fields.address);
-    append_set_field(&mut out, 0, 8, &fields.expansion.enhanced());
-    append_set_field(&mut out, 2, 4, &fields.expansion.speed());
-    append_set_field(&mut out, 3, 4, &fields.expansion.course());
+    append_set_field(&mut out, ENHANCED_POSITION, 8, &fields.expansion.enhanced());
+    append_set_field(&mut out, SPEED, 4, &fields.expansion.speed());
+    append_set_field(&mut out, COURSE, 4, &fields.expansion.course());
     close(&mut out);
     out
 }

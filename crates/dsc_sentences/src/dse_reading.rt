@@ -7,6 +7,7 @@ ghost use Rattle.dsc_sentences.specs.inside.DseReading as inside;
 use crate::dse::{DseFields, DseSentence, Flag};
 use cursor::Cursor;
 use expansion::bounds::{LAST_COURSE, LAST_ENHANCEMENT, LAST_SPEED};
+use expansion::last_digits::{COURSE, ENHANCED_POSITION, SPEED};
 use expansion::{Expansion, Part, Sets};
 use sentence_frame::{SentenceRefusal, code, digits, fields_of, letter, next_text, perhaps_number};
 
@@ -70,9 +71,9 @@ fn read_fields(fields: &mut Cursor) -> Result<DseParts, SentenceRefusal>
     letter(2, b"1", next_text(fields))?;
     let flag = flag(3, next_text(fields))?;
     let address = digits(4, next_text(fields))?;
-    let (enhanced, k) = read_set(fields, 5, 0, 8, LAST_ENHANCEMENT)?;
-    let (speed, k) = read_set(fields, k, 2, 4, LAST_SPEED)?;
-    let (course, k) = read_set(fields, k, 3, 4, LAST_COURSE)?;
+    let (enhanced, k) = read_set(fields, 5, ENHANCED_POSITION, 8, LAST_ENHANCEMENT)?;
+    let (speed, k) = read_set(fields, k, SPEED, 4, LAST_SPEED)?;
+    let (course, k) = read_set(fields, k, COURSE, 4, LAST_COURSE)?;
     if !fields.rest().is_empty() {
         return Err(SentenceRefusal::Field(k));
     }

@@ -5,16 +5,11 @@ ghost use Rattle.dsc_sentences.specs.inside.DscReading as inside;
 use crate::dsc::{DscFields, DscSentence};
 use crate::fields::{end, perhaps_four_digits, perhaps_two_digits};
 use cursor::Cursor;
+use dsc_symbols::last_digits::{CATEGORIES, FORMATS};
 use sentence_frame::{
     SentenceRefusal, code, digits, digits_up_to, fields_of, next_text, perhaps_code,
     perhaps_digits, perhaps_letter,
 };
-
-/// The format specifiers of DSC sentences, by their last two digits.
-const FORMATS: [u8; 5] = [12, 16, 14, 20, 2];
-
-/// Their categories.
-const CATEGORIES: [u8; 4] = [0, 8, 10, 12];
 
 /// Reads the fields of a DSC sentence.
 #[tactic(auto, unfolding(crate::specs::inside::DscReading::read_fields, sentence_frame::specs::inside::Fields::and_then))]

@@ -8,6 +8,7 @@ ghost use Rattle.dsc_symbols.specs.declared.telecommands.TheConstants as telecom
 ghost use Rattle.dsc_symbols.specs.declared.notices.TheConstants as notices;
 ghost use Rattle.dsc_symbols.specs.declared.messages.TheConstants as messages;
 ghost use Rattle.dsc_symbols.specs.declared.phasing.TheConstants as phasing;
+ghost use Rattle.dsc_symbols.specs.declared.last_digits.TheConstants as last_digits;
 
 /// The law that the format specifiers have these numbers (ITU-R M.493, format specifier).
 pub fn format_numbers()
@@ -24,7 +25,8 @@ pub fn category_numbers()
     ensures routine { categories.ROUTINE ≡ 100 }
     ensures safety { categories.SAFETY ≡ 108 }
     ensures urgency { categories.URGENCY ≡ 110 }
-    ensures categories { categories.CATEGORIES ≡ (100, 100) ∷ (108, 108) ∷ (110, 110) ∷ [] }
+    ensures below_distress { categories.BELOW_DISTRESS ≡ (categories.ROUTINE, categories.ROUTINE) ∷ (categories.SAFETY, categories.SAFETY)
+        ∷ (categories.URGENCY, categories.URGENCY) ∷ [] }
 {}
 
 /// The law that the ends of sequence have these numbers (ITU-R M.493, end of sequence).
@@ -32,9 +34,11 @@ pub fn end_numbers()
     ensures acknowledge_rq { ends.ACKNOWLEDGE_RQ ≡ 117 }
     ensures acknowledge_bq { ends.ACKNOWLEDGE_BQ ≡ 122 }
     ensures eos { ends.EOS ≡ 127 }
-    ensures ends { ends.ENDS ≡ (117, 117) ∷ (122, 122) ∷ (127, 127) ∷ [] }
-    ensures relay_ends { ends.RELAY_ENDS ≡ (117, 117) ∷ (127, 127) ∷ [] }
-    ensures test_ends { ends.TEST_ENDS ≡ (117, 117) ∷ (122, 122) ∷ [] }
+    ensures ends { ends.ENDS ≡ (ends.ACKNOWLEDGE_RQ, ends.ACKNOWLEDGE_RQ) ∷ (ends.ACKNOWLEDGE_BQ, ends.ACKNOWLEDGE_BQ)
+        ∷ (ends.EOS, ends.EOS) ∷ [] }
+    ensures relay_ends { ends.RELAY_ENDS ≡ (ends.ACKNOWLEDGE_RQ, ends.ACKNOWLEDGE_RQ) ∷ (ends.EOS, ends.EOS) ∷ [] }
+    ensures test_ends { ends.TEST_ENDS ≡ (ends.ACKNOWLEDGE_RQ, ends.ACKNOWLEDGE_RQ)
+        ∷ (ends.ACKNOWLEDGE_BQ, ends.ACKNOWLEDGE_BQ) ∷ [] }
 {}
 
 /// The law that the natures of distress have these numbers (ITU-R M.493, nature of distress).
@@ -51,7 +55,8 @@ pub fn nature_numbers()
     ensures piracy { natures.PIRACY ≡ 109 }
     ensures man_overboard { natures.MAN_OVERBOARD ≡ 110 }
     ensures epirb_emission { natures.EPIRB_EMISSION ≡ 112 }
-    ensures natures { natures.NATURES ≡ (100, 110) ∷ (112, 112) ∷ [] }
+    ensures natures { natures.NATURES ≡ (natures.FIRE_OR_EXPLOSION, natures.MAN_OVERBOARD)
+        ∷ (natures.EPIRB_EMISSION, natures.EPIRB_EMISSION) ∷ [] }
 {}
 
 /// The law that the first telecommands have these numbers (ITU-R M.493, telecommands).
@@ -68,10 +73,13 @@ pub fn telecommand_numbers()
     ensures tty_arq { telecommands.TTY_ARQ ≡ 115 }
     ensures test { telecommands.TEST ≡ 118 }
     ensures ship_position { telecommands.SHIP_POSITION ≡ 121 }
-    ensures firsts { telecommands.FIRSTS ≡ (100, 101) ∷ (103, 104) ∷ (106, 106) ∷ (109, 109) ∷ (113, 113) ∷ (115, 115)
-        ∷ (126, 126) ∷ [] }
-    ensures comms { telecommands.COMMS ≡ (100, 101) ∷ (106, 106) ∷ (109, 109) ∷ (113, 113) ∷ (115, 115) ∷ (126, 126)
-        ∷ [] }
+    ensures firsts { telecommands.FIRSTS ≡ (telecommands.ALL_MODES, telecommands.DUPLEX)
+        ∷ (telecommands.POLLING, telecommands.UNABLE_TO_COMPLY) ∷ (telecommands.DATA, telecommands.DATA)
+        ∷ (telecommands.J3E, telecommands.J3E) ∷ (telecommands.TTY_FEC, telecommands.TTY_FEC)
+        ∷ (telecommands.TTY_ARQ, telecommands.TTY_ARQ) ∷ (messages.NO_INFORMATION, messages.NO_INFORMATION) ∷ [] }
+    ensures comms { telecommands.COMMS ≡ (telecommands.ALL_MODES, telecommands.DUPLEX) ∷ (telecommands.DATA, telecommands.DATA)
+        ∷ (telecommands.J3E, telecommands.J3E) ∷ (telecommands.TTY_FEC, telecommands.TTY_FEC)
+        ∷ (telecommands.TTY_ARQ, telecommands.TTY_ARQ) ∷ (messages.NO_INFORMATION, messages.NO_INFORMATION) ∷ [] }
 {}
 
 /// The law that the second telecommands have these numbers (ITU-R M.493, telecommands).
@@ -90,7 +98,18 @@ pub fn notice_numbers()
     ensures medical_transport { notices.MEDICAL_TRANSPORT ≡ 111 }
     ensures public_call_office { notices.PUBLIC_CALL_OFFICE ≡ 112 }
     ensures facsimile { notices.FACSIMILE ≡ 113 }
-    ensures seconds { notices.SECONDS ≡ (100, 113) ∷ (126, 126) ∷ [] }
+    ensures seconds { notices.SECONDS ≡ (notices.NO_REASON, notices.FACSIMILE)
+        ∷ (messages.NO_INFORMATION, messages.NO_INFORMATION) ∷ [] }
+{}
+
+/// The law that the last two digits of symbols have these numbers (this project's profile).
+pub fn last_digits()
+    ensures formats { last_digits.FORMATS ≡ 12 ∷ 16 ∷ 14 ∷ 20 ∷ 2 ∷ [] }
+    ensures categories { last_digits.CATEGORIES ≡ 0 ∷ 8 ∷ 10 ∷ 12 ∷ [] }
+    ensures alert { last_digits.ALERT ≡ 12 }
+    ensures distress { last_digits.DISTRESS ≡ 12 }
+    ensures distress_acknowledgement { last_digits.DISTRESS_ACKNOWLEDGEMENT ≡ 10 }
+    ensures distress_relay { last_digits.DISTRESS_RELAY ≡ 12 }
 {}
 
 /// The law that the characters that mark messages have these numbers (ITU-R M.493, messages).

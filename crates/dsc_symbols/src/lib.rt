@@ -4,6 +4,7 @@
 pub mod categories;
 pub mod ends;
 pub mod formats;
+pub mod last_digits;
 pub mod laws;
 pub mod messages;
 pub mod natures;

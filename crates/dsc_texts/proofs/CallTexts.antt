@@ -24,6 +24,7 @@ use Rattle.call_values.specs.Areas.{Rectangle, IsArea}
 use Rattle.call_grammar.specs.Spelling.{category_symbol, end_symbol}
 use Rattle.line_grammar.specs.Shapes.{digits}
 use Rattle.call_values.specs.Calls.{IsCasualty, IsCall}
+use Rattle.dsc_symbols.specs.declared.ends.TheConstants.{ENDS, RELAY_ENDS, TEST_ENDS}
 use Rattle.dsc_texts.specs.CallGrammar as grammar
 use Rattle.dsc_texts.specs.CallParts.{position_text, time_text, area_text, frequency_text, address_text, relay_end, test_end, message_parts}
 use Rattle.dsc_texts.specs.inside.Places.{call_parts}
@@ -113,13 +114,13 @@ messages = side_parts frequencies (λ (p : Option Fix) q. part (position_text p)
 message_section : Section {V = Messages} grammar.message AreMessages messages
 message_section = sided frequencies_section at_section
 
-relay_end_section : Section {V = Bool} (λ rest. word (codes " end=") (field (grammar.symbol ((117, 117) ∷ (127, 127) ∷ [])) rest)) (λ (ask : Bool). Unit {0}) (λ ask q. part (digits 3 (relay_end ask)) q)
+relay_end_section : Section {V = Bool} (λ rest. word (codes " end=") (field (grammar.symbol RELAY_ENDS) rest)) (λ (ask : Bool). Unit {0}) (λ ask q. part (digits 3 (relay_end ask)) q)
 relay_end_section = labelled (codes " end=") relay_end_told
 
-test_end_section : Section {V = Bool} (λ rest. word (codes " end=") (field (grammar.symbol ((117, 117) ∷ (122, 122) ∷ [])) rest)) (λ (reply : Bool). Unit {0}) (λ reply q. part (digits 3 (test_end reply)) q)
+test_end_section : Section {V = Bool} (λ rest. word (codes " end=") (field (grammar.symbol TEST_ENDS) rest)) (λ (reply : Bool). Unit {0}) (λ reply q. part (digits 3 (test_end reply)) q)
 test_end_section = labelled (codes " end=") test_end_told
 
-end_section : Section {V = End} (λ rest. word (codes " end=") (field (grammar.symbol ((117, 117) ∷ (122, 122) ∷ (127, 127) ∷ [])) rest)) (λ (x : End). Unit {0}) (λ x q. part (digits 3 (end_symbol x)) q)
+end_section : Section {V = End} (λ rest. word (codes " end=") (field (grammar.symbol ENDS) rest)) (λ (x : End). Unit {0}) (λ x q. part (digits 3 (end_symbol x)) q)
 end_section = labelled (codes " end=") end_told
 
 address_section : Section {V = To} (λ rest. field grammar.address rest) IsTo (λ t q. part (address_text t) q)

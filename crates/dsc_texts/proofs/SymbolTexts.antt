@@ -15,6 +15,8 @@ use Rattle.call_values.specs.declared.choices.End.{End}
 use Rattle.call_values.specs.declared.choices.End.TheVariants.{Ask, Reply, Plain}
 use Rattle.call_values.proofs.PublicLaws.{end_one}
 use Rattle.call_grammar.specs.Spelling.{category_symbol, end_symbol}
+use Rattle.dsc_symbols.specs.declared.categories.TheConstants.{BELOW_DISTRESS, ROUTINE, SAFETY, URGENCY}
+use Rattle.dsc_symbols.specs.declared.ends.TheConstants.{ACKNOWLEDGE_BQ, ACKNOWLEDGE_RQ, ENDS, EOS, RELAY_ENDS, TEST_ENDS}
 use Rattle.dsc_texts.specs.CallParts.{relay_end, test_end}
 use Rattle.dsc_texts.specs.CallGrammar.{identity, symbol, nature, category, comm, first_command, second_command}
 
@@ -45,14 +47,14 @@ coded width ranges Lawful code inside decode one = record {
 }
 
 -- categories
-category_inside : (c : Category) → (is_within ((100, 100) ∷ (108, 108) ∷ (110, 110) ∷ []) (category_symbol c) ≡ true) × (category_symbol c < 1000)
+category_inside : (c : Category) → (is_within BELOW_DISTRESS (category_symbol c) ≡ true) × (category_symbol c < 1000)
 category_inside Routine = (refl, omega arith)
 category_inside Safety = (refl, omega arith)
 category_inside Urgency = (refl, omega arith)
 
-category_decode : (n : ℕ) → is_within ((100, 100) ∷ (108, 108) ∷ (110, 110) ∷ []) n ≡ true → (c : Category) × Unit {0} × (n ≡ category_symbol c)
+category_decode : (n : ℕ) → is_within BELOW_DISTRESS n ≡ true → (c : Category) × Unit {0} × (n ≡ category_symbol c)
 category_decode n h =
-    let three : (n ≡ 100) ⊎ ((n ≡ 108) ⊎ (n ≡ 110)) = grind (arith, nat_tests) in
+    let three : (n ≡ ROUTINE) ⊎ ((n ≡ SAFETY) ⊎ (n ≡ URGENCY)) = grind (arith, nat_tests) in
     elim three [
       | inl e ↦ (Routine, tt, e)
       | inr more ↦ (elim more [
@@ -76,14 +78,14 @@ pub category_told : Told category (λ (c : Category). Unit {0}) (λ (c : Categor
 category_told = coded 3 _ (λ (c : Category). Unit {0}) category_symbol (λ c h. category_inside c) category_decode (λ u v h k e. category_one u v e)
 
 -- ends of sequence
-end_inside : (x : End) → (is_within ((117, 117) ∷ (122, 122) ∷ (127, 127) ∷ []) (end_symbol x) ≡ true) × (end_symbol x < 1000)
+end_inside : (x : End) → (is_within ENDS (end_symbol x) ≡ true) × (end_symbol x < 1000)
 end_inside Ask = (refl, omega arith)
 end_inside Reply = (refl, omega arith)
 end_inside Plain = (refl, omega arith)
 
-end_decode : (n : ℕ) → is_within ((117, 117) ∷ (122, 122) ∷ (127, 127) ∷ []) n ≡ true → (x : End) × Unit {0} × (n ≡ end_symbol x)
+end_decode : (n : ℕ) → is_within ENDS n ≡ true → (x : End) × Unit {0} × (n ≡ end_symbol x)
 end_decode n h =
-    let three : (n ≡ 117) ⊎ ((n ≡ 122) ⊎ (n ≡ 127)) = grind (arith, nat_tests) in
+    let three : (n ≡ ACKNOWLEDGE_RQ) ⊎ ((n ≡ ACKNOWLEDGE_BQ) ⊎ (n ≡ EOS)) = grind (arith, nat_tests) in
     elim three [
       | inl e ↦ (Ask, tt, e)
       | inr more ↦ (elim more [
@@ -92,17 +94,17 @@ end_decode n h =
       ])
     ]
 
-pub end_told : Told (symbol ((117, 117) ∷ (122, 122) ∷ (127, 127) ∷ [])) (λ (x : End). Unit {0}) (λ (x : End). digits 3 (end_symbol x))
+pub end_told : Told (symbol ENDS) (λ (x : End). Unit {0}) (λ (x : End). digits 3 (end_symbol x))
 end_told = coded 3 _ (λ (x : End). Unit {0}) end_symbol (λ x h. end_inside x) end_decode (λ u v h k e. end_one u v e)
 
 -- one of two ends
-relay_end_inside : (ask : Bool) → (is_within ((117, 117) ∷ (127, 127) ∷ []) (relay_end ask) ≡ true) × ((relay_end ask) < 1000)
+relay_end_inside : (ask : Bool) → (is_within RELAY_ENDS (relay_end ask) ≡ true) × ((relay_end ask) < 1000)
 relay_end_inside true = (refl, omega arith)
 relay_end_inside false = (refl, omega arith)
 
-relay_end_decode : (n : ℕ) → is_within ((117, 117) ∷ (127, 127) ∷ []) n ≡ true → (ask : Bool) × Unit {0} × (n ≡ (relay_end ask))
+relay_end_decode : (n : ℕ) → is_within RELAY_ENDS n ≡ true → (ask : Bool) × Unit {0} × (n ≡ (relay_end ask))
 relay_end_decode n h =
-    let two : (n ≡ 117) ⊎ (n ≡ 127) = grind (arith, nat_tests) in
+    let two : (n ≡ ACKNOWLEDGE_RQ) ⊎ (n ≡ EOS) = grind (arith, nat_tests) in
     elim two [
       | inl e ↦ (true, tt, e)
       | inr e ↦ (false, tt, e)
@@ -114,16 +116,16 @@ relay_end_one false false e = refl
 relay_end_one true false e = absurd (omega (arith, e))
 relay_end_one false true e = absurd (omega (arith, e))
 
-pub relay_end_told : Told (symbol ((117, 117) ∷ (127, 127) ∷ [])) (λ (ask : Bool). Unit {0}) (λ (ask : Bool). digits 3 (relay_end ask))
+pub relay_end_told : Told (symbol RELAY_ENDS) (λ (ask : Bool). Unit {0}) (λ (ask : Bool). digits 3 (relay_end ask))
 relay_end_told = coded 3 _ (λ (ask : Bool). Unit {0}) relay_end (λ ask h. relay_end_inside ask) relay_end_decode (λ u v h k e. relay_end_one u v e)
 
-test_end_inside : (reply : Bool) → (is_within ((117, 117) ∷ (122, 122) ∷ []) (test_end reply) ≡ true) × ((test_end reply) < 1000)
+test_end_inside : (reply : Bool) → (is_within TEST_ENDS (test_end reply) ≡ true) × ((test_end reply) < 1000)
 test_end_inside true = (refl, omega arith)
 test_end_inside false = (refl, omega arith)
 
-test_end_decode : (n : ℕ) → is_within ((117, 117) ∷ (122, 122) ∷ []) n ≡ true → (reply : Bool) × Unit {0} × (n ≡ (test_end reply))
+test_end_decode : (n : ℕ) → is_within TEST_ENDS n ≡ true → (reply : Bool) × Unit {0} × (n ≡ (test_end reply))
 test_end_decode n h =
-    let two : (n ≡ 117) ⊎ (n ≡ 122) = grind (arith, nat_tests) in
+    let two : (n ≡ ACKNOWLEDGE_RQ) ⊎ (n ≡ ACKNOWLEDGE_BQ) = grind (arith, nat_tests) in
     elim two [
       | inl e ↦ (false, tt, e)
       | inr e ↦ (true, tt, e)
@@ -135,5 +137,5 @@ test_end_one false false e = refl
 test_end_one true false e = absurd (omega (arith, e))
 test_end_one false true e = absurd (omega (arith, e))
 
-pub test_end_told : Told (symbol ((117, 117) ∷ (122, 122) ∷ [])) (λ (reply : Bool). Unit {0}) (λ (reply : Bool). digits 3 (test_end reply))
+pub test_end_told : Told (symbol TEST_ENDS) (λ (reply : Bool). Unit {0}) (λ (reply : Bool). digits 3 (test_end reply))
 test_end_told = coded 3 _ (λ (reply : Bool). Unit {0}) test_end (λ reply h. test_end_inside reply) test_end_decode (λ u v h k e. test_end_one u v e)

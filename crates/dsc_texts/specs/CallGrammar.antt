@@ -1,6 +1,6 @@
 -- The grammar of call texts, one row for each form: this project's profile over the forms of ITU-R M.493.
 use Rattle.std.specs.Prelude.{ℕ, List, [], ◌∷◌, codes}
-use Rattle.dsc_symbols.specs.declared.categories.TheConstants.{CATEGORIES}
+use Rattle.dsc_symbols.specs.declared.categories.TheConstants.{BELOW_DISTRESS}
 use Rattle.dsc_symbols.specs.declared.ends.TheConstants.{ENDS, RELAY_ENDS, TEST_ENDS}
 use Rattle.dsc_symbols.specs.declared.natures.TheConstants.{NATURES}
 use Rattle.dsc_symbols.specs.declared.notices.TheConstants.{SECONDS}
@@ -29,7 +29,7 @@ nature = symbol NATURES
 
 -- category
 abbrev pub category : Token
-category = symbol CATEGORIES
+category = symbol BELOW_DISTRESS
 
 -- first telecommand
 abbrev pub first_command : Token

@@ -11,7 +11,7 @@ ghost use Rattle.line_grammar.specs.inside.Reading.{read_token};
 
 use call_values::bounds::IDENTITIES;
 use call_values::{Category, Comm, End, First, Mmsi, Nature, Second};
-use dsc_symbols::categories::{self, CATEGORIES};
+use dsc_symbols::categories::{self, BELOW_DISTRESS};
 use dsc_symbols::ends::{self, ENDS, RELAY_ENDS, TEST_ENDS};
 use dsc_symbols::natures::NATURES;
 use dsc_symbols::notices::SECONDS;
@@ -113,7 +113,7 @@ impl Token for Category {
     ghost text = { λ v. digits 3 (spelling.category_symbol v) };
 
     fn read(bytes: &[u8]) -> Result<(Category, &[u8]), Left> {
-        let (symbol, rest) = fixed_number(3, &CATEGORIES, bytes)?;
+        let (symbol, rest) = fixed_number(3, &BELOW_DISTRESS, bytes)?;
         let category = match symbol as u8 {
             categories::ROUTINE => Category::Routine,
             categories::SAFETY => Category::Safety,

@@ -7,6 +7,7 @@ use Rattle.symbol_reader.proofs.Digits.{length-eight}
 use Rattle.call_values.specs.declared.choices.End.{End}
 use Rattle.call_values.specs.Ends.{end_symbol}
 use Rattle.call_values.proofs.PublicLaws.{end_small}
+use Rattle.expansion.specs.declared.specifiers.TheConstants.{COURSE, ENHANCED_POSITION, SPEED}
 use Rattle.expansion.specs.declared.parts.PartKind.{PartKind}
 use Rattle.expansion.specs.declared.parts.PartKind.TheVariants.{LeftOut, NoInformation, Digits}
 use Rattle.expansion.specs.declared.values.Sets.{Sets}
@@ -46,10 +47,10 @@ pub length-covered : (x : Sets) (e : End) → length (covered x e) ≤ 12
 length-covered x e =
     omega (
       arith,
-      length-sets (set_symbols 100 eight_digits x.enhanced) (set_symbols 102 four_digits x.speed) (set_symbols 103 four_digits x.course) (end_symbol e),
-      length-position 100 x.enhanced,
-      length-set 102 x.speed,
-      length-set 103 x.course,
+      length-sets (set_symbols ENHANCED_POSITION eight_digits x.enhanced) (set_symbols SPEED four_digits x.speed) (set_symbols COURSE four_digits x.course) (end_symbol e),
+      length-position ENHANCED_POSITION x.enhanced,
+      length-set SPEED x.speed,
+      length-set COURSE x.course,
     )
 
 -- an expansion's list has at most 15 symbols
@@ -58,17 +59,17 @@ length-spell x e =
     omega (arith, length-covered x e, length-append (covered x e) (check_of (covered x e) ∷ end_symbol e ∷ end_symbol e ∷ []))
 
 two_at_least : (x : Sets) → IsThere x.enhanced ⊎ IsThere x.speed ⊎ IsThere x.course
-    → 2 ≤ length (set_symbols 100 eight_digits x.enhanced) + (length (set_symbols 102 four_digits x.speed) + length (set_symbols 103 four_digits x.course))
-two_at_least x (inl h) = omega (arith, two-position 100 x.enhanced h)
-two_at_least x (inr (inl h)) = omega (arith, two-set 102 x.speed h)
-two_at_least x (inr (inr h)) = omega (arith, two-set 103 x.course h)
+    → 2 ≤ length (set_symbols ENHANCED_POSITION eight_digits x.enhanced) + (length (set_symbols SPEED four_digits x.speed) + length (set_symbols COURSE four_digits x.course))
+two_at_least x (inl h) = omega (arith, two-position ENHANCED_POSITION x.enhanced h)
+two_at_least x (inr (inl h)) = omega (arith, two-set SPEED x.speed h)
+two_at_least x (inr (inr h)) = omega (arith, two-set COURSE x.course h)
 
 pub six-spell : (x : Sets) (e : End) → IsExpansion x → 6 ≤ length (spell x e)
 six-spell x e h =
     omega (
       arith,
       two_at_least x h.some,
-      length-sets (set_symbols 100 eight_digits x.enhanced) (set_symbols 102 four_digits x.speed) (set_symbols 103 four_digits x.course) (end_symbol e),
+      length-sets (set_symbols ENHANCED_POSITION eight_digits x.enhanced) (set_symbols SPEED four_digits x.speed) (set_symbols COURSE four_digits x.course) (end_symbol e),
       length-append (covered x e) (check_of (covered x e) ∷ end_symbol e ∷ end_symbol e ∷ []),
     )
 
@@ -90,8 +91,8 @@ four_at_most (Digits n) h = omega arith
 pub of_spell : (x : Sets) (e : End) → IsExpansion x → AreCharacters (spell x e)
 of_spell x e h =
     let last = end_small e in
-    let course = of_set 103 x.course (omega arith) (four_at_most x.course h.course) in
-    let speed = of_set 102 x.speed (omega arith) h.speed in
-    let enhanced = of_position 100 x.enhanced (omega arith) h.enhanced in
+    let course = of_set COURSE x.course (omega arith) (four_at_most x.course h.course) in
+    let speed = of_set SPEED x.speed (omega arith) h.speed in
+    let enhanced = of_position ENHANCED_POSITION x.enhanced (omega arith) h.enhanced in
     let all : AreCharacters (covered x e) = both _ _ enhanced (both _ _ speed (both _ _ course (last, tt))) in
     both (covered x e) _ all (of_check (covered x e) all, (last, (last, tt)))

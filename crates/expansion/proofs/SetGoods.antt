@@ -4,6 +4,7 @@ use Rattle.symbol_reader.specs.declared.letters.Letter.TheVariants.{Exactly, Eit
 use Rattle.symbol_reader.specs.inside.Languages.{Only, Then}
 use Rattle.symbol_reader.proofs.Laws.{Good, then_good, only_good, choice_good}
 use Rattle.symbol_reader.proofs.Steps.{letter_good}
+use Rattle.expansion.specs.declared.specifiers.TheConstants.{COURSE, ENHANCED_POSITION, SPEED}
 use Rattle.expansion.specs.declared.parts.PartKind.{PartKind}
 use Rattle.expansion.specs.declared.parts.PartKind.TheVariants.{LeftOut}
 use Rattle.expansion.specs.declared.values.Sets.{Sets}
@@ -22,34 +23,34 @@ course_good last enhanced speed = then_good _ _ (four_good 35 (omega arith)) (λ
 
 pub after_speed_good : (last : ℕ) (enhanced speed : PartKind) (next : ℕ) → Good (AfterSpeed last enhanced speed next)
 after_speed_good last enhanced speed next =
-    choice_good (next == 103) _ _ (λ _. course_good last enhanced speed) (λ _. only_good (sets_of enhanced speed LeftOut))
+    choice_good (next == COURSE) _ _ (λ _. course_good last enhanced speed) (λ _. only_good (sets_of enhanced speed LeftOut))
 
 -- what follows a speed
 abbrev pub CourseAndEnd : ℕ → PartKind → PartKind → Sets → List ℕ → Type 0
-CourseAndEnd last enhanced speed = Then (Symbol (Either 103 last)) (AfterSpeed last enhanced speed)
+CourseAndEnd last enhanced speed = Then (Symbol (Either COURSE last)) (AfterSpeed last enhanced speed)
 
 pub course_and_end_good : (last : ℕ) (enhanced speed : PartKind) → Good (CourseAndEnd last enhanced speed)
-course_and_end_good last enhanced speed = then_good _ _ (letter_good (Either 103 last)) (λ next _ _. after_speed_good last enhanced speed next)
+course_and_end_good last enhanced speed = then_good _ _ (letter_good (Either COURSE last)) (λ next _ _. after_speed_good last enhanced speed next)
 
 pub speed_good : (last : ℕ) (enhanced : PartKind) → Good (Then (FourDigits 99) (CourseAndEnd last enhanced))
 speed_good last enhanced = then_good _ _ (four_good 99 (omega arith)) (λ speed _ _. course_and_end_good last enhanced speed)
 
 pub after_enhanced_good : (last : ℕ) (enhanced : PartKind) (next : ℕ) → Good (AfterEnhanced last enhanced next)
 after_enhanced_good last enhanced next =
-    choice_good (next == 102) _ _ (λ _. speed_good last enhanced) (λ _. after_speed_good last enhanced LeftOut next)
+    choice_good (next == SPEED) _ _ (λ _. speed_good last enhanced) (λ _. after_speed_good last enhanced LeftOut next)
 
 -- what follows an enhanced position
 abbrev pub SpeedAndRest : ℕ → PartKind → Sets → List ℕ → Type 0
-SpeedAndRest last enhanced = Then (Symbol (OneOf 102 103 last)) (AfterEnhanced last enhanced)
+SpeedAndRest last enhanced = Then (Symbol (OneOf SPEED COURSE last)) (AfterEnhanced last enhanced)
 
 pub speed_and_rest_good : (last : ℕ) (enhanced : PartKind) → Good (SpeedAndRest last enhanced)
-speed_and_rest_good last enhanced = then_good _ _ (letter_good (OneOf 102 103 last)) (λ next _ _. after_enhanced_good last enhanced next)
+speed_and_rest_good last enhanced = then_good _ _ (letter_good (OneOf SPEED COURSE last)) (λ next _ _. after_enhanced_good last enhanced next)
 
 pub enhanced_good : (last : ℕ) → Good (Then EightDigits (SpeedAndRest last))
 enhanced_good last = then_good _ _ eight_good (λ enhanced _ _. speed_and_rest_good last enhanced)
 
 pub after_first_good : (last initial : ℕ) → Good (AfterFirst last initial)
-after_first_good last initial = choice_good (initial == 100) _ _ (λ _. enhanced_good last) (λ _. after_enhanced_good last LeftOut initial)
+after_first_good last initial = choice_good (initial == ENHANCED_POSITION) _ _ (λ _. enhanced_good last) (λ _. after_enhanced_good last LeftOut initial)
 
 pub set_words_good : (last : ℕ) → Good (SetWords last)
-set_words_good last = then_good _ _ (letter_good (OneOf 100 102 103)) (λ initial _ _. after_first_good last initial)
+set_words_good last = then_good _ _ (letter_good (OneOf ENHANCED_POSITION SPEED COURSE)) (λ initial _ _. after_first_good last initial)

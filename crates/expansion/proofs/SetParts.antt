@@ -7,6 +7,7 @@ use Rattle.symbol_reader.proofs.Steps.{one_then, joined, spelled_then, spelt}
 use Rattle.call_values.specs.declared.choices.End.{End}
 use Rattle.call_values.specs.declared.choices.End.TheVariants.{Ask, Reply, Plain}
 use Rattle.call_values.specs.Ends.{end_symbol}
+use Rattle.expansion.specs.declared.specifiers.TheConstants.{COURSE, ENHANCED_POSITION, SPEED}
 use Rattle.expansion.specs.declared.parts.PartKind.{PartKind}
 use Rattle.expansion.specs.declared.parts.PartKind.TheVariants.{LeftOut, NoInformation, Digits}
 use Rattle.expansion.specs.declared.values.Sets.{Sets}
@@ -18,9 +19,9 @@ use Rattle.expansion.proofs.SetGoods.{CourseAndEnd, SpeedAndRest, set_words_good
 
 -- a symbol that is no specifier of a set
 pub record IsApart (last : ℕ) : Type 0 where
-  pub enhanced : last ≡ 100 → ⊥
-  pub speed : last ≡ 102 → ⊥
-  pub course : last ≡ 103 → ⊥
+  pub enhanced : last ≡ ENHANCED_POSITION → ⊥
+  pub speed : last ≡ SPEED → ⊥
+  pub course : last ≡ COURSE → ⊥
 
 pub ends_apart : (e : End) → IsApart (end_symbol e)
 ends_apart Ask = record { enhanced = λ k. absurd (omega arith); speed = λ k. absurd (omega arith); course = λ k. absurd (omega arith) }
@@ -34,25 +35,25 @@ there specifier digits NoInformation h = refl
 there specifier digits (Digits n) h = refl
 
 abbrev course_and : PartKind → ℕ → List ℕ
-course_and course last = set_symbols 103 four_digits course ++ (last ∷ [])
+course_and course last = set_symbols COURSE four_digits course ++ (last ∷ [])
 
 abbrev speed_and : PartKind → PartKind → ℕ → List ℕ
-speed_and speed course last = set_symbols 102 four_digits speed ++ course_and course last
+speed_and speed course last = set_symbols SPEED four_digits speed ++ course_and course last
 
 -- the course that is told after this symbol, and the list of both
 record CourseTold (last : ℕ) (enhanced speed : PartKind) (next : ℕ) (x : Sets) (l : List ℕ) : Type 0 where
   course : PartKind
   range : IsUpTo 3599 course
-  some : (next ≡ 103) → IsThere course
+  some : (next ≡ COURSE) → IsThere course
   value : x ≡ sets_of enhanced speed course
   list : next ∷ l ≡ course_and course last
 
-to_course : (last : ℕ) (enhanced speed : PartKind) (next : ℕ) (test : Bool) (x : Sets) (l : List ℕ) → (next == 103) ≡ test
-    → (next ≡ 103) ⊎ (next ≡ last) → AfterSpeed last enhanced speed next x l → CourseTold last enhanced speed next x l
+to_course : (last : ℕ) (enhanced speed : PartKind) (next : ℕ) (test : Bool) (x : Sets) (l : List ℕ) → (next == COURSE) ≡ test
+    → (next ≡ COURSE) ⊎ (next ≡ last) → AfterSpeed last enhanced speed next x l → CourseTold last enhanced speed next x l
 to_course last enhanced speed next true x l e h p =
     let q = p.yes e in
     let r = q.after in
-    let is : next ≡ 103 = eqb-true next 103 e in
+    let is : next ≡ COURSE = eqb-true next COURSE e in
     let final : r.chosen ≡ last = r.before.allowed in
     let tail : l ≡ told_symbols four_digits q.chosen ++ (r.chosen ∷ []) = spelt q (joined r r.after.list) in
     let told = q.before.is_lawful in
@@ -61,17 +62,17 @@ to_course last enhanced speed next true x l e h p =
       range = told.1;
       some = λ _. told.0;
       value = r.after.value;
-      list = ap (λ a. a ∷ l) is ∙ ap (λ a. 103 ∷ a) tail ∙ ap (λ a. 103 ∷ (told_symbols four_digits q.chosen ++ (a ∷ []))) final
-          ∙ ap (λ a. a ++ (last ∷ [])) (sym (there 103 four_digits q.chosen told.0));
+      list = ap (λ a. a ∷ l) is ∙ ap (λ a. COURSE ∷ a) tail ∙ ap (λ a. COURSE ∷ (told_symbols four_digits q.chosen ++ (a ∷ []))) final
+          ∙ ap (λ a. a ++ (last ∷ [])) (sym (there COURSE four_digits q.chosen told.0));
     }
 to_course last enhanced speed next false x l e h p =
     let q = p.no e in
     let tail : l ≡ [] = q.list in
-    let is : next ≡ last = elim h [ inl k ↦ absurd (eqb-false next 103 e k) | inr k ↦ k ] in
+    let is : next ≡ last = elim h [ inl k ↦ absurd (eqb-false next COURSE e k) | inr k ↦ k ] in
     record {
       course = LeftOut;
       range = tt;
-      some = λ k. absurd (eqb-false next 103 e k);
+      some = λ k. absurd (eqb-false next COURSE e k);
       value = q.value;
       list = ap (λ a. a ∷ l) is ∙ ap (λ a. last ∷ a) tail;
     }
@@ -82,18 +83,18 @@ record SpeedTold (last : ℕ) (enhanced : PartKind) (next : ℕ) (x : Sets) (l :
   course : PartKind
   speed_range : IsUpTo 9999 speed
   course_range : IsUpTo 3599 course
-  some : (next ≡ 102) ⊎ (next ≡ 103) → IsThere speed ⊎ IsThere course
+  some : (next ≡ SPEED) ⊎ (next ≡ COURSE) → IsThere speed ⊎ IsThere course
   value : x ≡ sets_of enhanced speed course
   list : next ∷ l ≡ speed_and speed course last
 
-to_speed : (last : ℕ) (enhanced : PartKind) (next : ℕ) (test : Bool) (x : Sets) (l : List ℕ) → (next == 102) ≡ test
-    → (next ≡ 102) ⊎ (next ≡ 103) ⊎ (next ≡ last) → AfterEnhanced last enhanced next x l → SpeedTold last enhanced next x l
+to_speed : (last : ℕ) (enhanced : PartKind) (next : ℕ) (test : Bool) (x : Sets) (l : List ℕ) → (next == SPEED) ≡ test
+    → (next ≡ SPEED) ⊎ (next ≡ COURSE) ⊎ (next ≡ last) → AfterEnhanced last enhanced next x l → SpeedTold last enhanced next x l
 to_speed last enhanced next true x l e h p =
     let q = p.yes e in
     let r = q.after in
-    let is : next ≡ 102 = eqb-true next 102 e in
+    let is : next ≡ SPEED = eqb-true next SPEED e in
     let told = q.before.is_lawful in
-    let rest = to_course last enhanced q.chosen r.chosen (r.chosen == 103) x r.back refl r.before.allowed r.after in
+    let rest = to_course last enhanced q.chosen r.chosen (r.chosen == COURSE) x r.back refl r.before.allowed r.after in
     let tail : l ≡ told_symbols four_digits q.chosen ++ course_and rest.course last = spelt q (joined r refl ∙ rest.list) in
     record {
       speed = q.chosen;
@@ -102,13 +103,13 @@ to_speed last enhanced next true x l e h p =
       course_range = rest.range;
       some = λ _. inl told.0;
       value = rest.value;
-      list = ap (λ a. a ∷ l) is ∙ ap (λ a. 102 ∷ a) tail
-          ∙ ap (λ a. a ++ course_and rest.course last) (sym (there 102 four_digits q.chosen told.0));
+      list = ap (λ a. a ∷ l) is ∙ ap (λ a. SPEED ∷ a) tail
+          ∙ ap (λ a. a ++ course_and rest.course last) (sym (there SPEED four_digits q.chosen told.0));
     }
 to_speed last enhanced next false x l e h p =
-    let not : next ≡ 102 → ⊥ = eqb-false next 102 e in
-    let either : (next ≡ 103) ⊎ (next ≡ last) = elim h [ inl k ↦ absurd (not k) | inr k ↦ k ] in
-    let rest = to_course last enhanced LeftOut next (next == 103) x l refl either (p.no e) in
+    let not : next ≡ SPEED → ⊥ = eqb-false next SPEED e in
+    let either : (next ≡ COURSE) ⊎ (next ≡ last) = elim h [ inl k ↦ absurd (not k) | inr k ↦ k ] in
+    let rest = to_course last enhanced LeftOut next (next == COURSE) x l refl either (p.no e) in
     record {
       speed = LeftOut;
       course = rest.course;
@@ -119,26 +120,26 @@ to_speed last enhanced next false x l e h p =
       list = rest.list;
     }
 
-to_first : (e : End) (initial : ℕ) (test : Bool) (x : Sets) (l : List ℕ) → (initial == 100) ≡ test
-    → (initial ≡ 100) ⊎ (initial ≡ 102) ⊎ (initial ≡ 103) → AfterFirst (end_symbol e) initial x l → CheckedSets e x (initial ∷ l)
+to_first : (e : End) (initial : ℕ) (test : Bool) (x : Sets) (l : List ℕ) → (initial == ENHANCED_POSITION) ≡ test
+    → (initial ≡ ENHANCED_POSITION) ⊎ (initial ≡ SPEED) ⊎ (initial ≡ COURSE) → AfterFirst (end_symbol e) initial x l → CheckedSets e x (initial ∷ l)
 to_first e initial true x l t h p =
     let q = p.yes t in
     let r = q.after in
-    let is : initial ≡ 100 = eqb-true initial 100 t in
+    let is : initial ≡ ENHANCED_POSITION = eqb-true initial ENHANCED_POSITION t in
     let told = q.before.is_lawful in
-    let rest = to_speed (end_symbol e) q.chosen r.chosen (r.chosen == 102) x r.back refl r.before.allowed r.after in
+    let rest = to_speed (end_symbol e) q.chosen r.chosen (r.chosen == SPEED) x r.back refl r.before.allowed r.after in
     let tail : l ≡ told_symbols eight_digits q.chosen ++ speed_and rest.speed rest.course (end_symbol e) = spelt q (joined r refl ∙ rest.list) in
     let list : initial ∷ l ≡ covered (sets_of q.chosen rest.speed rest.course) e =
-    ap (λ a. a ∷ l) is ∙ ap (λ a. 100 ∷ a) tail
-    ∙ ap (λ a. a ++ speed_and rest.speed rest.course (end_symbol e)) (sym (there 100 eight_digits q.chosen told.0)) in
+    ap (λ a. a ∷ l) is ∙ ap (λ a. ENHANCED_POSITION ∷ a) tail
+    ∙ ap (λ a. a ++ speed_and rest.speed rest.course (end_symbol e)) (sym (there ENHANCED_POSITION eight_digits q.chosen told.0)) in
     subst (λ a. CheckedSets e a (initial ∷ l)) (sym rest.value) (record {
       is_lawful = record { some = inl told.0; enhanced = told.1; speed = rest.speed_range; course = rest.course_range };
       list = list;
     })
 to_first e initial false x l t h p =
-    let later : (initial ≡ 102) ⊎ (initial ≡ 103) = elim h [ inl k ↦ absurd (eqb-false initial 100 t k) | inr k ↦ k ] in
-    let wider : (initial ≡ 102) ⊎ (initial ≡ 103) ⊎ (initial ≡ end_symbol e) = elim later [ inl k ↦ inl k | inr k ↦ inr (inl k) ] in
-    let rest = to_speed (end_symbol e) LeftOut initial (initial == 102) x l refl wider (p.no t) in
+    let later : (initial ≡ SPEED) ⊎ (initial ≡ COURSE) = elim h [ inl k ↦ absurd (eqb-false initial ENHANCED_POSITION t k) | inr k ↦ k ] in
+    let wider : (initial ≡ SPEED) ⊎ (initial ≡ COURSE) ⊎ (initial ≡ end_symbol e) = elim later [ inl k ↦ inl k | inr k ↦ inr (inl k) ] in
+    let rest = to_speed (end_symbol e) LeftOut initial (initial == SPEED) x l refl wider (p.no t) in
     subst (λ a. CheckedSets e a (initial ∷ l)) (sym rest.value) (record {
       is_lawful = record { some = inr (rest.some later); enhanced = tt; speed = rest.speed_range; course = rest.course_range };
       list = rest.list;
@@ -146,11 +147,11 @@ to_first e initial false x l t h p =
 
 to_sets : (e : End) (x : Sets) (word : List ℕ) → SetWords (end_symbol e) x word → CheckedSets e x word
 to_sets e x word p =
-    subst (λ w. CheckedSets e x w) (sym (joined p refl)) (to_first e p.chosen (p.chosen == 100) x p.back refl p.before.allowed p.after)
+    subst (λ w. CheckedSets e x w) (sym (joined p refl)) (to_first e p.chosen (p.chosen == ENHANCED_POSITION) x p.back refl p.before.allowed p.after)
 
 -- the rest after the specifier of a course that is there
 course_there : (last : ℕ) (enhanced speed course : PartKind) → IsThere course → IsUpTo 3599 course
-    → AfterSpeed last enhanced speed 103 (sets_of enhanced speed course) (told_symbols four_digits course ++ (last ∷ []))
+    → AfterSpeed last enhanced speed COURSE (sets_of enhanced speed course) (told_symbols four_digits course ++ (last ∷ []))
 course_there last enhanced speed course h k = record {
   yes = λ _. spelled_then course (last ∷ []) (h, k) (one_then last refl (record { value = refl; list = refl }));
   no = λ (t : true ≡ false). absurd (cc);
@@ -159,15 +160,15 @@ course_there last enhanced speed course h k = record {
 from_course : (last : ℕ) (enhanced speed course : PartKind) → IsApart last → IsUpTo 3599 course
     → CourseAndEnd last enhanced speed (sets_of enhanced speed course) (course_and course last)
 from_course last enhanced speed LeftOut a k = one_then last (inr refl) (record {
-  yes = λ t. absurd (a.course (eqb-true last 103 t));
+  yes = λ t. absurd (a.course (eqb-true last COURSE t));
   no = λ _. record { value = refl; list = refl };
 })
-from_course last enhanced speed NoInformation a k = one_then 103 (inl refl) (course_there last enhanced speed NoInformation tt k)
-from_course last enhanced speed (Digits n) a k = one_then 103 (inl refl) (course_there last enhanced speed (Digits n) tt k)
+from_course last enhanced speed NoInformation a k = one_then COURSE (inl refl) (course_there last enhanced speed NoInformation tt k)
+from_course last enhanced speed (Digits n) a k = one_then COURSE (inl refl) (course_there last enhanced speed (Digits n) tt k)
 
 -- the rest after the specifier of a speed that is there
 speed_there : (last : ℕ) (enhanced speed course : PartKind) → IsApart last → IsThere speed → IsUpTo 9999 speed → IsUpTo 3599 course
-    → AfterEnhanced last enhanced 102 (sets_of enhanced speed course) (told_symbols four_digits speed ++ course_and course last)
+    → AfterEnhanced last enhanced SPEED (sets_of enhanced speed course) (told_symbols four_digits speed ++ course_and course last)
 speed_there last enhanced speed course a h k m = record {
   yes = λ _. spelled_then speed (course_and course last) (h, k) (from_course last enhanced speed course a m);
   no = λ (t : true ≡ false). absurd (cc);
@@ -177,20 +178,20 @@ speed_there last enhanced speed course a h k m = record {
 no_speed : (last : ℕ) (enhanced : PartKind) (x : Sets) (word : List ℕ) → IsApart last → CourseAndEnd last enhanced LeftOut x word
     → SpeedAndRest last enhanced x word
 no_speed last enhanced x word a p =
-    let not : p.chosen ≡ 102 → ⊥ = λ k. elim p.before.allowed [ inl m ↦ absurd (omega arith) | inr m ↦ a.speed (sym m ∙ k) ] in
+    let not : p.chosen ≡ SPEED → ⊥ = λ k. elim p.before.allowed [ inl m ↦ absurd (omega arith) | inr m ↦ a.speed (sym m ∙ k) ] in
     subst (λ w. SpeedAndRest last enhanced x w) (sym (joined p refl))
-    (one_then p.chosen (inr p.before.allowed) (record { yes = λ t. absurd (not (eqb-true p.chosen 102 t)); no = λ _. p.after }))
+    (one_then p.chosen (inr p.before.allowed) (record { yes = λ t. absurd (not (eqb-true p.chosen SPEED t)); no = λ _. p.after }))
 
 from_speed : (last : ℕ) (enhanced speed course : PartKind) → IsApart last → IsUpTo 9999 speed → IsUpTo 3599 course
     → SpeedAndRest last enhanced (sets_of enhanced speed course) (speed_and speed course last)
 from_speed last enhanced LeftOut course a k m =
     no_speed last enhanced (sets_of enhanced LeftOut course) (course_and course last) a (from_course last enhanced LeftOut course a m)
-from_speed last enhanced NoInformation course a k m = one_then 102 (inl refl) (speed_there last enhanced NoInformation course a tt k m)
-from_speed last enhanced (Digits n) course a k m = one_then 102 (inl refl) (speed_there last enhanced (Digits n) course a tt k m)
+from_speed last enhanced NoInformation course a k m = one_then SPEED (inl refl) (speed_there last enhanced NoInformation course a tt k m)
+from_speed last enhanced (Digits n) course a k m = one_then SPEED (inl refl) (speed_there last enhanced (Digits n) course a tt k m)
 
 from_enhanced : (last : ℕ) (enhanced speed course : PartKind) → IsApart last → IsThere enhanced → IsUpTo 99999999 enhanced → IsUpTo 9999 speed → IsUpTo 3599 course
-    → SetWords last (sets_of enhanced speed course) (100 ∷ (told_symbols eight_digits enhanced ++ speed_and speed course last))
-from_enhanced last enhanced speed course a h k m n = one_then 100 (inl refl) (record {
+    → SetWords last (sets_of enhanced speed course) (ENHANCED_POSITION ∷ (told_symbols eight_digits enhanced ++ speed_and speed course last))
+from_enhanced last enhanced speed course a h k m n = one_then ENHANCED_POSITION (inl refl) (record {
   yes = λ _. spelled_then enhanced (speed_and speed course last) (h, k) (from_speed last enhanced speed course a m n);
   no = λ (t : true ≡ false). absurd (cc);
 })
@@ -199,19 +200,19 @@ from_enhanced last enhanced speed course a h k m n = one_then 100 (inl refl) (re
 from_later : (last : ℕ) (speed course : PartKind) → IsApart last → IsThere speed ⊎ IsThere course → IsUpTo 9999 speed → IsUpTo 3599 course
     → SetWords last (sets_of LeftOut speed course) (speed_and speed course last)
 from_later last LeftOut LeftOut a h k m = absurd (elim h [ inl f ↦ f | inr f ↦ f ])
-from_later last LeftOut NoInformation a h k m = one_then 103 (inr (inr refl)) (record {
+from_later last LeftOut NoInformation a h k m = one_then COURSE (inr (inr refl)) (record {
   yes = λ (t : false ≡ true). absurd (cc);
   no = λ _. record { yes = λ (t : false ≡ true). absurd (cc); no = λ _. course_there last LeftOut LeftOut NoInformation tt m };
 })
-from_later last LeftOut (Digits n) a h k m = one_then 103 (inr (inr refl)) (record {
+from_later last LeftOut (Digits n) a h k m = one_then COURSE (inr (inr refl)) (record {
   yes = λ (t : false ≡ true). absurd (cc);
   no = λ _. record { yes = λ (t : false ≡ true). absurd (cc); no = λ _. course_there last LeftOut LeftOut (Digits n) tt m };
 })
-from_later last NoInformation course a h k m = one_then 102 (inr (inl refl)) (record {
+from_later last NoInformation course a h k m = one_then SPEED (inr (inl refl)) (record {
   yes = λ (t : false ≡ true). absurd (cc);
   no = λ _. speed_there last LeftOut NoInformation course a tt k m;
 })
-from_later last (Digits n) course a h k m = one_then 102 (inr (inl refl)) (record {
+from_later last (Digits n) course a h k m = one_then SPEED (inr (inl refl)) (record {
   yes = λ (t : false ≡ true). absurd (cc);
   no = λ _. speed_there last LeftOut (Digits n) course a tt k m;
 })

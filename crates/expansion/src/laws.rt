@@ -3,6 +3,7 @@ ghost use Rattle.std.specs.Prelude.{◌≡◌, ℕ, ◌<◌, ◌≤◌, All, Lis
 ghost use Rattle.symbol_reader.specs.declared.refusals.ReadRefusal.{ReadRefusal};
 ghost use Rattle.call_values.specs.declared.choices.End.{End};
 ghost use Rattle.expansion.specs.declared.bounds.TheConstants as bounds;
+ghost use Rattle.expansion.specs.declared.last_digits.TheConstants as last_digits;
 ghost use Rattle.expansion.specs.declared.specifiers.TheConstants as specifiers;
 ghost use Rattle.expansion.specs.declared.values.Sets.{Sets};
 ghost use Rattle.expansion.specs.Expansions.{IsExpansion};
@@ -44,9 +45,12 @@ pub fn read_back()
         → IsExpansion x → IsReading e (spell x e ++ rest) answer → answer ≡ Ok (x, length (spell x e)) }
 {}
 
-/// The law that the specifiers of the sets of an expansion have these numbers (this project's profile).
+/// The law that the specifiers of the sets of an expansion have these numbers, and these last two digits (this project's profile).
 pub fn expansion_numbers()
     ensures enhanced_position { specifiers.ENHANCED_POSITION ≡ 100 }
     ensures speed { specifiers.SPEED ≡ 102 }
     ensures course { specifiers.COURSE ≡ 103 }
+    ensures last_of_enhanced_position { last_digits.ENHANCED_POSITION ≡ 0 }
+    ensures last_of_speed { last_digits.SPEED ≡ 2 }
+    ensures last_of_course { last_digits.COURSE ≡ 3 }
 {}

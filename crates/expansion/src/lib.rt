@@ -2,6 +2,7 @@
 #![tactic(auto)]
 
 pub mod bounds;
+pub mod last_digits;
 mod laws;
 mod parts;
 mod readers;

@@ -7,6 +7,9 @@ ghost use Rattle.line_grammar.specs.inside.Reading.{judged, read_digits, read_to
 
 use crate::reading::Left;
 
+/// The largest number of lines, of groups and of moments (this project's profile).
+pub const LARGEST_NUMBER: u64 = u32::MAX as u64;
+
 /// Whether some number from the least to the most begins with the digits of this one, which isn't 0.
 fn goes_on(least: u64, most: u64, number: u64) -> bool
     requires { least < 2 ^ 60 }

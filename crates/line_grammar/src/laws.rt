@@ -5,6 +5,13 @@ ghost use Rattle.line_grammar.specs.Repeats.{Grow, SpellsSome};
 ghost use Rattle.line_grammar.specs.inside.Reading.{read};
 ghost use Rattle.line_grammar.specs.inside.Soundness.{is_sound, is_unambiguous};
 
+use crate::decimal::LARGEST_NUMBER;
+
+/// The law that the largest number is this one.
+pub fn largest_number()
+    ensures { LARGEST_NUMBER ≡ 4294967295 }
+{}
+
 /// The plain reader of a sound and unambiguous grammar answers each line with its one reading, or with its column.
 pub fn grammars_are_read()
     ensures { (G : Grammar) (bytes : List ℕ) → is_sound G ≡ true → is_unambiguous G ≡ true

@@ -3,6 +3,7 @@
 use Rattle.std.specs.Prelude.{ℕ, ◌+◌, ◌-◌, List, length, take, find, Option, Some, None}
 use Rattle.std.specs.List.{filter, range_with_len}
 use Rattle.ten_unit.specs.declared.character.Element.{Element}
+use Rattle.phasing.specs.declared.reception.TheConstants.{LEAD_OF_FIRST}
 use Rattle.phasing.specs.Origin.{is_phased}
 use Rattle.slot_evidence.specs.Facts.{Facts, facts_at}
 
@@ -12,16 +13,16 @@ starts_below e bound = filter (is_phased e) (range_with_len 0 bound)
 
 -- all starts of a stream; past its end none is phased
 abbrev pub starts : List Element → List ℕ
-starts e = starts_below e (length e + 150)
+starts e = starts_below e (length e + LEAD_OF_FIRST)
 
 -- the next start after a lead, where there is one
 abbrev pub next_start : List Element → ℕ → Option ℕ
-next_start e lead = find (is_phased e) (range_with_len (lead + 1) (length e + 150))
+next_start e lead = find (is_phased e) (range_with_len (lead + 1) (length e + LEAD_OF_FIRST))
 
 -- what stands before a start: of a stream without a further one, all of it
 abbrev pub before : List Element → Option ℕ → List Element
 before e None = e
-before e (Some lead) = take (lead - 150) e
+before e (Some lead) = take (lead - LEAD_OF_FIRST) e
 
 -- the facts at a start: what its slots show that end at or before the next start
 unfoldable pub facts_from : List Element → ℕ → Facts

@@ -1,6 +1,7 @@
 -- What is told of the starts of a stream: this project's profile.
 use Rattle.std.specs.Prelude.{◌≡◌, ℕ, ◌+◌, ◌<◌, ◌≤◌, true, false, List, [], ◌∷◌, Option, Some, None, pos, ◌-ℤ◌}
 use Rattle.ten_unit.specs.declared.character.Element.{Element}
+use Rattle.phasing.specs.declared.reception.TheConstants.{LEAD_OF_FIRST}
 use Rattle.phasing.specs.Origin.{is_phased}
 use Rattle.slot_evidence.specs.Sheet.{IsEnds}
 use Rattle.long_capture.specs.declared.starts.Start.{Start}
@@ -9,7 +10,7 @@ use Rattle.long_capture.specs.Starts.{facts_from}
 -- this is the start at a lead: the lead is phased, the origin is 150 below it, and the sheet keeps the ends of the facts there
 pub record IsStart (e : List Element) (lead : ℕ) (start : Start) : Type 0 where
   pub phased : is_phased e lead ≡ true
-  pub origin : start.at ≡ pos lead -ℤ pos 150
+  pub origin : start.at ≡ pos lead -ℤ pos LEAD_OF_FIRST
   pub ends : IsEnds (facts_from e lead) start.sheet
 
 -- these are the starts at these leads, one for one and in their order

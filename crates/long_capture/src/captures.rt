@@ -1,7 +1,10 @@
 ghost use Rattle.std.specs.Prelude.{◌+◌, ◌≤◌, ◌^◌};
+ghost use Rattle.long_capture.specs.declared.bounds.TheConstants.{TAIL};
 
+use crate::bounds::TAIL;
 use crate::scans::Scan;
 use crate::starts::Start;
+use phasing::LEAD_OF_FIRST;
 use ten_unit::Element;
 
 /// The starts of a long stream, element by element. It holds a fixed number of elements and takes no memory.
@@ -10,7 +13,7 @@ pub struct Capture {
     scan: Scan,
     lost: u32,
     ghost few: { scan.seen ≤ 2 ^ 40 + lost },
-    ghost most: { lost ≤ 1599 },
+    ghost most: { lost ≤ TAIL },
 }
 
 /// What `take_block` took: how many elements, and the start that the last of them decides, if there is one.
@@ -19,9 +22,6 @@ pub struct Taken {
     pub count: usize,
     pub start: Option<Start>,
 }
-
-/// Lost elements behind the end that decide its last origins.
-const BEHIND: u32 = 1599;
 
 impl Capture {
     ghost use Rattle.std.specs.Prelude.{◌≡◌, [], ◌∷◌, ◌++◌, ◌<◌, ◌≤◌, ◌^◌, List, length, take, IsSome, IsNone};
@@ -82,10 +82,10 @@ impl Capture {
     pub fn finish(&mut self) -> Option<Start>
         ensures ending { (e : List Element) → Ending self.old e → Ending self.new e }
         ensures tells { (e : List Element) → Ending self.old e → Tells e (reached self.old) (reached self.new) result }
-        ensures none { (e : List Element) → Ending self.old e → IsNone result → reached self.new ≡ length e + 150 }
+        ensures none { (e : List Element) → Ending self.old e → IsNone result → reached self.new ≡ length e + LEAD_OF_FIRST }
         ensures some { IsSome result → left self.new < left self.old }
     {
-        while self.lost < BEHIND {
+        while self.lost < TAIL {
             self.lost += 1;
             let start = self.scan.step(Element::Lost);
             if start.is_some() {

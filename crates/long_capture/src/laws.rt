@@ -16,12 +16,22 @@ ghost use Rattle.long_capture.specs.Captures.{decided, Stands, Ending};
 ghost use Rattle.long_capture.specs.Starts.{before, facts_from, starts_below, starts};
 ghost use Rattle.long_capture.specs.Told.{AreQuiet, AreStarts, IsNextStart, Tells};
 
+use crate::bounds::{DECIDING, SEARCHED_AHEAD, TAIL, UNDECIDED, WINDOW};
 use call_grammar::lists_are_characters;
 use phasing::{elements_decide, none_past_the_end};
 use slot_evidence::one_sheet;
 use slot_join::call_or_missing_place;
 use ten_unit::{one_way_errors_are_seen, words_tell_symbols_apart};
 use time_diversity::both_slots_show_the_character;
+
+/// The law that so many elements are looked at.
+pub fn numbers_of_elements()
+    ensures searched { SEARCHED_AHEAD ≡ 1440 }
+    ensures window { WINDOW ≡ 1600 }
+    ensures tail { TAIL ≡ 1599 }
+    ensures deciding { DECIDING ≡ 1450 }
+    ensures undecided { UNDECIDED ≡ 1449 }
+{}
 
 /// The law that a stream may end behind any of its elements.
 pub fn taking_ends()
@@ -53,9 +63,9 @@ pub fn starts_go_on()
 /// The law that a lead which is decided stays so: 1,600 elements from its origin on decide whether it is phased, and its facts, whatever
 /// follows.
 pub fn decided_starts_stay()
-    ensures phased { (e more : List Element) (lead : ℕ) → lead + 1450 ≤ length e
+    ensures phased { (e more : List Element) (lead : ℕ) → lead + DECIDING ≤ length e
         → is_phased (e ++ more) lead ≡ is_phased e lead }
-    ensures facts { (e more : List Element) (lead p v : ℕ) → lead + 1450 ≤ length e
+    ensures facts { (e more : List Element) (lead p v : ℕ) → lead + DECIDING ≤ length e
         → facts_from (e ++ more) lead p v ≡ facts_from e lead p v }
     ensures starts { (e more : List Element) (bound : ℕ) → bound ≤ decided (length e)
         → starts_below (e ++ more) bound ≡ starts_below e bound }

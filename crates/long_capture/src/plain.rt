@@ -2,7 +2,7 @@
 ghost use Rattle.std.specs.Prelude.{◌≤◌, length};
 
 use crate::starts::Start;
-use phasing::{LAST_LEAD, LONGEST, phased};
+use phasing::{LAST_LEAD, LEAD_OF_FIRST, LONGEST, phased};
 use slot_evidence::sheet_at;
 use std::alloc::{AllocError, Global};
 use ten_unit::Element;
@@ -12,7 +12,7 @@ fn is_phased(e: &[Element], lead: u32) -> bool
     requires length { length e.now ≤ LONGEST }
     requires lead { lead ≤ LAST_LEAD }
 {
-    phased(e, lead as i32 - 150)
+    phased(e, lead as i32 - LEAD_OF_FIRST as i32)
 }
 
 /// The elements before the next start after a lead.
@@ -21,8 +21,8 @@ fn before_next(e: &[Element], lead: u32) -> &[Element]
     requires lead { lead ≤ LAST_LEAD }
     ensures { length result.now ≤ LONGEST }
 {
-    match (lead + 1..e.len() as u32 + 150).find(|lead| is_phased(e, *lead)) {
-        Some(next) => &e[..next.saturating_sub(150).min(e.len() as u32) as usize],
+    match (lead + 1..e.len() as u32 + LEAD_OF_FIRST).find(|lead| is_phased(e, *lead)) {
+        Some(next) => &e[..next.saturating_sub(LEAD_OF_FIRST).min(e.len() as u32) as usize],
         None => e,
     }
 }
@@ -32,10 +32,10 @@ pub(crate) fn starts_of(alloc: Global, e: &[Element]) -> Result<Vec<Start>, Allo
     requires { length e.now ≤ LONGEST }
 {
     let mut list = Vec::new(alloc);
-    for lead in 40..e.len() as u32 + 150 {
+    for lead in 40..e.len() as u32 + LEAD_OF_FIRST {
         if is_phased(e, lead) {
             let sheet = sheet_at(before_next(e, lead), lead);
-            let at = lead as i64 - 150;
+            let at = lead as i64 - LEAD_OF_FIRST as i64;
             list.push(Start { at, sheet })?;
         }
     }

@@ -5,14 +5,12 @@ ghost use Rattle.phasing.specs.inside.Places.{element_at};
 ghost use Rattle.long_capture.specs.Told.{AreQuiet, Tells};
 ghost use Rattle.long_capture.specs.inside.Reads.{IsWindow, Looks, Reads};
 
+use crate::bounds::{DECIDING, SEARCHED_AHEAD, UNDECIDED, WINDOW};
 use crate::starts::Start;
-use crate::windows::{LONG, Window};
-use phasing::{elements_decide, first_phased, none_past_the_end, phased};
+use crate::windows::Window;
+use phasing::{LEAD_OF_FIRST, elements_decide, first_phased, none_past_the_end, phased};
 use slot_evidence::sheet_at;
 use ten_unit::Element;
-
-/// The origins behind the first one of the window of which it says whether they are phased.
-const KNOWN: u32 = 1440;
 
 /// The last elements of a stream, how many it had, and how many of the next origins are known not to be phased.
 #[derive(Drop)]
@@ -31,7 +29,7 @@ impl Scan {
         Scan {
             window: Window::new(),
             seen: 0,
-            quiet: 1449,
+            quiet: UNDECIDED,
         }
     }
 
@@ -40,10 +38,10 @@ impl Scan {
     pub fn step(&mut self, x: Element) -> Option<Start>
         requires { self.old.seen < 2 ^ 62 }
         ensures seen { self.new.seen ≡ self.old.seen + 1 }
-        ensures reads { (e : List Element) (n : ℕ) → Reads self.old e n → element_at e (n + 150) ≡ x
+        ensures reads { (e : List Element) (n : ℕ) → Reads self.old e n → element_at e (n + LEAD_OF_FIRST) ≡ x
             → Reads self.new e (n + 1) }
-        ensures tells { (e : List Element) (n : ℕ) → Reads self.old e n → element_at e (n + 150) ≡ x
-            → Tells e (n - 1449) (n + 1 - 1449) result }
+        ensures tells { (e : List Element) (n : ℕ) → Reads self.old e n → element_at e (n + LEAD_OF_FIRST) ≡ x
+            → Tells e (n - UNDECIDED) (n + 1 - UNDECIDED) result }
     {
         self.window.push(x);
         self.seen += 1;
@@ -61,9 +59,9 @@ impl Scan {
         ensures front { result ≤ length xs.now }
         ensures seen { self.new.seen ≡ self.old.seen + result }
         ensures reads { (e : List Element) (n : ℕ) → Reads self.old e n
-            → ((k : ℕ) → k < result → element_at e (n + 150 + k) ≡ slice_index_or xs.now k Element.Lost)
+            → ((k : ℕ) → k < result → element_at e (n + LEAD_OF_FIRST + k) ≡ slice_index_or xs.now k Element.Lost)
             → Reads self.new e (n + result) }
-        ensures quiet { (e : List Element) (n : ℕ) → Reads self.old e n → AreQuiet e (n - 1449) (n + result - 1449) }
+        ensures quiet { (e : List Element) (n : ℕ) → Reads self.old e n → AreQuiet e (n - UNDECIDED) (n + result - UNDECIDED) }
     {
         let most = xs.len().min(self.quiet as usize);
         let count = self.window.push_front(&xs[..most]);
@@ -78,20 +76,20 @@ impl Scan {
         requires { self.old.seen < 2 ^ 63 }
         ensures window { self.new.window ≡ self.old.window }
         ensures seen { self.new.seen ≡ self.old.seen }
-        ensures looks { (e : List Element) (q : ℕ) → IsWindow self.old.window e q → self.old.seen ≡ q + 1450
+        ensures looks { (e : List Element) (q : ℕ) → IsWindow self.old.window e q → self.old.seen ≡ q + DECIDING
             → Looks e q result self.new.quiet }
     {
         elements_decide();
         none_past_the_end();
         let window = self.window.elements();
         let after = first_phased(&window[1..]);
-        self.quiet = after.min(KNOWN);
+        self.quiet = after.min(SEARCHED_AHEAD);
         if !phased(window, 0) {
             return None;
         }
-        let sheet = sheet_at(&window[..after as usize + 1], 150);
+        let sheet = sheet_at(&window[..after as usize + 1], LEAD_OF_FIRST);
         Some(Start {
-            at: self.seen as i64 - LONG as i64,
+            at: self.seen as i64 - WINDOW as i64,
             sheet,
         })
     }

@@ -2,12 +2,9 @@
 ghost use Rattle.std.specs.Prelude.{◌≡◌, [], ◌∷◌, ◌++◌, ◌-◌, ◌<◌, ◌≤◌, length, take, drop, replicate};
 ghost use Rattle.ten_unit.specs.declared.character.Element.TheVariants.{Lost};
 
+use crate::bounds::WINDOW;
 use std::marker::Model;
 use ten_unit::Element;
-
-/// So many elements decide the origin at the first of them: slots of places below 64 end within 1,440, and a later start inside of
-/// these shows by 160 more.
-pub(crate) const LONG: usize = 1600;
 
 /// Elements that are held before the last ones move to the front.
 const ROOM: usize = 4096;
@@ -22,22 +19,24 @@ pub(crate) struct Window {
 impl Model for Window {
     ghost use Rattle.std.specs.Prelude.{◌≡◌, List, ◌≤◌, ◌-◌, length, take, drop};
     ghost use Rattle.ten_unit.specs.declared.character.Element.{Element};
+    ghost use Rattle.long_capture.specs.declared.bounds.TheConstants.{WINDOW};
+    ghost use Rattle.long_capture.specs.declared.windows.TheConstants.{ROOM};
 
     ghost Value = { List Element };
 
-    ghost view = { λ w. take 1600 (drop (w.end - 1600) w.buffer) };
+    ghost view = { λ w. take WINDOW (drop (w.end - WINDOW) w.buffer) };
 
-    ghost invariant = { λ w. (1600 ≤ w.end) × (w.end ≤ 4096) × (length w.buffer ≡ 4096) };
+    ghost invariant = { λ w. (WINDOW ≤ w.end) × (w.end ≤ ROOM) × (length w.buffer ≡ ROOM) };
 }
 
 impl Window {
     /// Lost elements alone.
     pub fn new() -> Window
-        ensures { result ≡ replicate 1600 Lost }
+        ensures { result ≡ replicate WINDOW Lost }
     {
         Window {
             buffer: [Element::Lost; ROOM],
-            end: LONG,
+            end: WINDOW,
         }
     }
 
@@ -68,25 +67,25 @@ impl Window {
     /// The elements, in their order.
     pub fn elements(&self) -> &[Element]
         ensures elements { result.now ≡ self.now }
-        ensures length { length result.now ≡ LONG }
+        ensures length { length result.now ≡ WINDOW }
     {
-        &self.buffer[self.end - LONG..self.end]
+        &self.buffer[self.end - WINDOW..self.end]
     }
 }
 
 /// Where the next element goes: at the window's end, or, where there is no room, behind the last elements, which move to the front.
 #[inline(always)]
 fn free(buffer: &mut [Element; ROOM], end: usize) -> usize
-    requires low { LONG ≤ end }
+    requires low { WINDOW ≤ end }
     requires high { end ≤ ROOM }
-    ensures low { LONG ≤ result }
+    ensures low { WINDOW ≤ result }
     ensures high { result < ROOM }
     ensures length { length buffer.new ≡ ROOM }
-    ensures same { take LONG (drop (result - LONG) buffer.new) ≡ take LONG (drop (end - LONG) buffer.old) }
+    ensures same { take WINDOW (drop (result - WINDOW) buffer.new) ≡ take WINDOW (drop (end - WINDOW) buffer.old) }
 {
     if end == ROOM {
         move_to_front(buffer);
-        return LONG;
+        return WINDOW;
     }
     end
 }
@@ -94,10 +93,10 @@ fn free(buffer: &mut [Element; ROOM], end: usize) -> usize
 /// Moves the last 1,600 elements to the front.
 #[inline(never)]
 fn move_to_front(buffer: &mut [Element; ROOM])
-    ensures moved { take LONG buffer.new ≡ drop (ROOM - LONG) buffer.old }
+    ensures moved { take WINDOW buffer.new ≡ drop (ROOM - WINDOW) buffer.old }
     ensures length { length buffer.new ≡ ROOM }
 {
-    for k in 0..LONG {
-        buffer[k] = buffer[ROOM - LONG + k];
+    for k in 0..WINDOW {
+        buffer[k] = buffer[ROOM - WINDOW + k];
     }
 }

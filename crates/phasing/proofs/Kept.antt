@@ -10,6 +10,7 @@ use Rattle.ten_unit.specs.declared.character.Element.{Element}
 use Rattle.ten_unit.specs.declared.character.Element.TheVariants.{Lost}
 use Rattle.ten_unit.specs.Word.{element, information, count_of_b, elements_eq, is_word, word_of}
 use Rattle.ten_unit.proofs.PublicLaws.{elements_same, elements_own, element-sent, length-word}
+use Rattle.dsc_symbols.specs.declared.phasing.TheConstants.{DX, RX_7}
 use Rattle.phasing.specs.Origin.{dx_right, rx_right, is_enough, is_phased}
 use Rattle.phasing.specs.Slot.{shows}
 
@@ -121,6 +122,6 @@ enough_more dx rx more_dx more_rx d r h = grind (arith, nat_tests)
 pub kept_phased : (e sent : List Element) (shift bound lead : ℕ) → IsKept e sent shift bound → lead + 10 ≤ bound → is_phased e lead ≡ true → is_phased sent (lead + shift) ≡ true
 unfolding is_phased
 kept_phased e sent shift bound lead k below h =
-    let d = no_fewer (λ s. shows e lead s 125) (λ s. shows sent (lead + shift) s 125) (0 ∷ 2 ∷ 4 ∷ 6 ∷ 8 ∷ 10 ∷ []) refl (λ s few. kept_slot e sent shift bound lead s 125 k (omega arith)) in
-    let r = no_fewer (λ s. shows e lead s (111 - (s - 1) / 2)) (λ s. shows sent (lead + shift) s (111 - (s - 1) / 2)) (1 ∷ 3 ∷ 5 ∷ 7 ∷ 9 ∷ 11 ∷ 13 ∷ 15 ∷ []) refl (λ s few. kept_slot e sent shift bound lead s _ k (omega arith)) in
+    let d = no_fewer (λ s. shows e lead s DX) (λ s. shows sent (lead + shift) s DX) (0 ∷ 2 ∷ 4 ∷ 6 ∷ 8 ∷ 10 ∷ []) refl (λ s few. kept_slot e sent shift bound lead s DX k (omega arith)) in
+    let r = no_fewer (λ s. shows e lead s (RX_7 - (s - 1) / 2)) (λ s. shows sent (lead + shift) s (RX_7 - (s - 1) / 2)) (1 ∷ 3 ∷ 5 ∷ 7 ∷ 9 ∷ 11 ∷ 13 ∷ 15 ∷ []) refl (λ s few. kept_slot e sent shift bound lead s _ k (omega arith)) in
     enough_more (dx_right e lead) (rx_right e lead) (dx_right sent (lead + shift)) (rx_right sent (lead + shift)) d r h

@@ -3,6 +3,7 @@ use Rattle.std.proofs.Common.{◌≡◌, ℕ, ◌+◌, ◌*◌, ◌<◌, ◌≤�
 use Rattle.std.proofs.lemmas.Bool.{cases_lt, cases_order, both_ways}
 use Rattle.plain_laws.proofs.Searches.{find_least, find_none}
 use Rattle.ten_unit.specs.declared.character.Element.{Element}
+use Rattle.dsc_symbols.specs.declared.phasing.TheConstants.{DX, RX_0, RX_1, RX_2, RX_3, RX_4, RX_5, RX_6, RX_7}
 use Rattle.phasing.specs.Origin.{dx_right, rx_right, is_enough, is_phased, lead_of}
 use Rattle.phasing.specs.Slot.{shows}
 use Rattle.phasing.proofs.Slots.{shows-past, shows-early}
@@ -53,18 +54,18 @@ pub is_phased-early : (e : List Element) (lead : ℕ) → lead < 40 → is_phase
 unfolding is_phased
 is_phased-early e lead early =
     let none = λ (s v : ℕ) (before : lead + 10 * s < 150). none_of (shows e lead s v) (shows-early e lead s v before) in
-    let d0 = none 0 125 (omega arith) in
-    let d2 = none 2 125 (omega arith) in
-    let d4 = none 4 125 (omega arith) in
-    let d6 = none 6 125 (omega arith) in
-    let d8 = none 8 125 (omega arith) in
-    let d10 = none 10 125 (omega arith) in
-    let r1 = none 1 111 (omega arith) in
-    let r3 = none 3 110 (omega arith) in
-    let r5 = none 5 109 (omega arith) in
-    let r7 = none 7 108 (omega arith) in
-    let r9 = none 9 107 (omega arith) in
-    let r11 = none 11 106 (omega arith) in
+    let d0 = none 0 DX (omega arith) in
+    let d2 = none 2 DX (omega arith) in
+    let d4 = none 4 DX (omega arith) in
+    let d6 = none 6 DX (omega arith) in
+    let d8 = none 8 DX (omega arith) in
+    let d10 = none 10 DX (omega arith) in
+    let r1 = none 1 RX_7 (omega arith) in
+    let r3 = none 3 RX_6 (omega arith) in
+    let r5 = none 5 RX_5 (omega arith) in
+    let r7 = none 7 RX_4 (omega arith) in
+    let r9 = none 9 RX_3 (omega arith) in
+    let r11 = none 11 RX_2 (omega arith) in
     let dx : dx_right e lead ≡ 0 = omega (arith, d0, d2, d4, d6, d8, d10) in
-    let rx : rx_right e lead ≡ cond (shows e lead 13 105) 1 0 + cond (shows e lead 15 104) 1 0 = omega (arith, r1, r3, r5, r7, r9, r11) in
-    ap (λ (n : ℕ). is_enough n (rx_right e lead)) dx ∙ ap (is_enough 0) rx ∙ too_few (shows e lead 13 105) (shows e lead 15 104)
+    let rx : rx_right e lead ≡ cond (shows e lead 13 RX_1) 1 0 + cond (shows e lead 15 RX_0) 1 0 = omega (arith, r1, r3, r5, r7, r9, r11) in
+    ap (λ (n : ℕ). is_enough n (rx_right e lead)) dx ∙ ap (is_enough 0) rx ∙ too_few (shows e lead 13 RX_1) (shows e lead 15 RX_0)

@@ -3,6 +3,7 @@ use Rattle.std.proofs.Common.{◌≡◌, ℕ, suc, ◌+◌, ◌-◌, ◌*◌, �
 use Rattle.ten_unit.specs.declared.character.Element.{Element}
 use Rattle.ten_unit.specs.Word.{element_eq, word_of}
 use Rattle.ten_unit.proofs.PublicLaws.{length-word}
+use Rattle.dsc_symbols.specs.declared.phasing.TheConstants.{DX, RX_7}
 use Rattle.phasing.specs.inside.Places.{element_at, is_at}
 use Rattle.phasing.specs.Origin.{dx_right, rx_right, is_enough, is_phased}
 use Rattle.phasing.specs.Slot.{shows}
@@ -41,10 +42,10 @@ unfolding is_phased
 is_phased-near e f q r same =
     let dx = 0 ∷ 2 ∷ 4 ∷ 6 ∷ 8 ∷ 10 ∷ [] in
     let rx = 1 ∷ 3 ∷ 5 ∷ 7 ∷ 9 ∷ 11 ∷ 13 ∷ 15 ∷ [] in
-    let d = no_fewer (λ s. shows e q s 125) (λ s. shows f r s 125) dx refl (λ s few h. sym (slots-near e f q r s 125 same few) ∙ h) in
-    let d_back = no_fewer (λ s. shows f r s 125) (λ s. shows e q s 125) dx refl (λ s few h. slots-near e f q r s 125 same few ∙ h) in
-    let x = no_fewer (λ s. shows e q s (111 - (s - 1) / 2)) (λ s. shows f r s (111 - (s - 1) / 2)) rx refl (λ s few h. sym (slots-near e f q r s _ same few) ∙ h) in
-    let x_back = no_fewer (λ s. shows f r s (111 - (s - 1) / 2)) (λ s. shows e q s (111 - (s - 1) / 2)) rx refl (λ s few h. slots-near e f q r s _ same few ∙ h) in
+    let d = no_fewer (λ s. shows e q s DX) (λ s. shows f r s DX) dx refl (λ s few h. sym (slots-near e f q r s DX same few) ∙ h) in
+    let d_back = no_fewer (λ s. shows f r s DX) (λ s. shows e q s DX) dx refl (λ s few h. slots-near e f q r s DX same few ∙ h) in
+    let x = no_fewer (λ s. shows e q s (RX_7 - (s - 1) / 2)) (λ s. shows f r s (RX_7 - (s - 1) / 2)) rx refl (λ s few h. sym (slots-near e f q r s _ same few) ∙ h) in
+    let x_back = no_fewer (λ s. shows f r s (RX_7 - (s - 1) / 2)) (λ s. shows e q s (RX_7 - (s - 1) / 2)) rx refl (λ s few h. slots-near e f q r s _ same few ∙ h) in
     let same_dx : dx_right e q ≡ dx_right f r = omega (arith, d, d_back) in
     let same_rx : rx_right e q ≡ rx_right f r = omega (arith, x, x_back) in
     ap (λ (n : ℕ). is_enough n (rx_right e q)) same_dx ∙ ap (is_enough (dx_right f r)) same_rx

@@ -4,6 +4,7 @@ use Rattle.std.specs.Prelude.{count_by, not}
 use Rattle.std.specs.List.{range_with_len, list_all}
 use Rattle.std.proofs.lemmas.Bool.{both_ways, false_from_ne_true}
 use Rattle.ten_unit.specs.declared.character.Element.{Element}
+use Rattle.dsc_symbols.specs.declared.phasing.TheConstants.{DX, RX_7}
 use Rattle.phasing.specs.Origin.{dx_right, rx_right, is_enough, is_phased, lead_of}
 use Rattle.phasing.specs.Slot.{shows}
 use Rattle.phasing.proofs.EarlyLeads.{none_at}
@@ -44,8 +45,8 @@ pub is_phased-short : (e : List Element) (lead : ℕ) → length e < 30 → is_p
 unfolding is_phased
 is_phased-short e lead short =
     let j = first_slot lead in
-    let d = no_fewer (λ s. shows e lead s 125) (is_near j) (0 ∷ 2 ∷ 4 ∷ 6 ∷ 8 ∷ 10 ∷ []) refl (λ s few. near_shown e lead s 125 short) in
-    let r = no_fewer (λ s. shows e lead s (111 - (s - 1) / 2)) (is_near j) (1 ∷ 3 ∷ 5 ∷ 7 ∷ 9 ∷ 11 ∷ 13 ∷ 15 ∷ []) refl (λ s few. near_shown e lead s _ short) in
+    let d = no_fewer (λ s. shows e lead s DX) (is_near j) (0 ∷ 2 ∷ 4 ∷ 6 ∷ 8 ∷ 10 ∷ []) refl (λ s few. near_shown e lead s DX short) in
+    let r = no_fewer (λ s. shows e lead s (RX_7 - (s - 1) / 2)) (is_near j) (1 ∷ 3 ∷ 5 ∷ 7 ∷ 9 ∷ 11 ∷ 13 ∷ 15 ∷ []) refl (λ s few. near_shown e lead s _ short) in
     let few = none_at (λ n. is_enough (dx_near n) (rx_near n)) 0 16 j two_are_few (omega arith) (omega arith) in
     false_from_ne_true (is_phased e lead)
     (λ phased. both_ways (is_enough (dx_near j) (rx_near j)) few (enough_more (dx_right e lead) (rx_right e lead) (dx_near j) (rx_near j) d r phased))

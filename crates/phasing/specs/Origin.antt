@@ -3,6 +3,7 @@ use Rattle.std.specs.Prelude.{ℕ, ◌+◌, ◌-◌, ◌/◌, Bool, ◌&&◌, �
 use Rattle.std.specs.List.{range_with_len}
 use Rattle.dsc_symbols.specs.declared.phasing.TheConstants.{DX, RX_7}
 use Rattle.ten_unit.specs.declared.character.Element.{Element}
+use Rattle.phasing.specs.declared.reception.TheConstants.{LEAD_OF_FIRST}
 use Rattle.phasing.specs.Slot.{shows}
 
 -- how many DX slots show their phasing symbol, which is DX
@@ -24,8 +25,8 @@ is_phased e lead = is_enough (dx_right e lead) (rx_right e lead)
 
 -- the lead of the origin: the least phased one; none is phased past the reception's end
 abbrev pub lead_of : List Element → Option ℕ
-lead_of e = find (is_phased e) (range_with_len 0 (length e + 150))
+lead_of e = find (is_phased e) (range_with_len 0 (length e + LEAD_OF_FIRST))
 
 -- the origin: where the transmission's slot 0 begins, as an index into the reception
 abbrev pub origin_of : List Element → Option ℤ
-origin_of e = option_map (λ lead. pos lead -ℤ pos 150) (lead_of e)
+origin_of e = option_map (λ lead. pos lead -ℤ pos LEAD_OF_FIRST) (lead_of e)

@@ -4,6 +4,7 @@ use Rattle.dsc_symbols.specs.declared.formats.TheConstants.{DISTRESS, ALL_SHIPS,
 use Rattle.dsc_symbols.specs.declared.phasing.TheConstants.{DX, RX_7, RX_6, RX_5, RX_4, RX_3, RX_2, RX_1, RX_0}
 use Rattle.ten_unit.specs.declared.character.Element.{Element}
 use Rattle.ten_unit.specs.declared.character.Element.TheVariants.{Lost}
+use Rattle.phasing.specs.declared.reception.TheConstants.{LEAD_OF_FIRST}
 use Rattle.phasing.specs.Origin.{is_phased}
 use Rattle.phasing.specs.Sent.{dot_count, sent}
 
@@ -18,6 +19,6 @@ formats = DISTRESS ∷ ALL_SHIPS ∷ AREA ∷ GROUP ∷ INDIVIDUAL ∷ []
 
 -- a reception's start is intact: its origin is no later than the number of dots; up to the end of slot 15 each element that was received is lost or the one that was sent (a reception may begin late); and enough phasing symbols are right at its lead
 pub record IsIntactStart (e : List Element) (slots : List ℕ) (long : Bool) (lead : ℕ) : Type 0 where
-  pub early : lead ≤ dot_count long + 150
-  pub intact : (i : ℕ) → i < length e → i < lead + 10 → (slice_index_or e i Lost ≡ Lost) ⊎ (slice_index_or e i Lost ≡ slice_index_or (sent slots long) (i + 150 + dot_count long - lead) Lost)
+  pub early : lead ≤ dot_count long + LEAD_OF_FIRST
+  pub intact : (i : ℕ) → i < length e → i < lead + 10 → (slice_index_or e i Lost ≡ Lost) ⊎ (slice_index_or e i Lost ≡ slice_index_or (sent slots long) (i + LEAD_OF_FIRST + dot_count long - lead) Lost)
   pub phased : is_phased e lead ≡ true

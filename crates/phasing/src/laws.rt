@@ -8,17 +8,19 @@ ghost use Rattle.phasing.specs.Slot.{shows};
 ghost use Rattle.phasing.specs.inside.Places.{element_at};
 ghost use Rattle.phasing.specs.Start.{start_symbols, formats, IsIntactStart};
 
-use crate::reception::{LAST_LEAD, LONGEST};
+use crate::reception::{LAST_LEAD, LEAD_OF_FIRST, LONGEST, PHASING_ELEMENTS};
 
-/// The law that these are the limits of a search.
+/// The law that these are the limits of a search, and the elements that it looks at.
 pub fn limits()
     ensures longest { LONGEST ≡ 1000000 }
-    ensures last { LAST_LEAD ≡ LONGEST + 150 }
+    ensures phasing { PHASING_ELEMENTS ≡ 160 }
+    ensures first { LEAD_OF_FIRST ≡ 150 }
+    ensures last { LAST_LEAD ≡ LONGEST + LEAD_OF_FIRST }
 {}
 
 /// No lead from 150 past the reception's length on is phased, so the origin's search loses none.
 pub fn none_past_the_end()
-    ensures { (e : List Element) (lead : ℕ) → length e + 150 ≤ lead → is_phased e lead ≡ false }
+    ensures { (e : List Element) (lead : ℕ) → length e + LEAD_OF_FIRST ≤ lead → is_phased e lead ≡ false }
 {}
 
 /// The lead of the origin is phased, and no lead below it; without one no lead is phased.
@@ -36,15 +38,15 @@ pub fn late_starts_are_found()
         → IsIntactStart e slots long lead → lead_of e ≡ Some lead }
     ensures origin { (e : List Element) (slots : List ℕ) (long : Bool) (lead : ℕ) (format : ℕ)
         → list_any (λ f. f == format) formats ≡ true → take 16 slots ≡ start_symbols format
-        → IsIntactStart e slots long lead → origin_of e ≡ Some (pos lead -ℤ pos 150) }
+        → IsIntactStart e slots long lead → origin_of e ≡ Some (pos lead -ℤ pos LEAD_OF_FIRST) }
 {}
 
 /// The law that what is sent of a call has its origin behind the dots, and that each slot shows its symbol there.
 pub fn whole_calls_are_found()
     ensures lead { (slots : List ℕ) (long : Bool) (format : ℕ) → list_any (λ f. f == format) formats ≡ true
-        → take 16 slots ≡ start_symbols format → lead_of (sent slots long) ≡ Some (dot_count long + 150) }
+        → take 16 slots ≡ start_symbols format → lead_of (sent slots long) ≡ Some (dot_count long + LEAD_OF_FIRST) }
     ensures slots { (slots : List ℕ) (long : Bool) (slot : ℕ) → slot < length slots
-        → shows (sent slots long) (dot_count long + 150) slot (slice_index slots slot) ≡ true }
+        → shows (sent slots long) (dot_count long + LEAD_OF_FIRST) slot (slice_index slots slot) ≡ true }
     ensures length { (slots : List ℕ) (long : Bool) → length (sent slots long) ≡ dot_count long + 10 * length slots }
 {}
 
@@ -54,6 +56,6 @@ pub fn elements_decide()
     ensures slot { (e f : List Element) (q r s v : ℕ)
         → ((i : ℕ) → i < 10 → element_at e (q + 10 * s + i) ≡ element_at f (r + 10 * s + i))
         → shows e q s v ≡ shows f r s v }
-    ensures lead { (e f : List Element) (q r : ℕ) → ((i : ℕ) → i < 160 → element_at e (q + i) ≡ element_at f (r + i))
+    ensures lead { (e f : List Element) (q r : ℕ) → ((i : ℕ) → i < PHASING_ELEMENTS → element_at e (q + i) ≡ element_at f (r + i))
         → is_phased e q ≡ is_phased f r }
 {}

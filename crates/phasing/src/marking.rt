@@ -5,6 +5,7 @@ ghost use Rattle.ten_unit.specs.declared.character.Element.{Element};
 ghost use Rattle.phasing.specs.inside.Places.{element_at, is_at};
 ghost use Rattle.phasing.specs.inside.Marked.{ArePhasing};
 
+use crate::reception::LEAD_OF_FIRST;
 use dsc_symbols::phasing::{DX, RX_0, RX_1, RX_2, RX_3, RX_4, RX_5, RX_6, RX_7};
 use ten_unit::{Element, Planes, word};
 
@@ -18,7 +19,7 @@ pub(crate) struct Phasing {
 impl Phasing {
     /// No word begins before a reception's first element, which stands at place 150.
     pub fn before() -> Self
-        ensures { (base : ℕ) (e : List Element) → base + 64 ≤ 150 → ArePhasing result base (element_at e) }
+        ensures { (base : ℕ) (e : List Element) → base + 64 ≤ LEAD_OF_FIRST → ArePhasing result base (element_at e) }
     {
         Phasing { dx: 0, rx: [0; 8] }
     }

@@ -1,11 +1,11 @@
 //! The test of one lead, slot by slot, as its definition says it.
-ghost use Rattle.std.specs.Prelude.{◌≡◌, ℕ, ◌<◌, ◌≤◌, length, pos, negsuc, ◌-ℤ◌, ◌≤ℤ◌};
+ghost use Rattle.std.specs.Prelude.{◌≡◌, ℕ, ◌-◌, ◌<◌, ◌≤◌, length, pos, negsuc, ◌-ℤ◌, ◌≤ℤ◌};
 ghost use Rattle.ten_unit.specs.Word.{word_of};
 ghost use Rattle.phasing.specs.Origin as sequence;
 ghost use Rattle.phasing.specs.inside.Marked.{AreRxWords};
 ghost use Rattle.phasing.specs.Slot as diversity;
 
-use crate::reception::{LAST_LEAD, LONGEST, elements};
+use crate::reception::{LAST_LEAD, LEAD_OF_FIRST, LONGEST, elements};
 use dsc_symbols::phasing::{DX, RX_0, RX_1, RX_2, RX_3, RX_4, RX_5, RX_6, RX_7};
 use ten_unit::{Element, is_same, is_word, word};
 
@@ -100,9 +100,9 @@ fn is_enough(dx: usize, rx: usize) -> bool
 /// `first_phased` search many at once.
 pub fn phased(e: &[Element], o: i32) -> bool
     requires length { length e.now ≤ LONGEST }
-    requires from { negsuc 149 ≤ℤ o }
+    requires from { negsuc (LEAD_OF_FIRST - 1) ≤ℤ o }
     requires to { o ≤ℤ pos LONGEST }
-    ensures { (lead : ℕ) → o ≡ pos lead -ℤ pos 150 → result ≡ sequence.is_phased e.now lead }
+    ensures { (lead : ℕ) → o ≡ pos lead -ℤ pos LEAD_OF_FIRST → result ≡ sequence.is_phased e.now lead }
 {
-    is_phased(e, (o + 150) as u32, &rx_words())
+    is_phased(e, (o + LEAD_OF_FIRST as i32) as u32, &rx_words())
 }

@@ -8,6 +8,7 @@ ghost use Rattle.phasing.specs.Packed.{Keep, elements_in};
 ghost use Rattle.phasing.specs.inside.Places.{element_at};
 
 use crate::marking::shifted;
+use crate::reception::LEAD_OF_FIRST;
 use crate::window::Elements;
 use std::alloc::{AllocError, Global};
 use std::marker::Model;
@@ -128,7 +129,7 @@ impl Reception {
     /// The words with this number, and lost elements past the last ones.
     #[inline(always)]
     fn words(&self, number: usize) -> Planes
-        ensures { IsPlanes result.y result.b (64 * number + 150) (element_at self.now) }
+        ensures { IsPlanes result.y result.b (64 * number + LEAD_OF_FIRST) (element_at self.now) }
     {
         match self.planes.get(number) {
             Some(planes) => *planes,

@@ -7,7 +7,7 @@ ghost use Rattle.phasing.specs.inside.Places.{element_at};
 
 use crate::counting::Count;
 use crate::marking::{Phasing, phasing_marked, shifted};
-use crate::reception::LONGEST;
+use crate::reception::{LEAD_OF_FIRST, LONGEST};
 use crate::window::Elements;
 use ten_unit::Planes;
 
@@ -91,7 +91,7 @@ fn search_block<E: Elements>(
     requires length { length (E.list e) ≤ LONGEST }
     requires first { ArePhasing first.now (from + 22) (element_at (E.list e)) }
     requires second { ArePhasing second.now (from + 86) (element_at (E.list e)) }
-    requires third { ArePhasing third.now (from + 150) (element_at (E.list e)) }
+    requires third { ArePhasing third.now (from + LEAD_OF_FIRST) (element_at (E.list e)) }
     requires next { IsPlanes next.y next.b (from + 214) (element_at (E.list e)) }
     ensures marks { ArePhasing result.marks (from + 214) (element_at (E.list e)) }
     ensures behind { IsPlanes result.behind.y result.behind.b (from + 278) (element_at (E.list e)) }
@@ -122,7 +122,7 @@ fn first_from<E: Elements>(
     requires begin { begin ≤ 128 }
     requires first { ArePhasing first (begin + 22) (element_at (E.list e)) }
     requires second { ArePhasing second (begin + 86) (element_at (E.list e)) }
-    requires third { ArePhasing third (begin + 150) (element_at (E.list e)) }
+    requires third { ArePhasing third (begin + LEAD_OF_FIRST) (element_at (E.list e)) }
     requires next { IsPlanes next.y next.b (begin + 214) (element_at (E.list e)) }
     ensures first { IfSome result (IsFirstPhased (E.list e) (begin + 22)) }
     ensures none { IsNone result → (lead : ℕ) → begin + 22 ≤ lead → sequence.is_phased (E.list e) lead ≡ false }
@@ -146,7 +146,7 @@ fn first_from<E: Elements>(
             fifth.behind,
         );
         if sixth.phased != 0 {
-            return Some(from + 150 + sixth.phased.trailing_zeros());
+            return Some(from + LEAD_OF_FIRST + sixth.phased.trailing_zeros());
         }
         first = fourth.marks;
         second = fifth.marks;
@@ -167,7 +167,7 @@ fn first_from<E: Elements>(
 pub fn lead<E: Elements>(e: E) -> Option<u32>
     requires { length (E.list e) ≤ LONGEST }
     ensures least { result ≡ sequence.lead_of (E.list e) }
-    ensures within { IfSome result (λ lead. lead < length (E.list e) + 150) }
+    ensures within { IfSome result (λ lead. lead < length (E.list e) + LEAD_OF_FIRST) }
     ensures from { IfSome result (λ lead. 40 ≤ lead) }
 {
     if e.count() < SHORTEST {
@@ -183,8 +183,8 @@ pub fn lead<E: Elements>(e: E) -> Option<u32>
 pub fn first_phased<E: Elements>(e: E) -> u32
     requires { length (E.list e) ≤ LONGEST }
     ensures within { result ≤ length (E.list e) }
-    ensures phased { result < length (E.list e) → sequence.is_phased (E.list e) (result + 150) ≡ true }
-    ensures none { (k : ℕ) → k < result → sequence.is_phased (E.list e) (k + 150) ≡ false }
+    ensures phased { result < length (E.list e) → sequence.is_phased (E.list e) (result + LEAD_OF_FIRST) ≡ true }
+    ensures none { (k : ℕ) → k < result → sequence.is_phased (E.list e) (k + LEAD_OF_FIRST) ≡ false }
 {
     let middle = e.planes_from(64);
     let last = e.planes_from(128);
@@ -193,7 +193,7 @@ pub fn first_phased<E: Elements>(e: E) -> u32
     let second = phasing_marked(middle, last);
     let third = phasing_marked(last, next);
     match first_from(e, 128, first, second, third, next) {
-        Some(lead) => lead - 150,
+        Some(lead) => lead - LEAD_OF_FIRST,
         None => e.count() as u32,
     }
 }
@@ -205,5 +205,5 @@ pub fn origin<E: Elements>(e: E) -> Option<i32>
     requires { length (E.list e) ≤ LONGEST }
     ensures { result ≡ sequence.origin_of (E.list e) }
 {
-    lead(e).map(|lead| lead as i32 - 150)
+    lead(e).map(|lead| lead as i32 - LEAD_OF_FIRST as i32)
 }

@@ -1,16 +1,23 @@
 ghost use Rattle.std.specs.Prelude.{◌≡◌, ℕ, ◌<◌, ◌≤◌, length, Some, IfSome, IsTrue};
 ghost use Rattle.phasing.specs.Slot as diversity;
 
-use ten_unit::{Element, symbol};
+use ten_unit::{ELEMENTS, Element, symbol};
 
 /// The longest reception that is searched, in elements (this project's profile).
 pub const LONGEST: usize = 1_000_000;
 
-/// The lead of an origin at the end of the longest reception.
-pub const LAST_LEAD: u32 = 1_000_150;
+/// The slots that may have a phasing symbol, from 0 on (ITU-R M.493, phasing sequence).
+const PHASING_SLOTS: u32 = 16;
 
-/// Leads count from this many elements before a reception's first one.
-const BEFORE: usize = 150;
+/// The elements of these slots: they decide whether an origin is phased.
+pub const PHASING_ELEMENTS: u32 = PHASING_SLOTS * ELEMENTS as u32;
+
+/// The lead of an origin at a reception's first element. Leads count from all but one of these slots before it: a reception of the last
+/// one alone is never phased (this project's profile).
+pub const LEAD_OF_FIRST: u32 = (PHASING_SLOTS - 1) * ELEMENTS as u32;
+
+/// The lead of an origin at the end of the longest reception.
+pub const LAST_LEAD: u32 = LONGEST as u32 + LEAD_OF_FIRST;
 
 /// The ten elements of a slot, where all ten are inside the reception, and else none.
 pub(crate) fn elements(e: &[Element], lead: u32, slot: u16) -> &[Element]
@@ -18,9 +25,10 @@ pub(crate) fn elements(e: &[Element], lead: u32, slot: u16) -> &[Element]
     requires lead { lead ≤ LAST_LEAD }
     ensures { result.now ≡ diversity.slot e.now lead slot }
 {
-    let begin = lead as usize + 10 * slot as usize;
-    if BEFORE <= begin && begin + 10 <= e.len() + BEFORE {
-        &e[begin - BEFORE..begin - BEFORE + 10]
+    let before = LEAD_OF_FIRST as usize;
+    let begin = lead as usize + ELEMENTS * slot as usize;
+    if before <= begin && begin + ELEMENTS <= e.len() + before {
+        &e[begin - before..begin - before + ELEMENTS]
     } else {
         &[]
     }

@@ -3,6 +3,7 @@ ghost use Rattle.ten_unit.specs.declared.character.Element.{Element as AnElement
 ghost use Rattle.ten_unit.specs.inside.Marks.{IsPlanes};
 ghost use Rattle.phasing.specs.inside.Places.{element_at};
 
+use crate::reception::LEAD_OF_FIRST;
 use ten_unit::{Element, Planes, pack_elements};
 
 /// These elements, fewer than 64, and lost ones after them.
@@ -27,7 +28,7 @@ pub trait Elements: Copy {
     /// The 64 elements from one on as bits, of which those past the last one are lost. Places count, as leads do, from 150 elements
     /// before the first one.
     fn planes_from(self, begin: usize) -> Planes
-        ensures { IsPlanes result.y result.b (begin + 150) (element_at (list self)) };
+        ensures { IsPlanes result.y result.b (begin + LEAD_OF_FIRST) (element_at (list self)) };
 }
 
 impl Elements for &[Element] {

@@ -53,7 +53,7 @@ pub fn sheet_at<E: Elements>(e: E, lead: u32) -> Sheet
     ensures { IsEnds (facts_at (E.list e) (Some lead)) result }
 {
     let shown = read_slots(e, lead);
-    Sheet::of_numbers(leasts_of(&shown), pasts_of(&shown))
+    Sheet::from_numbers(leasts_of(&shown), pasts_of(&shown))
 }
 
 /// The sheet of a reception's facts: of each place below 64 what its DX slot and its RX slot show

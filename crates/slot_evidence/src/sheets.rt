@@ -39,7 +39,7 @@ impl Model for Sheet {
 
 impl Sheet {
     /// The sheet that keeps these numbers.
-    pub(crate) fn of_numbers(leasts: [u8; 64], pasts: [u8; 64]) -> Sheet
+    pub(crate) fn from_numbers(leasts: [u8; 64], pasts: [u8; 64]) -> Sheet
         requires { AreKept leasts pasts }
         ensures { result ≡ seen_of leasts pasts }
     {
@@ -51,7 +51,7 @@ impl Sheet {
         ensures ends { IsEnds no_facts result }
         ensures blank { result ≡ replicate 64 Seen.None }
     {
-        Sheet::of_numbers([128; 64], [0; 64])
+        Sheet::from_numbers([128; 64], [0; 64])
     }
 
     /// What the sheet says of a place below 64.

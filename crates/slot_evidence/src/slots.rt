@@ -3,7 +3,7 @@ ghost use Rattle.std.specs.Prelude.{◌≡◌, ℕ, ◌+◌, ◌*◌, ◌<◌, �
 ghost use Rattle.ten_unit.specs.inside.Symbol.{IsSymbol};
 ghost use Rattle.phasing.specs.Slot.{slot};
 
-use phasing::{Elements, LAST_LEAD, LONGEST};
+use phasing::{Elements, LAST_LEAD, LEAD_OF_FIRST, LONGEST};
 use ten_unit::symbol_at;
 
 /// The symbols of slots 12 to 143, 128 for none: in `dx` those of the even ones, in turn, from slot 12 on, which is the DX
@@ -41,7 +41,7 @@ fn windows(length: u32, lead: u32) -> u32
     requires length { length ≤ LONGEST }
     requires lead { lead ≤ LAST_LEAD }
     ensures most { result ≤ 22 }
-    ensures rest { (k : ℕ) → 3 * result ≤ k → k < 66 → length + 150 ≤ lead + 10 * (12 + 2 * k) }
+    ensures rest { (k : ℕ) → 3 * result ≤ k → k < 66 → length + LEAD_OF_FIRST ≤ lead + 10 * (12 + 2 * k) }
 {
     (length + 30).saturating_sub(lead).div_ceil(60).min(22)
 }

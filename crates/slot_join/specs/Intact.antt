@@ -4,6 +4,7 @@ use Rattle.std.specs.List.{Any}
 use Rattle.ten_unit.specs.declared.character.Element.{Element}
 use Rattle.time_diversity.specs.Slots.{dx_slot, rx_slot}
 use Rattle.time_diversity.specs.OnAir.{on_air}
+use Rattle.phasing.specs.declared.reception.TheConstants.{LEAD_OF_FIRST}
 use Rattle.phasing.specs.Slot.{shows}
 use Rattle.phasing.specs.Origin.{lead_of}
 use Rattle.call_values.specs.declared.calls.Call.{Call}
@@ -44,7 +45,7 @@ CameSomewhere receptions list place = Any (λ reception. (lead : ℕ) × IsIntac
 
 -- the reception ends with the list's transmission, or before
 abbrev pub EndsWithin : List Element → List ℕ → Type 0
-EndsWithin reception list = (lead : ℕ) → lead_of reception ≡ Some lead → length reception + 150 ≤ lead + 10 * length (on_air list)
+EndsWithin reception list = (lead : ℕ) → lead_of reception ≡ Some lead → length reception + LEAD_OF_FIRST ≤ lead + 10 * length (on_air list)
 
 -- the answer names as missing a place of the call, up to its error check character, that no reception showed and no copy of
 -- which came intact; where it is that of the first end of sequence, and each reception ends with the transmission, no copy of the

@@ -26,7 +26,7 @@ use call_grammar::{
     checks_tell_ends, formats_begin_calls, fronts_differ, lists_are_characters, lists_are_short,
     one_check_place, one_end_place,
 };
-use phasing::{late_starts_are_found, whole_calls_are_found};
+use phasing::{LEAD_OF_FIRST, late_starts_are_found, whole_calls_are_found};
 use slot_evidence::{ends_are_kept, one_seen};
 use ten_unit::{one_way_errors_are_seen, words_tell_symbols_apart};
 use time_diversity::both_slots_show_the_character;
@@ -110,7 +110,7 @@ pub fn late_calls_are_found()
         → IsIntactStart reception (on_air (spell call ++ tail)) long lead → lead_of reception ≡ Some lead }
     ensures origin { (call : Call) (tail : List ℕ) (reception : List Element) (long : Bool) (lead : ℕ)
         → IsIntactStart reception (on_air (spell call ++ tail)) long lead
-        → origin_of reception ≡ Some (pos lead -ℤ pos 150) }
+        → origin_of reception ≡ Some (pos lead -ℤ pos LEAD_OF_FIRST) }
 {
     late_starts_are_found();
 }

@@ -3,6 +3,7 @@ use Rattle.std.specs.Prelude.{◌≡◌, ℕ, suc, ◌+◌, pos, ◌-ℤ◌, if�
 use Rattle.std.specs.Fmt.{signed_decimal}
 use Rattle.std.specs.List.{list_all, AllByRecursion}
 use Rattle.ten_unit.specs.declared.character.Element.{Element}
+use Rattle.phasing.specs.declared.reception.TheConstants.{LEAD_OF_FIRST}
 use Rattle.slot_join.specs.declared.joined.Joined.{Joined}
 use Rattle.slot_join.specs.Answer.{IsAnswer}
 use Rattle.line_grammar.specs.Columns.{IsColumn}
@@ -42,7 +43,7 @@ start_line number origin answer = codes "at " ++ (signed_decimal origin ++ (code
 -- the lines of starts, numbered from here on; an origin is 150 below its lead
 unfoldable pub told_text : ℕ → List Told → List ℕ
 told_text number [] = []
-told_text number (one ∷ told) = start_line number (pos one.lead -ℤ pos 150) one.answer ++ told_text (suc number) told
+told_text number (one ∷ told) = start_line number (pos one.lead -ℤ pos LEAD_OF_FIRST) one.answer ++ told_text (suc number) told
 
 -- each start was reported
 abbrev pub are_reported : List Told → Bool
@@ -61,7 +62,7 @@ pub record EndsStarts (lines : Lines) (text : List ℕ) (status : ℕ) : Type 0 
   pub said : List (List Element)
   pub are_lines : AreStreamLines said lines
   pub told : List Told
-  pub are_told : AreTold (stream_of said) (length (stream_of said) + 150) told
+  pub are_told : AreTold (stream_of said) (length (stream_of said) + LEAD_OF_FIRST) told
   pub text_is : text ≡ told_text 0 told
   pub status_is : status ≡ (if are_reported told then 0 else 1)
 

@@ -1,5 +1,11 @@
 -- Each letter stands for some symbol.
 use Rattle.std.proofs.Common.{ℕ, refl, inl, inr, lit≤, arith}
+use Rattle.dsc_symbols.specs.declared.formats.TheConstants as formats
+use Rattle.dsc_symbols.specs.declared.categories.TheConstants as categories
+use Rattle.dsc_symbols.specs.declared.natures.TheConstants.{FIRE_OR_EXPLOSION}
+use Rattle.dsc_symbols.specs.declared.telecommands.TheConstants.{ALL_MODES, TEST}
+use Rattle.dsc_symbols.specs.declared.messages.TheConstants.{NO_INFORMATION, POSITION_FOLLOWS}
+use Rattle.dsc_symbols.specs.declared.ends.TheConstants.{ACKNOWLEDGE_RQ}
 use Rattle.symbol_reader.specs.declared.letters.Letter.{Letter}
 use Rattle.symbol_reader.specs.declared.letters.Letter.TheVariants.{Exactly, UpTo, UpToOr, Digits, Nature, Comm, Either, OneOf, Format, Category, First, FirstToOne, Second, Field, Message, End}
 use Rattle.symbol_reader.specs.Letters.{Allows}
@@ -10,18 +16,18 @@ example_of (Exactly only) = only
 example_of (UpTo most) = 0
 example_of (UpToOr most other) = other
 example_of (Digits tens ones) = 0
-example_of Nature = 100
-example_of Comm = 100
+example_of Nature = FIRE_OR_EXPLOSION
+example_of Comm = ALL_MODES
 example_of (Either one other) = one
 example_of (OneOf one other third) = one
-example_of Format = 112
-example_of Category = 112
-example_of First = 100
-example_of FirstToOne = 118
-example_of Second = 126
+example_of Format = formats.DISTRESS
+example_of Category = categories.DISTRESS
+example_of First = ALL_MODES
+example_of FirstToOne = TEST
+example_of Second = NO_INFORMATION
 example_of Field = 0
-example_of Message = 55
-example_of End = 117
+example_of Message = POSITION_FOLLOWS
+example_of End = ACKNOWLEDGE_RQ
 
 pub Allows-example : (letter : Letter) → Allows letter (example_of letter)
 unfolding example_of

@@ -8,6 +8,9 @@ ghost use Rattle.ten_unit.specs.inside.Number.{weight as weight_of, number_of};
 
 use crate::table::symbol_of;
 
+/// How many elements a character has (ITU-R M.493, the ten-unit code).
+pub const ELEMENTS: usize = 10;
+
 /// An element on air: Y and B are the two tones. A received element may also be lost.
 #[derive(Clone, Copy, Debug, Default, PartialEq, Eq)]
 pub enum Element {

@@ -6,7 +6,7 @@ mod packing;
 mod table;
 
 pub use character::{
-    Element, element_of, is_same, is_word, one_way_errors_are_seen, symbol, word,
+    ELEMENTS, Element, element_of, is_same, is_word, one_way_errors_are_seen, symbol, word,
     words_tell_symbols_apart,
 };
 pub use packing::{Planes, pack_elements, pack_signs, symbol_at};

@@ -3,6 +3,7 @@ use Rattle.std.proofs.Common.{◌≡◌, ℕ, ◌+◌, ◌-◌, ◌*◌, ◌/◌
 use Rattle.std.proofs.lemmas.List.FromFn.{length-map-range_with_len, get_or-map-range_with_len}
 use Rattle.std.proofs.lemmas.List.{get_or_past}
 use Rattle.std.proofs.lemmas.Bool.Decides.{nat_tests}
+use Rattle.dsc_symbols.specs.declared.phasing.TheConstants.{DX, RX_7}
 use Rattle.time_diversity.specs.Slots.{dx_slot, rx_slot, IsSlotOf}
 use Rattle.time_diversity.specs.OnAir.{phasing_symbol, sent_symbol, on_air}
 
@@ -33,10 +34,10 @@ pub shows_phasing : (list : List ℕ) (slot : ℕ) → (slot ≤ 11) ⊎ (slot �
 unfolding sent_symbol
 shows_phasing list slot h = grind (arith, nat_tests)
 
-pub phasing_even : (n : ℕ) → phasing_symbol (2 * n) ≡ 125
+pub phasing_even : (n : ℕ) → phasing_symbol (2 * n) ≡ DX
 phasing_even n = grind (arith, nat_tests)
 
-pub phasing_odd : (n : ℕ) → phasing_symbol (2 * n + 1) ≡ 111 - n
+pub phasing_odd : (n : ℕ) → phasing_symbol (2 * n + 1) ≡ RX_7 - n
 phasing_odd n = let half : (2 * n + 1 - 1) / 2 ≡ n = omega arith in grind (arith, nat_tests)
 
 -- each place is sent twice, among twelve more

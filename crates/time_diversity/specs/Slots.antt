@@ -1,13 +1,14 @@
 -- The slots of a transmission: ITU-R M.493, section on time diversity.
 use Rattle.std.specs.Prelude.{◌≡◌, ℕ, ◌+◌, ◌*◌, ◌%◌, ◌≤◌, ◌⊎◌}
+use Rattle.time_diversity.specs.declared.slots.TheConstants.{FIRST_DX, FIRST_RX}
 
 -- the slot of the DX copy of a place, which is sent first
 abbrev pub dx_slot : ℕ → ℕ
-dx_slot place = 12 + 2 * place
+dx_slot place = FIRST_DX + 2 * place
 
 -- the slot of the RX copy of a place, five slots after
 abbrev pub rx_slot : ℕ → ℕ
-rx_slot place = 17 + 2 * place
+rx_slot place = FIRST_RX + 2 * place
 
 -- a slot is one of the two of a place
 abbrev pub IsSlotOf : ℕ → ℕ → Type 0

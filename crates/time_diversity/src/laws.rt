@@ -1,6 +1,16 @@
-ghost use Rattle.std.specs.Prelude.{◌≡◌, ◌≢◌, ℕ, List, slice_index};
+ghost use Rattle.std.specs.Prelude.{◌≡◌, ◌≢◌, ℕ, ◌-◌, List, slice_index};
 ghost use Rattle.time_diversity.specs.Slots.{dx_slot, rx_slot, IsSlotOf};
 ghost use Rattle.time_diversity.specs.OnAir.{sent_symbol};
+
+use crate::slots::SLOTS;
+
+/// The law that the slots of places have these numbers.
+pub fn slot_numbers()
+    ensures dx { dx_slot 0 ≡ 12 }
+    ensures rx { rx_slot 0 ≡ 17 }
+    ensures last { rx_slot 63 ≡ SLOTS - 1 }
+    ensures slots { SLOTS ≡ 144 }
+{}
 
 /// Every place has two slots, and no slot is one of two places.
 pub fn slots_of_a_place()

@@ -5,9 +5,9 @@ mod laws;
 mod sending;
 mod slots;
 
-pub use laws::{both_slots_show_the_character, slots_of_a_place};
+pub use laws::{both_slots_show_the_character, slot_numbers, slots_of_a_place};
 pub use sending::on_air;
-pub use slots::{dx_slot, place_of, rx_slot};
+pub use slots::{SLOTS, dx_slot, place_of, rx_slot};
 
 #[cfg(test)]
 mod tests;

@@ -2,6 +2,7 @@
 use Rattle.std.proofs.Common.{◌≡◌, ℕ, true, List, [], ◌∷◌, ◌++◌, codes, decimal, refl, sym, subst, arith}
 use Rattle.std.proofs.lemmas.Bool.{and_parts}
 use Rattle.std.specs.List.{list_all}
+use Rattle.line_grammar.specs.declared.decimal.TheConstants.{LARGEST_NUMBER}
 use Rattle.line_grammar.specs.Grammar.{finish, none, written}
 use Rattle.line_grammar.specs.Tokens.{HasNoLeadingZero, is_digit}
 use Rattle.line_grammar.proofs.Decimals.{decimal_number}
@@ -26,6 +27,6 @@ begins (Coast m b) text h = (115, _, refl, h.1)
 begins (Base s) text h = (98, _, refl, h.1)
 begins (Group m) text h = (103, _, refl, h.1)
 begins (Event at what) text h =
-    let number = decimal_number 0 4294967295 at (omega arith) (omega (arith, h.0.0)) (omega arith) in
+    let number = decimal_number 0 LARGEST_NUMBER at (omega arith) (omega (arith, h.0.0)) (omega arith) in
     subst (Begins (Event at what)) (sym h.1)
     (first_digit at what (decimal at) (codes " " ++ written (event station_rows hearing_rows finish) (event_parts station_parts hearing_parts what none)) number.leading number.digits)

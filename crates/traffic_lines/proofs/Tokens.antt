@@ -1,6 +1,7 @@
 -- numbers in lines, and whose texts they are
 use Rattle.std.proofs.Common.{◌≡◌, ℕ, ◌<◌, ◌≤◌, ◌^◌, decimal, sym, arith}
 use Rattle.std.proofs.lemmas.Fmt.{decimal_injective}
+use Rattle.line_grammar.specs.declared.decimal.TheConstants.{LARGEST_NUMBER}
 use Rattle.line_grammar.specs.Tokens.{free_number, value_after}
 use Rattle.line_grammar.proofs.Decimals.{number_text, decimal_number}
 use Rattle.line_grammar.proofs.Sections.{Told}
@@ -24,7 +25,7 @@ up_to_told most small = record {
 
 pub number_told : Told number (λ (n : ℕ). n < 2 ^ 32) decimal
 number_told = record {
-  is = λ n h. decimal_number 0 4294967295 n (omega arith) (omega (arith, h)) (omega arith);
-  of = λ bytes h. (value_after 0 bytes, omega (arith, h.high), sym (number_text 0 4294967295 bytes (omega arith) h));
+  is = λ n h. decimal_number 0 LARGEST_NUMBER n (omega arith) (omega (arith, h)) (omega arith);
+  of = λ bytes h. (value_after 0 bytes, omega (arith, h.high), sym (number_text 0 LARGEST_NUMBER bytes (omega arith) h));
   one = λ m n h k e. decimal_injective m n (omega (arith, h)) (omega (arith, k)) e;
 }

@@ -14,6 +14,7 @@ use Rattle.dsc_texts.specs.CallParts.{address_text, position_text}
 use Rattle.dsc_texts.specs.Texts.{IsWholeOrAbsent}
 use Rattle.dsc_texts.specs.inside.Expansions.{extra_parts}
 use Rattle.dsc_texts.specs.inside.Places.{call_parts}
+use Rattle.line_grammar.specs.declared.decimal.TheConstants.{LARGEST_NUMBER}
 use Rattle.line_grammar.specs.Shapes.{digits}
 use Rattle.line_grammar.specs.Tokens.{Token, free_number}
 use Rattle.line_grammar.specs.Grammar.{Grammar, word, either, Parts, part, first, second}
@@ -38,9 +39,9 @@ IsHeldNumber k = (1 ≤ k) × (k ≤ 16)
 abbrev pub held : Token
 held = free_number 1 16
 
--- a number below 2 ^ 32
+-- a number of lines: a moment, a group, a call that was sent
 abbrev pub number : Token
-number = free_number 0 4294967295
+number = free_number 0 LARGEST_NUMBER
 
 -- ---- a ship's own
 

@@ -23,16 +23,16 @@ use Rattle.traffic_lines.specs.Lines.{ship, coast, coast_station_parts, base, ba
 
 -- ---- a coast station of another identity than the ship
 
--- the identities below this one and above it, and of the first and of the last those on the other side
-abbrev pub below : ℕ → ℕ × ℕ
-below mmsi = if mmsi == 0 then (1, bounds.LAST_IDENTITY) else (0, mmsi - 1)
+-- the other identities below this one, and those above it; of the first and of the last all others
+abbrev pub others_below : ℕ → ℕ × ℕ
+others_below mmsi = if mmsi == 0 then (1, bounds.LAST_IDENTITY) else (0, mmsi - 1)
 
-abbrev pub above : ℕ → ℕ × ℕ
-above mmsi = if mmsi == bounds.LAST_IDENTITY then (0, mmsi - 1) else (mmsi + 1, bounds.LAST_IDENTITY)
+abbrev pub others_above : ℕ → ℕ × ℕ
+others_above mmsi = if mmsi == bounds.LAST_IDENTITY then (0, mmsi - 1) else (mmsi + 1, bounds.LAST_IDENTITY)
 
 -- the identities but for this one, as ranges of numbers
 abbrev pub others : ℕ → List (ℕ × ℕ)
-others mmsi = below mmsi ∷ above mmsi ∷ []
+others mmsi = others_below mmsi ∷ others_above mmsi ∷ []
 
 -- an identity but this one
 abbrev pub other_identity : ℕ → Token

@@ -15,10 +15,10 @@ use call_values::bounds::LAST_IDENTITY;
 use call_values::{Band, Mmsi};
 use line_grammar::{Left, fixed_number, word};
 
-/// The identities below this one; of the first, those above it.
-fn below(mmsi: u32) -> (u64, u64)
+/// The other identities below this one; of the first, all others.
+fn others_below(mmsi: u32) -> (u64, u64)
     requires { IsMmsi mmsi }
-    ensures { result ≡ worlds.below mmsi }
+    ensures { result ≡ worlds.others_below mmsi }
 {
     if mmsi == 0 {
         (1, LAST_IDENTITY as u64)
@@ -27,10 +27,10 @@ fn below(mmsi: u32) -> (u64, u64)
     }
 }
 
-/// The identities above this one; of the last, those below it.
-fn above(mmsi: u32) -> (u64, u64)
+/// The other identities above this one; of the last, all others.
+fn others_above(mmsi: u32) -> (u64, u64)
     requires { IsMmsi mmsi }
-    ensures { result ≡ worlds.above mmsi }
+    ensures { result ≡ worlds.others_above mmsi }
 {
     if mmsi == LAST_IDENTITY {
         (0, mmsi as u64 - 1)
@@ -45,7 +45,7 @@ fn others(mmsi: u32) -> [(u64, u64); 2]
     ensures ranges { result ≡ worlds.others mmsi }
     ensures some { are_ranges 9 result ≡ true }
 {
-    [below(mmsi), above(mmsi)]
+    [others_below(mmsi), others_above(mmsi)]
 }
 
 /// Reads the number of an identity but this one, and what follows it.

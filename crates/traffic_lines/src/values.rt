@@ -11,7 +11,7 @@ use call_values::bounds::{
 };
 use call_values::{AlertDelay, CoastDelay};
 use dsc_texts::Token;
-use line_grammar::{Left, free_number};
+use line_grammar::{LARGEST_NUMBER, Left, free_number};
 use std::marker::Model;
 
 /// Reads a number without leading zeros.
@@ -109,7 +109,7 @@ impl Token for Held {
     }
 }
 
-/// A number below 2 ^ 32: a moment, a group, or a call that was sent.
+/// A number of lines: a moment, a group, or a call that was sent.
 #[derive(Clone, Copy)]
 pub struct Number {
     pub number: u32,
@@ -121,7 +121,7 @@ impl Token for Number {
     ghost text = { λ v. decimal v.number };
 
     fn read(bytes: &[u8]) -> Result<(Number, &[u8]), Left> {
-        let (number, rest) = number_between(0, 4_294_967_295, bytes)?;
+        let (number, rest) = number_between(0, LARGEST_NUMBER, bytes)?;
         let number = number as u32;
         Ok((Number { number }, rest))
     }

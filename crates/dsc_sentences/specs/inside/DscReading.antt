@@ -1,5 +1,6 @@
 -- How the fields of a DSC sentence are read one behind another.
 use Rattle.std.specs.Prelude.{◌≡◌, ℕ, MatchResult, Err, not, ◌==◌, if◌then◌else◌, List, slice_index, Result, Ok, codes}
+use Rattle.dsc_symbols.specs.declared.last_digits.TheConstants.{CATEGORIES, FORMATS}
 use Rattle.call_values.specs.declared.choices.End.{End}
 use Rattle.call_values.specs.declared.choices.End.TheVariants.{Ask, Reply, Plain}
 use Rattle.sentence_frame.specs.declared.refusals.SentenceRefusal.{SentenceRefusal}
@@ -7,7 +8,7 @@ use Rattle.sentence_frame.specs.Shapes.{number, code, digits, at_most, letter, m
 use Rattle.sentence_frame.specs.inside.Fields.{first_of, rest_of, field, perhaps, and_then}
 use Rattle.dsc_sentences.specs.declared.dsc.DscFields.{DscFields}
 use Rattle.sentence_frame.specs.Refusals.{texts_of}
-use Rattle.dsc_sentences.specs.Dsc.{formats, categories, texts, dsc, IsDsc}
+use Rattle.dsc_sentences.specs.Dsc.{texts, dsc, IsDsc}
 
 -- the end of sequence of a letter
 abbrev pub end_in : List ℕ → End
@@ -26,9 +27,9 @@ read_fields behind0 =
     let behind8 = rest_of behind7 in
     let behind9 = rest_of behind8 in
     let behind10 = rest_of behind9 in
-    and_then (field 1 (code formats) number_of (first_of behind0)) (λ format.
+    and_then (field 1 (code FORMATS) number_of (first_of behind0)) (λ format.
     and_then (field 2 (digits 10) digits_of (first_of behind1)) (λ address.
-    and_then (field 3 (maybe (code categories)) (perhaps number_of) (first_of behind2)) (λ category.
+    and_then (field 3 (maybe (code CATEGORIES)) (perhaps number_of) (first_of behind2)) (λ category.
     and_then (field 4 (maybe (number 2 99)) (perhaps number_of) (first_of behind3)) (λ first.
     and_then (field 5 (maybe (number 2 99)) (perhaps number_of) (first_of behind4)) (λ second.
     and_then (field 6 (at_most 16) (λ t. record { items = digits_of t }) (first_of behind5)) (λ place.

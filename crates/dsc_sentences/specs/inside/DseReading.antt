@@ -5,6 +5,7 @@ use Rattle.sentence_frame.specs.declared.refusals.SentenceRefusal.TheVariants.{F
 use Rattle.sentence_frame.specs.Shapes.{accepts, number, code, digits, letter, maybe, is_nothing, number_of, digits_of}
 use Rattle.sentence_frame.specs.inside.Fields.{first_of, rest_of, field, perhaps, and_then}
 use Rattle.sentence_frame.specs.Refusals.{texts_of}
+use Rattle.expansion.specs.declared.last_digits.TheConstants.{COURSE, ENHANCED_POSITION, SPEED}
 use Rattle.expansion.specs.declared.bounds.TheConstants.{LAST_ENHANCEMENT, LAST_SPEED, LAST_COURSE}
 use Rattle.expansion.specs.declared.parts.PartKind.{PartKind}
 use Rattle.expansion.specs.declared.parts.PartKind.TheVariants.{LeftOut, NoInformation, Digits}
@@ -52,9 +53,9 @@ read_fields behind0 =
     and_then (field 2 (letter (codes "1")) first_byte (first_of behind1)) (λ number.
     and_then (field 3 (letter (codes "AQR")) flag_in (first_of behind2)) (λ flag.
     and_then (field 4 (digits 10) digits_of (first_of behind3)) (λ address.
-    and_then (read_set 5 0 8 LAST_ENHANCEMENT behind4) (λ enhanced.
-    and_then (read_set enhanced.next 2 4 LAST_SPEED enhanced.rest) (λ speed.
-    and_then (read_set speed.next 3 4 LAST_COURSE speed.rest) (λ course.
+    and_then (read_set 5 ENHANCED_POSITION 8 LAST_ENHANCEMENT behind4) (λ enhanced.
+    and_then (read_set enhanced.next SPEED 4 LAST_SPEED enhanced.rest) (λ speed.
+    and_then (read_set speed.next COURSE 4 LAST_COURSE speed.rest) (λ course.
     if is_nothing course.rest
     then Ok (record { flag = flag; address = address; sets = record { enhanced = enhanced.part; speed = speed.part; course = course.part } })
     else Err (Field course.next))))))))

@@ -4,14 +4,15 @@ use Rattle.ten_unit.specs.declared.character.Element.{Element}
 use Rattle.ten_unit.specs.declared.character.Element.TheVariants.{Lost}
 use Rattle.phasing.specs.Origin.{is_phased}
 use Rattle.phasing.specs.inside.Places.{element_at}
+use Rattle.long_capture.specs.declared.bounds.TheConstants.{DECIDING, UNDECIDED, WINDOW}
 use Rattle.long_capture.specs.declared.scans.Scan.{Scan}
 use Rattle.long_capture.specs.declared.starts.Start.{Start}
 use Rattle.long_capture.specs.Told.{IsStart}
 
 -- the window has the 1,600 elements of the stream from a place on
 pub record IsWindow (window : List Element) (e : List Element) (place : ℕ) : Type 0 where
-  pub long : length window ≡ 1600
-  pub same : (k : ℕ) → k < 1600 → slice_index_or window k Lost ≡ element_at e (place + k)
+  pub long : length window ≡ WINDOW
+  pub same : (k : ℕ) → k < WINDOW → slice_index_or window k Lost ≡ element_at e (place + k)
 
 -- so many leads from one on are not phased
 abbrev pub IsQuietFor : List Element → ℕ → ℕ → Type 0
@@ -25,7 +26,7 @@ Looks e lead (Some start) quiet = IsStart e lead start × IsQuietFor e (lead + 1
 -- it has read so many elements of the stream, and lost ones past its end
 pub record Reads (scan : Scan) (e : List Element) (count : ℕ) : Type 0 where
   pub seen : scan.seen ≡ count
-  pub long : length scan.window ≡ 1600
-  pub window : (k place : ℕ) → k < 1600 → place + 1450 ≡ count + k → slice_index_or scan.window k Lost ≡ element_at e place
-  pub quiet : (k lead : ℕ) → k < scan.quiet → lead + 1449 ≡ count + k → is_phased e lead ≡ false
-  pub early : count < 1450 → count + scan.quiet ≡ 1449
+  pub long : length scan.window ≡ WINDOW
+  pub window : (k place : ℕ) → k < WINDOW → place + DECIDING ≡ count + k → slice_index_or scan.window k Lost ≡ element_at e place
+  pub quiet : (k lead : ℕ) → k < scan.quiet → lead + UNDECIDED ≡ count + k → is_phased e lead ≡ false
+  pub early : count < DECIDING → count + scan.quiet ≡ UNDECIDED

@@ -6,6 +6,7 @@ use Rattle.ten_unit.specs.inside.Marks.{IsMarks}
 use Rattle.ten_unit.specs.Word.{word_of}
 use Rattle.phasing.specs.declared.marking.Phasing.{Phasing}
 use Rattle.phasing.specs.declared.counting.Count.{Count}
+use Rattle.phasing.specs.declared.reception.TheConstants.{LEAD_OF_FIRST}
 use Rattle.phasing.specs.Origin.{is_phased}
 use Rattle.phasing.specs.inside.Places.{is_at}
 
@@ -28,5 +29,5 @@ AreRxWords words = words ≡ map word_of (RX_7 ∷ RX_6 ∷ RX_5 ∷ RX_4 ∷ RX
 pub record IsFirstPhased (e : List Element) (base lead : ℕ) : Type 0 where
   pub phased : is_phased e lead ≡ true
   pub from : base ≤ lead
-  pub within : lead < length e + 150
+  pub within : lead < length e + LEAD_OF_FIRST
   pub none : (k : ℕ) → base ≤ k → k < lead → is_phased e k ≡ false

@@ -3,10 +3,11 @@ use Rattle.std.specs.Prelude.{ℕ, ◌+◌, ◌-◌, Bool, true, ◌&&◌, nat_l
 use Rattle.ten_unit.specs.declared.character.Element.{Element}
 use Rattle.ten_unit.specs.declared.character.Element.TheVariants.{Lost}
 use Rattle.ten_unit.specs.Word.{element_eq}
+use Rattle.phasing.specs.declared.reception.TheConstants.{LEAD_OF_FIRST}
 
 -- the element at a place; outside the reception it is lost
 abbrev pub element_at : List Element → ℕ → Element
-element_at e place = if nat_le 150 place then slice_index_or e (place - 150) Lost else Lost
+element_at e place = if nat_le LEAD_OF_FIRST place then slice_index_or e (place - LEAD_OF_FIRST) Lost else Lost
 
 -- the elements from a place on are those of a word
 abbrev pub is_at : (ℕ → Element) → List Element → ℕ → Bool

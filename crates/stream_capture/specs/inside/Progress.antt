@@ -1,6 +1,7 @@
 -- What the command has told so far: this project's profile.
 use Rattle.std.specs.Prelude.{◌≡◌, ℕ, ◌+◌, ◌*◌, ◌<◌, ◌≤◌, ◌^◌, ◌&&◌, List, ◌++◌, length}
 use Rattle.ten_unit.specs.declared.character.Element.{Element}
+use Rattle.phasing.specs.declared.reception.TheConstants.{LEAD_OF_FIRST}
 use Rattle.slot_evidence.specs.Facts.{Facts}
 use Rattle.slot_evidence.specs.Sheet.{IsEnds}
 use Rattle.slot_join.specs.declared.joined.Joined.{Joined}
@@ -37,7 +38,7 @@ pub record EndsTold (command : Capturing) (e : List Element) (text : List ℕ) :
 -- it was given this stream to its end, and told this text of all its starts
 pub record HasToldAll (command : Capturing) (e : List Element) (text : List ℕ) : Type 0 where
   pub told : List Told
-  pub are_told : AreTold e (length e + 150) told
+  pub are_told : AreTold e (length e + LEAD_OF_FIRST) told
   pub text_is : text ≡ told_text 0 told
   pub well_is : command.is_well ≡ are_reported told
 

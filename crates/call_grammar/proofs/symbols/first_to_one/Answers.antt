@@ -7,4 +7,4 @@ pub returns-in_err-symbol : goal.returns-in_err-symbol
 returns-in_err-symbol c = fail c.from_residual.ensures.1 (coded_stop (letter_good FirstToOne) telecommand_coded c.in_err-symbol.ensures.reads)
 
 pub returns : goal.returns
-returns c = coded_read c.telecommand_told.ensures.lawful c.telecommand_told.ensures.symbol c.in_ok-symbol.ensures.reads
+returns c = coded_read c.telecommand_of_symbol.ensures.lawful c.telecommand_of_symbol.ensures.symbol c.in_ok-symbol.ensures.reads

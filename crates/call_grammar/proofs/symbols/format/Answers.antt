@@ -7,4 +7,4 @@ pub returns-in_err-symbol : goal.returns-in_err-symbol
 returns-in_err-symbol c = fail c.from_residual.ensures.1 (coded_stop (letter_good Format) format_coded c.in_err-symbol.ensures.reads)
 
 pub returns : goal.returns
-returns c = coded_read tt c.format_told.ensures c.in_ok-symbol.ensures.reads
+returns c = coded_read tt c.format_of_symbol.ensures c.in_ok-symbol.ensures.reads

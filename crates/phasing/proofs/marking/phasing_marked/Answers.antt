@@ -1,13 +1,14 @@
 use Rattle.std.proofs.Common.{ℕ, ◌-◌, subst}
 use Rattle.ten_unit.specs.inside.Marks.{IsMarks}
 use Rattle.ten_unit.specs.Word.{word_of}
+use Rattle.dsc_symbols.specs.declared.phasing.TheConstants.{RX_7}
 use Rattle.phasing.specs.inside.Places.{is_at}
 use Rattle.phasing.proofs.BitTests.{eight}
 use Rattle.phasing.proofs.marking.phasing_marked.Goals as goal
 
 pub returns : goal.returns
 returns c = λ base e here next.
-    let marks : ℕ → ℕ → Type 0 = λ k w. IsMarks w base (is_at e (word_of (111 - k))) in
+    let marks : ℕ → ℕ → Type 0 = λ k w. IsMarks w base (is_at e (word_of (RX_7 - k))) in
     record {
       dx = subst (λ w. IsMarks c.word_marked.result base (is_at e w)) c.word.ensures (c.word_marked.ensures base e here next);
       rx =

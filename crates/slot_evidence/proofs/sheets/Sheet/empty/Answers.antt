@@ -6,4 +6,4 @@ use Rattle.slot_evidence.proofs.Ends.{IsEnds-blank}
 use Rattle.slot_evidence.proofs.sheets.Sheet.empty.Goals as goal
 
 pub returns-clause-ends : goal.returns-clause-ends
-returns-clause-ends c = subst (λ (s : List Seen). IsEnds no_facts s) (sym c.of_numbers.ensures) IsEnds-blank
+returns-clause-ends c = subst (λ (s : List Seen). IsEnds no_facts s) (sym c.from_numbers.ensures) IsEnds-blank
