@@ -15,7 +15,8 @@ use Rattle.slot_join.specs.Heard.{IsHeard}
 use Rattle.slot_join.specs.Intact.{IsSent, IsSentOrLostPlace, ArrivesInParts}
 use Rattle.dsc_lines.specs.JoinLine.{JoinLine}
 use Rattle.join_groups.specs.Groups.{is_among, group_facts}
-use Rattle.join_groups.specs.Output.{Told, TellsAnswer, answer_line, IsJoinText}
+use Rattle.join_groups.specs.Output.{Told, TellsAnswer, IsJoinText}
+use Rattle.dsc_texts.specs.Texts.{answer_line}
 use Rattle.dsc_cmd.specs.Heard.{IsOfCall}
 use Rattle.dsc_cmd.specs.Sent.{TellsSent}
 use Rattle.dsc_cmd.proofs.Behind as behind

@@ -10,7 +10,9 @@ use Rattle.line_engine.specs.Meaning.{Meaning}
 use Rattle.line_engine.specs.Endings.{Writes}
 use Rattle.dsc_lines.specs.JoinLine.{JoinLine}
 use Rattle.join_groups.specs.Groups.{AreLines}
-use Rattle.join_groups.specs.Output.{Told, TellsAnswer, answer_line, is_reported, IsJoinText}
+use Rattle.join_groups.specs.Output.{Told, TellsAnswer, IsJoinText}
+use Rattle.slot_join.specs.Answer.{is_reported}
+use Rattle.dsc_texts.specs.Texts.{answer_line}
 use Rattle.join_groups.specs.Meanings.{EndsTelling, groups_meaning}
 use Rattle.dsc_cmd.specs.Heard.{IsOfCall}
 

@@ -3,7 +3,7 @@ ghost use Rattle.std.specs.List.{list_all};
 ghost use Rattle.dsc_streams.specs.Streams.{Rises, Told};
 ghost use Rattle.dsc_lines.specs.JoinLine.{JoinLine};
 ghost use Rattle.line_engine.specs.Endings.{IsFinished};
-ghost use Rattle.join_groups.specs.Output as output;
+ghost use Rattle.slot_join.specs.Answer.{is_reported};
 ghost use Rattle.generated_join.specs.Generator.{generated};
 ghost use Rattle.generated_join.specs.Summary.{IsSummary};
 ghost use Rattle.dsc_cmd.specs.Plans.{WritesSummary, CutsOffSummary};
@@ -18,7 +18,7 @@ use std::alloc::{AllocError, Global};
 fn status_of(summary: &Summary) -> Status
     ensures which { IsFinished result }
     ensures whole { (said : List JoinLine) (is : IsSummary said summary.now)
-        → result ≡ (if list_all (λ one. output.is_reported one.answer) is.all then 0 else 1) }
+        → result ≡ (if list_all (λ one. is_reported one.answer) is.all then 0 else 1) }
 {
     Status::of(summary.is_whole())
 }

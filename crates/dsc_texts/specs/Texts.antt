@@ -1,5 +1,6 @@
 -- The texts of calls with what follows them, and of answers: this project's profile.
-use Rattle.std.specs.Prelude.{◌≡◌, ℕ, List, [], ◌++◌, codes, decimal}
+use Rattle.std.specs.Prelude.{◌≡◌, ℕ, List, [], ◌∷◌, ◌++◌, codes, decimal}
+use Rattle.line_grammar.specs.Bytes.{line_feed}
 use Rattle.call_values.specs.declared.calls.Call.{Call}
 use Rattle.call_values.specs.Calls.{IsCall}
 use Rattle.expansion.specs.Expansions.{IsExpansion}
@@ -44,3 +45,7 @@ report_text (Check n want got) = codes " check " ++ decimal n ++ codes " " ++ de
 -- a group's answer, without the end of its line
 unfoldable pub answer_text : ℕ → Joined → List ℕ
 answer_text group answer = codes "g" ++ decimal group ++ report_text answer
+
+-- the line of a group's answer
+abbrev pub answer_line : ℕ → Joined → List ℕ
+answer_line group answer = answer_text group answer ++ line_feed ∷ []

@@ -1,10 +1,11 @@
 -- What `join` tells of lines of which the answers were counted.
 use Rattle.std.proofs.Common.{◌≡◌, ℕ, Bool, ◌&&◌, cond, List, [], ◌∷◌, map, flat_map, refl, ap, subst}
 use Rattle.std.specs.List.{list_all, AllByRecursion}
-use Rattle.slot_join.specs.Answer.{IsAnswer}
+use Rattle.slot_join.specs.Answer.{IsAnswer, is_reported}
 use Rattle.dsc_lines.specs.JoinLine.{JoinLine}
 use Rattle.join_groups.specs.Groups.{group_facts, AreGroups}
-use Rattle.join_groups.specs.Output.{Told, TellsAnswer, answer_line, is_reported, IsJoinText}
+use Rattle.join_groups.specs.Output.{Told, TellsAnswer, IsJoinText}
+use Rattle.dsc_texts.specs.Texts.{answer_line}
 use Rattle.generated_join.specs.declared.summary.Summary.{Summary}
 use Rattle.generated_join.specs.Summary.{Answered, IsSummary}
 

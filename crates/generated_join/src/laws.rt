@@ -3,7 +3,8 @@ ghost use Rattle.std.specs.Prelude.{◌≡◌, ℕ, ◌≤◌, ◌^◌, List, if
 ghost use Rattle.std.specs.List.{list_all};
 ghost use Rattle.dsc_lines.specs.JoinLine.{JoinLine};
 ghost use Rattle.join_groups.specs.Groups.{AreLines};
-ghost use Rattle.join_groups.specs.Output.{is_reported, IsJoinText};
+ghost use Rattle.join_groups.specs.Output.{IsJoinText};
+ghost use Rattle.slot_join.specs.Answer.{is_reported};
 ghost use Rattle.generated_join.specs.declared.summary.Summary.{Summary as Numbers};
 ghost use Rattle.generated_join.specs.Generator.{generated, generated_texts};
 ghost use Rattle.generated_join.specs.Summary.{IsSummary, IsMade};

@@ -2,13 +2,13 @@ ghost use Rattle.std.specs.Prelude.{◌≡◌, ◌+◌, ◌<◌, ◌≤◌, ◌+
 ghost use Rattle.std.specs.List.{list_all};
 ghost use Rattle.arrayvec.specs.ArrayVec.{array_vec_len};
 ghost use Rattle.dsc_lines.specs.JoinLine.{JoinLine};
-ghost use Rattle.join_groups.specs.Output.{is_reported as tells_call};
+ghost use Rattle.slot_join.specs.Answer.{is_reported as tells_call};
 ghost use Rattle.generated_join.specs.Summary.{IsSummary, summary_text, is_missing as names_missing};
 ghost use Rattle.generated_join.specs.inside.Counted.{HasCounted};
 
 use crate::hearing::RECEPTIONS;
 use arrayvec::ArrayVec;
-use join_groups::is_reported;
+use slot_join::is_reported;
 use slot_join::Joined;
 use text_pieces::{append, append_number};
 

@@ -5,7 +5,7 @@ use Rattle.std.proofs.lemmas.Bool.{cases_lt, or_cases, and_parts, eqb-true}
 use Rattle.slot_evidence.specs.Facts.{Facts, facts_of}
 use Rattle.slot_evidence.proofs.PublicLaws.{fact_small}
 use Rattle.slot_join.specs.declared.joined.Joined.{Joined}
-use Rattle.slot_join.specs.Answer.{IsAnswer}
+use Rattle.slot_join.specs.Answer.{IsAnswer, is_reported}
 use Rattle.line_engine.specs.Lines.{Lines}
 use Rattle.line_engine.specs.Faults.{IsFaultless}
 use Rattle.line_engine.specs.Determined.{IsNeverStuck}
@@ -14,7 +14,8 @@ use Rattle.dsc_lines.specs.JoinLine.{JoinLine, nothing, reception, evidence, IsP
 use Rattle.dsc_lines.specs.Lines.{facts_of_pairs}
 use Rattle.dsc_lines.proofs.PublicLaws.{line_there}
 use Rattle.join_groups.specs.Groups.{AreLines, is_named, facts_of_line, group_facts, AreAbove, IsRising, is_among, AreGroups}
-use Rattle.join_groups.specs.Output.{Told, Telling, TellsAnswer, IsGroupsText, answer_line, is_reported}
+use Rattle.join_groups.specs.Output.{Told, Telling, TellsAnswer, IsGroupsText}
+use Rattle.dsc_texts.specs.Texts.{answer_line}
 use Rattle.join_groups.specs.Meanings.{groups_meaning}
 
 -- it can't be that there is none

@@ -7,23 +7,11 @@ use Rattle.slot_evidence.specs.Facts.{Facts}
 use Rattle.slot_evidence.specs.Sheet.{IsEnds}
 use Rattle.slot_join.specs.declared.joined.Joined.{Joined}
 use Rattle.slot_join.specs.declared.joined.Joined.TheVariants.{Reported, Missing, Differ, Outside, Check}
-use Rattle.slot_join.specs.Answer.{IsAnswer}
-use Rattle.dsc_texts.specs.Texts.{answer_text}
+use Rattle.slot_join.specs.Answer.{IsAnswer, is_reported}
+use Rattle.dsc_texts.specs.Texts.{answer_line}
 use Rattle.dsc_lines.specs.Evidence.{evidence_text}
 use Rattle.dsc_lines.specs.JoinLine.{JoinLine}
 use Rattle.join_groups.specs.Groups.{group_facts, AreGroups}
-
--- a call was reported
-abbrev pub is_reported : Joined → Bool
-is_reported (Reported call extra) = true
-is_reported (Missing n) = false
-is_reported (Differ n least greatest) = false
-is_reported (Outside n symbol) = false
-is_reported (Check n want got) = false
-
--- the line of a group's answer
-abbrev pub answer_line : ℕ → Joined → List ℕ
-answer_line group answer = answer_text group answer ++ line_feed ∷ []
 
 -- what is told of a group: its line, and whether the run may end with status 0
 pub record Told : Type 0 where

@@ -16,4 +16,4 @@ pub use laws::{
     no_output_is_lacking, texts_forget_order,
 };
 pub use taking::{take_read, take_waiting};
-pub use telling::{Answers, Ends, Teller, is_reported, tell_all};
+pub use telling::{Answers, Ends, Teller, tell_all};

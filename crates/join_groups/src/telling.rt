@@ -40,16 +40,6 @@ impl Teller for Answers {
     }
 }
 
-/// Whether a call was reported.
-pub fn is_reported(answer: &Joined) -> bool
-    ensures { result ≡ output.is_reported answer.now }
-{
-    match answer {
-        Joined::Reported { .. } => true,
-        _ => false,
-    }
-}
-
 /// Tells the ends of a group's facts; all is well.
 #[derive(Drop)]
 pub struct Ends;

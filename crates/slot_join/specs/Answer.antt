@@ -1,5 +1,5 @@
 -- The answer to a set of facts: this project's profile, over the calls of ITU-R M.493.
-use Rattle.std.specs.Prelude.{◌≡◌, ℕ, Bool, true, ◌||◌, ◌==◌, ◌⊎◌, ◌-◌, List, length, drop}
+use Rattle.std.specs.Prelude.{◌≡◌, ℕ, Bool, true, false, ◌||◌, ◌==◌, ◌⊎◌, ◌-◌, List, length, drop}
 use Rattle.dsc_symbols.specs.declared.formats.TheConstants.{DISTRESS, ALL_SHIPS}
 use Rattle.call_values.specs.declared.calls.Call.{Call}
 use Rattle.call_values.specs.Calls.{IsCall}
@@ -77,3 +77,11 @@ pub record IsAnswer (F : Facts) (answer : Joined) : Type 0 where
   pub head : Seen
   pub seen : IsSeen (head_of F) head
   pub answers : BehindHead F head answer
+
+-- a call was reported
+abbrev pub is_reported : Joined → Bool
+is_reported (Reported call extra) = true
+is_reported (Missing n) = false
+is_reported (Differ n least greatest) = false
+is_reported (Outside n symbol) = false
+is_reported (Check n want got) = false

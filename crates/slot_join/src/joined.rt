@@ -1,3 +1,5 @@
+ghost use Rattle.std.specs.Prelude.{◌≡◌};
+ghost use Rattle.slot_join.specs.Answer as answers;
 use call_values::Call;
 use expansion::Expansion;
 
@@ -26,4 +28,14 @@ pub enum Joined {
     Outside(u8, u8),
     /// The error check character is not the one that the call wants.
     Check { n: u8, want: u8, got: u8 },
+}
+
+/// Whether a call was reported.
+pub fn is_reported(answer: &Joined) -> bool
+    ensures { result ≡ answers.is_reported answer.now }
+{
+    match answer {
+        Joined::Reported { .. } => true,
+        _ => false,
+    }
 }

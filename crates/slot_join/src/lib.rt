@@ -9,7 +9,7 @@ mod reading;
 mod whole;
 
 pub use hearing::{intact_copies_report_the_call, sent_call_is_answered};
-pub use joined::{Extra, Joined};
+pub use joined::{Extra, Joined, is_reported};
 pub use laws::{
     alike_facts_have_one_answer, call_or_missing_place, ends_give_the_answer,
     heard_calls_show_no_other, intact_call_is_reported, late_calls_are_found,

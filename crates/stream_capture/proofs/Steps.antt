@@ -6,8 +6,7 @@ use Rattle.ten_unit.specs.declared.character.Element.{Element}
 use Rattle.slot_evidence.specs.Facts.{Facts}
 use Rattle.slot_evidence.specs.Sheet.{IsEnds}
 use Rattle.slot_join.specs.declared.joined.Joined.{Joined}
-use Rattle.slot_join.specs.Answer.{IsAnswer}
-use Rattle.join_groups.specs.Output.{is_reported}
+use Rattle.slot_join.specs.Answer.{IsAnswer, is_reported}
 use Rattle.long_capture.specs.declared.starts.Start.{Start}
 use Rattle.long_capture.specs.Starts.{starts_below, facts_from}
 use Rattle.long_capture.specs.Told.{IsStart, AreQuiet, IsNextStart}

@@ -3,7 +3,8 @@ use Rattle.std.proofs.Common.{◌≡◌, ℕ, suc, ◌+◌, ◌&&◌, Bool, List
 use Rattle.slot_join.specs.declared.joined.Joined.{Joined}
 use Rattle.std.specs.Fmt.{signed_decimal}
 use Rattle.std.proofs.Math.Bool.{and-true, and_assoc}
-use Rattle.join_groups.specs.Output.{is_reported, answer_line}
+use Rattle.slot_join.specs.Answer.{is_reported}
+use Rattle.dsc_texts.specs.Texts.{answer_line}
 use Rattle.stream_capture.specs.Telling.{Told, start_line, told_text, are_reported}
 
 -- a start's line behind a text, piece by piece

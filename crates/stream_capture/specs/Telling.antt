@@ -5,12 +5,12 @@ use Rattle.std.specs.List.{list_all, AllByRecursion}
 use Rattle.ten_unit.specs.declared.character.Element.{Element}
 use Rattle.phasing.specs.declared.reception.TheConstants.{LEAD_OF_FIRST}
 use Rattle.slot_join.specs.declared.joined.Joined.{Joined}
-use Rattle.slot_join.specs.Answer.{IsAnswer}
+use Rattle.slot_join.specs.Answer.{IsAnswer, is_reported}
 use Rattle.line_grammar.specs.Columns.{IsColumn}
 use Rattle.line_engine.specs.Lines.{Lines}
 use Rattle.line_engine.specs.Meaning.{Meaning}
 use Rattle.dsc_lines.specs.StreamLine.{IsStreamLine}
-use Rattle.join_groups.specs.Output.{is_reported, answer_line}
+use Rattle.dsc_texts.specs.Texts.{answer_line}
 use Rattle.long_capture.specs.Starts.{starts_below, facts_from}
 use Rattle.long_capture.specs.Captures.{decided}
 

@@ -1,14 +1,13 @@
 ghost use Rattle.std.specs.Prelude.{◌≡◌, ◌++◌, IfOk};
-ghost use Rattle.join_groups.specs.Output.{is_reported};
+ghost use Rattle.slot_join.specs.Answer.{is_reported, IsAnswer};
 ghost use Rattle.slot_evidence.specs.Facts.{Facts};
 ghost use Rattle.slot_evidence.specs.Sheet.{IsEnds};
-ghost use Rattle.slot_join.specs.Answer.{IsAnswer};
 ghost use Rattle.slot_join.specs.declared.joined.Joined.{Joined};
 ghost use Rattle.stream_capture.specs.Telling.{start_line};
 
 use dsc_texts::put_answer_line;
 use itoa::Buffer;
-use join_groups::is_reported;
+use slot_join::is_reported;
 use slot_evidence::Sheet;
 use slot_join::report;
 use std::alloc::AllocError;

@@ -1,9 +1,8 @@
 -- Counting the answers to one group after another.
 use Rattle.std.specs.Prelude.{◌≡◌, ℕ, ◌*◌, List, map, count_by}
 use Rattle.std.specs.List.{AllByRecursion, range_with_len}
-use Rattle.slot_join.specs.Answer.{IsAnswer}
+use Rattle.slot_join.specs.Answer.{IsAnswer, is_reported}
 use Rattle.join_groups.specs.Groups.{group_facts}
-use Rattle.join_groups.specs.Output.{is_reported}
 use Rattle.generated_join.specs.declared.summary.Summary.{Summary}
 use Rattle.generated_join.specs.Generator.{lines_of_group}
 use Rattle.generated_join.specs.Summary.{Answered, is_missing}

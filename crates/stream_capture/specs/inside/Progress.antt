@@ -5,10 +5,9 @@ use Rattle.phasing.specs.declared.reception.TheConstants.{LEAD_OF_FIRST}
 use Rattle.slot_evidence.specs.Facts.{Facts}
 use Rattle.slot_evidence.specs.Sheet.{IsEnds}
 use Rattle.slot_join.specs.declared.joined.Joined.{Joined}
-use Rattle.slot_join.specs.Answer.{IsAnswer}
+use Rattle.slot_join.specs.Answer.{IsAnswer, is_reported}
 use Rattle.line_engine.specs.declared.bounds.TheConstants.{LONGEST_LINE}
 use Rattle.line_engine.specs.Lines.{Lines}
-use Rattle.join_groups.specs.Output.{is_reported}
 use Rattle.long_capture.specs.declared.starts.Start.{Start}
 use Rattle.long_capture.specs.Captures.{Stands, Ending, decided, reached}
 use Rattle.stream_capture.specs.declared.command.Capturing.{Capturing}

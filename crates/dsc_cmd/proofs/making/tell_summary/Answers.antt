@@ -1,7 +1,7 @@
 use Rattle.std.proofs.Common.{ℕ, List, cond, inl, refl, subst}
 use Rattle.std.specs.List.{list_all}
 use Rattle.line_engine.specs.Endings.{Writes, WritesFront}
-use Rattle.join_groups.specs.Output.{is_reported}
+use Rattle.slot_join.specs.Answer.{is_reported}
 use Rattle.generated_join.specs.Generator.{generated}
 use Rattle.generated_join.specs.Summary.{Answered}
 use Rattle.dsc_cmd.proofs.MadeEndings.{no_cut}

@@ -1,5 +1,5 @@
 use Rattle.std.proofs.Common.{ℕ, ◌==◌, ◌∙◌, ap₂}
-use Rattle.join_groups.specs.Output.{is_reported}
+use Rattle.slot_join.specs.Answer.{is_reported}
 use Rattle.generated_join.specs.Summary.{Answered}
 use Rattle.generated_join.proofs.Counting.{all_are}
 use Rattle.generated_join.proofs.summary.Summary.is_whole.Goals as goal
