@@ -2,7 +2,7 @@
 use Rattle.std.proofs.Common.{◌≡◌, ◌≢◌, ◌⊎◌, inl, inr, ℕ, Bool, List, [], Option, Some, refl, sym, ap, subst, arith}
 use Rattle.dsc_streams.specs.declared.streams.Source
 use Rattle.dsc_streams.specs.declared.streams.Sink
-use Rattle.dsc_streams.specs.Streams.{Rises, Told}
+use Rattle.dsc_streams.specs.Streams.{Rises, SeenBefore}
 use Rattle.dsc_streams.proofs.PublicLaws.{Gains-none}
 use Rattle.line_engine.specs.Lines.{lines_of}
 use Rattle.line_engine.specs.Output.{IsWhole, Asks}
@@ -107,7 +107,7 @@ pub made_run : {In Out : Type 0} (n : ℕ) (source : Source.Ghosts In) (sink : S
     → (cause : status ≡ 5 → Rises (sink.faults before) (sink.faults after))
     → (sound : status ≢ 5 → sink.faults after ≡ sink.faults before)
     → (unwritten : status ≡ 6 → after ≡ before)
-    → Told (sink.written before) (sink.written after)
+    → SeenBefore (sink.written before) (sink.written after)
     → IsRun (made_meaning n) (source_of (Make n) source) sink from from before after status
 made_run n source sink from before after status which done cut unflushed cause sound unwritten told = record {
   whole = λ finished. made_whole n _ _ _ _ (done finished);

@@ -15,7 +15,7 @@ use Rattle.slot_join.specs.Heard.{IsHeard}
 use Rattle.slot_join.specs.Intact.{IsSent, IsSentOrLostPlace, ArrivesInParts}
 use Rattle.dsc_lines.specs.JoinLine.{JoinLine}
 use Rattle.join_groups.specs.Groups.{is_among, group_facts}
-use Rattle.join_groups.specs.Output.{Told, TellsAnswer, IsJoinText}
+use Rattle.join_groups.specs.Output.{GroupLine, TellsAnswer, IsJoinText}
 use Rattle.dsc_texts.specs.Texts.{answer_line}
 use Rattle.dsc_cmd.specs.Heard.{IsOfCall}
 use Rattle.dsc_cmd.specs.Sent.{TellsSent}
@@ -39,13 +39,13 @@ pub record Laws : Type 0 where
   pub whole : WholeLaw
 
 -- the line of a group that is named
-pub record Found (P : Told → Type 0) (all : List Told) (k : ℕ) : Type 0 where
-  pub told : Told
+pub record Found (P : GroupLine → Type 0) (all : List GroupLine) (k : ℕ) : Type 0 where
+  pub told : GroupLine
   pub is_one : Contains all told
   pub group : told.group ≡ k
   pub holds : P told
 
-later : (P : Told → Type 0) (t : Told) (all : List Told) (k : ℕ) → Found P all k → Found P (t ∷ all) k
+later : (P : GroupLine → Type 0) (t : GroupLine) (all : List GroupLine) (k : ℕ) → Found P all k → Found P (t ∷ all) k
 later P t all k f = record {
   told = f.told;
   is_one = (suc f.is_one.0, omega (arith, f.is_one.1), f.is_one.2);
@@ -53,7 +53,7 @@ later P t all k f = record {
   holds = f.holds;
 }
 
-pub found : (P : Told → Type 0) (all : List Told) (k : ℕ) → AllByRecursion P all → is_among (map (λ told. told.group) all) k ≡ true → Found P all k
+pub found : (P : GroupLine → Type 0) (all : List GroupLine) (k : ℕ) → AllByRecursion P all → is_among (map (λ told. told.group) all) k ≡ true → Found P all k
 found P [] k each among = absurd (cc)
 found P (t ∷ all) k each among = elim (or_cases (t.group == k) (is_among (map (λ told. told.group) all) k) among) [
   | inl here ↦ record { told = t; is_one = (0, omega arith, refl); group = eqb-true t.group k here; holds = each.0 }

@@ -14,7 +14,7 @@ use Rattle.slot_join.specs.OneCall.{IsCallOrMissing}
 use Rattle.line_engine.specs.Runs.{IsRun}
 use Rattle.line_engine.proofs.PublicLaws.{runs_over}
 use Rattle.long_capture.specs.Starts.{facts_from}
-use Rattle.stream_capture.specs.Telling.{stream_of, Told, capture_meaning}
+use Rattle.stream_capture.specs.Telling.{stream_of, AnsweredStart, capture_meaning}
 use Rattle.dsc_cmd.specs.StartsHeard.{TellsHeard, GivesHeard, EndsHeard, heard_meaning}
 
 -- at a start at which a call was received the answer is this call, or names a place of it that showed nothing
@@ -23,7 +23,7 @@ StartLaw = (e : List Element) (lead : ℕ) (call : Call) (tail : List ℕ) (answ
     → IsAnswer (facts_from e lead) answer → IsCallOrMissing (facts_from e lead) call answer
 
 module _ (law : StartLaw) where
-  tells_heard : (e : List Element) (told : List Told) → AllByRecursion (λ one. IsAnswer (facts_from e one.lead) one.answer) told → TellsHeard e told
+  tells_heard : (e : List Element) (told : List AnsweredStart) → AllByRecursion (λ one. IsAnswer (facts_from e one.lead) one.answer) told → TellsHeard e told
   tells_heard e [] answers call tail lawful = tt
   tells_heard e (one ∷ told) answers call tail lawful = (
     λ heard. law e one.lead call tail one.answer lawful heard answers.0,

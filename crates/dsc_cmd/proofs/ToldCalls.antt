@@ -13,7 +13,7 @@ use Rattle.slot_join.specs.OneCall.{ShowsNoOther}
 use Rattle.live_watch.specs.Told.{IsTold}
 use Rattle.dsc_lines.specs.JoinLine.{JoinLine}
 use Rattle.join_groups.specs.Groups.{group_facts}
-use Rattle.watch_groups.specs.declared.telling.Told.{Told}
+use Rattle.watch_groups.specs.declared.telling.ToldCall.{ToldCall}
 use Rattle.watch_groups.specs.Telling.{AreTold}
 use Rattle.dsc_cmd.specs.Heard.{IsOfCall}
 use Rattle.dsc_cmd.specs.ToldSent.{TellsNoOther}
@@ -63,7 +63,7 @@ group_no_other laws said k call tail receptions of =
     (all_no_other laws call tail of.lawful receptions of.heard)
 
 -- so no other call may be told of it
-pub tells_no_other : Laws → (said : List JoinLine) (told : List Told) → AreTold said told → TellsNoOther said told
+pub tells_no_other : Laws → (said : List JoinLine) (told : List ToldCall) → AreTold said told → TellsNoOther said told
 tells_no_other laws said [] are k call tail receptions of = tt
 tells_no_other laws said (one ∷ told) are k call tail receptions of = (
   λ same.

@@ -8,7 +8,7 @@ use Rattle.slot_join.specs.declared.joined.Joined.TheVariants.{Reported}
 use Rattle.dsc_lines.specs.CallLine.{extra_of}
 use Rattle.dsc_lines.specs.JoinLine.{JoinLine, reception, IsLine}
 use Rattle.join_groups.specs.Groups.{names, is_named}
-use Rattle.join_groups.specs.Output.{Told}
+use Rattle.join_groups.specs.Output.{GroupLine}
 use Rattle.encode_calls.specs.Transmissions.{transmitted}
 use Rattle.encode_calls.specs.Encoding.{encoded_line}
 use Rattle.dsc_cmd.specs.Sent.{TellsThis}
@@ -25,7 +25,7 @@ pub record IsOfEncoded (said : List JoinLine) (k : ℕ) (long : Bool) (call : Ca
   pub each : AllByRecursion (λ line. names k line ≡ true → line ≡ reception k (transmitted long call expansion)) said
 
 -- one of the lines that are told is the group's, and reports exactly this call and what follows it
-pub record TellsCall (all : List Told) (k : ℕ) (call : Call) (expansion : Option Sets) : Type 0 where
-  pub told : Told
+pub record TellsCall (all : List GroupLine) (k : ℕ) (call : Call) (expansion : Option Sets) : Type 0 where
+  pub told : GroupLine
   pub is_one : Contains all told
   pub tells : TellsThis told k (Reported call (extra_of expansion))

@@ -2,7 +2,7 @@
 use Rattle.std.specs.Prelude.{◌≡◌, ℕ, ◌⊎◌, List, map, String, string_bytes}
 use Rattle.dsc_streams.specs.declared.streams.Source
 use Rattle.dsc_streams.specs.declared.streams.Sink
-use Rattle.dsc_streams.specs.Streams.{Rises, Told}
+use Rattle.dsc_streams.specs.Streams.{Rises, SeenBefore}
 use Rattle.line_engine.specs.Meaning.{Meaning}
 use Rattle.line_engine.specs.Endings.{Writes, WritesFront}
 use Rattle.line_engine.specs.Runs.{IsRun}
@@ -29,7 +29,7 @@ pub record IsRefused {In Out : Type 0} (sink : Sink.Ghosts Out) (from rest : In)
   pub cut : status ≡ 5 → WritesFront (sink.written before) (sink.written after) words_refused
   pub cause : status ≡ 5 → Rises (sink.faults before) (sink.faults after)
   pub unflushed : status ≡ 5 → sink.flushed after ≡ sink.flushed before
-  pub told : Told (sink.written before) (sink.written after)
+  pub told : SeenBefore (sink.written before) (sink.written after)
 
 -- a run over lines of this meaning; only where there was no memory for the words was nothing begun
 abbrev pub Runs : {In Out : Type 0} → Meaning → Source.Ghosts In → Sink.Ghosts Out → (from rest : In) → (before after : Out) → ℕ → Type 0

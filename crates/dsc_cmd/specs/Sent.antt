@@ -10,22 +10,22 @@ use Rattle.line_engine.specs.Meaning.{Meaning}
 use Rattle.line_engine.specs.Endings.{Writes}
 use Rattle.dsc_lines.specs.JoinLine.{JoinLine}
 use Rattle.join_groups.specs.Groups.{AreLines}
-use Rattle.join_groups.specs.Output.{Told, TellsAnswer, IsJoinText}
+use Rattle.join_groups.specs.Output.{GroupLine, TellsAnswer, IsJoinText}
 use Rattle.slot_join.specs.Answer.{is_reported}
 use Rattle.dsc_texts.specs.Texts.{answer_line}
 use Rattle.join_groups.specs.Meanings.{EndsTelling, groups_meaning}
 use Rattle.dsc_cmd.specs.Heard.{IsOfCall}
 
 -- the group's line tells this answer
-pub record TellsThis (told : Told) (k : ℕ) (answer : Joined) : Type 0 where
+pub record TellsThis (told : GroupLine) (k : ℕ) (answer : Joined) : Type 0 where
   pub group : told.group ≡ k
   pub line_is : told.line ≡ answer_line k answer
   pub well_is : told.is_well ≡ is_reported answer
 
 -- one of the lines that are told is the group's, and tells the call that was sent, or names as missing a place of it no copy of which came
 -- intact; and it tells the call where each of its places came intact at some receiver, the end of sequence perhaps in a later copy
-pub record TellsSent (all : List Told) (k : ℕ) (call : Call) (tail : List ℕ) (receptions : List (List Element)) : Type 0 where
-  pub told : Told
+pub record TellsSent (all : List GroupLine) (k : ℕ) (call : Call) (tail : List ℕ) (receptions : List (List Element)) : Type 0 where
+  pub told : GroupLine
   pub is_one : Contains all told
   pub answer : Joined
   pub tells : TellsThis told k answer

@@ -10,11 +10,11 @@ use Rattle.slot_join.specs.OneCall.{IsCallOrMissing}
 use Rattle.line_engine.specs.Lines.{Lines}
 use Rattle.line_engine.specs.Meaning.{Meaning}
 use Rattle.long_capture.specs.Starts.{facts_from}
-use Rattle.stream_capture.specs.Telling.{stream_of, Told, GivesStarts, EndsStarts, capture_meaning}
+use Rattle.stream_capture.specs.Telling.{stream_of, AnsweredStart, GivesStarts, EndsStarts, capture_meaning}
 
 -- at each start at which a call and what follows it was received, in each character wrong in one sense alone, this call is told, or a place of
 -- it that showed nothing
-abbrev pub TellsHeard : List Element → List Told → Type 0
+abbrev pub TellsHeard : List Element → List AnsweredStart → Type 0
 TellsHeard e told = (call : Call) (tail : List ℕ) → IsCall call
     → AllByRecursion (λ one. IsOneWayAt e (spell call ++ tail) one.lead → IsCallOrMissing (facts_from e one.lead) call one.answer) told
 

@@ -1,6 +1,6 @@
 ghost use Rattle.std.specs.Prelude.{◌≡◌, ◌≢◌, ◌⊎◌, ◌≤◌, List, if◌then◌else◌};
 ghost use Rattle.std.specs.List.{list_all};
-ghost use Rattle.dsc_streams.specs.Streams.{Rises, Told};
+ghost use Rattle.dsc_streams.specs.Streams.{Rises, SeenBefore};
 ghost use Rattle.dsc_lines.specs.JoinLine.{JoinLine};
 ghost use Rattle.line_engine.specs.Endings.{IsFinished};
 ghost use Rattle.slot_join.specs.Answer.{is_reported};
@@ -34,7 +34,7 @@ fn tell_summary<K: Sink>(groups: u16, summary: &Summary, sink: &mut K) -> Status
     ensures cut { result ≡ 5 → CutsOffSummary groups (K.written sink.old) (K.written sink.new) }
     ensures cause { result ≡ 5 → Rises (K.faults sink.old) (K.faults sink.new) }
     ensures unflushed { result ≡ 5 → K.flushed sink.new ≡ K.flushed sink.old }
-    ensures told { Told (K.written sink.old) (K.written sink.new) }
+    ensures told { SeenBefore (K.written sink.old) (K.written sink.new) }
 {
     match write_flushed(sink, &summary.text()) {
         Ok(()) => status_of(summary),
@@ -55,7 +55,7 @@ pub(crate) fn make<K: Sink, G: Gate>(alloc: Global, groups: u16, sink: &mut K, g
     ensures cause { result ≡ 5 → Rises (K.faults sink.old) (K.faults sink.new) }
     ensures unflushed { result ≡ 5 → K.flushed sink.new ≡ K.flushed sink.old }
     ensures unwritten { result ≡ 6 → sink.new ≡ sink.old }
-    ensures told { Told (K.written sink.old) (K.written sink.new) }
+    ensures told { SeenBefore (K.written sink.old) (K.written sink.new) }
 {
     match summary_of(alloc, groups, gate) {
         Ok(summary) => tell_summary(groups, &summary, sink),

@@ -1,5 +1,5 @@
 ghost use Rattle.std.specs.Prelude.{◌≡◌, ◌⊎◌, ℕ, [], OnOk, OnErr};
-ghost use Rattle.dsc_streams.specs.Streams.{Rises, Told};
+ghost use Rattle.dsc_streams.specs.Streams.{Rises, SeenBefore};
 ghost use Rattle.line_engine.specs.Endings.{IsFinished, IsBrokenOff, Writes, WritesFront, TakesAtMost};
 ghost use Rattle.line_engine.specs.Runs.{IsRun};
 ghost use Rattle.dsc_words.specs.Words.{IsInRange, IsPlan};
@@ -45,7 +45,7 @@ pub(crate) fn write_flushed<K: Sink>(sink: &mut K, text: &[u8]) -> Result<(), Fa
     ensures front { OnErr result (WritesFront (K.written sink.old) (K.written sink.new) text.now) }
     ensures cause { OnErr result (Rises (K.faults sink.old) (K.faults sink.new)) }
     ensures unflushed { OnErr result (K.flushed sink.new ≡ K.flushed sink.old) }
-    ensures told { Told (K.written sink.old) (K.written sink.new) }
+    ensures told { SeenBefore (K.written sink.old) (K.written sink.new) }
 {
     write_all(sink, text)?;
     sink.flush()
@@ -59,7 +59,7 @@ fn refuse<K: Sink>(sink: &mut K) -> Status
     ensures cut { result ≡ 5 → WritesFront (K.written sink.old) (K.written sink.new) words_refused }
     ensures cause { result ≡ 5 → Rises (K.faults sink.old) (K.faults sink.new) }
     ensures unflushed { result ≡ 5 → K.flushed sink.new ≡ K.flushed sink.old }
-    ensures told { Told (K.written sink.old) (K.written sink.new) }
+    ensures told { SeenBefore (K.written sink.old) (K.written sink.new) }
 {
     match write_flushed(sink, b"dsc: words refused\n") {
         Ok(()) => Status::new(2),
@@ -106,7 +106,7 @@ fn execute<R: Threads + Sync, S: Source, K: Sink, G: Gate>(
     ensures run { IsRun (meaning_of plan) (source_of plan S.Source) K.Sink source.old source.new sink.old sink.new
         result }
     ensures bounded { TakesAtMost (S.left source.old) (S.left source.new) MOST_TAKEN }
-    ensures told { Told (S.left source.old) (S.left source.new) }
+    ensures told { SeenBefore (S.left source.old) (S.left source.new) }
     ensures unread { (n : ℕ) → plan ≡ makes n
         → (source.new ≡ source.old) × (IsFinished result ⊎ (result ≡ 5) ⊎ (result ≡ 6)) }
 {
@@ -184,7 +184,7 @@ pub fn run<R: Threads + Sync, S: Source, K: Sink, G: Gate>(
     // them, and nothing was begun. `runs_of_words` says it status by status.
     ensures run { KeepsWords (spoken words.now) S.Source K.Sink source.old source.new sink.old sink.new result }
     ensures bounded { TakesAtMost (S.left source.old) (S.left source.new) MOST_TAKEN }
-    ensures told { Told (S.left source.old) (S.left source.new) × Told (K.written sink.old) (K.written sink.new) }
+    ensures told { SeenBefore (S.left source.old) (S.left source.new) × SeenBefore (K.written sink.old) (K.written sink.new) }
 
     // Where all receptions of a group heard one call, truly phased and wrong in one sense alone: `join` tells this call, or a place of it no copy
     // of which came intact, and the call where each of its places came intact at some receiver; and `watch`, however it ends, tells no other.

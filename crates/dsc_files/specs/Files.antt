@@ -64,8 +64,8 @@ line_of_book book.Nothing = line.Nothing
 line_of_book book.Sentence = line.Sentence
 
 -- what was read is what the line says, as a line of any file
-abbrev pub IsTold : {V W : Type 0} (says : V → W → Type 0) (as_line : W → Line) → V → Line → Type 0
-IsTold {W = W} says as_line line read = (one : W) × (says line one × (read ≡ as_line one))
+abbrev pub IsSaidAs : {V W : Type 0} (says : V → W → Type 0) (as_line : W → Line) → V → Line → Type 0
+IsSaidAs {W = W} says as_line line read = (one : W) × (says line one × (read ≡ as_line one))
 
 -- what was read of a line of a traffic file is what it says
 abbrev pub SaysAtPoint : PointLine → GotAtPoint → Type 0
@@ -111,10 +111,10 @@ line_of_world (Some (world.Entry entry)) = line_of_entry entry
 
 -- the answer for a line of a file of this kind
 abbrev pub ReadsLine : FileKind → List ℕ → Result Line LineFault → Type 0
-ReadsLine kind.Join text answer = ReadsWithRoom IsLine (IsTold Says line_of_join) text answer
+ReadsLine kind.Join text answer = ReadsWithRoom IsLine (IsSaidAs Says line_of_join) text answer
 ReadsLine kind.Call text answer = ReadsAlways IsCallLine line_of_call text answer
 ReadsLine kind.Sentence text answer = ReadsAlways IsSentenceLine line_of_sentence text answer
-ReadsLine (kind.Traffic point) text answer = ReadsWithRoom (IsPointLine point) (IsTold SaysAtPoint line_of_point) text answer
+ReadsLine (kind.Traffic point) text answer = ReadsWithRoom (IsPointLine point) (IsSaidAs SaysAtPoint line_of_point) text answer
 ReadsLine kind.Stream text answer = ReadsStream text answer
 ReadsLine kind.Book text answer = ReadsAlways IsBookLine line_of_book text answer
 ReadsLine (kind.Exchange point) text answer = ReadsAlways (IsWorldFileLine point) line_of_world text answer

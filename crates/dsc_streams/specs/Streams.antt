@@ -30,8 +30,8 @@ abbrev pub IsFlushed : Option (List ℕ) → ℕ → Type 0
 IsFlushed written flushed = (bytes : List ℕ) → written ≡ Some bytes → flushed ≡ length bytes
 
 -- what tells its bytes now told them before
-abbrev pub Told : Option (List ℕ) → Option (List ℕ) → Type 0
-Told old new = (bytes : List ℕ) → new ≡ Some bytes → (before : List ℕ) × (old ≡ Some before)
+abbrev pub SeenBefore : Option (List ℕ) → Option (List ℕ) → Type 0
+SeenBefore old new = (bytes : List ℕ) → new ≡ Some bytes → (before : List ℕ) × (old ≡ Some before)
 
 -- a count of faults has risen; one that is at its last value stays there
 abbrev pub Rises : ℕ → ℕ → Type 0

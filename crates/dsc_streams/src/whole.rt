@@ -1,5 +1,5 @@
 ghost use Rattle.std.specs.Prelude.{◌≡◌, ℕ, ◌++◌, List, OnOk, OnErr};
-ghost use Rattle.dsc_streams.specs.Streams.{Gains, Rises, Told};
+ghost use Rattle.dsc_streams.specs.Streams.{Gains, Rises, SeenBefore};
 
 use crate::{Failed, Sink};
 
@@ -11,7 +11,7 @@ pub fn write_all<K: Sink>(sink: &mut K, text: &[u8]) -> Result<(), Failed>
         × Gains (K.written sink.old) (K.written sink.new) front) }
     ensures cause { OnErr result (Rises (K.faults sink.old) (K.faults sink.new)) }
     ensures not_flushed { K.flushed sink.new ≡ K.flushed sink.old }
-    ensures told { Told (K.written sink.old) (K.written sink.new) }
+    ensures told { SeenBefore (K.written sink.old) (K.written sink.new) }
 {
     let mut rest = text;
     while !rest.is_empty() {

@@ -17,7 +17,7 @@ use Rattle.dsc_texts.specs.CallParts as parts
 use Rattle.dsc_texts.specs.CallParts.{set_text, perhaps_parts, expansion_parts}
 use Rattle.dsc_texts.specs.Texts.{IsWholeOrAbsent}
 use Rattle.dsc_texts.specs.inside.Expansions.{IsSet, set_part, extra_parts}
-use Rattle.line_grammar.proofs.Sections.{Told}
+use Rattle.line_grammar.proofs.Sections.{TokenTexts}
 use Rattle.dsc_texts.proofs.FieldTexts.{up_to, most_of}
 use Rattle.line_grammar.proofs.Sections.{Section, worded, labelled, nothing, followed, LawfulSide, side_parts, sided, renamed}
 use Rattle.dsc_texts.proofs.ExpansionSteps.{last_there}
@@ -50,7 +50,7 @@ set_one width most below apart (Digits m) LeftOut h k e = absurd k.0
 set_one width most below apart (Digits m) NoInformation h k e = absurd (apart m e)
 set_one width most below apart (Digits m) (Digits n) h k e = ap Digits (one_number width m n (omega (arith, below, h.1)) (omega (arith, below, k.1)) e)
 
-set_told : (width most : ℕ) → most < 10 ^ width → ((n : ℕ) → digits width n ≡ codes "none" → ⊥) → Told (set width most) (IsSet most) (set_text width)
+set_told : (width most : ℕ) → most < 10 ^ width → ((n : ℕ) → digits width n ≡ codes "none" → ⊥) → TokenTexts (set width most) (IsSet most) (set_text width)
 set_told width most below apart = record { is = set_is width most; of = set_of width most; one = set_one width most below apart }
 
 -- the sets, as sections

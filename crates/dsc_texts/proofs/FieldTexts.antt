@@ -19,7 +19,7 @@ use Rattle.call_values.specs.Parts.{IsTo}
 use Rattle.call_values.proofs.PublicLaws.{same_fix, same_area}
 use Rattle.dsc_texts.specs.CallGrammar.{minutes, position, time, area_shape, area, frequency, address}
 use Rattle.dsc_texts.specs.CallParts.{time_text, position_text, area_text, frequency_text, address_text}
-use Rattle.line_grammar.proofs.Sections.{Told}
+use Rattle.line_grammar.proofs.Sections.{TokenTexts}
 use Rattle.dsc_texts.proofs.SymbolTexts.{identity_told}
 
 -- a number up to the most in so many digits
@@ -57,7 +57,7 @@ time_one (Some s) (Some t) h k e =
     let back = one_number 2 s.1 t.1 (omega (arith, h.1)) (omega (arith, k.1)) front.1 in
     ap (λ (n : ℕ). Some (n, s.1)) front.0 ∙ ap (λ (n : ℕ). Some (t.0, n)) back
 
-pub time_told : Told time IsHourMinute time_text
+pub time_told : TokenTexts time IsHourMinute time_text
 time_told = record { is = time_is; of = time_of; one = time_one }
 
 -- arcs of latitude and of longitude
@@ -148,7 +148,7 @@ position_one (Some f) None h k e = absurd (position_unknown f h e)
 position_one None (Some g) h k e = absurd (position_unknown g k (sym e))
 position_one (Some f) (Some g) h k e = ap (λ (x : Fix). Some x) (fix_one f g h k e)
 
-pub position_told : Told position IsPosition position_text
+pub position_told : TokenTexts position IsPosition position_text
 position_told = record { is = position_is; of = position_of; one = position_one }
 
 -- areas
@@ -197,7 +197,7 @@ area_one a b h k e =
     let five = one_number 2 a.east b.east (omega (arith, h.east)) (omega (arith, k.east)) four.1 in
     same_area a b one.0 two.0 three.0 four.0 five
 
-pub area_told : Told area IsArea area_text
+pub area_told : TokenTexts area IsArea area_text
 area_told = record { is = area_is; of = area_of; one = area_one }
 
 -- frequencies and channels
@@ -260,7 +260,7 @@ frequency_one (Tens m) (Hf n) h k e = absurd (other_length (digits 8 (40000000 +
 frequency_one (Tens m) (Vhf n) h k e = absurd (other_length (digits 8 (40000000 + m)) (digits 6 (900000 + n)) 8 6 (digits_length 8 (40000000 + m)) (digits_length 6 (900000 + n)) (λ s. omega (arith, s)) e)
 frequency_one (Tens m) (Tens n) h k e = let same = one_number 8 (40000000 + m) (40000000 + n) (omega (arith, h)) (omega (arith, k)) e in ap Tens (omega (arith, same))
 
-pub frequency_told : Told frequency IsField frequency_text
+pub frequency_told : TokenTexts frequency IsField frequency_text
 frequency_told = record { is = frequency_is; of = frequency_of; one = frequency_one }
 
 -- addresses
@@ -297,5 +297,5 @@ address_one (to.One m) to.All h k e = absurd (omega (arith, ap (λ (l : List ℕ
 address_one (to.One m) (to.Area b) h k e = absurd (omega (arith, ap (λ (l : List ℕ). slice_index_or l 0 0) e))
 address_one (to.One m) (to.Group n) h k e = absurd (omega (arith, ap (λ (l : List ℕ). slice_index_or l 0 0) e))
 
-pub address_told : Told address IsTo address_text
+pub address_told : TokenTexts address IsTo address_text
 address_told = record { is = address_is; of = address_of; one = address_one }

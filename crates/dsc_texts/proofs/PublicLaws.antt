@@ -1,7 +1,7 @@
 -- Laws that proofs of other crates may cite. The other files here are this crate's own.
 
 -- a token whose texts are those of the values in a range, one text for each value
-pub use Rattle.line_grammar.proofs.Sections.{Told}
+pub use Rattle.line_grammar.proofs.Sections.{TokenTexts}
 -- such are the texts of identities, natures of distress, communications, positions and addresses
 pub use Rattle.dsc_texts.proofs.SymbolTexts.{identity_told, nature_told, comm_told}
 pub use Rattle.dsc_texts.proofs.FieldTexts.{position_told, address_told}

@@ -4,7 +4,7 @@ use Rattle.std.proofs.lemmas.Bool.Decides.{nat_tests}
 use Rattle.line_grammar.specs.Shapes.{fixed_number, is_within, digits}
 use Rattle.line_grammar.specs.Tokens.{Token, IsToken, shaped}
 use Rattle.line_grammar.proofs.Digits.{one_number}
-use Rattle.line_grammar.proofs.Sections.{Told, numbers}
+use Rattle.line_grammar.proofs.Sections.{TokenTexts, numbers}
 use Rattle.call_values.specs.Identity.{IsMmsi}
 use Rattle.dsc_symbols.specs.Natures.{IsNature}
 use Rattle.dsc_symbols.specs.Telecommands.{IsComm}
@@ -21,25 +21,25 @@ use Rattle.dsc_texts.specs.CallParts.{relay_end, test_end}
 use Rattle.dsc_texts.specs.CallGrammar.{identity, symbol, nature, category, comm, first_command, second_command}
 
 -- an identity is told by its nine digits
-pub identity_told : Told identity IsMmsi (digits 9)
+pub identity_told : TokenTexts identity IsMmsi (digits 9)
 identity_told = numbers 9 _ IsMmsi (λ n h. grind (arith, nat_tests)) (λ n h. grind (arith, nat_tests)) (λ n h. omega (arith, h))
 
-pub nature_told : Told nature IsNature (digits 3)
+pub nature_told : TokenTexts nature IsNature (digits 3)
 nature_told = numbers 3 _ IsNature (λ n h. grind (arith, nat_tests)) (λ n h. grind (arith, nat_tests)) (λ n h. grind arith)
 
-pub comm_told : Told comm IsComm (digits 3)
+pub comm_told : TokenTexts comm IsComm (digits 3)
 comm_told = numbers 3 _ IsComm (λ n h. grind (arith, nat_tests)) (λ n h. grind (arith, nat_tests)) (λ n h. grind arith)
 
-pub first_told : Told first_command IsFirst (digits 3)
+pub first_told : TokenTexts first_command IsFirst (digits 3)
 first_told = numbers 3 _ IsFirst (λ n h. grind (arith, nat_tests)) (λ n h. grind (arith, nat_tests)) (λ n h. grind arith)
 
-pub second_told : Told second_command IsSecond (digits 3)
+pub second_told : TokenTexts second_command IsSecond (digits 3)
 second_told = numbers 3 _ IsSecond (λ n h. grind (arith, nat_tests)) (λ n h. grind (arith, nat_tests)) (λ n h. grind arith)
 
 -- values that have numbers of some ranges, one number each
 pub coded : {V : Type 0} (width : ℕ) (ranges : List (ℕ × ℕ)) (Lawful : V → Type 0) (code : V → ℕ) → ((v : V) → Lawful v → (is_within ranges (code v) ≡ true) × (code v < 10 ^ width))
     → ((n : ℕ) → is_within ranges n ≡ true → (v : V) × Lawful v × (n ≡ code v)) → ((u v : V) → Lawful u → Lawful v → code u ≡ code v → u ≡ v)
-    → Told (shaped (fixed_number width ranges)) Lawful (λ v. digits width (code v))
+    → TokenTexts (shaped (fixed_number width ranges)) Lawful (λ v. digits width (code v))
 coded width ranges Lawful code inside decode one = record {
   is = λ v h. (code v, (inside v h).0, refl);
   of = λ bytes h. (let v = decode h.0 h.1 in (v.0, v.1, h.2 ∙ ap (digits width) v.2));
@@ -74,7 +74,7 @@ category_one Safety Urgency e = absurd (omega (arith, e))
 category_one Urgency Routine e = absurd (omega (arith, e))
 category_one Urgency Safety e = absurd (omega (arith, e))
 
-pub category_told : Told category (λ (c : Category). Unit {0}) (λ (c : Category). digits 3 (category_symbol c))
+pub category_told : TokenTexts category (λ (c : Category). Unit {0}) (λ (c : Category). digits 3 (category_symbol c))
 category_told = coded 3 _ (λ (c : Category). Unit {0}) category_symbol (λ c h. category_inside c) category_decode (λ u v h k e. category_one u v e)
 
 -- ends of sequence
@@ -94,7 +94,7 @@ end_decode n h =
       ])
     ]
 
-pub end_told : Told (symbol ENDS) (λ (x : End). Unit {0}) (λ (x : End). digits 3 (end_symbol x))
+pub end_told : TokenTexts (symbol ENDS) (λ (x : End). Unit {0}) (λ (x : End). digits 3 (end_symbol x))
 end_told = coded 3 _ (λ (x : End). Unit {0}) end_symbol (λ x h. end_inside x) end_decode (λ u v h k e. end_one u v e)
 
 -- one of two ends
@@ -116,7 +116,7 @@ relay_end_one false false e = refl
 relay_end_one true false e = absurd (omega (arith, e))
 relay_end_one false true e = absurd (omega (arith, e))
 
-pub relay_end_told : Told (symbol RELAY_ENDS) (λ (ask : Bool). Unit {0}) (λ (ask : Bool). digits 3 (relay_end ask))
+pub relay_end_told : TokenTexts (symbol RELAY_ENDS) (λ (ask : Bool). Unit {0}) (λ (ask : Bool). digits 3 (relay_end ask))
 relay_end_told = coded 3 _ (λ (ask : Bool). Unit {0}) relay_end (λ ask h. relay_end_inside ask) relay_end_decode (λ u v h k e. relay_end_one u v e)
 
 test_end_inside : (reply : Bool) → (is_within TEST_ENDS (test_end reply) ≡ true) × ((test_end reply) < 1000)
@@ -137,5 +137,5 @@ test_end_one false false e = refl
 test_end_one true false e = absurd (omega (arith, e))
 test_end_one false true e = absurd (omega (arith, e))
 
-pub test_end_told : Told (symbol TEST_ENDS) (λ (reply : Bool). Unit {0}) (λ (reply : Bool). digits 3 (test_end reply))
+pub test_end_told : TokenTexts (symbol TEST_ENDS) (λ (reply : Bool). Unit {0}) (λ (reply : Bool). digits 3 (test_end reply))
 test_end_told = coded 3 _ (λ (reply : Bool). Unit {0}) test_end (λ reply h. test_end_inside reply) test_end_decode (λ u v h k e. test_end_one u v e)

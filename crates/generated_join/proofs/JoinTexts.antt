@@ -4,16 +4,16 @@ use Rattle.std.specs.List.{list_all, AllByRecursion}
 use Rattle.slot_join.specs.Answer.{IsAnswer, is_reported}
 use Rattle.dsc_lines.specs.JoinLine.{JoinLine}
 use Rattle.join_groups.specs.Groups.{group_facts, AreGroups}
-use Rattle.join_groups.specs.Output.{Told, TellsAnswer, IsJoinText}
+use Rattle.join_groups.specs.Output.{GroupLine, TellsAnswer, IsJoinText}
 use Rattle.dsc_texts.specs.Texts.{answer_line}
 use Rattle.generated_join.specs.declared.summary.Summary.{Summary}
 use Rattle.generated_join.specs.Summary.{Answered, IsSummary}
 
 -- what is told of a group by its answer
-abbrev told_of : Answered → Told
+abbrev told_of : Answered → GroupLine
 told_of one = record { group = one.group; line = answer_line one.group one.answer; is_well = is_reported one.answer }
 
-groups_told : (all : List Answered) → map (λ (one : Answered). one.group) all ≡ map (λ (told : Told). told.group) (map told_of all)
+groups_told : (all : List Answered) → map (λ (one : Answered). one.group) all ≡ map (λ (told : GroupLine). told.group) (map told_of all)
 groups_told [] = refl
 groups_told (one ∷ all) = ap (λ (l : List ℕ). one.group ∷ l) (groups_told all)
 
@@ -22,14 +22,14 @@ each_told : (said : List JoinLine) (all : List Answered) → AllByRecursion (λ 
 each_told said [] each = tt
 each_told said (one ∷ all) each = (record { answer = one.answer; is_answer = each.0; line_is = refl; well_is = refl }, each_told said all each.1)
 
-well_told : (all : List Answered) → list_all (λ (one : Answered). is_reported one.answer) all ≡ list_all (λ (told : Told). told.is_well) (map told_of all)
+well_told : (all : List Answered) → list_all (λ (one : Answered). is_reported one.answer) all ≡ list_all (λ (told : GroupLine). told.is_well) (map told_of all)
 well_told [] = refl
 well_told (one ∷ all) = ap (λ (b : Bool). is_reported one.answer && b) (well_told all)
 
 pub joined_so : (said : List JoinLine) (summary : Summary) (is : IsSummary said summary)
     → (text : List ℕ) × IsJoinText said text (cond (list_all (λ (one : Answered). is_reported one.answer) is.all) 0 1)
 joined_so said summary is = (
-  flat_map (λ (told : Told). told.line) (map told_of is.all),
+  flat_map (λ (told : GroupLine). told.line) (map told_of is.all),
   record {
     all = map told_of is.all;
     groups = subst (λ (l : List ℕ). AreGroups said l) (groups_told is.all) is.are_groups;

@@ -14,7 +14,7 @@ use Rattle.dsc_lines.specs.JoinLine.{JoinLine, IsLine}
 use Rattle.dsc_lines.proofs.PublicLaws.{one_column}
 use Rattle.line_engine.proofs.PublicLaws.{begins_empty}
 use Rattle.join_groups.specs.Groups.{group_facts}
-use Rattle.join_groups.specs.Output.{Told, Telling, TellsAnswer, TellsEvidence, IsGroupsText}
+use Rattle.join_groups.specs.Output.{GroupLine, Telling, TellsAnswer, TellsEvidence, IsGroupsText}
 use Rattle.dsc_texts.specs.Texts.{answer_line}
 use Rattle.join_groups.specs.Meanings.{EndsTelling, groups_meaning}
 use Rattle.join_groups.proofs.Rising.{same_rising}
@@ -22,7 +22,7 @@ use Rattle.join_groups.proofs.LinesTaken.{OneLine, same_said}
 
 -- of a group with these facts one thing is told
 abbrev pub TellsOnce : Telling → Type 0
-TellsOnce tells = (F : Facts) (a b : Told) → a.group ≡ b.group → tells F a → tells F b → (a.line ≡ b.line) × (a.is_well ≡ b.is_well)
+TellsOnce tells = (F : Facts) (a b : GroupLine) → a.group ≡ b.group → tells F a → tells F b → (a.line ≡ b.line) × (a.is_well ≡ b.is_well)
 
 pub answers_once : ((F : Facts) (a b : Joined) → IsAnswer F a → IsAnswer F b → a ≡ b) → TellsOnce TellsAnswer
 answers_once one F a b same x y =
@@ -41,18 +41,18 @@ evidence_once one F a b same x y =
       x.well_is ∙ sym y.well_is,
     )
 
-told_of : ℕ → List ℕ → Bool → Told
+told_of : ℕ → List ℕ → Bool → GroupLine
 told_of k l w = record { group = k; line = l; is_well = w }
 
 -- what is told of the same group in the same line is the same
-same_parts : (a b : Told) → a.group ≡ b.group → (a.line ≡ b.line) × (a.is_well ≡ b.is_well) → a ≡ b
+same_parts : (a b : GroupLine) → a.group ≡ b.group → (a.line ≡ b.line) × (a.is_well ≡ b.is_well) → a ≡ b
 unfolding told_of
 same_parts a b group parts =
     ap (λ (k : ℕ). told_of k a.line a.is_well) group
     ∙ ap (λ (l : List ℕ). told_of b.group l a.is_well) parts.0
     ∙ ap (λ (w : Bool). told_of b.group b.line w) parts.1
 
-same_all : (tells : Telling) → TellsOnce tells → (said : List JoinLine) (a b : List Told) → map (λ (told : Told). told.group) a ≡ map (λ (told : Told). told.group) b
+same_all : (tells : Telling) → TellsOnce tells → (said : List JoinLine) (a b : List GroupLine) → map (λ (told : GroupLine). told.group) a ≡ map (λ (told : GroupLine). told.group) b
     → AllByRecursion (λ told. tells (group_facts said told.group) told) a → AllByRecursion (λ told. tells (group_facts said told.group) told) b → a ≡ b
 same_all tells once said [] [] groups x y = refl
 same_all tells once said [] (t ∷ b) groups x y = absurd (nil≢cons groups)
@@ -61,15 +61,15 @@ same_all tells once said (s ∷ a) (t ∷ b) groups x y =
     let heads = cons-eq-cons.0 groups in
     let there : tells (group_facts said s.group) t = subst (λ (k : ℕ). tells (group_facts said k) t) (sym heads.0) y.0 in
     let same : s ≡ t = same_parts s t heads.0 (once (group_facts said s.group) s t heads.0 x.0 there) in
-    ap (λ (u : Told). u ∷ a) same ∙ ap (λ (l : List Told). t ∷ l) (same_all tells once said a b heads.1 x.1 y.1)
+    ap (λ (u : GroupLine). u ∷ a) same ∙ ap (λ (l : List GroupLine). t ∷ l) (same_all tells once said a b heads.1 x.1 y.1)
 
 pub same_text : (tells : Telling) → TellsOnce tells → (said : List JoinLine) (a b : List ℕ) (s t : ℕ) → IsGroupsText tells said a s → IsGroupsText tells said b t → (a ≡ b) × (s ≡ t)
 same_text tells once said a b s t x y =
     let groups =
-    same_rising (map (λ (told : Told). told.group) x.all) (map (λ (told : Told). told.group) y.all) x.groups.rising y.groups.rising (λ k. x.groups.named k ∙ sym (y.groups.named k)) in
+    same_rising (map (λ (told : GroupLine). told.group) x.all) (map (λ (told : GroupLine). told.group) y.all) x.groups.rising y.groups.rising (λ k. x.groups.named k ∙ sym (y.groups.named k)) in
     let all : x.all ≡ y.all = same_all tells once said x.all y.all groups x.each y.each in (
-      x.text_is ∙ ap (flat_map (λ (told : Told). told.line)) all ∙ sym y.text_is,
-      x.status_is ∙ ap (λ (l : List Told). if list_all (λ (told : Told). told.is_well) l then 0 else 1) all ∙ sym y.status_is,
+      x.text_is ∙ ap (flat_map (λ (told : GroupLine). told.line)) all ∙ sym y.text_is,
+      x.status_is ∙ ap (λ (l : List GroupLine). if list_all (λ (told : GroupLine). told.is_well) l then 0 else 1) all ∙ sym y.status_is,
     )
 
 same_end : OneLine → (tells : Telling) → TellsOnce tells → (lines : Lines) (a b : List ℕ) (s t : ℕ) → EndsTelling tells lines a s → EndsTelling tells lines b t → (a ≡ b) × (s ≡ t)

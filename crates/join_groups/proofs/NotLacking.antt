@@ -14,7 +14,7 @@ use Rattle.dsc_lines.specs.JoinLine.{JoinLine, nothing, reception, evidence, IsP
 use Rattle.dsc_lines.specs.Lines.{facts_of_pairs}
 use Rattle.dsc_lines.proofs.PublicLaws.{line_there}
 use Rattle.join_groups.specs.Groups.{AreLines, is_named, facts_of_line, group_facts, AreAbove, IsRising, is_among, AreGroups}
-use Rattle.join_groups.specs.Output.{Told, Telling, TellsAnswer, IsGroupsText}
+use Rattle.join_groups.specs.Output.{GroupLine, Telling, TellsAnswer, IsGroupsText}
 use Rattle.dsc_texts.specs.Texts.{answer_line}
 use Rattle.join_groups.specs.Meanings.{groups_meaning}
 
@@ -142,7 +142,7 @@ AnswerLaw = (F : Facts) → ((p v : ℕ) → F p v ≡ true → v < 128) → ((a
 
 module _ (law : AnswerLaw) (said : List JoinLine) (are : AreSome said) where
   record ToldOf (groups : List ℕ) : Type 0 where
-    all : List Told
+    all : List GroupLine
     groups_are : map (λ told. told.group) all ≡ groups
     each : AllByRecursion (λ told. TellsAnswer (group_facts said told.group) told) all
 
@@ -160,8 +160,8 @@ module _ (law : AnswerLaw) (said : List JoinLine) (are : AreSome said) where
   text_there k =
       let g = groups_of said in
       told_there g.0 (λ told. k (
-        flat_map (λ (one : Told). one.line) told.all,
-        (if list_all (λ (one : Told). one.is_well) told.all then 0 else 1),
+        flat_map (λ (one : GroupLine). one.line) told.all,
+        (if list_all (λ (one : GroupLine). one.is_well) told.all then 0 else 1),
         record {
           all = told.all;
           groups = subst (AreGroups said) (sym told.groups_are) g.1;

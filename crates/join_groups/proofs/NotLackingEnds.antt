@@ -12,7 +12,7 @@ use Rattle.dsc_lines.specs.Evidence.{evidence_text}
 use Rattle.line_engine.specs.Determined.{IsNeverStuck}
 use Rattle.dsc_lines.specs.JoinLine.{JoinLine}
 use Rattle.join_groups.specs.Groups.{group_facts, AreGroups}
-use Rattle.join_groups.specs.Output.{Told, TellsEvidence, IsGroupsText}
+use Rattle.join_groups.specs.Output.{GroupLine, TellsEvidence, IsGroupsText}
 use Rattle.join_groups.specs.Meanings.{groups_meaning}
 use Rattle.join_groups.proofs.NotLacking.{IsThere, AreSome, some_lines, group_within, groups_of, said_there}
 
@@ -130,7 +130,7 @@ module _ (F : Facts) (within : (p v : ℕ) → F p v ≡ true → (p < 64) × (v
 
 module _ (said : List JoinLine) (are : AreSome said) where
   record ToldOf (groups : List ℕ) : Type 0 where
-    all : List Told
+    all : List GroupLine
     groups_are : map (λ told. told.group) all ≡ groups
     each : AllByRecursion (λ told. TellsEvidence (group_facts said told.group) told) all
 
@@ -148,8 +148,8 @@ module _ (said : List JoinLine) (are : AreSome said) where
   text_there k =
       let g = groups_of said in
       told_there g.0 (λ told. k (
-        flat_map (λ (one : Told). one.line) told.all,
-        (if list_all (λ (one : Told). one.is_well) told.all then 0 else 1),
+        flat_map (λ (one : GroupLine). one.line) told.all,
+        (if list_all (λ (one : GroupLine). one.is_well) told.all then 0 else 1),
         record {
           all = told.all;
           groups = subst (AreGroups said) (sym told.groups_are) g.1;

@@ -15,28 +15,28 @@ use Rattle.receiver_pool.specs.declared.group_entries.GroupReception.{GroupRecep
 use Rattle.dsc_lines.specs.JoinLine.{JoinLine}
 use Rattle.join_groups.specs.Groups.{is_named, group_facts, AreGroups}
 use Rattle.join_groups.specs.Holds.{HoldsIn}
-use Rattle.join_groups.specs.Output.{Told, Telling, IsGroupsText}
+use Rattle.join_groups.specs.Output.{GroupLine, Telling, IsGroupsText}
 use Rattle.join_groups.specs.inside.Progress.{Numbers, AreOf, HasTold, Progress}
 use Rattle.join_groups.proofs.Rising.{each_found, found, rising_keys}
 use Rattle.join_groups.proofs.Holding.{held_some, held_groups, shown_whole}
 
 module _ (tells : Telling) (sheets : List (List Seen)) where
-  of_push : (numbers : Numbers) (all : List Told) (e : ℕ × ℕ) (told : Told) → AreOf tells sheets numbers all → told.group ≡ e.0
+  of_push : (numbers : Numbers) (all : List GroupLine) (e : ℕ × ℕ) (told : GroupLine) → AreOf tells sheets numbers all → told.group ≡ e.0
       → ((F : Facts) → IsEnds F (slice_index_or sheets e.1 []) → tells F told) → AreOf tells sheets (numbers ++ e ∷ []) (all ++ told ∷ [])
   of_push [] [] e told of same tell = (same, tell, tt)
   of_push [] (t ∷ all) e told of same tell = absurd of
   of_push (d ∷ numbers) [] e told of same tell = absurd of
   of_push (d ∷ numbers) (t ∷ all) e told of same tell = (of.0, of.1, of_push numbers all e told of.2 same tell)
 
-  told_push : (numbers : Numbers) (text : List ℕ) (is_well : Bool) (e : ℕ × ℕ) (told : Told) → HasTold tells sheets numbers text is_well → told.group ≡ e.0
+  told_push : (numbers : Numbers) (text : List ℕ) (is_well : Bool) (e : ℕ × ℕ) (told : GroupLine) → HasTold tells sheets numbers text is_well → told.group ≡ e.0
       → ((F : Facts) → IsEnds F (slice_index_or sheets e.1 []) → tells F told) → HasTold tells sheets (numbers ++ e ∷ []) (text ++ told.line) (is_well && told.is_well)
   told_push numbers text is_well e told h same tell = record {
     all = h.all ++ told ∷ [];
     are_of = of_push numbers h.all e told h.are_of same tell;
     text_is = ap (λ (l : List ℕ). l ++ told.line) h.text_is ∙ ap (λ (l : List ℕ). flat_map (λ t. t.line) h.all ++ l) (sym (append-nil told.line))
-        ∙ sym (flat_map-append (λ (t : Told). t.line) h.all (told ∷ []));
+        ∙ sym (flat_map-append (λ (t : GroupLine). t.line) h.all (told ∷ []));
     well_is = ap (λ (b : Bool). b && told.is_well) h.well_is ∙ ap (λ (b : Bool). list_all (λ t. t.is_well) h.all && b) (sym (and-true told.is_well))
-        ∙ sym (list_all-append (λ (t : Told). t.is_well) h.all (told ∷ []));
+        ∙ sym (list_all-append (λ (t : GroupLine). t.is_well) h.all (told ∷ []));
   }
 
   -- one group more was told
@@ -50,13 +50,13 @@ module _ (tells : Telling) (sheets : List (List Seen)) where
     written = ap (λ (l : List ℕ). l ++ line) p.written ∙ append_assoc before p.text line;
   }
 
-  groups_of : (numbers : Numbers) (all : List Told) → AreOf tells sheets numbers all → map (λ told. told.group) all ≡ keys_of numbers
+  groups_of : (numbers : Numbers) (all : List GroupLine) → AreOf tells sheets numbers all → map (λ told. told.group) all ≡ keys_of numbers
   groups_of [] [] of = refl
   groups_of [] (t ∷ all) of = absurd of
   groups_of (e ∷ numbers) [] of = absurd of
   groups_of (e ∷ numbers) (t ∷ all) of = ap (λ (k : ℕ). k ∷ map (λ told. told.group) all) of.0 ∙ ap (λ (l : List ℕ). e.0 ∷ l) (groups_of numbers all of.2)
 
-  each_told : (said : List JoinLine) (numbers : Numbers) (all : List Told) → AreOf tells sheets numbers all → AllByRecursion (λ e. IsEnds (group_facts said e.0) (slice_index_or sheets e.1 [])) numbers
+  each_told : (said : List JoinLine) (numbers : Numbers) (all : List GroupLine) → AreOf tells sheets numbers all → AllByRecursion (λ e. IsEnds (group_facts said e.0) (slice_index_or sheets e.1 [])) numbers
       → AllByRecursion (λ told. tells (group_facts said told.group) told) all
   each_told said [] [] of ends = tt
   each_told said [] (t ∷ all) of ends = absurd of

@@ -18,7 +18,7 @@ use Rattle.dsc_lines.specs.JoinLine.{JoinLine, evidence}
 use Rattle.dsc_lines.specs.Lines.{facts_of_pairs}
 use Rattle.dsc_lines.specs.Evidence.{pairs_below}
 use Rattle.join_groups.specs.Groups.{names, is_named, facts_of_line, group_facts}
-use Rattle.join_groups.specs.Output.{Told, Telling, TellsAnswer, TellsEvidence, IsGroupsText}
+use Rattle.join_groups.specs.Output.{GroupLine, Telling, TellsAnswer, TellsEvidence, IsGroupsText}
 use Rattle.join_groups.specs.Laws.{AreOfGroup}
 use Rattle.join_groups.proofs.Naming.{unnamed_facts}
 
@@ -33,7 +33,7 @@ pub record Laws : Type 0 where
 
 -- what is told of facts is told of those that are alike
 abbrev pub GoesOver : Telling → Type 0
-GoesOver tells = (F G : Facts) (told : Told) → ((p : ℕ) → AreAlike (F p) (G p)) → tells F told → tells G told
+GoesOver tells = (F G : Facts) (told : GroupLine) → ((p : ℕ) → AreAlike (F p) (G p)) → tells F told → tells G told
 
 -- facts with the same ends have the same answer
 pub answers_go_over : Laws → GoesOver TellsAnswer
@@ -48,7 +48,7 @@ evidence_goes_over laws F G told alike t = record {
   well_is = t.well_is;
 }
 
-all_over : (tells : Telling) → GoesOver tells → (said other : List JoinLine) → ((k p : ℕ) → AreAlike (group_facts said k p) (group_facts other k p)) → (all : List Told)
+all_over : (tells : Telling) → GoesOver tells → (said other : List JoinLine) → ((k p : ℕ) → AreAlike (group_facts said k p) (group_facts other k p)) → (all : List GroupLine)
     → AllByRecursion (λ told. tells (group_facts said told.group) told) all → AllByRecursion (λ told. tells (group_facts other told.group) told) all
 all_over tells over said other alike [] each = tt
 all_over tells over said other alike (told ∷ all) each =

@@ -14,24 +14,24 @@ use Rattle.dsc_lines.specs.JoinLine.{JoinLine}
 use Rattle.join_groups.specs.Groups.{group_facts, AreGroups}
 
 -- what is told of a group: its line, and whether the run may end with status 0
-pub record Told : Type 0 where
+pub record GroupLine : Type 0 where
   pub group : ℕ
   pub line : List ℕ
   pub is_well : Bool
 
 -- a way to tell of a group with these facts
 abbrev pub Telling : Type 1
-Telling = Facts → Told → Type 0
+Telling = Facts → GroupLine → Type 0
 
 -- by the line of the answer to its facts; all is well where a call was reported
-pub record TellsAnswer (F : Facts) (told : Told) : Type 0 where
+pub record TellsAnswer (F : Facts) (told : GroupLine) : Type 0 where
   pub answer : Joined
   pub is_answer : IsAnswer F answer
   pub line_is : told.line ≡ answer_line told.group answer
   pub well_is : told.is_well ≡ is_reported answer
 
 -- by the line of the ends of its facts; all is well
-pub record TellsEvidence (F : Facts) (told : Told) : Type 0 where
+pub record TellsEvidence (F : Facts) (told : GroupLine) : Type 0 where
   pub sheet : List Seen
   pub are_ends : IsEnds F sheet
   pub line_is : told.line ≡ evidence_text told.group sheet ++ line_feed ∷ []
@@ -39,7 +39,7 @@ pub record TellsEvidence (F : Facts) (told : Told) : Type 0 where
 
 -- the text and status of what is told of each group that lines name, by rising number
 pub record IsGroupsText (tells : Telling) (said : List JoinLine) (text : List ℕ) (status : ℕ) : Type 0 where
-  pub all : List Told
+  pub all : List GroupLine
   pub groups : AreGroups said (map (λ told. told.group) all)
   pub each : AllByRecursion (λ told. tells (group_facts said told.group) told) all
   pub text_is : text ≡ flat_map (λ told. told.line) all

@@ -7,7 +7,7 @@ ghost use Rattle.join_groups.specs.Holds.{Holds, HoldsSome, IsFull, named_with, 
 use line_engine::Refusal;
 use live_watch::{BatchWatcher, WatchedJoiner};
 use phasing::LONGEST;
-use receiver_pool::{GroupReception, Joiner, meet_at, take_at};
+use receiver_pool::{GroupReception, Joiner, meet_sheet, take_sheet};
 use slot_evidence::{Reception, Sheet};
 use std::alloc::{AllocError, Global};
 use std::collections::BTreeMap;
@@ -93,7 +93,7 @@ impl NamedGroups {
         ensures batch { self.new.batch ≡ self.old.batch }
     {
         let number = self.number_of(group)?;
-        meet_at(&mut self.sheets, number, shown);
+        meet_sheet(&mut self.sheets, number, shown);
         Ok(())
     }
 
@@ -287,7 +287,7 @@ impl NamedGroups {
         match self.numbers.get(&group) {
             Some(number) => {
                 let number = *number;
-                take_at(&mut self.sheets, number)
+                take_sheet(&mut self.sheets, number)
             }
             None => Sheet::empty(),
         }

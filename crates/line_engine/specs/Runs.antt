@@ -2,7 +2,7 @@
 use Rattle.std.specs.Prelude.{◌≡◌, ◌≢◌, ℕ, ◌⊎◌}
 use Rattle.dsc_streams.specs.declared.streams.Source
 use Rattle.dsc_streams.specs.declared.streams.Sink
-use Rattle.dsc_streams.specs.Streams.{Rises, Told}
+use Rattle.dsc_streams.specs.Streams.{Rises, SeenBefore}
 use Rattle.line_engine.specs.declared.bounds.TheConstants.{MOST_TAKEN}
 use Rattle.line_engine.specs.Meaning.{Meaning, IsQuiet}
 use Rattle.line_engine.specs.Endings.{IsFinished, IsOfFault, IsBrokenOff, TellsWhole, TellsFault, TellsSoFar, CutsOff, TellsFront, TakesAtMost}
@@ -27,7 +27,7 @@ pub record IsRun {In Out : Type 0} (meaning : Meaning) (source : Source.Ghosts I
   pub read_sound : status ≢ 4 → source.faults rest ≡ source.faults from
   pub write_cause : status ≡ 5 → Rises (sink.faults before) (sink.faults after)
   pub write_sound : status ≢ 5 → sink.faults after ≡ sink.faults before
-  pub told : Told (source.left from) (source.left rest) × Told (sink.written before) (sink.written after)
+  pub told : SeenBefore (source.left from) (source.left rest) × SeenBefore (sink.written before) (sink.written after)
   -- without a fault of the streams there is no other ending than these
   pub range : IsFinished status ⊎ IsOfFault status ⊎ (status ≡ 4) ⊎ (status ≡ 5) ⊎ (status ≡ 6)
   pub completes : (Rises (source.faults from) (source.faults rest) → ⊥) → (Rises (sink.faults before) (sink.faults after) → ⊥)

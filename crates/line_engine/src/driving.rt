@@ -1,5 +1,5 @@
 ghost use Rattle.std.specs.Prelude.{◌≡◌, ◌≢◌, ◌⊎◌, ℕ, List, [], OnOk, IfErr, IsErrOf};
-ghost use Rattle.dsc_streams.specs.Streams.{Rises, Told};
+ghost use Rattle.dsc_streams.specs.Streams.{Rises, SeenBefore};
 ghost use Rattle.line_engine.specs.declared.halts.Halt.TheVariants as halts;
 ghost use Rattle.line_engine.specs.Meaning.{IsQuiet};
 ghost use Rattle.line_engine.specs.Endings.{IsFinished, IsOfFault, IsBrokenOff, TakesAtMost, TellsWhole, TellsFault, TellsSoFar, CutsOff, TellsFront};
@@ -88,7 +88,7 @@ fn run_lines<C: Command, S: Source, K: Sink>(
     ensures read_sound { result ≢ 4 → S.faults source.new ≡ S.faults source.old }
     ensures write_cause { result ≡ 5 → Rises (K.faults sink.old) (K.faults sink.new) }
     ensures write_sound { result ≢ 5 → K.faults sink.new ≡ K.faults sink.old }
-    ensures told { Told (S.left source.old) (S.left source.new) × Told (K.written sink.old) (K.written sink.new) }
+    ensures told { SeenBefore (S.left source.old) (S.left source.new) × SeenBefore (K.written sink.old) (K.written sink.new) }
 
     // Without a fault of the streams there is no other ending than these.
     ensures range { IsFinished result ⊎ IsOfFault result ⊎ (result ≡ 4) ⊎ (result ≡ 5) ⊎ (result ≡ 6) }

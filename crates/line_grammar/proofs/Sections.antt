@@ -6,14 +6,14 @@ use Rattle.line_grammar.specs.Shapes.{fixed_number, is_within, digits}
 use Rattle.line_grammar.proofs.Digits.{one_number}
 
 -- a token whose byte lists are the texts of the lawful values, one text for each
-pub record Told {V : Type 0} (token : Token) (Lawful : V → Type 0) (text : V → List ℕ) : Type 0 where
+pub record TokenTexts {V : Type 0} (token : Token) (Lawful : V → Type 0) (text : V → List ℕ) : Type 0 where
   pub is : (v : V) → Lawful v → IsToken token (text v)
   pub of : (bytes : List ℕ) → IsToken token bytes → (v : V) × Lawful v × (bytes ≡ text v)
   pub one : (u v : V) → Lawful u → Lawful v → text u ≡ text v → u ≡ v
 
 -- the numbers of some ranges
 pub numbers : (width : ℕ) (ranges : List (ℕ × ℕ)) (Lawful : ℕ → Type 0) → ((n : ℕ) → Lawful n → is_within ranges n ≡ true) → ((n : ℕ) → is_within ranges n ≡ true → Lawful n)
-    → ((n : ℕ) → Lawful n → n < 10 ^ width) → Told (shaped (fixed_number width ranges)) Lawful (digits width)
+    → ((n : ℕ) → Lawful n → n < 10 ^ width) → TokenTexts (shaped (fixed_number width ranges)) Lawful (digits width)
 numbers width ranges Lawful inside lawful below = record {
   is = λ n h. (n, inside n h, refl);
   of = λ bytes h. (h.0, lawful h.0 h.1, h.2);
@@ -58,7 +58,7 @@ pub record Form {V : Type 0} (G : Grammar) (Lawful : V → Type 0) (parts : V �
 part_is : (a b : List ℕ) (p q : Parts) → part a p ≡ part b q → (a ≡ b) × (p ≡ q)
 part_is a b p q e = (cc, cc)
 
-pub fielded : {V : Type 0} {token : Token} {Lawful : V → Type 0} {text : V → List ℕ} → Told token Lawful text → Section (λ rest. field token rest) Lawful (λ v q. part (text v) q)
+pub fielded : {V : Type 0} {token : Token} {Lawful : V → Type 0} {text : V → List ℕ} → TokenTexts token Lawful text → Section (λ rest. field token rest) Lawful (λ v q. part (text v) q)
 fielded {V = V} {token = token} {Lawful = Lawful} {text = text} told = record {
   is = λ v h rest q k. (told.is v h, k);
   of = λ rest p h. (let f = field_is token rest p h in let v = told.of f.0 f.3 in (v.0, f.1, v.1, f.2 ∙ ap (λ (l : List ℕ). part l f.1) v.2, f.4));
@@ -78,7 +78,7 @@ worded {G = G} {parts = parts} label s = record {
 }
 
 -- a field behind its label
-pub labelled : {V : Type 0} {token : Token} {Lawful : V → Type 0} {text : V → List ℕ} (label : List ℕ) → Told token Lawful text → Section (λ rest. word label (field token rest)) Lawful (λ v q. part (text v) q)
+pub labelled : {V : Type 0} {token : Token} {Lawful : V → Type 0} {text : V → List ℕ} (label : List ℕ) → TokenTexts token Lawful text → Section (λ rest. word label (field token rest)) Lawful (λ v q. part (text v) q)
 labelled label told = worded label (fielded told)
 
 -- nothing, as a section

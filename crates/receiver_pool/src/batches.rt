@@ -20,7 +20,7 @@ use std::alloc::{AllocError, Global};
 use std::thread::{Threads, join};
 
 /// Takes what was shown of a group into the sheet with its number.
-pub fn meet_at(sheets: &mut [Sheet], number: usize, shown: &Sheet)
+pub fn meet_sheet(sheets: &mut [Sheet], number: usize, shown: &Sheet)
     requires { number < length sheets.old }
     ensures { (F : ℕ → Facts) (G : Facts) (n : ℕ) → AreSheets F sheets.old n → IsEnds G shown.now
         → AreSheets (λ k. union (F k) (λ p v. number == k && G p v)) sheets.new n }
@@ -29,7 +29,7 @@ pub fn meet_at(sheets: &mut [Sheet], number: usize, shown: &Sheet)
 }
 
 /// Takes out the sheet with this number, and leaves that of no facts in its place.
-pub fn take_at(sheets: &mut [Sheet], number: usize) -> Sheet
+pub fn take_sheet(sheets: &mut [Sheet], number: usize) -> Sheet
     requires { number < length sheets.old }
     ensures taken { (F : ℕ → Facts) (n : ℕ) → AreSheets F sheets.old n → IsEnds (F number) result }
     ensures left { (F : ℕ → Facts) (n : ℕ) → AreSheets F sheets.old n

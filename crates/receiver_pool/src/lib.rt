@@ -14,7 +14,7 @@ mod rendezvous;
 mod threads;
 mod workers;
 
-pub use batches::{meet_at, pool_groups, take_at};
+pub use batches::{meet_sheet, pool_groups, take_sheet};
 pub use beside::{Beside, pool_groups_beside};
 pub use boards::look_at;
 pub use evidence_board::{AllFacts, Allowed, Board, Seat, WHOLE};

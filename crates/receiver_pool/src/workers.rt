@@ -5,7 +5,7 @@ ghost use Rattle.slot_evidence.specs.Sheet.{IsEnds};
 ghost use Rattle.receiver_pool.specs.Groups.{facts_of_group, AreSheets, AreShown, Belongs, IsOneOf};
 ghost use Rattle.receiver_pool.specs.Joining.{JoinsBatches};
 
-use crate::batches::meet_at;
+use crate::batches::meet_sheet;
 use crate::gate::{Entered, Gate, enter};
 use crate::group_entries::{GroupReception, GroupSheet};
 use phasing::LONGEST;
@@ -107,6 +107,6 @@ pub fn meet_entries(sheets: &mut [Sheet], entries: &[GroupSheet])
         → AreSheets (λ k. union (F k) (G k)) sheets.new n }
 {
     for entry in entries {
-        meet_at(sheets, entry.group, &entry.sheet);
+        meet_sheet(sheets, entry.group, &entry.sheet);
     }
 }

@@ -9,7 +9,7 @@ use Rattle.dsc_lines.specs.declared.sentences.SentenceLine.TheVariants.{Said, Se
 use Rattle.dsc_lines.specs.SentenceLine.{IsSentenceLine, SayTheSame}
 use Rattle.dsc_sentences.specs.Verdicts.{verdict_of, verdict_text}
 use Rattle.dsc_lines.proofs.PublicLaws.{one_column}
-use Rattle.sentence_files.specs.Telling.{AreSentenceLines, call_sentences, is_accepted, line_text, is_well, IsTold, EndsSo, sentences_meaning}
+use Rattle.sentence_files.specs.Telling.{AreSentenceLines, call_sentences, is_accepted, line_text, is_well, Gives, EndsSo, sentences_meaning}
 
 -- a line says one thing
 abbrev pub OneSentenceLine : Type 0
@@ -37,7 +37,7 @@ same_given one (s ∷ a) (t ∷ b) (l ∷ lines) x y =
       ap (λ (w : Bool). w && list_all is_well a) here.1 ∙ ap (λ (w : Bool). is_well t && w) rest.1,
     )
 
-same_text : OneSentenceLine → (lines : Lines) (a b : List ℕ) → IsTold lines a → IsTold lines b → a ≡ b
+same_text : OneSentenceLine → (lines : Lines) (a b : List ℕ) → Gives lines a → Gives lines b → a ≡ b
 same_text one lines a b g h = g.text_is ∙ (same_given one g.said h.said lines g.are_lines h.are_lines).0 ∙ sym h.text_is
 
 same_status : OneSentenceLine → (lines : Lines) (a b : List ℕ) (s t : ℕ) → EndsSo lines a s → EndsSo lines b t → s ≡ t
@@ -45,7 +45,7 @@ same_status one lines a b s t g h =
     g.status_is ∙ ap (λ (well : Bool). if well then 0 else 1) (same_given one g.said h.said lines g.are_lines h.are_lines).1 ∙ sym h.status_is
 
 -- what is told of a whole input
-told_of : (lines : Lines) (text : List ℕ) (status : ℕ) → EndsSo lines text status → IsTold lines text
+told_of : (lines : Lines) (text : List ℕ) (status : ℕ) → EndsSo lines text status → Gives lines text
 told_of lines text status h = record { said = h.said; are_lines = h.are_lines; text_is = h.text_is }
 
 -- what the first lines say, and what the later ones say
@@ -62,7 +62,7 @@ split (s ∷ said) (l ∷ first) later are =
     let rest = split said first later are.1 in
     record { front = s ∷ rest.front; back = rest.back; list = ap (λ (w : List SentenceLine). s ∷ w) rest.list; are_first = (are.0, rest.are_first) }
 
-begins : OneSentenceLine → (first later : Lines) (text whole : List ℕ) → IsTold first text → IsTold (first ++ later) whole → BeginsWith whole text
+begins : OneSentenceLine → (first later : Lines) (text whole : List ℕ) → Gives first text → Gives (first ++ later) whole → BeginsWith whole text
 begins one first later text whole g h =
     let parts = split h.said first later h.are_lines in
     let front : text ≡ flat_map line_text parts.front = same_text one first text (flat_map line_text parts.front) g (record { said = parts.front; are_lines = parts.are_first; text_is = refl }) in (

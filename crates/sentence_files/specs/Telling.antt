@@ -42,7 +42,7 @@ is_well (Said says) = true
 is_well (Sentence bytes) = is_accepted (verdict_of bytes.now)
 
 -- what these lines give, one behind the other
-pub record IsTold (lines : Lines) (text : List ℕ) : Type 0 where
+pub record Gives (lines : Lines) (text : List ℕ) : Type 0 where
   pub said : List SentenceLine
   pub are_lines : AreSentenceLines said lines
   pub text_is : text ≡ flat_map line_text said
@@ -59,6 +59,6 @@ abbrev pub sentences_meaning : Meaning
 sentences_meaning = record {
   IsIllFormed = λ earlier text n. IsColumn IsSentenceLine text n;
   IsOverfull = λ earlier text. ⊥;
-  Gives = IsTold;
+  Gives = Gives;
   Ends = EndsSo;
 }

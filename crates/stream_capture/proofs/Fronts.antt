@@ -11,7 +11,7 @@ use Rattle.slot_join.specs.declared.joined.Joined.{Joined}
 use Rattle.slot_join.specs.Answer.{IsAnswer}
 use Rattle.long_capture.specs.Starts.{starts_below, facts_from}
 use Rattle.long_capture.specs.Captures.{decided}
-use Rattle.stream_capture.specs.Telling.{Told, AreTold}
+use Rattle.stream_capture.specs.Telling.{AnsweredStart, AreAnswered}
 
 -- a set of facts has one answer
 abbrev pub OneAnswer : Type 0
@@ -68,10 +68,10 @@ starts_are_below e bound = filter_below bound (is_phased e) (range_with_len 0 bo
 -- ---- their answers
 
 -- each start is told with the answer to its facts
-abbrev AreAnswered : List Element → List Told → Type 0
+abbrev AreAnswered : List Element → List AnsweredStart → Type 0
 AreAnswered e told = AllByRecursion (λ one. IsAnswer (facts_from e one.lead) one.answer) told
 
-answers_stay : Stays → (e more : List Element) (told : List Told) → AreBelow (decided (length e)) (map (λ one. one.lead) told)
+answers_stay : Stays → (e more : List Element) (told : List AnsweredStart) → AreBelow (decided (length e)) (map (λ one. one.lead) told)
     → AreAnswered e told → AreAnswered (e ++ more) told
 answers_stay stays e more [] below answered = tt
 answers_stay stays e more (one ∷ told) below answered =
@@ -80,7 +80,7 @@ answers_stay stays e more (one ∷ told) below answered =
     (subst (λ (F : Facts). IsAnswer F one.answer) same answered.0, answers_stay stays e more told below.1 answered.1)
 
 -- what is told of the decided starts of a stream stays, whatever follows
-pub told_stays : Stays → (e more : List Element) (told : List Told) → AreTold e (decided (length e)) told → AreTold (e ++ more) (decided (length e)) told
+pub told_stays : Stays → (e more : List Element) (told : List AnsweredStart) → AreAnswered e (decided (length e)) told → AreAnswered (e ++ more) (decided (length e)) told
 told_stays stays e more told are =
     let bound = decided (length e) in
     record {
@@ -89,15 +89,15 @@ told_stays stays e more told are =
     }
 
 -- what is told begins with this, and goes on to these leads
-pub record GoesOn (whole front : List Told) (leads : List ℕ) : Type 0 where
-  pub back : List Told
+pub record GoesOn (whole front : List AnsweredStart) (leads : List ℕ) : Type 0 where
+  pub back : List AnsweredStart
   pub list : whole ≡ front ++ back
   pub leads_are : map (λ one. one.lead) back ≡ leads
 
-same_told : {a b : Told} → a.lead ≡ b.lead → a.answer ≡ b.answer → a ≡ b
+same_told : {a b : AnsweredStart} → a.lead ≡ b.lead → a.answer ≡ b.answer → a ≡ b
 same_told lead answer = ap₂ (λ (l : ℕ) (j : Joined). record { lead = l; answer = j }) lead answer
 
-goes_on : OneAnswer → (e : List Element) (whole front : List Told) (leads : List ℕ) → map (λ one. one.lead) whole ≡ map (λ one. one.lead) front ++ leads
+goes_on : OneAnswer → (e : List Element) (whole front : List AnsweredStart) (leads : List ℕ) → map (λ one. one.lead) whole ≡ map (λ one. one.lead) front ++ leads
     → AreAnswered e whole → AreAnswered e front → GoesOn whole front leads
 goes_on law e whole [] leads same x y = record { back = whole; list = refl; leads_are = same }
 goes_on law e [] (b ∷ front) leads same x y = absurd cc
@@ -107,24 +107,24 @@ goes_on law e (a ∷ whole) (b ∷ front) leads same x y =
     let answer = law (facts_from e b.lead) a.answer b.answer (subst (λ (k : ℕ). IsAnswer (facts_from e k) a.answer) heads.0 x.0) y.0 in
     record {
       back = rest.back;
-      list = ap (λ (t : Told). t ∷ whole) (same_told heads.0 answer) ∙ ap (λ (l : List Told). b ∷ l) rest.list;
+      list = ap (λ (t : AnsweredStart). t ∷ whole) (same_told heads.0 answer) ∙ ap (λ (l : List AnsweredStart). b ∷ l) rest.list;
       leads_are = rest.leads_are;
     }
 
 -- what is told of a stream below a higher lead begins with what is told below a lower one
-pub told_goes_on : OneAnswer → (e : List Element) (low high : ℕ) (front whole : List Told) → low ≤ high → AreTold e low front → AreTold e high whole
-    → (back : List Told) × (whole ≡ front ++ back)
+pub told_goes_on : OneAnswer → (e : List Element) (low high : ℕ) (front whole : List AnsweredStart) → low ≤ high → AreAnswered e low front → AreAnswered e high whole
+    → (back : List AnsweredStart) × (whole ≡ front ++ back)
 told_goes_on law e low high front whole rising x y =
     let leads = y.leads ∙ starts_split e low high rising ∙ ap (λ (l : List ℕ). l ++ starts_between e low high) (sym x.leads) in
     let on = goes_on law e whole front (starts_between e low high) leads y.answers x.answers in
     (on.back, on.list)
 
-none_behind : (back : List Told) → map (λ one. one.lead) back ≡ [] → back ≡ []
+none_behind : (back : List AnsweredStart) → map (λ one. one.lead) back ≡ [] → back ≡ []
 none_behind [] e = refl
 none_behind (one ∷ back) e = absurd cc
 
 -- below a lead one thing is told of a stream
-pub one_told : OneAnswer → (e : List Element) (bound : ℕ) (a b : List Told) → AreTold e bound a → AreTold e bound b → a ≡ b
+pub one_told : OneAnswer → (e : List Element) (bound : ℕ) (a b : List AnsweredStart) → AreAnswered e bound a → AreAnswered e bound b → a ≡ b
 one_told law e bound a b x y =
     let on = goes_on law e a b [] (x.leads ∙ sym y.leads ∙ sym (append-nil (map (λ one. one.lead) b))) x.answers y.answers in
-    on.list ∙ ap (λ (l : List Told). b ++ l) (none_behind on.back on.leads_are) ∙ append-nil b
+    on.list ∙ ap (λ (l : List AnsweredStart). b ++ l) (none_behind on.back on.leads_are) ∙ append-nil b

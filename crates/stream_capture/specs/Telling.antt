@@ -27,12 +27,12 @@ stream_of [] = []
 stream_of (added ∷ said) = added ++ stream_of said
 
 -- a start, by its lead, and the answer that is told of it
-pub record Told : Type 0 where
+pub record AnsweredStart : Type 0 where
   pub lead : ℕ
   pub answer : Joined
 
 -- these are the starts of a stream below a lead, each with the answer to its facts
-pub record AreTold (e : List Element) (bound : ℕ) (told : List Told) : Type 0 where
+pub record AreAnswered (e : List Element) (bound : ℕ) (told : List AnsweredStart) : Type 0 where
   pub leads : map (λ one. one.lead) told ≡ starts_below e bound
   pub answers : AllByRecursion (λ one. IsAnswer (facts_from e one.lead) one.answer) told
 
@@ -41,28 +41,28 @@ unfoldable pub start_line : ℕ → (origin : ℤ) → Joined → List ℕ
 start_line number origin answer = codes "at " ++ (signed_decimal origin ++ (codes " " ++ answer_line number answer))
 
 -- the lines of starts, numbered from here on; an origin is 150 below its lead
-unfoldable pub told_text : ℕ → List Told → List ℕ
+unfoldable pub told_text : ℕ → List AnsweredStart → List ℕ
 told_text number [] = []
 told_text number (one ∷ told) = start_line number (pos one.lead -ℤ pos LEAD_OF_FIRST) one.answer ++ told_text (suc number) told
 
 -- each start was reported
-abbrev pub are_reported : List Told → Bool
+abbrev pub are_reported : List AnsweredStart → Bool
 are_reported told = list_all (λ one. is_reported one.answer) told
 
 -- what these lines give before it is known whether others follow: the lines of the starts that their elements decide
 pub record GivesStarts (lines : Lines) (text : List ℕ) : Type 0 where
   pub said : List (List Element)
   pub are_lines : AreStreamLines said lines
-  pub told : List Told
-  pub are_told : AreTold (stream_of said) (decided (length (stream_of said))) told
+  pub told : List AnsweredStart
+  pub are_told : AreAnswered (stream_of said) (decided (length (stream_of said))) told
   pub text_is : text ≡ told_text 0 told
 
 -- an input of these lines has this text, the lines of all starts, and this status: 1 where a start isn't reported
 pub record EndsStarts (lines : Lines) (text : List ℕ) (status : ℕ) : Type 0 where
   pub said : List (List Element)
   pub are_lines : AreStreamLines said lines
-  pub told : List Told
-  pub are_told : AreTold (stream_of said) (length (stream_of said) + LEAD_OF_FIRST) told
+  pub told : List AnsweredStart
+  pub are_told : AreAnswered (stream_of said) (length (stream_of said) + LEAD_OF_FIRST) told
   pub text_is : text ≡ told_text 0 told
   pub status_is : status ≡ (if are_reported told then 0 else 1)
 

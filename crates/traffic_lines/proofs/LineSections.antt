@@ -8,7 +8,7 @@ use Rattle.dsc_texts.proofs.PublicLaws.{identity_told}
 use Rattle.line_grammar.specs.Shapes.{digits}
 use Rattle.line_grammar.specs.Tokens.{Token}
 use Rattle.line_grammar.specs.Grammar.{Grammar, Parts}
-use Rattle.line_grammar.proofs.Sections.{Told, Section, worded, fielded, labelled, nothing, followed, sided}
+use Rattle.line_grammar.proofs.Sections.{TokenTexts, Section, worded, fielded, labelled, nothing, followed, sided}
 use Rattle.line_grammar.proofs.Rows.{Names, under}
 use Rattle.traffic_lines.specs.declared.lines.StationLine.{StationLine}
 use Rattle.traffic_lines.specs.declared.lines.StationLine.TheVariants as station
@@ -44,7 +44,7 @@ band_section =
     })
 
 -- a coast station of such an identity
-pub party_section : (party : Token) (Lawful : ℕ → Type 0) → Told party Lawful (digits 9) → Section {V = ℕ × Band} (coast party) (λ says. Lawful says.0 × Unit {0}) coast_station_parts
+pub party_section : (party : Token) (Lawful : ℕ → Type 0) → TokenTexts party Lawful (digits 9) → Section {V = ℕ × Band} (coast party) (λ says. Lawful says.0 × Unit {0}) coast_station_parts
 party_section party Lawful told = followed (labelled (codes "station coast ") told) band_section
 
 pub stations_section : Section {V = StationLine} stations IsStation stations_parts

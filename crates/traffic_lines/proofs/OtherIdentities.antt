@@ -8,7 +8,7 @@ use Rattle.line_grammar.specs.Shapes.{digits, is_within}
 use Rattle.line_grammar.specs.inside.Soundness.{is_sound, are_ranges}
 use Rattle.line_grammar.proofs.Digits.{one_number}
 use Rattle.line_grammar.proofs.Rows.{WholeRows}
-use Rattle.line_grammar.proofs.Sections.{Told}
+use Rattle.line_grammar.proofs.Sections.{TokenTexts}
 use Rattle.traffic_lines.specs.Lines.{coast, coast_station_parts}
 use Rattle.traffic_lines.specs.Worlds.{others, other_identity, IsOtherCoast}
 use Rattle.traffic_lines.proofs.LineSections.{party_section}
@@ -55,7 +55,7 @@ others_ranges mmsi m = some mmsi (mmsi == 0) (mmsi == 999999999) refl refl m
 abbrev IsOther : (mmsi : ℕ) → ℕ → Type 0
 IsOther mmsi n = IsMmsi n × (n ≢ mmsi)
 
-pub other_told : (mmsi : ℕ) → IsMmsi mmsi → Told (other_identity mmsi) (IsOther mmsi) (digits 9)
+pub other_told : (mmsi : ℕ) → IsMmsi mmsi → TokenTexts (other_identity mmsi) (IsOther mmsi) (digits 9)
 other_told mmsi m = record {
   is = λ n h. (n, inside mmsi n (mmsi == 0) (mmsi == 999999999) refl refl m h.0 h.1, refl);
   of = λ bytes h. (h.0, (others_lawful mmsi h.0 m h.1, others_differ mmsi h.0 m h.1), h.2);

@@ -8,21 +8,21 @@ use Rattle.traffic_rules.specs.declared.held.Holding.{Holding}
 use Rattle.traffic_rules.specs.Holding.{Places, place_of, with_place, calls_held, first_free}
 use Rattle.traffic_rules.specs.HeldTold.{places_from}
 
-abbrev pub Told : Type 0
-Told = ℕ → Option Holding
+abbrev pub HeldUnder : Type 0
+HeldUnder = ℕ → Option Holding
 
-pub so_many : (held : Told) (n c : ℕ) → length (places_from held n c) ≡ c
+pub so_many : (held : HeldUnder) (n c : ℕ) → length (places_from held n c) ≡ c
 so_many held n zero = refl
 so_many held n (suc c) = ap (λ (k : ℕ). suc k) (so_many held (suc n) c)
 
-pub same_places : (f g : Told) (n c : ℕ) → ((k : ℕ) → n ≤ k → k < n + c → f k ≡ g k) → places_from f n c ≡ places_from g n c
+pub same_places : (f g : HeldUnder) (n c : ℕ) → ((k : ℕ) → n ≤ k → k < n + c → f k ≡ g k) → places_from f n c ≡ places_from g n c
 same_places f g n zero same = refl
 same_places f g n (suc c) same =
     ap (λ (x : Option Holding). x ∷ places_from f (suc n) c) (same n (omega arith) (omega arith))
     ∙ ap (λ (l : Places). g n ∷ l) (same_places f g (suc n) c (λ k low high. same k (omega arith) (omega arith)))
 
 -- a number's place is set where what is held under it changes, and under no other
-set_from : (f g : Told) (n c i k : ℕ) (x : Option Holding) → i < c → k ≡ n + i → g k ≡ x → ((j : ℕ) → n ≤ j → j < n + c → (j ≡ k → ⊥) → g j ≡ f j)
+set_from : (f g : HeldUnder) (n c i k : ℕ) (x : Option Holding) → i < c → k ≡ n + i → g k ≡ x → ((j : ℕ) → n ≤ j → j < n + c → (j ≡ k → ⊥) → g j ≡ f j)
     → places_from g n c ≡ slice_set (places_from f n c) i x
 set_from f g n zero i k x below is here others = absurd (omega arith)
 set_from f g n (suc c) zero k x below is here others =
@@ -33,35 +33,35 @@ set_from f g n (suc c) (suc i) k x below is here others =
     ap (λ (y : Option Holding). y ∷ places_from g (suc n) c) (others n (omega arith) (omega arith) (λ same. omega arith))
     ∙ ap (λ (l : Places). f n ∷ l) (set_from f g (suc n) c i k x (omega arith) (omega arith) here (λ j low high other. others j (omega arith) (omega arith) other))
 
-pub set_place : (f g : Told) (n : ℕ) (x : Option Holding) → 1 ≤ n → n ≤ 16 → g n ≡ x → ((k : ℕ) → 1 ≤ k → k ≤ 16 → (k ≡ n → ⊥) → g k ≡ f k)
+pub set_place : (f g : HeldUnder) (n : ℕ) (x : Option Holding) → 1 ≤ n → n ≤ 16 → g n ≡ x → ((k : ℕ) → 1 ≤ k → k ≤ 16 → (k ≡ n → ⊥) → g k ≡ f k)
     → places_from g 1 16 ≡ with_place (places_from f 1 16) n x
 set_place f g zero x low high here others = absurd (omega arith)
 set_place f g (suc i) x low high here others =
     set_from f g 1 16 i (suc i) x (omega arith) (omega arith) here (λ k above below other. others k above (omega arith) other)
 
-pub mapped : (f g : Told) (change : Option Holding → Option Holding) (n c : ℕ) → ((k : ℕ) → n ≤ k → k < n + c → g k ≡ change (f k))
+pub mapped : (f g : HeldUnder) (change : Option Holding → Option Holding) (n c : ℕ) → ((k : ℕ) → n ≤ k → k < n + c → g k ≡ change (f k))
     → places_from g n c ≡ map change (places_from f n c)
 mapped f g change n zero each = refl
 mapped f g change n (suc c) each =
     ap (λ (x : Option Holding). x ∷ places_from g (suc n) c) (each n (omega arith) (omega arith))
     ∙ ap (λ (l : Places). change (f n) ∷ l) (mapped f g change (suc n) c (λ k low high. each k (omega arith) (omega arith)))
 
-get_from : (f : Told) (n c i k : ℕ) → i < c → k ≡ n + i → slice_index_or (places_from f n c) i None ≡ f k
+get_from : (f : HeldUnder) (n c i k : ℕ) → i < c → k ≡ n + i → slice_index_or (places_from f n c) i None ≡ f k
 get_from f n zero i k below is = absurd (omega arith)
 get_from f n (suc c) zero k below is = let first : n ≡ k = omega arith in ap f first
 get_from f n (suc c) (suc i) k below is = get_from f (suc n) c i k (omega arith) (omega arith)
 
-pub place_from : (f : Told) (n : ℕ) → 1 ≤ n → n ≤ 16 → place_of (places_from f 1 16) n ≡ f n
+pub place_from : (f : HeldUnder) (n : ℕ) → 1 ≤ n → n ≤ 16 → place_of (places_from f 1 16) n ≡ f n
 place_from f zero low high = absurd (omega arith)
 place_from f (suc i) low high = get_from f 1 16 i (suc i) (omega arith) (omega arith)
 
 -- past the last place nothing is held
-past_from : (f : Told) (n c i : ℕ) → c ≤ i → slice_index_or (places_from f n c) i None ≡ None
+past_from : (f : HeldUnder) (n c i : ℕ) → c ≤ i → slice_index_or (places_from f n c) i None ≡ None
 past_from f n zero i past = refl
 past_from f n (suc c) zero past = absurd (omega arith)
 past_from f n (suc c) (suc i) past = past_from f (suc n) c i (omega arith)
 
-pub no_place : (f : Told) (n : ℕ) → 16 < n → place_of (places_from f 1 16) n ≡ None
+pub no_place : (f : HeldUnder) (n : ℕ) → 16 < n → place_of (places_from f 1 16) n ≡ None
 no_place f zero past = absurd (omega arith)
 no_place f (suc i) past = past_from f 1 16 i (omega arith)
 
@@ -70,7 +70,7 @@ some_number None n is = absurd (cc)
 some_number (Some index) n is = (index, refl, sym (ap (λ (o : Option ℕ). unwrap_or o n) is))
 
 -- the least number with a place that is such is one of 1 to 16
-pub number_from : (p : Option Holding → Bool) (f : Told) (n : ℕ) → option_map (λ (index : ℕ). suc index) (position p (places_from f 1 16)) ≡ Some n → (1 ≤ n) × (n ≤ 16)
+pub number_from : (p : Option Holding → Bool) (f : HeldUnder) (n : ℕ) → option_map (λ (index : ℕ). suc index) (position p (places_from f 1 16)) ≡ Some n → (1 ≤ n) × (n ≤ 16)
 number_from p f n is =
     let found = some_number (position p (places_from f 1 16)) n is in
     let below = (position-Some p (places_from f 1 16) found.0 None found.1).0 in
@@ -81,7 +81,7 @@ some_sum : (o : Option ℕ) (n : ℕ) → option_map (λ (index : ℕ). index + 
 some_sum None n is = absurd (cc)
 some_sum (Some index) n is = (index, refl, sym (ap (λ (o : Option ℕ). unwrap_or o n) is))
 
-pub free_number : (f : Told) (n : ℕ) → first_free (places_from f 1 16) ≡ Some n → (1 ≤ n) × (n ≤ 16)
+pub free_number : (f : HeldUnder) (n : ℕ) → first_free (places_from f 1 16) ≡ Some n → (1 ≤ n) × (n ≤ 16)
 free_number f n is =
     let found = some_sum (position is_none (places_from f 1 16)) n is in
     let below = (position-Some is_none (places_from f 1 16) found.0 None found.1).0 in
@@ -93,6 +93,6 @@ one_at_most true = omega arith
 one_at_most false = omega arith
 
 -- in so many places no more calls are held
-pub held_at_most : (held : Told) (n c : ℕ) → calls_held (places_from held n c) ≤ c
+pub held_at_most : (held : HeldUnder) (n c : ℕ) → calls_held (places_from held n c) ≤ c
 held_at_most held n zero = omega arith
 held_at_most held n (suc c) = let rest = held_at_most held (suc n) c in let one = one_at_most (is_some (held n)) in omega (arith, rest, one)

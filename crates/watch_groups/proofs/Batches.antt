@@ -5,7 +5,7 @@ use Rattle.std.proofs.lemmas.List.{length_push, length-take-le, get_or_push, tak
 use Rattle.ten_unit.specs.declared.character.Element.{Element}
 use Rattle.dsc_lines.specs.JoinLine.{JoinLine, nothing, reception, evidence}
 use Rattle.join_groups.specs.declared.groups.TheConstants.{MOST_IN_BATCH}
-use Rattle.watch_groups.specs.declared.telling.Told.{Told}
+use Rattle.watch_groups.specs.declared.telling.ToldCall.{ToldCall}
 use Rattle.watch_groups.specs.Telling.{receptions, EndsBatch, TellsReported, TellsEachBatch}
 use Rattle.watch_groups.specs.inside.Kept.{IsOpen}
 
@@ -57,7 +57,7 @@ pub open_anew : (said : List JoinLine) (group : ℕ) (e : List Element) (heard :
 open_anew said group e heard o full = record { batches = o.batches + 1; count = omega (arith, o.count, full, receptions_push said (reception group e)); few = omega arith }
 
 -- what was told at each batch's end, behind one line more
-module _ (said : List JoinLine) (line : JoinLine) (told more : List Told) (stays : (S : List JoinLine) → TellsReported S told → TellsReported S more) (each : TellsEachBatch said told) where
+module _ (said : List JoinLine) (line : JoinLine) (told more : List ToldCall) (stays : (S : List JoinLine) → TellsReported S told → TellsReported S more) (each : TellsEachBatch said told) where
   earlier : (n : ℕ) → n ≤ length said → EndsBatch (take n (said ++ line ∷ [])) → TellsReported (take n (said ++ line ∷ [])) more
   earlier n le ends =
       let same : take n (said ++ line ∷ []) ≡ take n said = take-append-le n said (line ∷ []) le in

@@ -9,7 +9,7 @@ use Rattle.join_groups.specs.declared.groups.NamedGroups.{NamedGroups}
 use Rattle.join_groups.specs.Output.{TellsAnswer, IsGroupsText}
 use Rattle.join_groups.specs.Meanings.{BringsTooMany}
 use Rattle.join_groups.proofs.PublicLaws.{lines_push, same_said}
-use Rattle.watch_groups.specs.declared.telling.Told.{Told}
+use Rattle.watch_groups.specs.declared.telling.ToldCall.{ToldCall}
 use Rattle.watch_groups.specs.Telling.{told_text}
 use Rattle.watch_groups.specs.Meaning.{EndsWatch, watch_meaning}
 use Rattle.watch_groups.specs.inside.Kept.{Watches, StandsFor, LooksThrough}
@@ -29,8 +29,8 @@ use Rattle.watch_groups.proofs.Kept.{all_done, after_pause}
 abbrev pub OneLine : Type 0
 OneLine = (a b : JoinLine) (text : List ℕ) → IsLine a text → IsLine b text → a ≡ b
 
-module _ {groups : NamedGroups} {named : List ℕ} {told : List Told} {heard : ℕ} {lines : Lines} {text : List ℕ} (stands : StandsFor groups named told heard lines text) where
-  pub stands_after : (line : JoinLine) (bytes : List ℕ) (new : NamedGroups) (more : List ℕ) (now : List Told) (count : ℕ) (after : List ℕ) → IsLine line bytes → Watches new more now count (stands.said ++ line ∷ []) → after ≡ told_text now
+module _ {groups : NamedGroups} {named : List ℕ} {told : List ToldCall} {heard : ℕ} {lines : Lines} {text : List ℕ} (stands : StandsFor groups named told heard lines text) where
+  pub stands_after : (line : JoinLine) (bytes : List ℕ) (new : NamedGroups) (more : List ℕ) (now : List ToldCall) (count : ℕ) (after : List ℕ) → IsLine line bytes → Watches new more now count (stands.said ++ line ∷ []) → after ≡ told_text now
       → StandsFor new more now count (lines ++ bytes ∷ []) after
   stands_after line bytes new more now count after is watches text_is = record {
     said = stands.said ++ line ∷ [];
@@ -53,8 +53,8 @@ module _ {groups : NamedGroups} {named : List ℕ} {told : List Told} {heard : �
   refused_behind line bytes refusal is (inr full) = subst (λ (r : Refusal). IsRefusedBehind watch_meaning lines bytes r) (sym full.0)
       (λ n column. column.is_none line is, record { said = stands.said; are_lines = stands.are_lines; line = line; is_line = is; brings = full.1 })
 
-module _ {groups : NamedGroups} {named : List ℕ} {told : List Told} {heard : ℕ} {lines : Lines} (written out : List ℕ) (stands : StandsFor groups named told heard lines (written ++ out)) where
-  pub ends_watch : (now : List Told) (mid after answers : List ℕ) (is_well : Bool) (status : ℕ) → LooksThrough stands.said named [] told out now mid → after ≡ mid ++ answers
+module _ {groups : NamedGroups} {named : List ℕ} {told : List ToldCall} {heard : ℕ} {lines : Lines} (written out : List ℕ) (stands : StandsFor groups named told heard lines (written ++ out)) where
+  pub ends_watch : (now : List ToldCall) (mid after answers : List ℕ) (is_well : Bool) (status : ℕ) → LooksThrough stands.said named [] told out now mid → after ≡ mid ++ answers
       → IsGroupsText TellsAnswer stands.said answers (cond is_well 0 1) → status ≡ cond is_well 0 1 → EndsWatch lines (written ++ after) status
   ends_watch now mid after answers is_well status looks is join same = record {
     said = stands.said;
@@ -69,8 +69,8 @@ module _ {groups : NamedGroups} {named : List ℕ} {told : List Told} {heard : �
   }
 
 -- a watch paused: it stands for the same lines
-pub stands_paused : {groups : NamedGroups} {named : List ℕ} {told : List Told} {heard : ℕ} {lines : Lines} (written out : List ℕ) (stands : StandsFor groups named told heard lines (written ++ out))
-    → (new : NamedGroups) (more : List ℕ) (now : List Told) (count : ℕ) (after : List ℕ) → more ≡ [] → count ≡ heard → Keeps new stands.said → LooksThrough stands.said named [] told out now after
+pub stands_paused : {groups : NamedGroups} {named : List ℕ} {told : List ToldCall} {heard : ℕ} {lines : Lines} (written out : List ℕ) (stands : StandsFor groups named told heard lines (written ++ out))
+    → (new : NamedGroups) (more : List ℕ) (now : List ToldCall) (count : ℕ) (after : List ℕ) → more ≡ [] → count ≡ heard → Keeps new stands.said → LooksThrough stands.said named [] told out now after
     → StandsFor new more now count lines (written ++ after)
 stands_paused {groups} {named} {told} {heard} {lines} written out stands new more now count after none same keeps looks = record {
   said = stands.said;
@@ -101,7 +101,7 @@ stands_empty answered groups keeps = record {
   text_is = refl;
 }
 
-pub stands_first : ((F : Facts) (call : Call) (extra : Extra) → IsAnswer F (Reported call extra) → IsTold F call) → (groups : NamedGroups) (named : List ℕ) (told : List Told) → named ≡ [] → told ≡ [] → Keeps groups []
+pub stands_first : ((F : Facts) (call : Call) (extra : Extra) → IsAnswer F (Reported call extra) → IsTold F call) → (groups : NamedGroups) (named : List ℕ) (told : List ToldCall) → named ≡ [] → told ≡ [] → Keeps groups []
     → StandsFor groups named told 0 [] []
 stands_first answered groups named told no_names no_calls keeps =
-    subst (λ (t : List Told). StandsFor groups named t 0 [] []) (sym no_calls) (subst (λ (n : List ℕ). StandsFor groups n [] 0 [] []) (sym no_names) (stands_empty answered groups keeps))
+    subst (λ (t : List ToldCall). StandsFor groups named t 0 [] []) (sym no_calls) (subst (λ (n : List ℕ). StandsFor groups n [] 0 [] []) (sym no_names) (stands_empty answered groups keeps))

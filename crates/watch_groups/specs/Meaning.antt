@@ -7,7 +7,7 @@ use Rattle.dsc_lines.specs.JoinLine.{JoinLine, IsLine}
 use Rattle.join_groups.specs.Groups.{AreLines}
 use Rattle.join_groups.specs.Meanings.{IsOverfull}
 use Rattle.join_groups.specs.Output.{IsJoinText}
-use Rattle.watch_groups.specs.declared.telling.Told.{Told}
+use Rattle.watch_groups.specs.declared.telling.ToldCall.{ToldCall}
 use Rattle.watch_groups.specs.Telling.{told_text, AreTold, TellsReported, TellsEachBatch}
 
 -- these lines may give this text before their end: calls of groups that they name, none of a group twice, and of each group that is
@@ -15,7 +15,7 @@ use Rattle.watch_groups.specs.Telling.{told_text, AreTold, TellsReported, TellsE
 pub record GivesTold (lines : Lines) (text : List ℕ) : Type 0 where
   pub said : List JoinLine
   pub are_lines : AreLines said lines
-  pub told : List Told
+  pub told : List ToldCall
   pub are_told : AreTold said told
   pub each_batch : TellsEachBatch said told
   pub text_is : text ≡ told_text told
@@ -25,7 +25,7 @@ pub record GivesTold (lines : Lines) (text : List ℕ) : Type 0 where
 pub record EndsWatch (lines : Lines) (text : List ℕ) (status : ℕ) : Type 0 where
   pub said : List JoinLine
   pub are_lines : AreLines said lines
-  pub told : List Told
+  pub told : List ToldCall
   pub are_told : AreTold said told
   pub each_batch : TellsEachBatch said told
   pub at_end : TellsReported said told

@@ -12,32 +12,32 @@ use Rattle.dsc_lines.specs.JoinLine.{JoinLine, nothing, reception, evidence}
 use Rattle.join_groups.specs.declared.groups.TheConstants.{MOST_IN_BATCH}
 use Rattle.join_groups.specs.Groups.{is_named, group_facts}
 use Rattle.dsc_texts.specs.CallParts.{call_text}
-use Rattle.watch_groups.specs.declared.telling.Told.{Told}
+use Rattle.watch_groups.specs.declared.telling.ToldCall.{ToldCall}
 
 -- the line of a told call: the word told, the group, and the call's text
-abbrev pub told_line : Told → List ℕ
+abbrev pub told_line : ToldCall → List ℕ
 told_line told = codes "told g" ++ decimal told.group ++ codes " " ++ call_text told.call ++ line_feed ∷ []
 
 -- the lines of told calls, one behind another
-abbrev pub told_text : List Told → List ℕ
+abbrev pub told_text : List ToldCall → List ℕ
 told_text told = flat_map told_line told
 
 -- whether a call of this group is told
-abbrev pub is_told : List Told → ℕ → Bool
+abbrev pub is_told : List ToldCall → ℕ → Bool
 is_told told k = list_any (λ one. one.group == k) told
 
 -- the group is one that lines name, and what they show of it shows the call
-pub record IsToldOf (said : List JoinLine) (told : Told) : Type 0 where
+pub record IsToldOf (said : List JoinLine) (told : ToldCall) : Type 0 where
   pub named : is_named said told.group ≡ true
   pub call : IsTold (group_facts said told.group) told.call
 
 -- so it is with each call that is told, and no two are of one group
-abbrev pub AreTold : List JoinLine → List Told → Type 0
+abbrev pub AreTold : List JoinLine → List ToldCall → Type 0
 AreTold said [] = Unit {0}
 AreTold said (one ∷ told) = IsToldOf said one × (is_told told one.group ≡ false) × AreTold said told
 
 -- each group of which the lines report a call is told
-abbrev pub TellsReported : List JoinLine → List Told → Type 0
+abbrev pub TellsReported : List JoinLine → List ToldCall → Type 0
 TellsReported said told = (k : ℕ) (call : Call) (extra : Extra) → IsAnswer (group_facts said k) (Reported call extra) → is_told told k ≡ true
 
 -- how many lines are receptions
@@ -57,5 +57,5 @@ pub record EndsBatch (said : List JoinLine) : Type 0 where
   pub full : receptions said ≡ MOST_IN_BATCH * batches
 
 -- at each batch's end the groups of which the lines up to it report a call are told
-abbrev pub TellsEachBatch : List JoinLine → List Told → Type 0
+abbrev pub TellsEachBatch : List JoinLine → List ToldCall → Type 0
 TellsEachBatch said told = (n : ℕ) → n ≤ length said → EndsBatch (take n said) → TellsReported (take n said) told

@@ -7,4 +7,4 @@ mod telling;
 
 pub use command::WatchGroups;
 pub use driving::watch_groups;
-pub use telling::Told;
+pub use telling::ToldCall;

@@ -28,7 +28,7 @@ use text_pieces::{append, append_number};
 
 /// A call that was told, and its group.
 #[derive(Clone, Copy, Debug, PartialEq, Eq)]
-pub struct Told {
+pub struct ToldCall {
     pub group: u32,
     pub call: Call,
 }
@@ -36,16 +36,16 @@ pub struct Told {
 /// The calls that were told, in the order in which they were, and the set of their groups. Contracts see it as the calls.
 #[derive(Drop)]
 pub(crate) struct ToldCalls {
-    calls: Vec<Told>,
+    calls: Vec<ToldCall>,
     groups: BTreeSet<u32>,
 }
 
 impl Model for ToldCalls {
     ghost use Rattle.std.specs.Prelude.{List};
-    ghost use Rattle.watch_groups.specs.declared.telling.Told.{Told};
+    ghost use Rattle.watch_groups.specs.declared.telling.ToldCall.{ToldCall};
     ghost use Rattle.watch_groups.specs.inside.Groups.{AreTheirGroups};
 
-    ghost Value = { List Told };
+    ghost Value = { List ToldCall };
 
     ghost view = { λ t. t.calls.items };
 
@@ -80,7 +80,7 @@ impl ToldCalls {
 
 /// Adds a call to those that were told, and its group to theirs. The error is want of memory, and leaves both as they were.
 fn push_call(
-    calls: &mut Vec<Told>,
+    calls: &mut Vec<ToldCall>,
     groups: &mut BTreeSet<u32>,
     group: u32,
     call: Call,
@@ -90,7 +90,7 @@ fn push_call(
     ensures more { OnOk result (calls.new.items ≡ calls.old.items ++ record { group = group; call = call } ∷ []) }
 {
     let count = calls.len();
-    calls.push(Told { group, call })?;
+    calls.push(ToldCall { group, call })?;
     if groups.insert(group).is_err() {
         calls.truncate(count);
         return Err(AllocError);
@@ -123,7 +123,7 @@ pub(crate) fn note_untold(
 }
 
 /// Appends the line of a told call.
-fn append_told(told: &Told, out: &mut Vec<u8>) -> Result<(), AllocError>
+fn append_told(told: &ToldCall, out: &mut Vec<u8>) -> Result<(), AllocError>
     ensures { OnOk result (out.new.items ≡ out.old.items ++ told_line told.now) }
 {
     let mut line: ArrayVec<u8, 160> = ArrayVec::new();
@@ -267,7 +267,7 @@ fn look_at(
     };
     match call_since(watcher, here, number, &groups.sheet_of(group)) {
         Ok(call) => {
-            let one = Told { group, call };
+            let one = ToldCall { group, call };
             append_told(&one, out)?;
             told.push(group, one.call)
         }

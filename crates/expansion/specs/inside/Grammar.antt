@@ -21,8 +21,8 @@ abbrev pub Symbol : Letter → ℕ → List ℕ → Type 0
 Symbol letter = One (Allows letter)
 
 -- a set that is there, its digits at most so much
-abbrev pub IsTold : ℕ → PartKind → Type 0
-IsTold most part = IsThere part × IsUpTo most part
+abbrev pub IsFilled : ℕ → PartKind → Type 0
+IsFilled most part = IsThere part × IsUpTo most part
 
 -- what stands after the specifier of a set
 abbrev pub told_symbols : (ℕ → List ℕ) → PartKind → List ℕ
@@ -32,11 +32,11 @@ told_symbols digits (Digits n) = digits n
 
 -- eight digits, or no information
 abbrev pub EightDigits : PartKind → List ℕ → Type 0
-EightDigits = Spelled (IsTold LAST_ENHANCEMENT) (told_symbols eight_digits)
+EightDigits = Spelled (IsFilled LAST_ENHANCEMENT) (told_symbols eight_digits)
 
 -- four digits, the first two at most so much, or no information
 abbrev pub FourDigits : ℕ → PartKind → List ℕ → Type 0
-FourDigits most = Spelled (IsTold (100 * most + 99)) (told_symbols four_digits)
+FourDigits most = Spelled (IsFilled (100 * most + 99)) (told_symbols four_digits)
 
 -- the number whose eight digits stand in these four characters
 abbrev pub eight_of : ℕ → ℕ → ℕ → ℕ → ℕ

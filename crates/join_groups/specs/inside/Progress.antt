@@ -4,14 +4,14 @@ use Rattle.std.specs.List.{list_all, flat_map}
 use Rattle.slot_evidence.specs.declared.places.Seen.{Seen}
 use Rattle.slot_evidence.specs.Facts.{Facts}
 use Rattle.slot_evidence.specs.Sheet.{IsEnds}
-use Rattle.join_groups.specs.Output.{Told, Telling}
+use Rattle.join_groups.specs.Output.{GroupLine, Telling}
 
 -- groups, each with its number
 abbrev pub Numbers : Type 0
 Numbers = List (ℕ × ℕ)
 
 -- these groups are told of, one by one, whatever facts their sheets keep the ends of
-abbrev pub AreOf : Telling → (sheets : List (List Seen)) → Numbers → List Told → Type 0
+abbrev pub AreOf : Telling → (sheets : List (List Seen)) → Numbers → List GroupLine → Type 0
 AreOf tells sheets [] [] = Unit {0}
 AreOf tells sheets [] (told ∷ all) = ⊥
 AreOf tells sheets (e ∷ numbers) [] = ⊥
@@ -20,7 +20,7 @@ AreOf tells sheets (e ∷ numbers) (told ∷ all) =
 
 -- these groups were told
 pub record HasTold (tells : Telling) (sheets : List (List Seen)) (numbers : Numbers) (text : List ℕ) (is_well : Bool) : Type 0 where
-  pub all : List Told
+  pub all : List GroupLine
   pub are_of : AreOf tells sheets numbers all
   pub text_is : text ≡ flat_map (λ told. told.line) all
   pub well_is : is_well ≡ list_all (λ told. told.is_well) all

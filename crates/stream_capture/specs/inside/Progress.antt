@@ -11,33 +11,33 @@ use Rattle.line_engine.specs.Lines.{Lines}
 use Rattle.long_capture.specs.declared.starts.Start.{Start}
 use Rattle.long_capture.specs.Captures.{Stands, Ending, decided, reached}
 use Rattle.stream_capture.specs.declared.command.Capturing.{Capturing}
-use Rattle.stream_capture.specs.Telling.{AreStreamLines, stream_of, Told, AreTold, start_line, told_text, are_reported}
+use Rattle.stream_capture.specs.Telling.{AreStreamLines, stream_of, AnsweredStart, AreAnswered, start_line, told_text, are_reported}
 
 -- the command keeps how many starts were told, and whether each was reported
-pub record Counts (command : Capturing) (told : List Told) : Type 0 where
+pub record Counts (command : Capturing) (told : List AnsweredStart) : Type 0 where
   pub count_is : command.count ≡ length told
   pub well_is : command.is_well ≡ are_reported told
 
 -- it was given this stream so far, and told this text
 pub record HasTold (command : Capturing) (e : List Element) (text : List ℕ) : Type 0 where
   pub stands : Stands command.capture e
-  pub told : List Told
-  pub are_told : (more : List Element) → AreTold (e ++ more) (decided (length e)) told
+  pub told : List AnsweredStart
+  pub are_told : (more : List Element) → AreAnswered (e ++ more) (decided (length e)) told
   pub text_is : text ≡ told_text 0 told
   pub counts : Counts command told
 
 -- it was given this stream to its end, and told this text of the starts that it has reached
 pub record EndsTold (command : Capturing) (e : List Element) (text : List ℕ) : Type 0 where
   pub ending : Ending command.capture e
-  pub told : List Told
-  pub are_told : AreTold e (reached command.capture) told
+  pub told : List AnsweredStart
+  pub are_told : AreAnswered e (reached command.capture) told
   pub text_is : text ≡ told_text 0 told
   pub counts : Counts command told
 
 -- it was given this stream to its end, and told this text of all its starts
 pub record HasToldAll (command : Capturing) (e : List Element) (text : List ℕ) : Type 0 where
-  pub told : List Told
-  pub are_told : AreTold e (length e + LEAD_OF_FIRST) told
+  pub told : List AnsweredStart
+  pub are_told : AreAnswered e (length e + LEAD_OF_FIRST) told
   pub text_is : text ≡ told_text 0 told
   pub well_is : command.is_well ≡ are_reported told
 

@@ -10,8 +10,8 @@ loop-entry-preserved c =
     let entry = c.entry-item.result in
     let at = get_or_read c.args.entries.now i entry (omega arith) c.entry-item.is entry in
     record {
-      count = c.meet_at.auto.sheets ∙ was.count;
-      met = λ F G n f g. goes_on_meeting F G c.loop-entry.sheets c.meet_at.new.sheets n i c.args.entries.now entry (omega arith) at c.meet_at.ensures (was.met F G n f g);
+      count = c.meet_sheet.auto.sheets ∙ was.count;
+      met = λ F G n f g. goes_on_meeting F G c.loop-entry.sheets c.meet_sheet.new.sheets n i c.args.entries.now entry (omega arith) at c.meet_sheet.ensures (was.met F G n f g);
     }
 
 pub returns : goal.returns

@@ -10,8 +10,8 @@ use Rattle.join_groups.proofs.Rising.{found}
 use Rattle.join_groups.proofs.Holding.{held_some, held_none, shown_whole, holds_anew, holds_unknown}
 use Rattle.join_groups.proofs.groups.NamedGroups.take_out.Goals as goal
 
-pub take_at-requires : goal.take_at-requires
-take_at-requires c =
+pub take_sheet-requires : goal.take_sheet-requires
+take_sheet-requires c =
     let old = c.args.self.now in
     let ready = c.requires.ready in
     subst (λ (s : List (List Seen)). c.in-Some.number.now < length s) (sym c.deref_mut.ensures.value)
@@ -20,20 +20,20 @@ take_at-requires c =
 pub returns-in-Some-clause-sheet : goal.returns-in-Some-clause-sheet
 returns-in-Some-clause-sheet c = λ named F holds.
     let old = c.args.self.now in
-    shown_whole (found old.numbers.entries) old.sheets.items old.batch.items named F c.args.group c.in-Some.number.now c.take_at.result c.requires.ended (sym c.in-Some.ensures.value) holds
-    (c.take_at.ensures.taken holds.closed (length old.sheets.items)
+    shown_whole (found old.numbers.entries) old.sheets.items old.batch.items named F c.args.group c.in-Some.number.now c.take_sheet.result c.requires.ended (sym c.in-Some.ensures.value) holds
+    (c.take_sheet.ensures.taken holds.closed (length old.sheets.items)
     (subst (λ (s : List (List Seen)). AreSheets holds.closed s (length old.sheets.items)) (sym c.deref_mut.ensures.value) holds.are_sheets))
 
 pub returns-in-Some-clause-anew : goal.returns-in-Some-clause-anew
 returns-in-Some-clause-anew c = λ named F holds.
     let old = c.args.self.now in
     let n = c.in-Some.number.now in
-    let left : (C : ℕ → Facts) (m : ℕ) → AreSheets C old.sheets.items m → AreSheets (λ k p v. not (n == k) && C k p v) c.take_at.new.sheets m =
-    λ C m are. c.take_at.ensures.left C m (subst (λ (s : List (List Seen)). AreSheets C s m) (sym c.deref_mut.ensures.value) are) in
+    let left : (C : ℕ → Facts) (m : ℕ) → AreSheets C old.sheets.items m → AreSheets (λ k p v. not (n == k) && C k p v) c.take_sheet.new.sheets m =
+    λ C m are. c.take_sheet.ensures.left C m (subst (λ (s : List (List Seen)). AreSheets C s m) (sym c.deref_mut.ensures.value) are) in
     let count = (left holds.closed (length old.sheets.items) holds.are_sheets).count in
     subst (λ (s : List (List Seen)). HoldsIn (found old.numbers.entries) s old.batch.items named (facts_without c.args.group F))
-    (sym (lent_whole (List Seen) old.sheets.items c.take_at.new.sheets old.sheets.len old.sheets.ok.0 count))
-    (holds_anew (found old.numbers.entries) old.sheets.items c.take_at.new.sheets old.batch.items named F c.args.group n c.requires.ended (sym c.in-Some.ensures.value) left holds)
+    (sym (lent_whole (List Seen) old.sheets.items c.take_sheet.new.sheets old.sheets.len old.sheets.ok.0 count))
+    (holds_anew (found old.numbers.entries) old.sheets.items c.take_sheet.new.sheets old.batch.items named F c.args.group n c.requires.ended (sym c.in-Some.ensures.value) left holds)
 
 pub returns-in-None-clause-sheet : goal.returns-in-None-clause-sheet
 returns-in-None-clause-sheet c = λ named F holds.

@@ -3,7 +3,7 @@ use Rattle.std.proofs.lemmas.List.{get_or_default}
 use Rattle.slot_evidence.specs.declared.places.Seen.{Seen}
 use Rattle.slot_evidence.specs.Sheet.{IsEnds}
 use Rattle.receiver_pool.proofs.Parts.{met_at}
-use Rattle.receiver_pool.proofs.batches.meet_at.Goals as goal
+use Rattle.receiver_pool.proofs.batches.meet_sheet.Goals as goal
 
 pub returns : goal.returns
 returns c =
