@@ -1,5 +1,5 @@
 #!/bin/sh
-# The reducer: joins the evidence of all parts, behind all mappers:
+# The reducer: joins the evidence of all parts, after all mappers:
 #
 #     split -n l/8 -d -a 1 heard.txt part.
 #     id=$(sbatch --parsable map.sh)

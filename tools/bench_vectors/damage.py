@@ -99,7 +99,7 @@ def with_noise(chance, subject, elements, strength):
 def with_late_start(chance, subject, elements, strength):
     """The reception begins late."""
     count = chance.between(*LATE[strength - 1])
-    return Heard([elements[on_air.DOTS + count :]], [subject], f"begins {count} elements behind the dots")
+    return Heard([elements[on_air.DOTS + count :]], [subject], f"begins {count} elements after the dots")
 
 
 def inverted(_chance, subject, elements, strength):

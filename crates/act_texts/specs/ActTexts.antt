@@ -29,7 +29,7 @@ answered = labelled (codes "answered ") number finish
 abbrev pub gave_up : Grammar
 gave_up = labelled (codes "gaveup ") number finish
 
--- the operator is told of a ship in distress, whose fields stand as in a call's text
+-- the operator is informed of a ship in distress, with the same fields as in a call's text
 abbrev pub distress : Grammar
 distress = word (codes "distress") (ship_in_distress finish)
 
@@ -41,7 +41,7 @@ ended = word (codes "ended") finish
 abbrev pub closed : Grammar
 closed = labelled (codes "closed ") identity finish
 
--- what is told of an act
+-- what is written of an act
 abbrev pub told_act : Act → List ℕ
 told_act (Send call times) = written (send (form_of call finish)) (part (decimal times) (parts_of call none))
 told_act Shown = written shown none

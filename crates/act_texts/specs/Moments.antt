@@ -1,4 +1,4 @@
--- Lines that tell what happens at a moment: this project's profile.
+-- Lines that say what happens at a moment: this project's profile.
 use Rattle.std.specs.Prelude.{ℕ, List, ◌++◌, codes, decimal}
 use Rattle.line_grammar.specs.Tokens.{Token, free_number}
 
@@ -6,6 +6,6 @@ use Rattle.line_grammar.specs.Tokens.{Token, free_number}
 abbrev pub number : Token
 number = free_number 0 18446744073709551615
 
--- the moment, in milliseconds, and a blank stand in front of what is told at it
+-- the moment, in milliseconds, and a blank come before what happens at it
 abbrev pub at_moment : ℕ → List ℕ → List ℕ
 at_moment at told = decimal at ++ codes " " ++ told

@@ -1,3 +1,4 @@
+//! The lines of acts.
 ghost use Rattle.std.specs.Prelude.{◌≡◌, ◌+◌, ◌≤◌, ◌++◌};
 ghost use Rattle.arrayvec.specs.ArrayVec.{array_vec_len};
 ghost use Rattle.act_texts.specs.ActTexts.{act_text, told_act};
@@ -17,9 +18,9 @@ pub fn put_act(at: u32, act: &Act) -> ArrayVec<u8, 288>
     out
 }
 
-/// Appends an act's line at a moment in milliseconds, without the line feed, at most 158 bytes (this project's profile):
-/// `0 send 5 alert from=..`, `7 shown`, `0 held 1`, `9 answered 1`, `600000 gaveup 1`, `0 distress casualty=..`,
-/// `221000 ended` or `7000 closed 338040079`.
+/// Appends an act's line at a moment in milliseconds, without the line feed, at most 158 bytes (this project's
+/// profile): `0 send 5 alert from=..`, `7 shown`, `0 held 1`, `9 answered 1`, `600000 gaveup 1`, `0 distress
+/// casualty=..`, `221000 ended` or `7000 closed 338040079`.
 pub fn append_act_text<const N: usize>(out: &mut ArrayVec<u8, N>, at: u32, act: &Act)
     requires { array_vec_len out.old + 158 ≤ N }
     ensures { out.new.items ≡ out.old.items ++ act_text at act.now }
@@ -28,7 +29,7 @@ pub fn append_act_text<const N: usize>(out: &mut ArrayVec<u8, N>, at: u32, act: 
     append_act(out, act);
 }
 
-/// Appends what is told of an act, which takes at most 137 bytes.
+/// Appends what is written of an act, which takes at most 137 bytes.
 #[tactic(auto, unfolding(dsc_texts::specs::CallParts::call_text))]
 fn append_act<const N: usize>(out: &mut ArrayVec<u8, N>, act: &Act)
     requires { array_vec_len out.old + 137 ≤ N }

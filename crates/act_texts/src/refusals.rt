@@ -1,3 +1,4 @@
+//! The lines of refused events.
 ghost use Rattle.std.specs.Prelude.{◌≡◌, ◌+◌, ◌≤◌, ◌++◌};
 ghost use Rattle.arrayvec.specs.ArrayVec.{array_vec_len};
 ghost use Rattle.act_texts.specs.RefusalTexts.{refusal_text, told_refusal};
@@ -16,8 +17,8 @@ pub fn put_refused(at: u32, refusal: &StationRefusal) -> ArrayVec<u8, 96>
     out
 }
 
-/// Appends a refusal's line at a moment in milliseconds, without the line feed, at most 79 bytes (this project's profile):
-/// `0 refused ` and one of `alertactive`, `noalert`, `nosuchcall 3`, `full`, `needsdelay`, `notsendable`,
+/// Appends a refusal's line at a moment in milliseconds, without the line feed, at most 79 bytes (this project's
+/// profile): `0 refused ` and one of `alertactive`, `noalert`, `nosuchcall 3`, `full`, `needsdelay`, `notsendable`,
 /// `nocasualty 338158137` and `timeback 5 4`.
 pub fn append_refusal_text<const N: usize>(
     out: &mut ArrayVec<u8, N>,

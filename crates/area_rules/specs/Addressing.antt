@@ -1,4 +1,4 @@
--- Whom a call reaches: ITU-R M.493, format specifier and address.
+-- Who a call is addressed to: ITU-R M.493, format specifier and address.
 use Rattle.std.specs.Prelude.{ℕ, ◌==◌, Bool, true, false, Option, List}
 use Rattle.std.specs.List.{list_any}
 use Rattle.call_values.specs.declared.positions.Fix.{Fix}
@@ -22,10 +22,10 @@ reaches_coast (to.Area area) own = false
 reaches_coast (to.Group group) own = false
 reaches_coast (to.One station) own = station == own
 
--- a call is for such a ship
+-- a call is for a ship of this identity, these groups and this position
 abbrev pub is_for_ship : Call → (own : ℕ) → (groups : List ℕ) → Option Fix → Bool
 is_for_ship call own groups position = reaches_ship (address_of call) own groups position
 
--- a call is for such a coast station
+-- a call is for a coast station of this identity
 abbrev pub is_for_coast : Call → (own : ℕ) → Bool
 is_for_coast call own = reaches_coast (address_of call) own

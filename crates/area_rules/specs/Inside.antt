@@ -1,4 +1,5 @@
--- Positions in areas, in signed minutes of arc, north and east positive: ITU-R M.493, geographical coordinates of an area call.
+-- Positions in areas, in signed minutes of arc, north and east positive: ITU-R M.493, geographical coordinates of an
+-- area call.
 use Rattle.std.specs.Prelude.{ℕ, ◌+◌, ◌*◌, ◌%◌, ◌==◌, ◌&&◌, nat_lt, Bool, true, Option, Some, None, ℤ, pos, neg_ℤ, ◌-ℤ◌, int_le, if◌then◌else◌}
 use Rattle.std.specs.Int.{int_rem_euclid}
 use Rattle.call_values.specs.declared.positions.Fix.{Fix}

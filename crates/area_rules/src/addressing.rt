@@ -1,3 +1,4 @@
+//! Which calls are for a ship or a coast station.
 ghost use Rattle.std.specs.Prelude.{◌≡◌};
 ghost use Rattle.area_rules.specs.Addressing.{is_for_ship, is_for_coast};
 

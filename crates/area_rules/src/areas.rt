@@ -1,3 +1,4 @@
+//! Whether a position is in an area.
 ghost use Rattle.std.specs.Prelude.{◌≡◌, ◌+◌, ◌*◌, ◌<◌, ◌≤◌, ◌≤ℤ◌, ◌-ℤ◌, pos, neg_ℤ, int_le};
 ghost use Rattle.std.specs.Int.{int_rem_euclid};
 ghost use Rattle.area_rules.specs.Inside as inside;
@@ -7,8 +8,8 @@ use call_values::{Area, Fix, Position};
 /// The minutes of arc once round the earth.
 const ROUND: i32 = 21_600;
 
-/// Whether a position is in an area (ITU-R M.493, geographical coordinates of an area call), edges included. Longitude goes
-/// on across 180 degrees. A position that isn't known is in every area (this project's profile).
+/// Whether a position is in an area (ITU-R M.493, geographical coordinates of an area call), edges included. Longitude
+/// goes on across 180 degrees. A position that isn't known is in every area (this project's profile).
 pub fn contains(area: &Area, position: &Position) -> bool
     ensures { result ≡ inside.is_inside area.now position.now }
 {
@@ -18,12 +19,14 @@ pub fn contains(area: &Area, position: &Position) -> bool
     }
 }
 
+/// Whether a known position is in an area, edges included.
 fn is_in(area: &Area, fix: &Fix) -> bool
     ensures { result ≡ inside.is_in area.now fix.now }
 {
     is_at_latitude(area, fix) && is_at_longitude(area, fix)
 }
 
+/// Whether a position is between the northern and the southern edge of an area, both included.
 fn is_at_latitude(area: &Area, fix: &Fix) -> bool
     ensures { result ≡ inside.is_at_latitude area.now fix.now }
 {
@@ -32,6 +35,7 @@ fn is_at_latitude(area: &Area, fix: &Fix) -> bool
     is_at_most(latitude, north) && is_at_most(southward(north, area.south()), latitude)
 }
 
+/// Whether a position is between the western and the eastern edge of an area, both included.
 fn is_at_longitude(area: &Area, fix: &Fix) -> bool
     ensures { result ≡ inside.is_at_longitude area.now fix.now }
 {
@@ -40,6 +44,7 @@ fn is_at_longitude(area: &Area, fix: &Fix) -> bool
     is_at_most(eastward(west, longitude), arc(area.east()))
 }
 
+/// Whether a number of minutes of arc is at most another.
 fn is_at_most(a: i32, b: i32) -> bool
     ensures { result ≡ int_le a b }
 {

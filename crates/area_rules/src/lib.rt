@@ -1,4 +1,4 @@
-//! Whom calls are for: areas, and the addresses of calls at ship and coast stations.
+//! Who calls are addressed to: areas, and the addresses of calls at ship and coast stations.
 #![tactic(auto)]
 
 mod addressing;

@@ -29,7 +29,7 @@ pub record Laws : Type 0 where
   pub lawful : (s : DscFields) → IsDsc s → IfSome (row_of s) IsLawful
   pub one : (s t : DscFields) (bytes : List ℕ) → IsDsc s → IsDsc t → SentenceText s bytes → SentenceText t bytes → s ≡ t
 
--- the head of a list, and what stands behind it
+-- the head of a list, and what comes after it
 one_of : {K : Type 0} (x : K) (xs : List K) (k : K) → Contains (x ∷ xs) k → (x ≡ k) ⊎ Contains xs k
 one_of x xs k here =
     elim (Contains-append_cases (x ∷ []) xs k here) [

@@ -32,13 +32,14 @@ pub record HasRow (lines : Lines) (row : BookRow) : Type 0 where
   pub there : Contains lines line
   pub gives : GivesRow line row
 
--- the text of the book of these lines: of each row that they give, once, by rising order
+-- the text of the book of these lines: each row that they give, once, by rising order
 pub record IsBookText (lines : Lines) (text : List ℕ) : Type 0 where
   pub rows : List BookRow
   pub book : IsBook rows
   pub rows_are : (row : BookRow) → Contains rows row ↔ HasRow lines row
   pub text_is : text ≡ book_text rows
 
+-- a test of verdicts: whether a sentence is refused
 abbrev pub is_refusal : Verdict → Bool
 is_refusal Accepted = false
 is_refusal (Refused refusal) = true

@@ -1,3 +1,4 @@
+//! The command `book`.
 ghost use Rattle.std.specs.Prelude.{◌≡◌, ◌∷◌, ◌++◌, [], OnOk, true};
 ghost use Rattle.line_engine.specs.Lines.{Lines};
 ghost use Rattle.dsc_lines.specs.BookLine.{is_sentence};

@@ -14,7 +14,8 @@ pub fn lines_determine_output()
     books_with_the_same_rows_are_one_list();
 }
 
-/// The law that inputs of which the same lines are accepted as DSC sentences have one text, whatever their order and number.
+/// The law that inputs of which the same lines are accepted as DSC sentences have one text, whatever their order and
+/// number.
 pub fn accepted_sentences_determine_text()
     ensures { (a b : Lines) → HaveSameSentences a b → (text other : List ℕ) → IsBookText a text → IsBookText b other
         → text ≡ other }

@@ -145,7 +145,7 @@ at_start call l rest n h e p = record {
 pub place_short : (call : Call) (n : ℕ) → n ≡ length (up_to_end call) → n ≤ 29
 place_short call n p = omega (arith, length-covered call)
 
--- what the check covers stands between the first symbol and the check
+-- what the check covers is between the first symbol and the check
 pub covered_part : (call : Call) (l rest : List ℕ) (n : ℕ) → l ≡ up_to_end call ++ rest → n ≡ length (up_to_end call)
     → take (n - 1) (drop 1 l) ≡ covered call
 covered_part call l rest n e p =

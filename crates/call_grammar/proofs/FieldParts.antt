@@ -52,7 +52,7 @@ letter_same : (x : ℕ) (t : Bool) → t ≡ true → Allows (if t then Exactly 
 letter_same x true e h = h
 letter_same x false e h = absurd (cc)
 
--- where a field is told to have three characters
+-- where a field is found to have three characters
 short_at : (initial b c : ℕ) (absent vhf hf : Bool) → Allows letter.Field initial → (initial / 10 ≡ 4 → ⊥)
     → (initial == NO_INFORMATION) ≡ absent → (initial == VHF_CHANNEL) ≡ vhf → (initial / 10 == 3) ≡ hf
     → Allows (if absent then Exactly NO_INFORMATION else UpTo 99) b → Allows (if absent then Exactly NO_INFORMATION else UpTo 99) c

@@ -13,12 +13,12 @@ pub distress-list : (from telecommand : ℕ) (k : Casualty) (l : List ℕ)
     → distress_symbols from telecommand k ++ l ≡ categories.DISTRESS ∷ (identity_symbols from ++ (telecommand ∷ (casualty_symbols k ++ l)))
 distress-list from telecommand k l = ap (λ a. categories.DISTRESS ∷ a) (append_assoc (identity_symbols from) (telecommand ∷ casualty_symbols k) l)
 
--- behind an address
+-- after an address
 pub relay-list : (a : List ℕ) (from telecommand : ℕ) (k : Casualty) (l : List ℕ)
     → (a ++ distress_symbols from telecommand k) ++ l ≡ a ++ (categories.DISTRESS ∷ (identity_symbols from ++ (telecommand ∷ (casualty_symbols k ++ l))))
 relay-list a from telecommand k l = append_assoc a (distress_symbols from telecommand k) l ∙ ap (λ b. a ++ b) (distress-list from telecommand k l)
 
--- a call with a message, and what follows it, behind an address
+-- a call with a message, and what follows it, after an address
 pub letter-list : (a : List ℕ) (g : Category) (from first second : ℕ) (m : Message) (l : List ℕ)
     → (a ++ request_symbols g from first second m) ++ l ≡ a ++ (category_symbol g ∷ (identity_symbols from ++ (first ∷ second ∷ (message_symbols m ++ l))))
 letter-list a g from first second m l =

@@ -1,4 +1,4 @@
--- The languages of the forms are told apart while they are read.
+-- The languages of the forms are distinguished while they are read.
 use Rattle.std.proofs.Common.{ℕ, Bool, true, false, Option, Some, None, arith}
 use Rattle.symbol_reader.specs.declared.letters.Letter.TheVariants.{Exactly}
 use Rattle.symbol_reader.proofs.Laws.{Good, then_good, only_good}

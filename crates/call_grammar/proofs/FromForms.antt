@@ -41,7 +41,7 @@ IsDistressTelecommand-relay (to.Area a) = refl
 IsDistressTelecommand-relay (to.Group m) = refl
 IsDistressTelecommand-relay (to.One m) = refl
 
--- behind each address
+-- after each address
 from_distress : (t : To) (v : Call) (w : List ℕ) → IsTo t → Distress t v w → CallWords v (format_to t ∷ (address_symbols t ++ (categories.DISTRESS ∷ w)))
 from_distress to.All v w h p = spelled_then format.All _ tt (spelled_then None _ tt p)
 from_distress (to.Area a) v w h p = spelled_then format.Area _ tt (spelled_then a _ h (spelled_then None _ tt p))
@@ -59,7 +59,7 @@ request_words : (t : To) (g : Category) (from first second : ℕ) (f1 f2 : Field
 request_words t g from first second f1 f2 i h =
     spelled_then from _ i (spelled_then first _ h.one (spelled_then second _ h.two (spelled_then f1 _ h.told.0 (spelled_then f2 _ h.told.1 (one_then EOS refl only)))))
 
--- a call to one station, behind its sender
+-- a call to one station, after its sender
 from_sender_and_individual : (m : ℕ) (g : Category) (from : ℕ) (v : Call) (w : List ℕ) → IsMmsi m → SenderAndIndividual m g v w
     → CallWords v (INDIVIDUAL ∷ (identity_symbols m ++ (category_symbol g ∷ w)))
 from_sender_and_individual m g from v w h p = spelled_then format.One _ tt (spelled_then m _ h (spelled_then (Some g) _ tt p))

@@ -1,4 +1,5 @@
--- What lacks the last symbol of a word lacks one symbol of every word that it begins: languages, along the forms of calls.
+-- What lacks the last symbol of a word lacks one symbol of every word that it begins: languages, along the forms of
+-- calls.
 use Rattle.std.proofs.Common.{◌≡◌, ℕ, inl, inr, Bool, true, false, Option, Some, None, List, [], ◌∷◌, ◌++◌, length, refl, sym, ◌∙◌, ap, subst, append_assoc, length-append, arith}
 use Rattle.std.proofs.lemmas.List.{nil_from_length}
 use mathlib.Core.List.{head-eq_of_cons-eq}
@@ -44,7 +45,7 @@ one_symbol [] h = absurd (omega arith)
 one_symbol (x ∷ []) h = (x, refl)
 one_symbol (x ∷ (y ∷ l)) h = absurd (omega arith)
 
--- the last symbol of a list and what stands before it
+-- the last symbol of a list and what comes before it
 parted : (l : List ℕ) → (l ≡ [] → ⊥) → (front : List ℕ) × (last : ℕ) × (l ≡ front ++ (last ∷ []))
 parted [] some = absurd (some refl)
 parted (x ∷ []) some = ([], x, refl)
@@ -74,7 +75,7 @@ single language h = record {
       omega (arith, length-append front (last ∷ []), length-append front rest);
 }
 
--- a word of a language whose words can be told apart, and then one of a language of this kind
+-- a word of a language whose words can be distinguished, and then one of a language of this kind
 then_last : {U V : Type 0} (first : U → List ℕ → Type 0) (second : U → V → List ℕ → Type 0)
     → Good first → ((u : U) (front : List ℕ) → first u front → LacksOne (second u)) → LacksOne (Then first second)
 then_last first second g h = record {
@@ -194,7 +195,7 @@ after_format_last format.One = then_last _ _ identity_good (λ m _ _. addressed_
 checked_last : LacksOne CheckedCharacters
 checked_last = alike_last _ _ call_alike (then_last _ _ formats_good (λ f _ _. after_format_last f))
 
--- behind all fields of a call, a symbol with which a call goes on is followed by a check
+-- after all fields of a call, a symbol with which a call goes on is followed by a check
 one_more : (l : List ℕ) (x : ℕ) (c d : Call) (rest tail : List ℕ) → CheckedCharacters c (l ++ (end_of c ∷ [])) → CheckedCharacters d (covered d)
     → covered d ++ tail ≡ l ++ (x ∷ rest) → covered d ≡ l ++ (x ∷ [])
 one_more l x c d rest tail p q e = elim (split (covered d) tail l (x ∷ rest) e) [

@@ -27,7 +27,7 @@ no_longer c d t s y h k e =
     let count : length (tail_of d ++ []) ≡ length (tail_of c ++ (t ++ (y ∷ s))) = ap length same.1 in
     absurd (omega (arith, length-append t (y ∷ s)))
 
--- no check stands after a call's whole list
+-- no check comes after a call's whole list
 no_check_after : (c d : Call) (t : List ℕ) → IsCall c → IsCall d → up_to_end d ≡ spell c ++ t → ⊥
 no_check_after c d t h k e =
     let e1 : up_to_end d ≡ up_to_end c ++ (tail_of c ++ t) = e ∙ ap (λ m. m ++ t) (spell-tail c) ∙ append_assoc (up_to_end c) (tail_of c) t in

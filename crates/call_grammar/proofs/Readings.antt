@@ -24,11 +24,11 @@ use Rattle.call_grammar.proofs.CallParts.{checked_characters_good}
 use Rattle.call_grammar.proofs.Lengths.{length-spell}
 use Rattle.call_grammar.proofs.Steps.{spelled, open_of, not_viable, no_cover, no_check_first}
 
--- what stands in a call's list after the first end of sequence
+-- what a call's list has after the first end of sequence
 abbrev pub tail_of : Call → List ℕ
 tail_of c = check_of (covered c) ∷ end_of c ∷ end_of c ∷ []
 
--- a call's list is what stands up to its end of sequence, and its last symbols
+-- a call's list is what comes up to its end of sequence, and its last symbols
 pub spell-tail : (c : Call) → spell c ≡ up_to_end c ++ tail_of c
 spell-tail c = append_assoc (up_to_end c) (check_of (covered c) ∷ []) (end_of c ∷ end_of c ∷ [])
 

@@ -41,7 +41,7 @@ at_end c l rest (y ∷ s) x k h b e d =
     absurd (no_word_goes_on CheckedCharacters checked_characters_good c b.value (covered c) y (s ++ b.rest) (spelled c h)
     (subst (CheckedCharacters b.value) (ap (λ a. a ++ b.rest) e ∙ append_assoc (covered c) (y ∷ s) b.rest) b.word))
 
--- the check of a call stands nowhere but at the end of a list that begins what a check covers
+-- the check of a call is only at the end of a list that begins what a check covers
 at_place : (c : Call) (l rest : List ℕ) (x k : ℕ) → IsCall c → Begins CheckedCharacters l → l ++ (x ∷ []) ≡ covered c ++ (k ∷ rest)
     → (l ≡ covered c) × (x ≡ k) × (rest ≡ [])
 at_place c l rest x k h b e = elim (split l (x ∷ []) (covered c) (k ∷ rest) e) [
@@ -131,7 +131,7 @@ checked_at c l (x ∷ m) got p h e =
     let f2 : p.front ≡ covered c = p.word.list in
     f1 ∙ ap (λ a. a ++ (x ∷ m)) f2 ∙ ap (λ a. covered c ++ (a ∷ m)) (sym e)
 
--- where a walk stands with one more symbol: the format specifier f twice, and what was taken after the first
+-- where a walk is with one more symbol: the format specifier f twice, and what was taken after the first
 pub record Stands (old : List ℕ) (x : ℕ) : Type 0 where
   pub f : ℕ
   pub l : List ℕ
@@ -172,11 +172,11 @@ stands old x (inr w) = record {
   before = inr w.list;
 }
 
--- no check stands at the beginning
+-- no check is at the beginning
 pub no_check_first : IsAtCheck [] → ⊥
 no_check_first a = let e : [] ≡ format_of a.call ∷ covered a.call = a.list in cc
 
--- what was judged of the list without its first symbol, of the list that stands so
+-- what was judged of the list without its first symbol, said of the list with both format specifiers
 judged : (old : List ℕ) (x : ℕ) (step : Step) (s : Stands old x) → Judges (drop 1 (after old x)) step → Judges (s.l ++ (x ∷ [])) step
 judged old x step s j = subst (λ a. Judges (drop 1 a) step) s.list j
 

@@ -34,7 +34,7 @@ use Rattle.call_grammar.specs.inside.Forms.{format_symbol, category_or_distress,
 use Rattle.call_grammar.proofs.CodedParts.{blanks_list}
 use Rattle.call_grammar.proofs.FormLists.{distress-list, relay-list, letter-list, request-list, service-list}
 
--- a word spells the value that it is told to spell, behind a list
+-- a word spells the value that it is said to spell, after a list
 moved : (before : List ℕ → List ℕ) (v u : Call) (w l : List ℕ) → v ≡ u → w ≡ l → CheckedCharacters u (before l) → CheckedCharacters v (before w)
 moved before v u w l value list p = subst (λ x. CheckedCharacters x (before w)) (sym value) (subst (λ x. CheckedCharacters u (before x)) (sym list) p)
 
@@ -114,7 +114,7 @@ to_request t g from v w h i p =
     (request t g from p.chosen q.chosen r.chosen s.chosen) w _ u.after.value list
     (request_checked t g from p.chosen q.chosen r.chosen s.chosen h i p.before.is_lawful q.before.is_lawful r.before.is_lawful s.before.is_lawful)
 
--- the list of a call to one station, behind its sender
+-- the list of a call to one station, after its sender
 abbrev letter : ℕ → Category → ℕ → List ℕ → List ℕ
 letter m g from w = INDIVIDUAL ∷ (identity_symbols m ++ (category_symbol g ∷ (identity_symbols from ++ w)))
 

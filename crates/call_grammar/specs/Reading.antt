@@ -62,12 +62,12 @@ pub record IsTwice (l : List ℕ) : Type 0 where
   pub lawful : IsFormat format
   pub list : l ≡ format ∷ format ∷ rest
 
--- this symbol stands at place n
+-- this symbol is at place n
 pub record Shows (l : List ℕ) (n x : ℕ) : Type 0 where
   pub inside : n < length l
   pub symbol : slice_index l n ≡ x
 
--- the list ends before place n, or another symbol stands there
+-- the list ends before place n, or has another symbol there
 abbrev pub Misses : List ℕ → ℕ → ℕ → ReadRefusal → Type 0
 Misses l n x (Short m) = (m ≡ n) × (length l ≤ n)
 Misses l n x (Outside m got) = (m ≡ n) × Shows l n got × (got ≢ x)

@@ -64,7 +64,8 @@ abbrev pub blanks : ℕ → List ℕ
 blanks zero = []
 blanks (suc n) = NO_INFORMATION ∷ blanks n
 
--- six digits, 3 and five digits, 90 and four digits, 4 and seven digits; three characters of no information where the field is absent
+-- six digits, 3 and five digits, 90 and four digits, 4 and seven digits; three characters of no information where the
+-- field is absent
 abbrev pub field_symbols : FieldKind → List ℕ
 field_symbols Absent = NO_INFORMATION ∷ NO_INFORMATION ∷ NO_INFORMATION ∷ []
 field_symbols (Hundreds n) = six_digits n
@@ -106,14 +107,14 @@ abbrev pub request_symbols : Category → ℕ → ℕ → ℕ → Message → Li
 request_symbols category from first second message =
     category_symbol category ∷ (identity_symbols from ++ (first ∷ second ∷ message_symbols message))
 
--- a test and no information; a ship's position, asked for with no information, or told with a time
+-- a test and no information; a ship's position, asked for with no information, or given with a time
 abbrev pub kind_symbols : Kind → List ℕ
 kind_symbols (Test reply) = telecommands.TEST ∷ blanks 7
 kind_symbols AskPosition = telecommands.SHIP_POSITION ∷ NO_INFORMATION ∷ NO_INFORMATION ∷ blanks 5
 kind_symbols (Position position time) =
     telecommands.SHIP_POSITION ∷ NO_INFORMATION ∷ POSITION_FOLLOWS ∷ (position_symbols position ++ time_symbols time)
 
--- the end of sequence of a test, of the reply to one, and of a position asked for or told
+-- the end of sequence of a test, of the reply to one, and of a position asked for or given
 abbrev pub kind_end : Kind → ℕ
 kind_end (Test reply) = if reply then ends.ACKNOWLEDGE_BQ else ends.ACKNOWLEDGE_RQ
 kind_end AskPosition = ends.ACKNOWLEDGE_RQ
@@ -128,14 +129,14 @@ format_of call = format_to (address_of call)
 abbrev pub distress_telecommand : Bool → ℕ
 distress_telecommand acknowledges = if acknowledges then telecommands.DISTRESS_ACKNOWLEDGEMENT else telecommands.DISTRESS_RELAY
 
--- what a call says, without whom it is for
+-- what a call says, without who it is addressed to
 abbrev pub body_symbols : Body → List ℕ
 body_symbols (body.Alert casualty) = casualty_symbols casualty
 body_symbols (body.Distress from acknowledges casualty) = distress_symbols from (distress_telecommand acknowledges) casualty
 body_symbols (body.Request category from first second message) = request_symbols category from first second message
 body_symbols (body.Service category from kind) = category_symbol category ∷ (identity_symbols from ++ kind_symbols kind)
 
--- what stands between the format specifier and the end of sequence
+-- what comes between the format specifier and the end of sequence
 abbrev pub fields_of : Call → List ℕ
 fields_of call = address_symbols (address_of call) ++ body_symbols (body_of call)
 
@@ -159,10 +160,10 @@ covered c = format_of c ∷ (fields_of c ++ (end_of c ∷ []))
 abbrev pub up_to_end : Call → List ℕ
 up_to_end c = format_of c ∷ covered c
 
--- and with its error check character
+-- a call's list up to its error check character
 abbrev pub through_check : Call → List ℕ
 through_check c = up_to_end c ++ (check_of (covered c) ∷ [])
 
--- a call's whole list: the end of sequence stands twice more after the check
+-- a call's whole list: the end of sequence comes twice more after the check
 abbrev pub spell : Call → List ℕ
 spell c = through_check c ++ (end_of c ∷ end_of c ∷ [])

@@ -1,3 +1,4 @@
+//! Readers of identities, positions, times and casualties.
 ghost use Rattle.std.specs.Prelude.{◌≡◌, ◌≤◌, ◌∷◌, []};
 ghost use Rattle.symbol_reader.specs.inside.Reading.{Reads};
 ghost use Rattle.dsc_symbols.specs.Natures.{IsNature};
@@ -22,7 +23,7 @@ pub fn identity(list: &mut Cursor) -> Result<Mmsi, Stop>
     Ok(identity_of(a, b, c, d, e))
 }
 
-/// The identity whose nine digits and a 0 stand in these characters.
+/// The identity whose nine digits and a 0 are in these characters.
 fn identity_of(a: u8, b: u8, c: u8, d: u8, e: u8) -> Mmsi
     requires a { a ≤ 99 }
     requires b { b ≤ 99 }
@@ -65,6 +66,7 @@ pub fn position(list: &mut Cursor) -> Result<Position, Stop>
     }
 }
 
+/// Reads the four characters after the first of a position that isn't known: 99 each.
 fn unknown_rest(list: &mut Cursor) -> Result<Position, Stop>
     ensures { Reads grammar.UnknownRest list.old result list.new }
 {
@@ -76,6 +78,8 @@ fn unknown_rest(list: &mut Cursor) -> Result<Position, Stop>
     Ok(Position::unknown())
 }
 
+/// Reads the four characters after the first of a known position: the rest of its ten digits (ITU-R M.493, distress
+/// coordinates).
 fn known_rest(list: &mut Cursor, initial: u8) -> Result<Position, Stop>
     requires { initial ≤ 39 }
     ensures { Reads (grammar.KnownRest initial) list.old result list.new }
@@ -94,6 +98,8 @@ fn known_rest(list: &mut Cursor, initial: u8) -> Result<Position, Stop>
     Ok(Position::new(fix).unwrap())
 }
 
+/// The ones of a latitude's degrees and the tens of its minutes, after the quadrant and the tens of degrees: at most 90
+/// degrees in all.
 fn latitude_ones(initial: u8) -> Letter
     ensures { result ≡ grammar.latitude_ones initial }
 {
@@ -104,6 +110,7 @@ fn latitude_ones(initial: u8) -> Letter
     }
 }
 
+/// The ones of a latitude's minutes and the hundreds of a longitude's degrees: no minutes at 90 degrees.
 fn minutes_and_hundreds(initial: u8) -> Letter
     ensures { result ≡ grammar.minutes_and_hundreds initial }
 {
@@ -114,7 +121,7 @@ fn minutes_and_hundreds(initial: u8) -> Letter
     }
 }
 
-/// The tens and ones of a longitude's degrees behind its hundreds: at most 180 degrees in all (ITU-R M.493, position).
+/// The tens and ones of a longitude's degrees after its hundreds: at most 180 degrees in all (ITU-R M.493, position).
 pub fn longitude_ones(hundreds: u8) -> Letter
     ensures { result ≡ grammar.longitude_ones hundreds }
 {
@@ -125,6 +132,7 @@ pub fn longitude_ones(hundreds: u8) -> Letter
     }
 }
 
+/// The minutes of a longitude after its degrees, 0 to 59: none at 180 degrees.
 fn longitude_minutes(hundreds: u8, ones: u8) -> Letter
     ensures { result ≡ grammar.longitude_minutes hundreds ones }
 {
@@ -148,7 +156,7 @@ pub fn time(list: &mut Cursor) -> Result<HourMinute, Stop>
     Ok(HourMinute::new(hour, minute).unwrap())
 }
 
-/// Reads what a distress call tells of a casualty.
+/// Reads how a distress call describes a casualty.
 pub fn casualty(list: &mut Cursor) -> Result<Casualty, Stop>
     ensures { Reads grammar.Casualties list.old result list.new }
 {

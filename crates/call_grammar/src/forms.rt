@@ -1,3 +1,4 @@
+//! Readers of the forms of calls, from the format specifier on.
 ghost use Rattle.std.specs.Prelude.{◌≡◌};
 ghost use Rattle.symbol_reader.specs.inside.Reading.{Reads};
 ghost use Rattle.call_grammar.specs.inside.Grammar.{CheckedCharacters};
@@ -22,6 +23,7 @@ pub fn checked_characters(list: &mut Cursor) -> Result<Call, Stop>
     after_format(list, format)
 }
 
+/// Reads what follows this format specifier, which says whether an address comes and which one.
 fn after_format(list: &mut Cursor, format: Specifier) -> Result<Call, Stop>
     ensures { Reads (forms.AfterFormat format) list.old result list.new }
 {
@@ -43,6 +45,7 @@ fn after_format(list: &mut Cursor, format: Specifier) -> Result<Call, Stop>
     }
 }
 
+/// Reads what follows the format specifier of a distress alert.
 fn alert(list: &mut Cursor) -> Result<Call, Stop>
     ensures { Reads forms.Alerts list.old result list.new }
 {
@@ -59,6 +62,7 @@ fn addressed_to_one(list: &mut Cursor, to: Mmsi) -> Result<Call, Stop>
     after_category_to_one(list, to, category)
 }
 
+/// Reads what follows this category of a call to one station, or the category distress, which is `None`.
 fn after_category_to_one(
     list: &mut Cursor,
     to: Mmsi,
@@ -88,6 +92,7 @@ fn addressed(list: &mut Cursor, to: &To) -> Result<Call, Stop>
     after_category(list, to, category)
 }
 
+/// Reads what follows this category of a call to more than one station, or the category distress, which is `None`.
 fn after_category(list: &mut Cursor, to: &To, category: Option<Category>) -> Result<Call, Stop>
     ensures { Reads (forms.AfterCategory to.now category) list.old result list.new }
 {
@@ -105,6 +110,7 @@ fn distress(list: &mut Cursor, to: &To) -> Result<Call, Stop>
     after_relayer(list, to, from)
 }
 
+/// Reads what follows the sender of a distress call that isn't an alert.
 fn after_relayer(list: &mut Cursor, to: &To, from: Mmsi) -> Result<Call, Stop>
     ensures { Reads (forms.AfterRelayer to.now from) list.old result list.new }
 {
@@ -112,6 +118,7 @@ fn after_relayer(list: &mut Cursor, to: &To, from: Mmsi) -> Result<Call, Stop>
     after_distress_telecommand(list, to, from, is_ack)
 }
 
+/// Reads what follows the telecommand of a distress call: that of an acknowledgement, or of a relay.
 fn after_distress_telecommand(
     list: &mut Cursor,
     to: &To,
@@ -127,6 +134,7 @@ fn after_distress_telecommand(
     }
 }
 
+/// Reads what follows the telecommand of a distress acknowledgement.
 fn ack(list: &mut Cursor, from: Mmsi) -> Result<Call, Stop>
     ensures { Reads (forms.Acks from) list.old result list.new }
 {
@@ -135,6 +143,7 @@ fn ack(list: &mut Cursor, from: Mmsi) -> Result<Call, Stop>
     Ok(Call::Ack { from, casualty })
 }
 
+/// Reads what follows the telecommand of a distress relay, or of its acknowledgement.
 fn relay(list: &mut Cursor, to: &To, from: Mmsi) -> Result<Call, Stop>
     ensures { Reads (forms.Relays to.now from) list.old result list.new }
 {

@@ -1,3 +1,4 @@
+//! Readers of what follows the sender in a call to one station.
 ghost use Rattle.symbol_reader.specs.inside.Reading.{Reads};
 ghost use Rattle.call_grammar.specs.inside.Forms as forms;
 
@@ -18,6 +19,7 @@ pub fn individual(list: &mut Cursor, to: Mmsi, category: Category, from: Mmsi) -
     after_telecommand(list, to, category, from, first)
 }
 
+/// Reads what follows this first telecommand of a call to one station.
 fn after_telecommand(
     list: &mut Cursor,
     to: Mmsi,
@@ -34,6 +36,7 @@ fn after_telecommand(
     }
 }
 
+/// Reads what follows the first telecommand of an individual call.
 fn other(
     list: &mut Cursor,
     to: Mmsi,
@@ -57,6 +60,7 @@ fn other(
     })
 }
 
+/// Reads what follows the telecommand of a test or of the reply to one, which differ in their ends of sequence.
 fn test_call(list: &mut Cursor, to: Mmsi, category: Category, from: Mmsi) -> Result<Call, Stop>
     ensures { Reads (forms.Tests to category from) list.old result list.new }
 {
@@ -72,6 +76,7 @@ fn test_call(list: &mut Cursor, to: Mmsi, category: Category, from: Mmsi) -> Res
     })
 }
 
+/// Reads what follows the telecommand of a call about a ship's position.
 fn position_call(list: &mut Cursor, to: Mmsi, category: Category, from: Mmsi) -> Result<Call, Stop>
     ensures { Reads (forms.ShipPositions to category from) list.old result list.new }
 {
@@ -80,6 +85,7 @@ fn position_call(list: &mut Cursor, to: Mmsi, category: Category, from: Mmsi) ->
     after_told(list, to, category, from, is_told)
 }
 
+/// Reads what follows the symbol that says whether a position comes: the position, or the rest of a request for it.
 fn after_told(
     list: &mut Cursor,
     to: Mmsi,
@@ -96,6 +102,7 @@ fn after_told(
     }
 }
 
+/// Reads a position, its time and the end of sequence of a position answer.
 fn answer(list: &mut Cursor, to: Mmsi, category: Category, from: Mmsi) -> Result<Call, Stop>
     ensures { Reads (forms.PositionAnswers to category from) list.old result list.new }
 {
@@ -110,6 +117,7 @@ fn answer(list: &mut Cursor, to: Mmsi, category: Category, from: Mmsi) -> Result
     })
 }
 
+/// Reads the rest of a position request: characters of no information, and the end of sequence.
 fn question(list: &mut Cursor, to: Mmsi, category: Category, from: Mmsi) -> Result<Call, Stop>
     ensures { Reads (forms.PositionRequests to category from) list.old result list.new }
 {

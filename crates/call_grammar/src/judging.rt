@@ -1,3 +1,4 @@
+//! How a list goes on at its last symbol: whether some call's list does.
 ghost use Rattle.std.specs.Prelude.{◌≡◌, ◌↔◌, IsTrue, ℕ, ◌<◌, List, ◌∷◌, ◌++◌, length, drop};
 ghost use Rattle.call_values.specs.Calls.{IsCall};
 ghost use Rattle.call_grammar.specs.Spelling.{covered, check_of};
@@ -9,7 +10,7 @@ use call_values::Call;
 use cursor::Cursor;
 use symbol_reader::{Stop, check};
 
-/// How a call's list goes on at the last symbol, the format specifier standing twice.
+/// How a call's list, which has the format specifier twice, goes on at the last symbol.
 pub fn judge(list: &[u8]) -> Step
     requires { 0 < length list.now }
     ensures { Judges (drop 1 list.now) result }
@@ -28,7 +29,7 @@ pub fn judge(list: &[u8]) -> Step
     }
 }
 
-/// Whether the list, the format specifier standing twice, is all that stands before some call's check.
+/// Whether the list, which has the format specifier twice, is all that comes before some call's check.
 pub fn is_covered(list: &[u8]) -> bool
     requires { 0 < length list.now }
     ensures { IsTrue result ↔ IsCovered (drop 1 list.now) }

@@ -20,8 +20,8 @@ pub fn one_check_place()
         → (c ≡ d) × (rest ≡ []) }
 {}
 
-/// The law that where the first end of sequence of some call is next, each symbol with which a call goes on is one, and a
-/// check follows.
+/// The law that where the first end of sequence of some call is next, each symbol with which a call goes on is one, and
+/// a check follows.
 pub fn one_end_place()
     ensures { (l : List ℕ) (x : ℕ) → IsAtEnd l → IsViable (l ++ x ∷ []) → IsAtCheck (l ++ x ∷ []) }
 {}
@@ -46,7 +46,7 @@ pub fn open_is_not_done()
     ensures { (l : List ℕ) → (l ≡ []) ⊎ IsOpen l → IsDone l → ⊥ }
 {}
 
-/// The law that a symbol is a format specifier exactly where it begins some call's list, standing twice.
+/// The law that a symbol is a format specifier exactly where it begins some call's list, in which it comes twice.
 pub fn formats_begin_calls()
     ensures { (f : ℕ) → IsFormat f ↔ IsViable (f ∷ f ∷ []) }
 {}

@@ -1,3 +1,4 @@
+//! Readers of areas, of frequency and channel fields, and of messages.
 ghost use Rattle.std.specs.Prelude.{◌≡◌, ◌≤◌, ◌/◌};
 ghost use Rattle.symbol_reader.specs.Letters.{Allows};
 ghost use Rattle.symbol_reader.specs.inside.Reading.{Reads};
@@ -22,6 +23,8 @@ pub fn area(list: &mut Cursor) -> Result<Area, Stop>
     Ok(Area::new(a / 10, a % 10 * 10 + b / 10, longitude, d, e).unwrap())
 }
 
+/// The ones of the degrees of an area's northern edge and the hundreds of its longitude's degrees: at most 90 degrees
+/// of latitude.
 fn area_latitude(initial: u8) -> Letter
     ensures { result ≡ grammar.area_latitude initial }
 {
@@ -40,6 +43,7 @@ pub fn field(list: &mut Cursor) -> Result<Field, Stop>
     field_rest(list, initial)
 }
 
+/// Reads the two or three characters after the first of a frequency or channel field.
 fn field_rest(list: &mut Cursor, initial: u8) -> Result<Field, Stop>
     requires { Allows Letter.Field initial }
     ensures { Reads (grammar.FieldRest initial) list.old result list.new }
@@ -53,6 +57,7 @@ fn field_rest(list: &mut Cursor, initial: u8) -> Result<Field, Stop>
     Ok(short_field(initial, b, c))
 }
 
+/// A character after the first of a frequency or channel field: no information after no information, else two digits.
 fn field_letter(initial: u8) -> Letter
     ensures { result ≡ grammar.field_letter initial }
 {

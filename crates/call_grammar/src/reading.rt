@@ -1,3 +1,4 @@
+//! Reading the whole list of a call, and why a list is none.
 ghost use Rattle.std.specs.Prelude.{◌≡◌, ℕ, ◌≤◌, List, ◌∷◌, ◌++◌, length, MatchResult, IsTrue, ◌↔◌, Err};
 ghost use Rattle.call_values.specs.Calls.{IsCall};
 ghost use Rattle.call_grammar.specs.Spelling.{up_to_end};

@@ -1,3 +1,4 @@
+//! The list of a call, as it is sent.
 ghost use Rattle.std.specs.Prelude.{◌≡◌, ◌+◌, ◌<◌, ◌≤◌, ◌++◌, ◌∷◌, length};
 ghost use Rattle.call_values.specs.Positions.{IsFix};
 ghost use Rattle.call_values.specs.Areas.{IsArea};
@@ -48,6 +49,7 @@ pub fn format_of(call: &Call) -> u8
     }
 }
 
+/// The format specifier of a call by its address (ITU-R M.493, format specifier).
 fn format_to(to: &To) -> u8
     ensures { result ≡ sequence.format_to to.now }
 {
@@ -59,7 +61,8 @@ fn format_to(to: &To) -> u8
     }
 }
 
-/// The call's end of sequence: acknowledgement wanted, acknowledgement given, or neither (ITU-R M.493, end of sequence).
+/// The call's end of sequence: acknowledgement wanted, acknowledgement given, or neither (ITU-R M.493, end of
+/// sequence).
 pub fn own_end(call: &Call) -> End
     ensures { sequence.end_symbol result ≡ sequence.end_of call.now }
 {
@@ -86,7 +89,7 @@ pub fn end_symbol(end: &End) -> u8
     end.symbol()
 }
 
-/// The end of sequence of a test, of its reply, and of a position that is asked for or told.
+/// The end of sequence of a test, of its reply, and of a position that is asked for or given.
 fn kind_end(kind: &Kind) -> End
     ensures { sequence.end_symbol result ≡ sequence.kind_end kind.now }
 {
@@ -104,6 +107,7 @@ pub fn append(list: &mut ArrayVec<u8, 64>, symbols: &[u8])
     list.try_extend_from_slice(symbols).unwrap();
 }
 
+/// Appends the fields of a call: its address, and what it says.
 fn append_fields(list: &mut ArrayVec<u8, 64>, call: &Call)
     requires { length list.old.items ≤ 2 }
     ensures { list.new.items ≡ list.old.items ++ sequence.fields_of call.now }
@@ -112,6 +116,7 @@ fn append_fields(list: &mut ArrayVec<u8, 64>, call: &Call)
     append_body(list, &call.body());
 }
 
+/// Appends the characters of what a call says, up to its end of sequence (ITU-R M.493, composition of the calls).
 fn append_body(list: &mut ArrayVec<u8, 64>, body: &Body)
     requires { length list.old.items ≤ 7 }
     ensures { list.new.items ≡ list.old.items ++ sequence.body_symbols body.now }
@@ -138,6 +143,7 @@ fn append_body(list: &mut ArrayVec<u8, 64>, body: &Body)
     }
 }
 
+/// The telecommand of a distress acknowledgement, or of a distress relay.
 fn distress_telecommand(acknowledges: bool) -> u8
     ensures { result ≡ sequence.distress_telecommand acknowledges }
 {
@@ -148,6 +154,7 @@ fn distress_telecommand(acknowledges: bool) -> u8
     }
 }
 
+/// Appends the category, the sender, and the kind of a test or of a call about a ship's position.
 fn append_service(list: &mut ArrayVec<u8, 64>, category: &Category, from: &Mmsi, kind: &Kind)
     requires { length list.old.items ≤ 7 }
     ensures { list.new.items ≡ list.old.items
@@ -159,6 +166,7 @@ fn append_service(list: &mut ArrayVec<u8, 64>, category: &Category, from: &Mmsi,
     append_kind(list, kind);
 }
 
+/// Appends the telecommands and the message of a test or of a call about a ship's position.
 fn append_kind(list: &mut ArrayVec<u8, 64>, kind: &Kind)
     requires { length list.old.items ≤ 20 }
     ensures { list.new.items ≡ list.old.items ++ sequence.kind_symbols kind.now }
@@ -187,6 +195,7 @@ fn append_kind(list: &mut ArrayVec<u8, 64>, kind: &Kind)
     }
 }
 
+/// Appends the characters of an address: none for all ships, else five.
 fn append_address(list: &mut ArrayVec<u8, 64>, to: &To)
     requires { length list.old.items ≤ 2 }
     ensures list { list.new.items ≡ list.old.items ++ sequence.address_symbols to.now }
@@ -199,6 +208,7 @@ fn append_address(list: &mut ArrayVec<u8, 64>, to: &To)
     }
 }
 
+/// Appends the category distress, the sender, the telecommand and the casualty.
 fn append_distress(list: &mut ArrayVec<u8, 64>, from: &Mmsi, telecommand: u8, casualty: &Casualty)
     requires { length list.old.items ≤ 7 }
     ensures { list.new.items ≡ list.old.items ++ sequence.distress_symbols from.now telecommand casualty.now }
@@ -209,6 +219,7 @@ fn append_distress(list: &mut ArrayVec<u8, 64>, from: &Mmsi, telecommand: u8, ca
     append_casualty(list, casualty);
 }
 
+/// Appends the category, the sender, the two telecommands and the message.
 fn append_request(
     list: &mut ArrayVec<u8, 64>,
     category: &Category,
@@ -227,6 +238,7 @@ fn append_request(
     append_message(list, message);
 }
 
+/// Appends two frequency or channel fields, or a position.
 fn append_message(list: &mut ArrayVec<u8, 64>, message: &Message)
     requires { length list.old.items ≤ 40 }
     ensures { list.new.items ≡ list.old.items ++ sequence.message_symbols message.now }
@@ -269,6 +281,7 @@ pub fn category_symbol(category: &Category) -> u8
     }
 }
 
+/// Appends a casualty's identity, nature of distress, position, time and subsequent communications.
 fn append_casualty(list: &mut ArrayVec<u8, 64>, casualty: &Casualty)
     requires { length list.old.items ≤ 50 }
     ensures { list.new.items ≡ list.old.items ++ sequence.casualty_symbols casualty.now }
@@ -280,12 +293,14 @@ fn append_casualty(list: &mut ArrayVec<u8, 64>, casualty: &Casualty)
     append(list, &[casualty.comm.number()]);
 }
 
+/// The five characters of an identity: its nine digits and a 0 (ITU-R M.493, address).
 fn identity_symbols(mmsi: &Mmsi) -> [u8; 5]
     ensures { result ≡ sequence.identity_symbols mmsi.now }
 {
     ten_digits(u64::from(mmsi.number()) * 10)
 }
 
+/// The five characters of a position: ten digits, or 99 each where it isn't known (ITU-R M.493, distress coordinates).
 fn position_symbols(position: &Position) -> [u8; 5]
     ensures { result ≡ sequence.position_symbols position.now }
 {
@@ -295,6 +310,8 @@ fn position_symbols(position: &Position) -> [u8; 5]
     }
 }
 
+/// The two characters of a time: hour and minute, or 88 each where it isn't known (ITU-R M.493, time of a distress
+/// alert).
 fn time_symbols(time: &HourMinute) -> [u8; 2]
     ensures { result ≡ sequence.time_symbols time.now }
 {
@@ -304,6 +321,7 @@ fn time_symbols(time: &HourMinute) -> [u8; 2]
     }
 }
 
+/// The five characters of an area: its ten digits (ITU-R M.493, geographical coordinates of an area call).
 fn area_symbols(area: &Area) -> [u8; 5]
     ensures { result ≡ sequence.area_symbols area.now }
 {

@@ -1,3 +1,4 @@
+//! Readers of single symbols: format specifiers, categories, telecommands and ends of sequence.
 ghost use Rattle.std.specs.Prelude.{◌≡◌, ◌∷◌, []};
 ghost use Rattle.symbol_reader.specs.Letters.{Allows};
 ghost use Rattle.symbol_reader.specs.inside.Reading.{Reads};
@@ -37,6 +38,7 @@ pub fn format(list: &mut Cursor) -> Result<Specifier, Stop>
     Ok(format_of_symbol(symbol))
 }
 
+/// The format specifier of this symbol.
 fn format_of_symbol(symbol: u8) -> Specifier
     requires { Allows Letter.Format symbol }
     ensures { forms.format_symbol result ≡ symbol }
@@ -58,6 +60,7 @@ pub fn category_unless_distress(list: &mut Cursor) -> Result<Option<Category>, S
     Ok(category_of_symbol(symbol))
 }
 
+/// The category of this symbol, `None` for distress.
 fn category_of_symbol(symbol: u8) -> Option<Category>
     requires { Allows Letter.Category symbol }
     ensures { forms.category_or_distress result ≡ symbol }
@@ -78,6 +81,7 @@ pub fn end(list: &mut Cursor) -> Result<End, Stop>
     Ok(end_of_symbol(symbol))
 }
 
+/// The end of sequence of this symbol.
 fn end_of_symbol(symbol: u8) -> End
     requires { Allows Letter.End symbol }
     ensures { end_symbol result ≡ symbol }
@@ -98,7 +102,7 @@ pub fn either(list: &mut Cursor, one: u8, other: u8) -> Result<bool, Stop>
     Ok(symbol == one)
 }
 
-/// Reads what stands after the sender of a distress call, and answers whether the call is an acknowledgement.
+/// Reads the telecommand after the sender of a distress call, and answers whether the call is an acknowledgement.
 pub fn distress_telecommand(list: &mut Cursor, to: &To) -> Result<bool, Stop>
     ensures { Reads (forms.DistressTelecommands to.now) list.old result list.new }
 {
@@ -106,6 +110,8 @@ pub fn distress_telecommand(list: &mut Cursor, to: &To) -> Result<bool, Stop>
     Ok(symbol == telecommands::DISTRESS_ACKNOWLEDGEMENT)
 }
 
+/// The telecommands that may follow the sender of a distress call with this address: an acknowledgement is to all ships
+/// alone.
 fn distress_telecommand_letter(to: &To) -> Letter
     ensures { result ≡ forms.distress_telecommand_letter to.now }
 {
@@ -126,6 +132,7 @@ pub fn first_to_one(list: &mut Cursor) -> Result<Telecommand, Stop>
     Ok(telecommand_of_symbol(symbol))
 }
 
+/// The first telecommand of this symbol in a call to one station.
 fn telecommand_of_symbol(symbol: u8) -> Telecommand
     requires { Allows Letter.FirstToOne symbol }
     ensures lawful { forms.IsTelecommand result }

@@ -1,3 +1,4 @@
+//! A walk through the lists of calls, symbol by symbol.
 ghost use Rattle.std.specs.Prelude.{◌≡◌, ◌<◌, ◌≤◌, ◌↔◌, ◌++◌, ◌∷◌, IsTrue, [], drop, length};
 ghost use Rattle.call_grammar.specs.Walk.{IsStep, IsDone, IsAtEnd};
 ghost use Rattle.call_grammar.specs.inside.Judging.{is_taken, IsCovered};
@@ -18,7 +19,7 @@ pub enum Step {
     Done(Call),
     /// No call goes on with the symbol, which was left.
     Outside,
-    /// The symbol stands at the place of the error check character and isn't the right one. It was left.
+    /// The symbol is at the place of the error check character and isn't the right one. It was left.
     Check { want: u8, got: u8 },
 }
 
@@ -34,7 +35,7 @@ impl Step {
     }
 }
 
-/// A walk through the lists of calls, the list taken so far, in which the format specifier stands twice.
+/// A walk through the lists of calls: the list taken so far, which has the format specifier twice.
 #[derive(Drop)]
 pub struct Walk {
     taken: ArrayVec<u8, 64>,

@@ -1,9 +1,10 @@
+//! Lists of expansions, worked by hand.
 use call_values::End;
 use expansion::*;
 use std::test::Fail;
 
-/// The lists with the end of sequence 127 of an enhanced position, a speed and a course, worked by hand: the sets of list n
-/// are the bits of n + 1.
+/// The lists with the end of sequence 127 of an enhanced position, a speed and a course, worked by hand: the sets of
+/// list n are the bits of n + 1.
 const LISTS: [&[u8]; 7] = [
     &[100, 45, 89, 44, 94, 127, 29, 127, 127],
     &[102, 1, 23, 127, 15, 127, 127],

@@ -1,3 +1,4 @@
+//! Lists of calls, worked by hand.
 use call_grammar::*;
 use call_values::{Call, End};
 use dsc_symbols::worked::ALERT;

@@ -1,3 +1,4 @@
+//! Values at the ends of their ranges.
 use call_values::*;
 
 /// What is made of one number.

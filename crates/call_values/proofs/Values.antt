@@ -1,4 +1,4 @@
--- Values that are told by their parts.
+-- Values that their parts determine.
 use Rattle.std.proofs.Common.{◌≡◌, ◌<◌, refl, arith}
 use Rattle.call_values.specs.declared.choices.End.{End}
 use Rattle.call_values.specs.declared.choices.End.TheVariants.{Ask, Reply, Plain}

@@ -1,7 +1,8 @@
 -- Areas: ITU-R M.493, geographical coordinates of an area call.
 use Rattle.std.specs.Prelude.{ℕ, ◌≤◌}
 
--- a rectangle on the Mercator projection: its north-west corner in whole degrees, and its sides southwards and eastwards
+-- a rectangle on the Mercator projection: its north-west corner in whole degrees, and its sides southwards and
+-- eastwards
 pub record Rectangle : Type 0 where
   pub quadrant : ℕ
   pub latitude : ℕ

@@ -1,4 +1,5 @@
--- Frequencies and channels: ITU-R M.493, frequency or channel information. The field in tens of hertz is this project's profile.
+-- Frequencies and channels: ITU-R M.493, frequency or channel information. The field in tens of hertz is this project's
+-- profile.
 use Rattle.std.specs.Prelude.{ℕ, ◌≤◌}
 use Rattle.call_values.specs.declared.bounds.TheConstants as bounds
 use Rattle.call_values.specs.declared.fields.FieldKind.{FieldKind}

@@ -11,7 +11,7 @@ use Rattle.call_values.specs.Fields.{IsField}
 use Rattle.call_values.specs.Positions.{IsPosition}
 use Rattle.call_values.specs.Clock.{IsHourMinute}
 
--- whom a call is for, by an area or an identity in its range
+-- who a call is addressed to, by an area or an identity in its range
 abbrev pub IsTo : To → Type 0
 IsTo to.All = Unit {0}
 IsTo (to.Area a) = IsArea a

@@ -1,4 +1,4 @@
--- A call by whom it is for and by what it says: ITU-R M.493, composition of the calls.
+-- A call by who it is addressed to and by what it says: ITU-R M.493, composition of the calls.
 use Rattle.std.specs.Prelude.{ℕ, true, false}
 use Rattle.call_values.specs.declared.calls.Call.{Call}
 use Rattle.call_values.specs.declared.calls.Call.TheVariants.{Alert, Ack, Relay, RelayAck, AllShips, AreaCall, GroupCall, Individual, Service}
@@ -11,7 +11,7 @@ use Rattle.call_values.specs.Identity.{IsMmsi}
 use Rattle.call_values.specs.Calls.{IsCasualty, IsRequest}
 use Rattle.call_values.specs.Parts.{IsKind}
 
--- whom a call is for; a distress alert and its acknowledgement are for all ships
+-- who a call is addressed to; a distress alert and its acknowledgement are for all ships
 abbrev pub address_of : Call → To
 address_of (Relay to from casualty ask) = to
 address_of (RelayAck to from casualty) = to

@@ -1,3 +1,4 @@
+//! Areas that calls are addressed to.
 ghost use Rattle.std.specs.Prelude.{◌≡◌, ◌≤◌, ◌↔◌, IfSome, IsSome};
 ghost use Rattle.call_values.specs.Areas.{Rectangle, IsArea};
 

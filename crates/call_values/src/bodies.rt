@@ -1,14 +1,15 @@
+//! What a call says besides who it is addressed to.
 ghost use Rattle.std.specs.Prelude.{◌≡◌};
 ghost use Rattle.call_values.specs.Views.{IsBody, sender_in};
 
 use crate::{Casualty, Category, First, Kind, Message, Mmsi, Second};
 
-/// What a call says besides whom it is for (ITU-R M.493, composition of the calls).
+/// What a call says besides who it is addressed to (ITU-R M.493, composition of the calls).
 #[derive(Clone, Copy, Debug, PartialEq, Eq)]
 pub enum Body {
     /// A distress alert. Its sender is the casualty.
     Alert(Casualty),
-    /// Another ship's distress alert, acknowledged or told on.
+    /// Another ship's distress alert, acknowledged or relayed.
     Distress {
         from: Mmsi,
         acknowledges: bool,
@@ -22,7 +23,7 @@ pub enum Body {
         second: Second,
         message: Message,
     },
-    /// A test, or a ship's position asked for or told.
+    /// A test, or a ship's position asked for or given.
     Service {
         category: Category,
         from: Mmsi,
@@ -31,7 +32,7 @@ pub enum Body {
 }
 
 impl Body {
-    /// The station that says this (ITU-R M.493, self-identification). Of a distress alert this is the casualty.
+    /// The station that says this (ITU-R M.493, self-identification); in a distress alert the casualty.
     pub fn sender(&self) -> Mmsi
         ensures { result ≡ sender_in self.now }
     {

@@ -14,8 +14,8 @@ pub const SHORTEST_ALERT_DELAY: u32 = 210_000;
 /// The longest wait from one attempt of a distress alert to the next, in milliseconds.
 pub const LONGEST_ALERT_DELAY: u32 = 270_000;
 
-/// The shortest wait from a distress alert to its acknowledgement by a coast station on MF or HF, in milliseconds (ITU-R
-/// M.541, acknowledgement by coast stations).
+/// The shortest wait from a distress alert to its acknowledgement by a coast station on MF or HF, in milliseconds
+/// (ITU-R M.541, acknowledgement by coast stations).
 pub const SHORTEST_COAST_DELAY: u32 = 60_000;
 
 /// The longest wait from a distress alert to its acknowledgement by a coast station on MF or HF, in milliseconds.

@@ -1,3 +1,4 @@
+//! Calls, form by form, and the casualty of a distress call.
 ghost use Rattle.std.specs.Prelude.{◌≡◌};
 ghost use Rattle.call_values.specs.Calls.{IsCasualty, IsCall};
 ghost use Rattle.call_values.specs.Views.{address_of, body_of, sender_of};
@@ -7,7 +8,7 @@ use crate::{
     Position, Second, To,
 };
 
-/// A ship in distress, as a distress call tells of it (ITU-R M.493, distress alert).
+/// A ship in distress, as a distress call describes it (ITU-R M.493, distress alert).
 #[derive(Clone, Copy, Debug, PartialEq, Eq)]
 pub struct Casualty {
     pub mmsi: Mmsi,
@@ -42,7 +43,7 @@ pub enum Call {
         from: Mmsi,
         casualty: Casualty,
     },
-    /// A distress alert told on by another station, which may ask for an acknowledgement.
+    /// A distress alert relayed by another station, which may ask for an acknowledgement.
     Relay {
         to: To,
         from: Mmsi,
@@ -94,7 +95,7 @@ pub enum Call {
         message: Message,
         end: End,
     },
-    /// A test, or a ship's position asked for or told, to one station.
+    /// A test, or a ship's position asked for or given, to one station.
     Service {
         to: Mmsi,
         category: Category,
@@ -104,8 +105,8 @@ pub enum Call {
 }
 
 impl Call {
-    /// Whom the call is for (ITU-R M.493, format specifier and address). A distress alert and its acknowledgement are for
-    /// all ships.
+    /// Who the call is addressed to (ITU-R M.493, format specifier and address). A distress alert and its
+    /// acknowledgement are for all ships.
     pub fn address(&self) -> To
         ensures { result ≡ address_of self.now }
     {
@@ -194,7 +195,7 @@ impl Call {
         }
     }
 
-    /// The station that sent the call (ITU-R M.493, self-identification). Of a distress alert this is the casualty.
+    /// The station that sent the call (ITU-R M.493, self-identification); in a distress alert the casualty.
     pub fn sender(&self) -> Mmsi
         ensures { result ≡ sender_of self.now }
     {

@@ -1,3 +1,4 @@
+//! Values that are one of a few: category, end of sequence and band.
 ghost use Rattle.std.specs.Prelude.{◌≡◌};
 ghost use Rattle.call_values.specs.Ends.{end_symbol};
 

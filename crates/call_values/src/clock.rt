@@ -1,10 +1,10 @@
+//! Times of day in calls, in UTC to the minute.
 ghost use Rattle.std.specs.Prelude.{◌≡◌, ◌↔◌, ℕ, Option, IfSome, IsSome};
 ghost use Rattle.call_values.specs.Clock.{IsTimeOfDay, IsHourMinute};
 
 use std::marker::Model;
 
-/// The time that a distress call tells, in UTC to the minute, or that it is not known (ITU-R M.493,
-/// time of a distress alert).
+/// The time in a distress call, in UTC to the minute, or that it is not known (ITU-R M.493, time of a distress alert).
 #[derive(Clone, Copy, Debug, PartialEq, Eq)]
 pub struct HourMinute {
     time: Option<(u8, u8)>,
@@ -35,14 +35,14 @@ impl HourMinute {
         }
     }
 
-    /// The time of a call that does not tell it.
+    /// The time of a call that does not say it.
     pub fn unknown() -> HourMinute
         ensures { result ≡ None }
     {
         HourMinute { time: None }
     }
 
-    /// The hour and the minute, where they are told.
+    /// The hour and the minute, where they are known.
     pub fn known(&self) -> Option<(u8, u8)>
         ensures value { result ≡ self.now }
         ensures range { IsHourMinute result }

@@ -1,3 +1,4 @@
+//! Frequency and channel fields.
 ghost use Rattle.std.specs.Prelude.{◌≡◌, ◌↔◌, IfSome, IsSome};
 ghost use Rattle.call_values.specs.declared.fields.FieldKind.{FieldKind};
 ghost use Rattle.call_values.specs.Fields.{IsHundreds, IsHfChannel, IsVhfChannel, IsTens, IsField};
@@ -5,7 +6,7 @@ ghost use Rattle.call_values.specs.Fields.{IsHundreds, IsHfChannel, IsVhfChannel
 use crate::bounds::{LAST_HF_CHANNEL, LAST_HUNDREDS, LAST_TENS, LAST_VHF_CHANNEL};
 use std::marker::Model;
 
-/// What a frequency field of a call tells, in a range of each kind's own.
+/// What a frequency field of a call says, in a range of each kind's own.
 #[derive(Clone, Copy, Debug, PartialEq, Eq)]
 pub enum FieldKind {
     /// Nothing.
@@ -20,7 +21,7 @@ pub enum FieldKind {
     Tens(u32),
 }
 
-/// A frequency or channel field of a call, which may tell nothing (ITU-R M.493, frequency or channel information).
+/// A frequency or channel field of a call, which may say nothing (ITU-R M.493, frequency or channel information).
 #[derive(Clone, Copy, Debug, PartialEq, Eq)]
 pub struct Field {
     kind: FieldKind,
@@ -37,7 +38,7 @@ impl Model for Field {
 }
 
 impl Field {
-    /// A field that tells nothing.
+    /// A field that says nothing.
     pub fn absent() -> Field
         ensures { result ≡ FieldKind.Absent }
     {
@@ -102,7 +103,7 @@ impl Field {
         }
     }
 
-    /// What the field tells.
+    /// What the field says.
     pub fn kind(&self) -> FieldKind
         ensures value { result ≡ self.now }
         ensures range { IsField result }

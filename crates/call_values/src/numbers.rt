@@ -1,3 +1,4 @@
+//! Numbers in their ranges: identities, natures of distress, telecommands and delays.
 ghost use Rattle.std.specs.Prelude.{◌≡◌, ◌↔◌, ℕ, IfSome, IsSome};
 ghost use Rattle.dsc_symbols.specs.Natures.{IsNature};
 ghost use Rattle.dsc_symbols.specs.Telecommands.{IsFirst, IsSecond, IsComm};
@@ -89,9 +90,9 @@ impl Nature {
     }
 }
 
-/// The symbol of a first telecommand (ITU-R M.493, telecommands): 100 F3E/G3E all modes, 101 F3E/G3E duplex, 103 polling,
-/// 104 unable to comply, 106 data, 109 J3E, 113 TTY-FEC, 115 TTY-ARQ or 126 no information. Distress acknowledgement
-/// (110), distress relay (112), test (118) and ship position (121) belong to calls of their own.
+/// The symbol of a first telecommand (ITU-R M.493, telecommands): 100 F3E/G3E all modes, 101 F3E/G3E duplex, 103
+/// polling, 104 unable to comply, 106 data, 109 J3E, 113 TTY-FEC, 115 TTY-ARQ or 126 no information. Distress
+/// acknowledgement (110), distress relay (112), test (118) and ship position (121) belong to calls of their own.
 #[derive(Clone, Copy, Debug, PartialEq, Eq)]
 pub struct First {
     number: u8,

@@ -1,8 +1,9 @@
+//! Parts of calls that have several forms: addresses, messages, and kinds of test and position calls.
 ghost use Rattle.call_values.specs.Parts.{IsTo, IsMessage, IsKind};
 
 use crate::{Area, Field, HourMinute, Mmsi, Position};
 
-/// Whom a distress relay is for (ITU-R M.493, format specifier and address).
+/// Who a distress relay is addressed to (ITU-R M.493, format specifier and address).
 #[derive(Clone, Copy, Debug, PartialEq, Eq)]
 pub enum To {
     /// All ships.
@@ -30,7 +31,7 @@ impl To {
     }
 }
 
-/// What an individual call tells besides its telecommands (ITU-R M.493, messages).
+/// What an individual call says besides its telecommands (ITU-R M.493, messages).
 #[derive(Clone, Copy, Debug, PartialEq, Eq)]
 pub enum Message {
     /// Two frequency or channel fields.

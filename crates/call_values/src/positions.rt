@@ -1,3 +1,4 @@
+//! Positions, known or not.
 ghost use Rattle.std.specs.Prelude.{◌≡◌, ◌↔◌, Option, IfSome, IsSome, IsTrue};
 ghost use Rattle.call_values.specs.declared.positions.Fix.{Fix};
 ghost use Rattle.call_values.specs.Positions.{IsArc, IsFix, IsPosition};
@@ -20,7 +21,7 @@ pub struct Fix {
     pub lon_min: u8,
 }
 
-/// The position that a distress call tells: a place, or that it is not known.
+/// The position in a distress call: a place, or that it is not known.
 #[derive(Clone, Copy, Debug, PartialEq, Eq)]
 pub struct Position {
     fix: Option<Fix>,
@@ -53,14 +54,14 @@ impl Position {
         }
     }
 
-    /// The position of a ship that does not tell where it is.
+    /// The position of a ship that does not say where it is.
     pub fn unknown() -> Position
         ensures { result ≡ None }
     {
         Position { fix: None }
     }
 
-    /// The place, where it is told.
+    /// The place, where it is known.
     pub fn known(&self) -> Option<Fix>
         ensures value { result ≡ self.now }
         ensures range { IsPosition result }

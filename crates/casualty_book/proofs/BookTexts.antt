@@ -8,7 +8,7 @@ use Rattle.casualty_book.specs.Texts.{row_text, book_text}
 use Rattle.casualty_book.proofs.Sets.{first, later}
 use Rattle.casualty_book.proofs.Unions.{all_there}
 
--- these rows are left, and with their text the whole text stands behind what was there before
+-- these rows are left, and with their text the whole text comes after what was there before
 pub record IsLeft (rows left : List BookRow) (before after : List ℕ) : Type 0 where
   pub lawful : All IsLawful left
   pub text_is : after ++ book_text left ≡ before ++ book_text rows

@@ -72,7 +72,7 @@ kept_with s n row h lawful u ordered = kept n.keys ordered (all_keys n.keys (λ 
       | inr same ↦ subst IsPacked same (is_packed row lawful)
     ]))
 
--- an insertion tells whether the row is new
+-- an insertion answers whether the row is new
 pub is_new_row : (s : BTreeSet Packed) (row : BookRow) (added : Bool) → IsKept s.keys → IsLawful row → added ≡ not (sorted.contains keyed s (pack row))
     → IsTrue added ↔ (Contains (rows_of s.keys) row → ⊥)
 is_new_row s row added h lawful e =

@@ -75,7 +75,7 @@ three_ways (suc x) (suc y) =
           ]
     ]
 
--- what stands before both does not count
+-- what comes before both does not count
 pub shifted : (a r s : ℕ) → nat_cmp (a + r) (a + s) ≡ nat_cmp r s
 shifted a r s =
     elim (three_ways r s) [

@@ -15,7 +15,7 @@ use Rattle.casualty_book.specs.Rows.{row_order, rank}
 use Rattle.casualty_book.specs.contracts.rows.BookRowOrd.TheImpl as ord
 use Rattle.casualty_book.specs.contracts.rows.BookRowOrd.TheImpl.Laws as laws
 
--- two orders one behind the other tell apart what either tells
+-- two orders, one after the other, distinguish what either does
 pub both_equal : (x y : Ordering) → ordering_then x y ≡ Equal → (x ≡ Equal) × (y ≡ Equal)
 both_equal Equal y h = (refl, h)
 both_equal Less y h = absurd (cc)

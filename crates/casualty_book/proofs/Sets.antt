@@ -1,4 +1,4 @@
--- sets in an order that tells keys apart
+-- sets in an order that distinguishes keys
 use Rattle.std.specs.BTreeSet as sorted
 use Rattle.std.specs.BTreeSet.{BTreeSet}
 use Rattle.std.specs.Cmp.{IsTotalOrder}
@@ -24,7 +24,7 @@ isnt : (a : Bool) → IsTrue (not a) → a ≡ true → ⊥
 isnt true h e = absurd (false≢true h)
 isnt false h e = absurd (false≢true e)
 
--- where a key of a list stands
+-- where a key of a list is
 pub first : {K : Type 0} (x : K) (xs : List K) → Contains (x ∷ xs) x
 first x xs = Contains-append_left (x ∷ []) xs x (Contains-push [] x)
 
@@ -47,7 +47,7 @@ module _ {K : Type 0} {R : K → K → Ordering} (o : IsTotalOrder R) (exact : C
   has : (s : BTreeSet K) (k : K) → (sorted.contains R s k ≡ true) ↔ Contains s.keys k
   has s k = btree_set_contains_iff o exact s k
 
-  -- a key behind the first of a rising list is above it
+  -- a key after the first of a rising list is above it
   pub above : (x : K) (xs : List K) (k : K) → IsStrictlySortedBy R (x ∷ xs) → Contains xs k → R x k ≡ Less
   above x xs k h there = All-contains (λ q. R x q ≡ Less) xs k (All-after_first R x xs h) there
 
@@ -118,7 +118,7 @@ module _ {K : Type 0} {R : K → K → Ordering} (o : IsTotalOrder R) (exact : C
     ],
   )
 
-  -- an insertion tells whether the key is new
+  -- an insertion answers whether the key is new
   pub is_new : (s : BTreeSet K) (k : K) (added : Bool) → added ≡ not (sorted.contains R s k) → IsTrue added ↔ (Contains s.keys k → ⊥)
   is_new s k added e = (
     λ yes here. isnt (sorted.contains R s k) (sym e ∙ yes) ((has s k).1 here),

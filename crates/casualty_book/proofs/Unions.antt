@@ -54,7 +54,7 @@ itself_or (inr a) = a
 pub with_itself : (a both : List BookRow) → IsBook a → IsBook both → IsUnion a a both → both ≡ a
 with_itself a both ha hb h = one_book both a hb ha (λ r. (λ here. itself_or ((h r).0 here), λ here. (h r).1 (inl here)))
 
--- what `note` tells of the row that a sentence gives
+-- what `note` answers about the row that a sentence gives
 pub adds : (row : BookRow) (gives : Option BookRow) (rows : List BookRow) (added : Bool) → gives ≡ Some row → IsTrue added ↔ (Contains rows row → ⊥)
     → IsTrue added ↔ ((r : BookRow) × (gives ≡ Some r) × (Contains rows r → ⊥))
 adds row gives rows added e h = (

@@ -5,7 +5,7 @@ use Rattle.std.specs.List.Sorted.{IsStrictlySortedBy}
 use Rattle.casualty_book.specs.declared.rows.BookRow.{BookRow}
 use Rattle.casualty_book.specs.Rows.{row_order, IsLawful}
 
--- the rows of a book: each stands once, they rise, and all are lawful
+-- the rows of a book: each is there once, they rise, and all are lawful
 pub record IsBook (rows : List BookRow) : Type 0 where
   pub rising : IsStrictlySortedBy row_order rows
   pub lawful : All IsLawful rows

@@ -25,8 +25,8 @@ rank Ack = 1
 rank Relay = 2
 rank RelayAck = 3
 
--- rows are ordered by casualty, kind, sender, nature, place, time and what is to follow; nothing comes before something, and lists
--- are ordered digit by digit, a beginning first
+-- rows are ordered by casualty, kind, sender, nature, place, time and what is to follow; nothing comes before
+-- something, and lists are ordered digit by digit, a beginning first
 abbrev pub row_order : BookRow → BookRow → Ordering
 row_order a b =
     ordering_then (slice_cmp nat_cmp a.casualty b.casualty)

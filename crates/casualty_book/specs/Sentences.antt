@@ -31,7 +31,7 @@ abbrev pub kind_of : Option ℕ → End → Option BookKind
 kind_of None end = None
 kind_of (Some first) end = if first == DISTRESS_ACKNOWLEDGEMENT then Some Ack else if first == DISTRESS_RELAY then Some (relay_kind end) else None
 
--- the row of a kind about the ship that a sentence tells to be in distress, where there are both
+-- the row of a kind about the ship that a sentence names as in distress, where there are both
 abbrev pub row_about : Option BookKind → Option (List ℕ) → DscFields → Option BookRow
 row_about None distress s = None
 row_about (Some kind) None s = None
@@ -42,7 +42,8 @@ abbrev pub says : Option ℕ → ℕ → Bool
 says None n = false
 says (Some m) n = m == n
 
--- the row of a sentence: an alert is about its sender, a call of the category distress about the ship that it tells to be in distress
+-- the row of a sentence: an alert is about its sender, a call of the category distress about the ship that it names as
+-- in distress
 unfoldable pub row_of : DscFields → Option BookRow
 row_of s =
     if s.format == ALERT then Some (row_with Alert s.address s.first s)

@@ -35,6 +35,6 @@ row_text row =
     ++ (codes " time=" ++ (number_or_hyphen 4 row.time
     ++ (codes " then=" ++ number_or_hyphen 2 row.second))))))))))))
 
--- the text of rows: of each one, with a line feed
+-- the text of rows, each with a line feed
 abbrev pub book_text : List BookRow → List ℕ
 book_text rows = flat_map (λ row. row_text row ++ line_feed ∷ []) rows

@@ -1,3 +1,4 @@
+//! The book of casualties: a set of rows.
 ghost use Rattle.std.specs.Prelude.{◌≡◌, ◌↔◌, ◌++◌, ◌∷◌, false, IsTrue, IfOk, IfSome, OnOk, OnErr, Some, List, [], length, slice_get};
 ghost use Rattle.std.specs.List.{Contains};
 ghost use Rattle.line_grammar.specs.Bytes.{line_feed};
@@ -48,8 +49,8 @@ impl Book {
         }
     }
 
-    /// Puts a sentence's row into the book. True where it has one and it was not in the book. After false and after want of memory the
-    /// book is unchanged.
+    /// Puts a sentence's row into the book. True where it has one and it was not in the book. After false and after
+    /// want of memory the book is unchanged.
     pub fn note(&mut self, s: &DscSentence) -> Result<bool, AllocError>
         ensures added { IfOk result (λ added. IsTrue added
             ↔ ((row : Row) × (rows.row_of s.now ≡ Some row) × (Contains self.old row → ⊥))) }

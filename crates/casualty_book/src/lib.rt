@@ -1,4 +1,5 @@
-//! The casualty book: who was in distress, and who acknowledged and relayed it, as sentences tell it (this project's profile).
+//! The casualty book: who was in distress, and who acknowledged and relayed it, as sentences say (this project's
+//! profile).
 #![tactic(auto)]
 
 mod books;

@@ -1,3 +1,4 @@
+//! A row as a key of 32 bytes, for fast comparisons.
 ghost use Rattle.std.specs.Prelude.{◌≡◌, ◌+◌, ◌≤◌, ◌++◌, IfSome, length};
 ghost use Rattle.arrayvec.specs.ArrayVec.{array_vec_len};
 ghost use Rattle.sentence_frame.specs.Texts.{AreDigits};
@@ -16,8 +17,8 @@ use std::cmp::Ordering;
 /// What a list's first digit counts in its number: 16 to the power of 15.
 const FIRST_WEIGHT: u64 = 1 << 60;
 
-/// A row as a key of 32 bytes: its wide fields stand first. Keys are ordered like their rows, and compared faster: digits are one number,
-/// and nothing is 0.
+/// A row as a key of 32 bytes: its wide fields come first. Keys are ordered like their rows, and compared faster:
+/// digits are one number, and nothing is 0.
 #[derive(Drop)]
 pub(crate) struct Packed {
     pub(crate) casualty: u64,

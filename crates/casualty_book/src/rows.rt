@@ -1,10 +1,11 @@
+//! The rows of the book, and their kinds.
 ghost use Rattle.std.specs.Prelude.{◌≡◌};
 
 use arrayvec::ArrayVec;
 use std::alloc::AllocError;
 use text_pieces::append;
 
-/// What a row tells, in the order of rows (ITU-R M.493, distress calls).
+/// What a row is about, in the order of rows (ITU-R M.493, distress calls).
 #[derive(Clone, Copy, Debug, PartialEq, Eq, PartialOrd, Ord)]
 pub enum BookKind {
     Alert,
@@ -15,8 +16,8 @@ pub enum BookKind {
     RelayAck,
 }
 
-/// A row of the casualty book. Rows are ordered by these fields in this order (this project's profile). Symbols from 100 on stand by
-/// their last two digits, and lists of digits by the digits' values.
+/// A row of the casualty book. Rows are ordered by these fields in this order (this project's profile). Symbols from
+/// 100 on are given by their last two digits, and lists of digits by the digits' values.
 #[derive(Debug, PartialEq, Eq, PartialOrd, Ord, Drop)]
 pub struct BookRow {
     /// The ship in distress: nine digits and a 0.

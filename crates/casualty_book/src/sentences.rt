@@ -1,3 +1,4 @@
+//! The row of a DSC sentence.
 ghost use Rattle.std.specs.Prelude.{◌≡◌, IfSome};
 ghost use Rattle.casualty_book.specs.Rows.{IsLawful};
 ghost use Rattle.casualty_book.specs.Sentences as rows;
@@ -9,8 +10,8 @@ use dsc_sentences::{DscFields, DscSentence};
 use dsc_symbols::last_digits::{ALERT, DISTRESS, DISTRESS_ACKNOWLEDGEMENT, DISTRESS_RELAY};
 use text_pieces::append;
 
-/// The row of a sentence: that of an alert, or of an acknowledgement, a relay or a relay's acknowledgement that tells which ship is in
-/// distress. None for every other sentence.
+/// The row of a sentence: that of an alert, or of an acknowledgement, a relay or a relay's acknowledgement that names
+/// the ship in distress. None for every other sentence.
 #[tactic(auto, unfolding(crate::specs::Sentences::row_of))]
 pub fn row_of(s: &DscSentence) -> Option<BookRow>
     ensures row { result ≡ rows.row_of s.now }

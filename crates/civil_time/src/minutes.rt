@@ -1,3 +1,4 @@
+//! The minute of the day at a moment of a traffic file.
 ghost use Rattle.std.specs.Prelude.{◌≡◌, ◌≤◌, Some};
 ghost use Rattle.civil_time.specs.CivilTime.{second_of, hour_of, minute_of};
 

@@ -1,3 +1,4 @@
+//! Minutes of the day by hand.
 use super::*;
 
 // A base, a moment, and the hour and the minute in UTC.

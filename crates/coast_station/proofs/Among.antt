@@ -7,7 +7,7 @@ use Rattle.coast_station.specs.declared.casualties.OpenCasualty.{OpenCasualty}
 use Rattle.coast_station.proofs.Births.{by_test}
 use Rattle.coast_station.proofs.Listed.{listed_of}
 
--- this value stands in the list
+-- this value is in the list
 abbrev pub Among : {A : Type 0} → A → List A → Type 0
 Among x [] = ⊥
 Among x (y ∷ ys) = (x ≡ y) ⊎ Among x ys

@@ -1,4 +1,4 @@
--- the alert and the accept behind an open casualty
+-- an open casualty's alert and the event that accepted it
 use Rattle.std.proofs.Common.{◌≡◌, ℕ, ◌==◌, Bool, true, if◌then◌else◌, Option, Some, None, is_some, IfSome, [], ◌∷◌, ◌++◌, refl, sym, ◌∙◌, ap, subst}
 use Rattle.std.proofs.lemmas.List.{append_assoc}
 use Rattle.std.specs.List.{list_any}
@@ -17,7 +17,7 @@ use Rattle.coast_station.specs.Firsts.{from_first, first_told, before_first}
 use Rattle.coast_station.proofs.Births.{by_test, before_none}
 use Rattle.coast_station.proofs.Changes.{mapped_some}
 
--- entries stand in front of others in a history
+-- entries come before others in a history
 abbrev pub IsFront : History CoastWhat → History CoastWhat → Type 0
 IsFront front h = (rest : History CoastWhat) × (h ≡ front ++ rest)
 
@@ -41,7 +41,7 @@ birth_is_front own m h =
     (born.0 ++ lived.0, lived.1 ∙ ap (λ g. g ++ lived.0) born.1 ∙ append_assoc (since_birth own m h) born.0 lived.0)
 
 module _ {A : Type 0} (told : Entry CoastWhat → Option A) where
-  -- the entry that first tells of something
+  -- the first entry that says such a thing
   pub record FirstAt (h : History CoastWhat) (x : A) : Type 0 where
     pub later : History CoastWhat
     pub first : Entry CoastWhat
@@ -63,7 +63,7 @@ module _ {A : Type 0} (told : Entry CoastWhat → Option A) where
   first_at [] x is = absurd (none-some _ is)
   first_at (e ∷ h) x is = first_by e h x (first_told told h) refl (first_at h) is
 
-  -- the entry that last tells of something
+  -- the last entry that says such a thing
   pub record LastAt (h : History CoastWhat) (x : A) : Type 0 where
     pub later : History CoastWhat
     pub last : Entry CoastWhat
@@ -108,7 +108,7 @@ accepts_with m d (Accept k delay) is event =
     (λ _ same. (refl, subst (λ (o : Option ℕ). IfSome o IsCoastDelay) same event.1)) (λ _ none. absurd (none-some _ none)) is
 accepts_with m d _ is event = absurd (none-some _ is)
 
--- the alert of an open casualty stands in the history, before all that accepted it
+-- the alert of an open casualty is in the history, before all that accepted it
 pub record HeardBehind (own m : ℕ) (h : History CoastWhat) (x : OpenCasualty) : Type 0 where
   pub between : History CoastWhat
   pub heard : Entry CoastWhat

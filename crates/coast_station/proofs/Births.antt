@@ -35,7 +35,7 @@ both_none : {A : Type 0} (first told : Option A) → (if is_some first then firs
 both_none None told none = (refl, none)
 both_none (Some x) told none = absurd (none-some _ (sym none))
 
--- where no entry tells of something, all stand before the first that does
+-- where no entry says such a thing, all come before the first that does
 pub before_none : {A : Type 0} (told : Entry CoastWhat → Option A) (h : History CoastWhat) → first_told told h ≡ None → before_first told h ≡ h
 before_none told [] none = refl
 before_none told (e ∷ h) none =
@@ -43,7 +43,7 @@ before_none told (e ∷ h) none =
     ap (λ o. if is_some o then before_first told h else (if is_some (told e) then h else e ∷ h)) parts.0
     ∙ ap (λ o. if is_some o then h else e ∷ h) parts.1
 
--- the open casualty that entries from a birth on tell of
+-- the open casualty by the entries from a birth on
 abbrev pub open_in : (own mmsi : ℕ) → History CoastWhat → Option OpenCasualty
 open_in own mmsi h =
     option_map (open_with (first_told (delay_at mmsi) h)) (last_told (alert_at own mmsi) (before_first (delay_at mmsi) h))
@@ -117,7 +117,7 @@ alone own mmsi e heard =
     let here = sym (some_mapped (λ (alert : Casualty). record { alert = alert; at = e.at }) (where_of mmsi (alert_in own e.what))) ∙ heard in
     alone_by (alert_at own mmsi e) (delay_at mmsi e) e (last_told (alert_at own mmsi)) refl (alert_accepts_none own mmsi e.what here)
 
--- entries from a birth on tell of an open casualty
+-- entries from a birth on give an open casualty
 pub born_is_open : (own mmsi : ℕ) (h : History CoastWhat) → list_any (is_alert own mmsi) h ≡ true → is_some (open_in own mmsi (from_first (is_alert own mmsi) h)) ≡ true
 born_is_open own mmsi [] birth = absurd (false≢true birth)
 born_is_open own mmsi (e ∷ h) birth =

@@ -89,7 +89,7 @@ module _ (who : Station) (h : History CoastWhat) (at : ℕ) (few : IsFew (open_c
       by_test (is_for who.own c) (λ b. (if b then refusal_at_call cs (held h) c else None) ≡ None → IsFew (if b then after_call at c cs else cs))
       (λ _ accepted. call_few at c cs (held h) few accepted) (λ _ _. few) none
 
--- behind every legal history
+-- after every legal history
 pub few_open : (who : Station) (h : History CoastWhat) → Legal (coast_rules who) h → IsFew (open_casualties who.own h)
 few_open who [] legal = omega arith
 few_open who (e ∷ h) legal =

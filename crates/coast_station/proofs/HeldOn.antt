@@ -1,4 +1,4 @@
--- the calls that a coast station holds after an event are those that the history with this event tells
+-- the calls that a coast station holds after an event are those that the history with this event says
 use Rattle.std.proofs.Common.{◌≡◌, ℕ, ◌&&◌, Bool, true, false, if◌then◌else◌, Option, Some, None, is_some, is_none, List, [], ◌∷◌, map, refl, sym, ◌∙◌, ap}
 use Rattle.std.proofs.lemmas.Bool.{or_from, eq-eqb}
 use Rattle.std.specs.List.{list_any, filter}

@@ -1,4 +1,4 @@
--- what a coast station keeps after an event is what the history with this event tells
+-- what a coast station keeps after an event is what the history with this event says
 use Rattle.std.proofs.Common.{◌≡◌, ℕ, ◌≤◌, ◌==◌, ◌&&◌, ◌||◌, not, true, false, if◌then◌else◌, Option, Some, None, is_some, is_none, Result, List, [], ◌∷◌, refl, sym, ◌∙◌, ap, subst}
 use Rattle.std.proofs.Math.Bool.{or-false}
 use Rattle.std.proofs.lemmas.Bool.{false≢true, and_parts, not-true}
@@ -153,7 +153,7 @@ answer_same who h coast at what keeps =
     ∙ ap (λ (cs : List OpenCasualty). refusal_or (refusal_by who cs coast.held what) (due_by who cs coast.held at what)) keeps.casualties
     ∙ ap (λ (l : Places). refusal_or (refusal_by who (open_casualties who.own h) l what) (due_by who (open_casualties who.own h) l at what)) keeps.held
 
--- what it keeps afterwards is what the history tells with the event put last
+-- what it keeps afterwards is what the history says with the event put last
 pub keeps_afterwards : (who : Station) (h : History CoastWhat) (old : Coast) (at : ℕ) (what : CoastWhat) → Keeps old who h → Legal (coast_rules who) h → refusal_at who h what ≡ None
     → Keeps (record (afterwards old at what) { last = at }) who (record { at = at; what = what; acts = due_at who h at what } ∷ h)
 keeps_afterwards who h old at what keeps legal none = record {
@@ -169,7 +169,8 @@ keeps_afterwards who h old at what keeps legal none = record {
       ∙ ap (held_after who at what (open_casualties who.own h)) keeps.held ∙ sym (held_goes_on who h at what none);
 }
 
--- a station that is as it was after a refusal, and keeps this after an accepted event, stands for its history as this goes on
+-- a station that is as it was after a refusal, and keeps this after an accepted event, stands for its history as this
+-- goes on
 pub goes : (who : Station) (h : History CoastWhat) (at : ℕ) (what : CoastWhat) (old new : Coast) (result : Result (Unit {0}) StationRefusal) (acts : List Act)
     → last_moment h ≤ at → IsCoastWhat what → Stands old who h → answer_with result acts ≡ answer_by old at what
     → OnErr result (new ≡ old) → OnOk result (new ≡ record (afterwards old at what) { last = at }) → Stands new who (continued (coast_rules who) h at what)

@@ -23,7 +23,8 @@ use Rattle.coast_station.proofs.Changes.{find_open}
 use Rattle.coast_station.proofs.Silence.{sent_ends, relayed_ends, answered_ends, heard_ends, repeats_end}
 use Rattle.coast_station.proofs.Among.{Among, among_append, among_any, among_kept, among_mapped, among_listed}
 
--- why an acknowledgement is sent at an event: its casualty's delay has passed, or it is accepted and acknowledged at once
+-- why an acknowledgement is sent at an event: its casualty's delay has passed, or it is accepted and acknowledged at
+-- once
 abbrev pub IsSentFor : Station → (at k : ℕ) → CoastWhat → OpenCasualty → Type 0
 IsSentFor who at k what x =
     (is_due at x ≡ true) ⊎ ((delay : Option ℕ) × (what ≡ Accept k delay) × (x.delay ≡ None) × (is_due_at_once who.band at delay x ≡ true))

@@ -1,4 +1,4 @@
--- where a casualty stands, and what is found, taken out or replaced there
+-- where a casualty is, and what is found, taken out or replaced there
 use Rattle.std.proofs.Common.{◌≡◌, ℕ, zero, suc, ◌+◌, ◌<◌, ◌≤◌, nat_lt, not, true, false, if◌then◌else◌, Option, Some, None, is_some, List, [], ◌∷◌, length, get_or, set, refl, sym, ◌∙◌, ap, arith}
 use Rattle.std.proofs.lemmas.Bool.{cond-true, cond-false, ltb-false, eqb-true}
 use Rattle.std.proofs.lemmas.List.Quantifiers.{position-Some}
@@ -11,7 +11,7 @@ use Rattle.coast_station.specs.inside.Afterwards.{after_accept_of}
 use Rattle.coast_station.specs.inside.Left.{without, replaced}
 use Rattle.coast_station.proofs.Births.{by_test}
 
--- what is at the first place of an identity, and what stands there after a change
+-- what is at the first place of an identity, and what is there after a change
 pub record AtPlace (m : ℕ) (xs : List OpenCasualty) (i : ℕ) (d y : OpenCasualty) : Type 0 where
   pub found : find_casualty m xs ≡ Some (get_or xs i d)
   pub taken : remove xs i ≡ without m xs
@@ -34,11 +34,11 @@ at_first m (x ∷ xs) (suc i) d y within here before =
       put = ap (λ g. x ∷ g) rest.put ∙ sym (cond-false (is_of m x) (y ∷ xs) (x ∷ replaced m y xs) other);
     }
 
--- what the search for an identity finds stands at that index, and is the first one
+-- what the search for an identity finds is at that index, and is the first one
 pub at_place : (m : ℕ) (xs : List OpenCasualty) (i : ℕ) (d y : OpenCasualty) → position (is_of m) xs ≡ Some i → AtPlace m xs i d y
 at_place m xs i d y is = let first = position-Some (is_of m) xs i d is in at_first m xs i d y first.0 first.1 first.2
 
--- of an identity that stands nowhere
+-- of an identity that is nowhere in the list
 pub record Nowhere (m : ℕ) (xs : List OpenCasualty) : Type 0 where
   pub found : find_casualty m xs ≡ None
   pub taken : without m xs ≡ xs

@@ -43,7 +43,7 @@ module _ (m own : ℕ) where
   relay_may to alert true = ap (λ b. b && true) (eq-eqb own own refl)
   relay_may to alert false = ap (λ b. b && true) (eq-eqb own own refl)
 
-  -- where a casualty's alert is told on
+  -- where a casualty's alert is relayed
   pub relayed_ends : (to : To) (ask : Bool) (places : Places) (o : Option OpenCasualty) → list_any (ends m) (relay_due_of own to ask places o) ≡ false
   relayed_ends to ask places None = refl
   relayed_ends to ask places (Some x) = sent_by places (call.Relay to own x.alert ask) (relay_may to x.alert ask)

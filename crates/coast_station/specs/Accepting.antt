@@ -1,5 +1,6 @@
--- How a coast station accepts and acknowledges distress alerts: that an acknowledgement waits 1 to 2.75 minutes from the alert on MF and HF,
--- and needn't on VHF, is ITU-R M.541's; that the operator accepts, and the refusals, are this project's profile.
+-- How a coast station accepts and acknowledges distress alerts: that an acknowledgement waits 1 to 2.75 minutes from
+-- the alert on MF and HF, and needn't on VHF, is ITU-R M.541's; that the operator accepts, and the refusals, are this
+-- project's profile.
 use Rattle.std.specs.Prelude.{ℕ, ◌==◌, ◌&&◌, ◌||◌, not, Bool, true, false, Option, Some, None, is_some, is_none, List, [], ◌∷◌, map, if◌then◌else◌}
 use Rattle.std.specs.List.{filter}
 use Rattle.call_values.specs.declared.calls.Call.TheVariants.{Ack}
@@ -41,7 +42,8 @@ has_ended (Some delay) from at = has_passed delay from at
 abbrev pub is_due : (at : ℕ) → OpenCasualty → Bool
 is_due at casualty = has_ended casualty.delay casualty.heard_at at
 
--- a casualty that is accepted with a delay or without one is acknowledged at once: on VHF, or where the delay has passed since its alert
+-- a casualty that is accepted with a delay or without one is acknowledged at once: on VHF, or where the delay has
+-- passed since its alert
 abbrev pub is_due_at_once : Band → (at : ℕ) → Option ℕ → OpenCasualty → Bool
 is_due_at_once band at delay casualty = not (waits band) || has_ended delay casualty.heard_at at
 
@@ -58,6 +60,7 @@ accept_due_of own band at delay (Some casualty) =
     if is_some casualty.delay then []
     else (if is_due_at_once band at delay casualty then acknowledgement own casualty.alert ∷ [] else [])
 
+-- the acts of accepting a ship's alert, if a casualty of it is open
 abbrev pub accept_due : (own : ℕ) → Band → (at : ℕ) → (mmsi : ℕ) → (delay : Option ℕ) → List OpenCasualty → List Act
 accept_due own band at mmsi delay casualties = accept_due_of own band at delay (find_casualty mmsi casualties)
 

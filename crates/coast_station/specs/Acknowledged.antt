@@ -1,5 +1,5 @@
--- What the acknowledgement of a distress alert goes back to: the wait is that of ITU-R M.541, acknowledgement of distress alerts by coast
--- stations; that an event accepts the alert is this project's profile.
+-- What the acknowledgement of a distress alert goes back to: the wait is that of ITU-R M.541, acknowledgement of
+-- distress alerts by coast stations; that an event accepts the alert is this project's profile.
 use Rattle.std.specs.Prelude.{◌≡◌, ℕ, ◌+◌, ◌≤◌, ◌==◌, Bool, false, IsTrue, ◌∷◌, ◌++◌}
 use Rattle.std.specs.List.{list_any}
 use Rattle.call_values.specs.declared.bounds.TheConstants.{SHORTEST_COAST_DELAY}
@@ -16,8 +16,8 @@ abbrev pub accepts : (mmsi : ℕ) → CoastWhat → Bool
 accepts mmsi (Accept accepted delay) = accepted == mmsi
 accepts mmsi _ = false
 
--- before an entry this alert was heard; an event accepted its identity after that, at the latest at the entry itself; and where
--- acknowledgements wait, on MF and HF, at least 60,000 ms have passed since the alert
+-- before an entry this alert was heard; an event accepted its identity after that, at the latest at the entry itself;
+-- and where acknowledgements wait, on MF and HF, at least 60,000 ms have passed since the alert
 pub record GoesBackToAlert (band : Band) (casualty : Casualty) (sent : Entry CoastWhat) (earlier : History CoastWhat) : Type 0 where
   pub between : History CoastWhat
   pub heard : Entry CoastWhat

@@ -1,4 +1,5 @@
--- The casualties that a coast station's history tells of, which of them are open, and in which order they stand: this project's profile.
+-- The casualties of which a coast station's history says something, which of them are open, and in which order they
+-- are: this project's profile.
 use Rattle.std.specs.Prelude.{ℕ, ◌==◌, not, Bool, false, Option, Some, None, is_some, List, [], ◌∷◌, ◌++◌, if◌then◌else◌}
 use Rattle.std.specs.List.{list_any, filter, flat_map}
 use Rattle.std.specs.Option.{option_to_list, option_map}
@@ -23,7 +24,8 @@ abbrev pub acknowledges : (mmsi : ℕ) → Act → Bool
 acknowledges mmsi (Send call times) = is_ack_of mmsi call
 acknowledges mmsi _ = false
 
--- an act ends the casualty of this identity: it acknowledges its alert, or tells that another station has done so
+-- an act ends the casualty of this identity: it acknowledges its alert, or informs the operator that another station
+-- has done so
 abbrev pub ends : (mmsi : ℕ) → Act → Bool
 ends mmsi (Send call times) = is_ack_of mmsi call
 ends mmsi (CasualtyClosed closed) = closed == mmsi

@@ -1,5 +1,5 @@
--- Rules of a coast station: when it acknowledges an alert stands in Accepting; all else, 16 open casualties at most among it, is this
--- project's profile.
+-- Rules of a coast station: when it acknowledges an alert is in Accepting; all else, 16 open casualties at most among
+-- it, is this project's profile.
 use Rattle.std.specs.Prelude.{ℕ, ◌==◌, ◌&&◌, not, Bool, Option, Some, None, is_some, is_none, List, [], ◌∷◌, ◌++◌, length, if◌then◌else◌}
 use Rattle.call_values.specs.declared.calls.Call.{Call}
 use Rattle.call_values.specs.declared.calls.Call.TheVariants as call
@@ -32,16 +32,18 @@ pub record Station : Type 0 where
   pub own : ℕ
   pub band : Band
 
--- a relay is refused where no casualty of the identity is open, or else where it asks for an acknowledgement and no number is free
+-- a relay is refused where no casualty of the identity is open, or else where it asks for an acknowledgement and no
+-- number is free
 abbrev pub relay_refusal : (mmsi : ℕ) → (ask : Bool) → List OpenCasualty → Places → Option StationRefusal
 relay_refusal mmsi ask casualties places =
     if is_none (find_casualty mmsi casualties) then Some (NoCasualty mmsi) else refused_full ask places
 
--- the casualty's alert is told on, as a call of the operator is sent; the casualty stays open
+-- the casualty's alert is relayed, as a call of the operator is sent; the casualty stays open
 abbrev pub relay_due_of : (own : ℕ) → To → (ask : Bool) → Places → Option OpenCasualty → List Act
 relay_due_of own to ask places None = []
 relay_due_of own to ask places (Some casualty) = send_due places (call.Relay to own casualty.alert ask)
 
+-- the acts of relaying a ship's alert, if a casualty of it is open
 abbrev pub relay_due : (own : ℕ) → (mmsi : ℕ) → To → (ask : Bool) → List OpenCasualty → Places → List Act
 relay_due own mmsi to ask casualties places = relay_due_of own to ask places (find_casualty mmsi casualties)
 
@@ -56,8 +58,9 @@ refusal_at_call casualties places (call.Alert casualty) =
 refusal_at_call casualties places (call.Ack from casualty) = None
 refusal_at_call casualties places heard = heard_refusal places heard
 
--- at an alert distress is told; another station's acknowledgement closes the casualty that it names, where that one is open; at another
--- call what is due at each station, but a position request is shown
+-- what is due at a heard call: at an alert the operator is informed of distress; another station's acknowledgement ends
+-- the casualty that it names, where that one is open; at another call what is due at each station, but a position
+-- request is shown
 abbrev pub at_call : (own : ℕ) → List OpenCasualty → Places → Call → List Act
 at_call own casualties places (call.Alert casualty) = act.Distress casualty ∷ []
 at_call own casualties places (call.Ack from casualty) =
@@ -86,10 +89,11 @@ due_by who casualties places at (Heard heard) = if is_for who.own heard then at_
 abbrev pub held : History CoastWhat → Places
 held = all_held coast_occurs
 
--- behind a history
+-- why a coast station refuses an event after a history
 abbrev pub refusal_at : Station → History CoastWhat → CoastWhat → Option StationRefusal
 refusal_at who h what = refusal_by who (open_casualties who.own h) (held h) what
 
+-- the acts that are due at an event after a history
 abbrev pub due_at : Station → History CoastWhat → (at : ℕ) → CoastWhat → List Act
 due_at who h at what = due_by who (open_casualties who.own h) (held h) at what
 

@@ -9,7 +9,7 @@ use Rattle.traffic_rules.specs.Occurrences.{Occurrence, ticks, answers, hears, o
 use Rattle.coast_station.specs.declared.events.CoastWhat.{CoastWhat}
 use Rattle.coast_station.specs.declared.events.CoastWhat.TheVariants.{Accept, Tick, Relay, Send, Answer, Heard}
 
--- each part of an event is in its range; of calls that are sent and heard nothing is asked
+-- each part of an event is in its range; calls that are sent or heard may be any
 abbrev pub IsCoastWhat : CoastWhat → Type 0
 IsCoastWhat (Accept mmsi delay) = IsMmsi mmsi × IfSome delay IsCoastDelay
 IsCoastWhat Tick = Unit {0}
@@ -32,7 +32,8 @@ abbrev pub alert_in : (own : ℕ) → CoastWhat → Option Casualty
 alert_in own (Heard (call.Alert casualty)) = if casualty.mmsi == own then None else Some casualty
 alert_in own _ = None
 
--- the delay with which an event accepts the casualty of an identity. On VHF there may be none: the casualty then ends with the event
+-- the delay with which an event accepts the casualty of an identity. On VHF there may be none: the casualty then ends
+-- with the event
 abbrev pub delay_for : (mmsi : ℕ) → CoastWhat → Option ℕ
 delay_for mmsi (Accept accepted delay) = if accepted == mmsi then delay else None
 delay_for mmsi _ = None

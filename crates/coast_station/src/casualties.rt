@@ -1,3 +1,4 @@
+//! The open casualties of a coast station, at most 16.
 ghost use Rattle.std.specs.Prelude.{◌≡◌, ◌<◌, ◌≤◌, ◌==◌, [], ◌∷◌, ◌++◌, IfSome, IsErr, OnOk, OnErr, length, position, slice_set, is_none, ◌&&◌, ◌↔◌, IsTrue};
 ghost use Rattle.traffic_rules.specs.declared.refusals.StationRefusal.TheVariants as refusal;
 ghost use Rattle.coast_station.specs.Accepting as accepting;
@@ -134,8 +135,8 @@ impl Casualties {
         }
     }
 
-    /// Notes an alert: it begins a casualty, or takes the place of the alert of one that isn't accepted. `Full` exactly where it
-    /// begins one and 16 are open.
+    /// Notes an alert: it begins a casualty, or takes the place of the alert of one that isn't accepted. `Full` exactly
+    /// where it begins one and 16 are open.
     pub(crate) fn note(&mut self, alert: &Casualty, at: u64) -> Result<(), StationRefusal>
         ensures full { IsErr result ↔ IsTrue (is_none (accepting.find_casualty alert.now.mmsi self.old)
             && (length self.old == 16)) }
@@ -170,7 +171,7 @@ impl Casualties {
         self.entries = not_due(&self.entries, at);
     }
 
-    /// Where the casualty of this identity stands.
+    /// The place of the casualty of this identity.
     fn place_of(&self, mmsi: Mmsi) -> Option<usize>
         ensures value { result ≡ position (accepting.is_of mmsi) self.now }
         ensures range { IfSome result (λ index. index < length self.now) }
@@ -179,6 +180,7 @@ impl Casualties {
     }
 }
 
+/// The index of the casualty of this identity, if it is there.
 fn place_of(entries: &[OpenCasualty], mmsi: Mmsi) -> Option<usize>
     ensures value { result ≡ position (accepting.is_of mmsi) entries.now }
     ensures range { IfSome result (λ index. index < length entries.now) }
@@ -188,6 +190,7 @@ fn place_of(entries: &[OpenCasualty], mmsi: Mmsi) -> Option<usize>
         .position(|casualty| casualty.alert.mmsi.number() == mmsi.number())
 }
 
+/// Puts a casualty in the place of the one at this index.
 fn replace_at(
     entries: &mut ArrayVec<OpenCasualty, MOST_CASUALTIES>,
     index: usize,

@@ -1,3 +1,4 @@
+//! A coast station: what it keeps, and what it does at each event.
 ghost use Rattle.std.specs.Prelude.{◌≡◌, true, [], Ok, OnOk, OnErr};
 ghost use Rattle.traffic_rules.specs.Rules.{listed};
 ghost use Rattle.traffic_rules.specs.Giving.{answer_with};
@@ -31,8 +32,8 @@ pub struct Coast {
 }
 
 impl Coast {
-    /// A coast station with its identity, which works in this band. It knows of no casualty and holds no call, and its last
-    /// moment is 0.
+    /// A coast station with its identity, which works in this band. It knows of no casualty and holds no call, and its
+    /// last moment is 0.
     pub fn new(own: Mmsi, band: Band) -> Coast
         ensures { Stands result (record { own = own; band = band }) [] }
     {
@@ -45,12 +46,12 @@ impl Coast {
         }
     }
 
-    /// Does what is due at an event (when an alert is acknowledged is ITU-R M.541's; all else is this project's profile). The acts are at most 32; they are in a list
-    /// of the caller, which is cleared first and is empty where the event is refused. Refused, in this
-    /// order: an event before the last accepted one (`TimeBack`); accepting or telling on an alert of a ship of which no
-    /// casualty is open (`NoCasualty`); accepting on MF or HF without a delay (`NeedsDelay`); a call that the operator may not
-    /// send (`NotSendable`); an answer to a number under which no call that was got is held (`NoSuchCall`); what would begin a
-    /// seventeenth casualty or held call (`Full`).
+    /// Does what is due at an event (when an alert is acknowledged is ITU-R M.541's; all else is this project's
+    /// profile). The acts are at most 32; they are in a list of the caller, which is cleared first and is empty where
+    /// the event is refused. Refused, in this order: an event before the last accepted one (`TimeBack`); accepting or
+    /// relaying an alert of a ship of which no casualty is open (`NoCasualty`); accepting on MF or HF without a delay
+    /// (`NeedsDelay`); a call that the operator may not send (`NotSendable`); an answer to a number under which no call
+    /// that was got is held (`NoSuchCall`); what would begin a seventeenth casualty or held call (`Full`).
     pub fn step_into(&mut self, event: &CoastEvent, acts: &mut Acts) -> Result<(), StationRefusal>
         ensures answers { AnswersByRules coast_rules Stands self.old event.now.at event.now.what (answer_with result acts.new.items) }
         ensures goes_on { GoesOnByRules coast_rules Stands self.old event.now.at event.now.what self.new }

@@ -1,3 +1,4 @@
+//! The events of a coast station.
 ghost use Rattle.coast_station.specs.Events.{IsCoastWhat};
 
 use call_values::{Call, CoastDelay, Mmsi, To};
@@ -12,12 +13,12 @@ pub struct CoastEvent {
 /// What happens at a coast station (ITU-R M.541, procedures of coast stations).
 #[derive(Clone, Copy, Debug, PartialEq, Eq)]
 pub enum CoastWhat {
-    /// The operator accepts the distress alert of this ship, to be acknowledged so long after the alert. On MF and HF a delay
-    /// must be given.
+    /// The operator accepts the distress alert of this ship, to be acknowledged so long after the alert. On MF and HF a
+    /// delay must be given.
     Accept(Mmsi, Option<CoastDelay>),
     /// Time has passed.
     Tick,
-    /// The operator tells the distress alert of this ship on, and may ask for an acknowledgement.
+    /// The operator relays the distress alert of this ship, and may ask for an acknowledgement.
     Relay(Mmsi, To, bool),
     /// The operator sends a call.
     Send(Call),

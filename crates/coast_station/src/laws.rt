@@ -19,15 +19,15 @@ ghost use Rattle.traffic_rules.specs.TrafficActs.{AreRepeatedAsTraffic};
 
 use crate::casualties::MOST_CASUALTIES;
 
-/// The law that the identities of the open casualties are those of which an alert was heard since they were last ended, behind
-/// every history.
+/// The law that the identities of the open casualties, after every history, are those of which an alert was heard since
+/// they were last ended.
 pub fn casualties_are_born()
     ensures { (own mmsi : ℕ) (h : History CoastWhat)
         → list_any (λ (identity : ℕ). identity == mmsi) (born own h) ≡ is_born own mmsi h }
 {}
 
-/// The law that a sent distress acknowledgement carries an alert that was heard before and whose identity was accepted after
-/// that, and that on MF and HF at least 60,000 ms have passed since this alert, in every legal history.
+/// The law that a sent distress acknowledgement carries an alert that was heard before and whose identity was accepted
+/// after that, and that on MF and HF at least 60,000 ms have passed since this alert, in every legal history.
 pub fn acknowledgements_go_back_to_accepted_alerts()
     ensures { (who : Station) (later earlier : History CoastWhat) (sent : Entry CoastWhat) (from times : ℕ)
         (casualty : Casualty) (first last : List Act)
@@ -52,16 +52,17 @@ pub fn an_identity_is_acknowledged_once()
         → IsTrue (acknowledges mmsi acknowledgement) → list_any (acknowledges mmsi) last ≡ false }
 {}
 
-/// The law that a call that asks for an acknowledgement is sent at most twice for each time that it is held: once as it begins to be
-/// held, and at ticks not more often than that, in every legal history. And so in each part of one: what is sent again in it, and what
-/// then waits to be sent again, waited as the part began or was held in it; so a holding that was answered leaves its second sending to
-/// no other. Of such calls any may be counted: one call alone, those to one station, or all of them.
+/// The law that in every legal history a call that asks for an acknowledgement is sent at most twice for each time that
+/// it is held: once as it begins to be held, and at most once more, at a tick. This also holds of each part of a
+/// history: what is sent again in it, and what then waits to be sent again, waited as the part began or was held in it.
+/// So a holding that was answered leaves its second sending to no other. Any such calls may be counted: one call alone,
+/// those to one station, or all of them.
 pub fn held_calls_are_sent_at_most_twice()
     ensures { (who : Station) → AreSentAtMostTwice coast_occurs (coast_rules who) }
 {}
 
-/// The law that an operator may send each call that a coast station holds as sent, so that all that it repeats at a tick is of traffic,
-/// in every legal history.
+/// The law that an operator may send each call that a coast station holds as sent, so that all that it repeats at a
+/// tick is of traffic, in every legal history.
 pub fn repeated_calls_are_sendable()
     ensures { (who : Station) (h : History CoastWhat) → Legal (coast_rules who) h
         → AreRepeatedAsTraffic who.own (held h) }
@@ -74,7 +75,7 @@ pub fn sixteen_casualties()
         → length (open_casualties who.own h) ≤ 16 }
 {}
 
-/// The law that a coast station holds sixteen calls at most, behind every history.
+/// The law that a coast station holds sixteen calls at most, after every history.
 pub fn sixteen_calls_are_held()
     ensures { (h : History CoastWhat) → calls_held (held h) ≤ 16 }
 {}

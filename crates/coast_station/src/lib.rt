@@ -1,5 +1,5 @@
-//! A coast station: the distress alerts that it hears, accepts, acknowledges and tells on, and the calls that it sends and
-//! answers.
+//! A coast station: the distress alerts that it hears, accepts, acknowledges and relays, and the calls that it sends
+//! and answers.
 #![tactic(auto)]
 
 mod casualties;

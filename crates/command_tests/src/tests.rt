@@ -1,3 +1,5 @@
+//! Streams and commands, file by file.
+
 mod board;
 mod engine;
 mod made;

@@ -1,3 +1,5 @@
+//! Worked rows, file by file.
+
 mod cuts;
 mod encoding;
 mod exchanges;

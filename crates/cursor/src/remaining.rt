@@ -1,3 +1,4 @@
+//! A cursor: what is left of bytes while they are read.
 ghost use Rattle.std.specs.Prelude.{◌≡◌};
 
 use std::marker::Model;

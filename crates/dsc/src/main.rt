@@ -36,8 +36,8 @@ fn tell_usage(rt: &impl Eprint, alloc: Global, words: &[String]) {
     let _ = eprintln!(rt; "{USAGE}");
 }
 
-/// Says on the standard error what failed, or what the line on the standard output means for whoever doesn't see it. Where that can't be
-/// written, the status alone tells.
+/// Says on the standard error what failed, or what the line on the standard output means for whoever doesn't see it.
+/// Where that can't be written, the status alone says so.
 fn tell(rt: &impl Eprint, status: u8) {
     let line = match status {
         3 | 7 => "dsc: the input was refused: the output's last line says where",

@@ -1,4 +1,4 @@
--- The facts of a group and those of the receptions behind its lines are alike.
+-- The facts of a group and those of the receptions of its lines are alike.
 use Rattle.std.proofs.Common.{◌≡◌, ℕ, Bool, true, false, ◌&&◌, ◌||◌, ◌==◌, List, [], ◌∷◌, refl, sym, ap, subst, ◌∙◌}
 use Rattle.std.proofs.Math.Path.{fun_ext}
 use Rattle.std.specs.List.{list_any}
@@ -47,7 +47,7 @@ module _ (laws : Laws) (k : ℕ) where
   line_alike (reception group e) here behind p = by_reception group e here p (group == k) refl behind
   line_alike (evidence group pairs) here behind p = by_evidence group pairs here p (group == k) refl behind
 
-  -- the facts of the group are alike those of all receptions behind its lines
+  -- the facts of the group are alike those of all receptions of its lines
   pub behind_alike : (said : List JoinLine) (receptions : List (List Element)) → AreBehind k said receptions → (p : ℕ) → AreAlike (group_facts said k p) (facts_of_all receptions p)
   unfolding group_facts facts_of_all
   behind_alike [] receptions none p = same_alike (λ v. false) (facts_of_all receptions p) (λ v. sym (all_none receptions p v none))

@@ -1,4 +1,4 @@
--- However a replay or an exchange ends, the histories that its lines tell are legal.
+-- However a replay or an exchange ends, the histories of its lines are legal.
 use Rattle.std.proofs.Common.{ℕ, Bool, List}
 use Rattle.dsc_streams.specs.declared.streams.Source
 use Rattle.dsc_streams.specs.declared.streams.Sink

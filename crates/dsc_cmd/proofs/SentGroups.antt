@@ -1,4 +1,4 @@
--- Of a group whose receptions are all of one call the text tells this call, or a lost place of it.
+-- Where all receptions of a group are of one call, the text reports this call, or names a lost place of it.
 use Rattle.std.proofs.Common.{◌≡◌, ℕ, true, ◌==◌, suc, List, [], ◌∷◌, ◌++◌, All, refl, ap, subst, ◌∙◌, inl, inr, arith}
 use Rattle.std.specs.Prelude.{map, Contains}
 use Rattle.std.specs.List.{AllByRecursion}

@@ -1,4 +1,4 @@
--- However a join ends, what it tells of the calls that were sent.
+-- However a join ends, what it says of the calls that were sent.
 use Rattle.std.proofs.Common.{ℕ, List, Option, inl, inr}
 use Rattle.dsc_streams.specs.declared.streams.Source
 use Rattle.dsc_streams.specs.declared.streams.Sink

@@ -1,4 +1,4 @@
--- However a watch ends, what it tells of the calls that were sent.
+-- However a watch ends, what it says of the calls that were sent.
 use Rattle.std.proofs.Common.{ℕ, List}
 use Rattle.dsc_streams.specs.declared.streams.Source
 use Rattle.dsc_streams.specs.declared.streams.Sink

@@ -1,4 +1,4 @@
--- However a capture ends, its starts tell the calls that were received at them.
+-- However a capture ends, what its starts say of the calls that were received at them.
 use Rattle.std.proofs.Common.{ℕ, List, [], ◌∷◌, ◌++◌}
 use Rattle.std.specs.List.{AllByRecursion}
 use Rattle.dsc_streams.specs.declared.streams.Source

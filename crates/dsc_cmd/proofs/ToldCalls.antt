@@ -1,4 +1,4 @@
--- Of a group whose receptions are all of one call no other call is told.
+-- Where all receptions of a group are of one call, no other call is told.
 use Rattle.std.proofs.Common.{◌≡◌, ℕ, suc, ◌<◌, ◌≤◌, true, List, [], ◌∷◌, ◌++◌, length, get_or, All, subst, inl, inr, arith}
 use Rattle.std.specs.List.{list_any}
 use Rattle.std.proofs.lemmas.Bool.{or_cases}
@@ -32,7 +32,7 @@ pub record Laws : Type 0 where
   pub heard : HeardLaw
   pub told : ToldLaw
 
--- nothing else stands between a symbol and itself
+-- nothing else is between a symbol and itself
 between_itself : (low v high only : ℕ) → low ≡ only → high ≡ only → low ≤ v → v ≤ high → v ≡ only
 between_itself low v high only a b c d = omega arith
 

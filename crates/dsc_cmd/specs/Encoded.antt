@@ -13,13 +13,15 @@ use Rattle.encode_calls.specs.Transmissions.{transmitted}
 use Rattle.encode_calls.specs.Encoding.{encoded_line}
 use Rattle.dsc_cmd.specs.Sent.{TellsThis}
 
--- the line that `encode` writes of a call is the line of a reception of this group, which heard the call's whole transmission
+-- the line that `encode` writes of a call is the line of a reception of this group, which heard the call's whole
+-- transmission
 pub record IsHeardWhole (long : Bool) (k : ℕ) (call : Call) (expansion : Option Sets) : Type 0 where
   pub line : List ℕ
   pub line_is : encoded_line long k (call, expansion) ≡ line ++ line_feed ∷ []
   pub says : IsLine (reception k (transmitted long call expansion)) line
 
--- some line names the group, and each that does holds a reception that heard the call's whole transmission, with what follows it
+-- some line names the group, and each that does holds a reception that heard the call's whole transmission, with what
+-- follows it
 pub record IsOfEncoded (said : List JoinLine) (k : ℕ) (long : Bool) (call : Call) (expansion : Option Sets) : Type 0 where
   pub named : is_named said k ≡ true
   pub each : AllByRecursion (λ line. names k line ≡ true → line ≡ reception k (transmitted long call expansion)) said

@@ -1,4 +1,5 @@
--- The receptions behind a group's lines: ITU-R M.493, time diversity; that evidence stands for receptions is this project's profile.
+-- The receptions of a group's lines: ITU-R M.493, time diversity; that evidence stands for receptions is this project's
+-- profile.
 use Rattle.std.specs.Prelude.{◌≡◌, ℕ, true, List, [], ◌∷◌, ◌++◌, All}
 use Rattle.ten_unit.specs.declared.character.Element.{Element}
 use Rattle.call_values.specs.declared.calls.Call.{Call}
@@ -18,20 +19,21 @@ pub record StandsForThem (pairs : List (ℕ × ℕ)) (receptions : List (List El
   pub ends : IsEnds (facts_of_all receptions) sheet
   pub same : (p v : ℕ) → facts_of_pairs pairs p v ≡ facts_in sheet p v
 
--- the receptions behind a line of this group: that of a reception line, and those for which evidence stands; none behind another line
+-- the receptions of a line, as far as it is of this group: that of a reception line, and those for which evidence
+-- stands; any other line has none
 abbrev pub AreBehindLine : ℕ → JoinLine → List (List Element) → Type 0
 AreBehindLine k nothing receptions = receptions ≡ []
 AreBehindLine k (reception group e) receptions = (group ≡ k → receptions ≡ e ∷ []) × ((group ≡ k → ⊥) → receptions ≡ [])
 AreBehindLine k (evidence group pairs) receptions = (group ≡ k → StandsForThem pairs receptions) × ((group ≡ k → ⊥) → receptions ≡ [])
 
--- the receptions behind the group's lines, in turn
+-- the receptions of the group's lines, in turn
 abbrev pub AreBehind : ℕ → List JoinLine → List (List Element) → Type 0
 AreBehind k [] receptions = receptions ≡ []
 AreBehind k (line ∷ said) receptions =
     (here : List (List Element)) × (rest : List (List Element)) × (receptions ≡ here ++ rest) × AreBehindLine k line here × AreBehind k said rest
 
--- lines name the group, and all the receptions behind its lines heard this call and what follows it: truly phased, and in each character
--- wrong in one sense alone
+-- lines name the group, and all the receptions of its lines heard this call and what follows it: truly phased, and in
+-- each character wrong in one sense alone
 pub record IsOfCall (said : List JoinLine) (k : ℕ) (call : Call) (tail : List ℕ) (receptions : List (List Element)) : Type 0 where
   pub lawful : IsCall call
   pub named : is_named said k ≡ true

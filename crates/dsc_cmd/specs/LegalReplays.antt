@@ -1,4 +1,4 @@
--- What the lines of a traffic file mean, with the history that they tell: this project's profile.
+-- What the lines of a traffic file mean, with their history: this project's profile.
 use Rattle.std.specs.Prelude.{◌≡◌, ℕ, Bool, List, if◌then◌else◌}
 use Rattle.line_engine.specs.Lines.{Lines}
 use Rattle.line_engine.specs.Meaning.{Meaning}
@@ -14,7 +14,7 @@ abbrev pub TellsLegally : (kind : Kind) (said : Said) (text : List ℕ) (is_well
 TellsLegally ship said text is_well tells = Legal (ship_rules (identities_of said)) (history_of (ship_rules (identities_of said)) tells.happened)
 TellsLegally (coast band) said text is_well tells = Legal (coast_rules (station_of band said)) (history_of (coast_rules (station_of band said)) tells.happened)
 
--- these lines give this text, and the history that they tell is legal
+-- these lines give this text, and their history is legal
 pub record ReplaysLegally (lines : Lines) (text : List ℕ) (is_well : Bool) : Type 0 where
   pub replays : Replays lines text is_well
   pub legal : TellsLegally (kind_of replays.said) replays.said text is_well replays.tells

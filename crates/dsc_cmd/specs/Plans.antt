@@ -30,9 +30,10 @@ made_meaning n = record {
   Ends = λ lines text status. IsMade n text status;
 }
 
--- what the lines of each command's input mean: of receptions and evidence, the answer of each group, or its ends; of calls, their transmissions;
--- of calls and sentences, the sentences of the calls and verdicts; of a traffic file, what its station does; of a stream, the answer at each of
--- its starts; of a file of an exchange, what its two stations do; of logs of sentences, the book of casualties; `make` has no input
+-- what the input of each command means: for `join` the answer of each group, and for `evidence` its ends; for `encode`
+-- the transmissions of calls; for `sentences` the sentences of calls, and verdicts; for `replay` what the station does;
+-- for `capture` the answer at each start; for `watch` calls, and then what `join` writes; for `exchange` what the two
+-- stations do; for `book` the book of casualties; `make` has no input
 abbrev pub meaning_of : Plan → Meaning
 meaning_of (Join workers) = groups_meaning TellsAnswer
 meaning_of (Evidence workers) = groups_meaning TellsEvidence
@@ -45,7 +46,7 @@ meaning_of (Watch workers) = watch_meaning
 meaning_of Exchange = exchange_meaning
 meaning_of Book = book_meaning
 
--- the commands whose lines ask for one text: all but `watch`, which may tell a call earlier than it must
+-- the commands whose lines ask for one text: all but `watch`, which may report a call earlier than it must
 abbrev pub HasOneOutput : Plan → Type 0
 HasOneOutput (Watch workers) = ⊥
 HasOneOutput _ = Unit {0}
@@ -57,7 +58,8 @@ HasSomeOutput Sentences = Unit {0}
 HasSomeOutput Exchange = Unit {0}
 HasSomeOutput _ = ⊥
 
--- the input that a command has where this is left of the source: all of it, and no byte for `make`, which leaves the source alone
+-- the input that a command has where this is left of the source: all of it, and no byte for `make`, which leaves the
+-- source alone
 abbrev pub input_of : Plan → Option (List ℕ) → Option (List ℕ)
 input_of (Make n) left = Some []
 input_of _ left = left
@@ -108,7 +110,8 @@ pub record CutsOffSummary (n : ℕ) (before after : Option (List ℕ)) : Type 0 
   pub is_made : IsMade n text status
   pub writes : WritesFront before after text
 
--- 4, 5 and 6: what was appended is a front of whatever output the whole input asks for, and whatever is left of the input
+-- 4, 5 and 6: what was appended is a front of whatever output the whole input asks for, and whatever is left of the
+-- input
 pub record WritesFrontOfOutput (meaning : Meaning) (left_before left_after before after : Option (List ℕ)) : Type 0 where
   pub taken : List ℕ
   pub lost : Loses left_before left_after taken

@@ -1,4 +1,5 @@
--- What is written of a group whose receptions are all of one call: ITU-R M.493, the error-detecting code and time diversity; the rule is this project's profile.
+-- What is written of a group whose receptions are all of one call: ITU-R M.493, the error-detecting code and time
+-- diversity; the rule is this project's profile.
 use Rattle.std.specs.Prelude.{◌≡◌, ℕ, List, Option, Contains}
 use Rattle.ten_unit.specs.declared.character.Element.{Element}
 use Rattle.call_values.specs.declared.calls.Call.{Call}
@@ -16,14 +17,15 @@ use Rattle.dsc_texts.specs.Texts.{answer_line}
 use Rattle.join_groups.specs.Meanings.{EndsTelling, groups_meaning}
 use Rattle.dsc_cmd.specs.Heard.{IsOfCall}
 
--- the group's line tells this answer
+-- the group's line says this answer
 pub record TellsThis (told : GroupLine) (k : ℕ) (answer : Joined) : Type 0 where
   pub group : told.group ≡ k
   pub line_is : told.line ≡ answer_line k answer
   pub well_is : told.is_well ≡ is_reported answer
 
--- one of the lines that are told is the group's, and tells the call that was sent, or names as missing a place of it no copy of which came
--- intact; and it tells the call where each of its places came intact at some receiver, the end of sequence perhaps in a later copy
+-- one of the lines that are told is the group's: it reports the call that was sent, or names as missing a place of it
+-- no copy of which came intact; and it reports the call where each of its places came intact at some receiver, the end
+-- of sequence perhaps in a later copy
 pub record TellsSent (all : List GroupLine) (k : ℕ) (call : Call) (tail : List ℕ) (receptions : List (List Element)) : Type 0 where
   pub told : GroupLine
   pub is_one : Contains all told
@@ -32,7 +34,8 @@ pub record TellsSent (all : List GroupLine) (k : ℕ) (call : Call) (tail : List
   pub sent : IsSentOrLostPlace receptions call tail answer
   pub whole : ArrivesInParts receptions call tail → IsSent receptions call tail answer
 
--- 0 and 1: the input was read to its end, and of each group whose receptions are all of one call the text tells this call, or a lost place of it
+-- 0 and 1: the input was read to its end, and where all receptions of a group are of one call, the text reports this
+-- call, or names a lost place of it
 pub record ReportsSent (left_before left_after before after : Option (List ℕ)) (flushed status : ℕ) : Type 0 where
   pub input : List ℕ
   pub lost : Loses left_before left_after input
@@ -44,13 +47,13 @@ pub record ReportsSent (left_before left_after before after : Option (List ℕ))
   pub writes : Writes before after flushed text
   pub sent : (k : ℕ) (call : Call) (tail : List ℕ) (receptions : List (List Element)) → IsOfCall said k call tail receptions → TellsSent is_text.all k call tail receptions
 
--- an input of these lines has this text and status, and of each group whose receptions are all of one call it tells this call, or a lost place
--- of it
+-- an input of these lines has this text and status; where all receptions of a group are of one call, the text reports
+-- this call, or names a lost place of it
 pub record EndsJoin (lines : Lines) (text : List ℕ) (status : ℕ) : Type 0 where
   pub ends : EndsTelling TellsAnswer lines text status
   pub sent : (k : ℕ) (call : Call) (tail : List ℕ) (receptions : List (List Element)) → IsOfCall ends.said k call tail receptions
       → TellsSent ends.is_text.all k call tail receptions
 
--- what the lines of `join` mean, and what is told of the calls that were sent
+-- what the lines of `join` mean, and what is written of the calls that were sent
 abbrev pub sent_join : Meaning
 sent_join = record (groups_meaning TellsAnswer) { Ends = EndsJoin }

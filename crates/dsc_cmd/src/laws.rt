@@ -23,8 +23,9 @@ use generated_join::{made_text_is_one, made_text_is_there};
 use join_groups::facts_determine_texts;
 use slot_join::{alike_facts_have_one_answer, transmissions_are_answered};
 
-/// The law that `join` gives back what `encode` wrote: the line that `encode` writes of a call is a line of join's input, and of a group
-/// whose lines are all this line join's text reports exactly this call and this expansion, whatever other groups there are.
+/// The law that `join` gives back what `encode` wrote. The line that `encode` writes of a call is a line of join's
+/// input. Where all lines of a group are this line, join's text reports exactly this call and this expansion, whatever
+/// other groups there are.
 pub fn encoded_calls_are_reported()
     ensures line { (long : Bool) (k : ℕ) (call : Call) (expansion : Option Sets) → k < 2 ^ 32
         → IsHeardWhole long k call expansion }
@@ -36,8 +37,8 @@ pub fn encoded_calls_are_reported()
     transmissions_are_answered();
 }
 
-/// The law that each command's input has one first fault, and that of each but `watch` it has one output: its lines ask for one text
-/// and status.
+/// The law that each command's input has one first fault. The input of each command but `watch` has one output: its
+/// lines ask for one text and status.
 pub fn inputs_have_one_output()
     ensures determined { (plan : Plan) → HasOneOutput plan → IsDetermined (meaning_of plan) }
     ensures output { (plan : Plan) → HasOneOutput plan → (lines : Lines) (a b : List ℕ) (s t : ℕ)
@@ -55,8 +56,8 @@ pub fn inputs_have_one_output()
     made_text_is_one();
 }
 
-/// The law that facts determine what `join` and `evidence` write, whatever the number of workers: two inputs without a fault whose
-/// lines name the same groups, each with alike facts, have one text and status.
+/// The law that facts determine what `join` and `evidence` write, whatever the number of workers: two inputs without a
+/// fault whose lines name the same groups, each with alike facts, have one text and status.
 pub fn facts_determine_outputs()
     ensures join { (m n : ℕ) (first second : Lines) (said other : List JoinLine) → AreLines said first
         → AreLines other second → HaveAlikeFacts said other → (a b : List ℕ) (s t : ℕ)
@@ -69,7 +70,8 @@ pub fn facts_determine_outputs()
     facts_determine_texts();
 }
 
-/// The law that each input of `encode`, `sentences` and `exchange` has an output. By `inputs_have_one_output` it has exactly one.
+/// The law that each input of `encode`, `sentences` and `exchange` has an output. By `inputs_have_one_output` it has
+/// exactly one.
 pub fn inputs_have_an_output()
     ensures { (plan : Plan) → HasSomeOutput plan → HasOutputs (meaning_of plan) }
 {

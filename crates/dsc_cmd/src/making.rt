@@ -1,3 +1,4 @@
+//! Running the command `make`.
 ghost use Rattle.std.specs.Prelude.{◌≡◌, ◌≢◌, ◌⊎◌, ◌≤◌, List, if◌then◌else◌};
 ghost use Rattle.std.specs.List.{list_all};
 ghost use Rattle.dsc_streams.specs.Streams.{Rises, SeenBefore};
@@ -23,8 +24,8 @@ fn status_of(summary: &Summary) -> Status
     Status::of(summary.is_whole())
 }
 
-/// Writes the summary of so many generated groups. It ends with status 0 where a call was reported of every group, with 1 where not, or
-/// with that of a write fault.
+/// Writes the summary of so many generated groups. It ends with status 0 where a call was reported of every group, with
+/// 1 where not, or with that of a write fault.
 fn tell_summary<K: Sink>(groups: u16, summary: &Summary, sink: &mut K) -> Status
     requires { IsSummary (generated groups) summary.now }
     ensures which { IsFinished result ⊎ (result ≡ 5) }
@@ -42,8 +43,9 @@ fn tell_summary<K: Sink>(groups: u16, summary: &Summary, sink: &mut K) -> Status
     }
 }
 
-/// Has one worker join so many generated groups, at most 1,000, and writes the summary. It ends with status 0 where a call was reported of
-/// every group, with 1 where not, with that of a write fault, or with 6, having written nothing, where there was no memory.
+/// Has one worker join so many generated groups, at most 1,000, and writes the summary. It ends with status 0 where a
+/// call was reported of every group, with 1 where not, with that of a write fault, or with 6, having written nothing,
+/// where there was no memory.
 #[inline(never)]
 pub(crate) fn make<K: Sink, G: Gate>(alloc: Global, groups: u16, sink: &mut K, gate: &G) -> Status
     requires { groups ≤ 1000 }

@@ -11,8 +11,9 @@ ghost use Rattle.dsc_cmd.specs.Sent.{ReportsSent, sent_join};
 use dsc_streams::{Sink, Source, Status};
 use dsc_words::one_plan;
 
-/// The law that a run of words, as `run` promises it, says this by its status: which words give it, what was read and written, and whether
-/// a stream failed. `from` and `rest` are the source before the run and after it, `before` and `after` the sink.
+/// The law that a run of words, as `run` promises it, says this by its status: which words give it, what was read and
+/// written, and whether a stream failed. `from` and `rest` are the source before the run and after it, `before` and
+/// `after` the sink.
 pub fn runs_of_words<S: Source, K: Sink>(
     words: &[String],
     from: &S,
@@ -27,7 +28,7 @@ pub fn runs_of_words<S: Source, K: Sink>(
     ensures answered { (plan : Planned) → IsPlan (spoken words.now) plan → IsFinished status
         → TellsWhole (meaning_of plan) (input_of plan (S.left from.now)) (input_of plan (S.left rest.now))
         (K.written before.now) (K.written after.now) (K.flushed after.now) status }
-    // Of `join`: where all receptions of a group heard one call, this call, or a lost place of it.
+    // Where all receptions of a group heard one call, `join` reports this call, or names a lost place of it.
     ensures reported { Runs sent_join S.Source K.Sink from.now rest.now before.now after.now status → IsFinished status
         → ReportsSent (S.left from.now) (S.left rest.now) (K.written before.now) (K.written after.now) (K.flushed after.now) status }
 

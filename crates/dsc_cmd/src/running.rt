@@ -1,3 +1,4 @@
+//! Running the command that words name.
 ghost use Rattle.std.specs.Prelude.{◌≡◌, ◌⊎◌, ℕ, [], OnOk, OnErr};
 ghost use Rattle.dsc_streams.specs.Streams.{Rises, SeenBefore};
 ghost use Rattle.line_engine.specs.Endings.{IsFinished, IsBrokenOff, Writes, WritesFront, TakesAtMost};
@@ -157,7 +158,8 @@ fn execute<R: Threads + Sync, S: Source, K: Sink, G: Gate>(
 /// | `book` | each row that the DSC sentences of logs give, once, by rising order: who was in distress, who acknowledged and relayed it |
 /// | `make N` | the summary of the join of N generated groups, of four receptions each; nothing is read |
 ///
-/// Of workers N is 1 to 64, and 1 where it isn't given; it changes no answer. Of groups N is 1 to 1,000. D is 20 or 200, and 20 where it isn't given.
+/// `--workers N` takes 1 to 64 workers, and 1 where it isn't given; it changes no answer. `make N` takes 1 to 1,000
+/// groups. `--dots D` takes 20 or 200 dots, and 20 where it isn't given.
 ///
 /// | Status | What it says |
 /// |---|---|
@@ -170,7 +172,8 @@ fn execute<R: Threads + Sync, S: Source, K: Sink, G: Gate>(
 /// | 6 | there was no memory: a front of what the lines so far gave may have been written |
 /// | 7 | a limit was passed, 65,536 lines, 4,200 bytes in one or 1,024 groups, and the line of this first fault was written |
 ///
-/// `join`, `evidence`, `book` and `make` write nothing before the end of their input. What the lines before a fault gave stands before its line.
+/// `join`, `evidence`, `book` and `make` write nothing before the end of their input. What the lines before a fault
+/// gave comes before its line.
 pub fn run<R: Threads + Sync, S: Source, K: Sink, G: Gate>(
     rt: &R,
     alloc: Global,
@@ -179,26 +182,29 @@ pub fn run<R: Threads + Sync, S: Source, K: Sink, G: Gate>(
     sink: &mut K,
     gate: &G,
 ) -> Status
-    // The words are a plan, and this was a run of its command over the lines of the source: of whole inputs exactly what they ask for was
-    // written, for `join` the answers that the facts of each group determine. Or they are no plan, and were refused; or there was no memory for
-    // them, and nothing was begun. `runs_of_words` says it status by status.
+    // The words are a plan, and this was a run of its command over the lines of the source: of whole inputs exactly
+    // what they ask for was written, for `join` the answers that the facts of each group determine. Or they are no
+    // plan, and were refused; or there was no memory for them, and nothing was begun. `runs_of_words` says it status by
+    // status.
     ensures run { KeepsWords (spoken words.now) S.Source K.Sink source.old source.new sink.old sink.new result }
     ensures bounded { TakesAtMost (S.left source.old) (S.left source.new) MOST_TAKEN }
     ensures told { SeenBefore (S.left source.old) (S.left source.new) × SeenBefore (K.written sink.old) (K.written sink.new) }
 
-    // Where all receptions of a group heard one call, truly phased and wrong in one sense alone: `join` tells this call, or a place of it no copy
-    // of which came intact, and the call where each of its places came intact at some receiver; and `watch`, however it ends, tells no other.
+    // Where all receptions of a group heard one call, truly phased and wrong in one sense alone: `join` reports this
+    // call, or names a place of it no copy of which came intact, and reports the call where each of its places came
+    // intact at some receiver; and `watch`, however it ends, reports no other call.
     ensures sent { (n : ℕ) → IsPlan (spoken words.now) (joins n)
         → Runs sent_join S.Source K.Sink source.old source.new sink.old sink.new result }
     ensures told_sent { (n : ℕ) → IsPlan (spoken words.now) (watches n)
         → Runs sent_meaning S.Source K.Sink source.old source.new sink.old sink.new result }
 
-    // At a start at which a call was received, in each character wrong in one sense alone, `capture` tells this call, or a place of it that
-    // showed nothing.
+    // At a start at which a call was received, in each character wrong in one sense alone, `capture` reports this call,
+    // or names a place of it that showed nothing.
     ensures starts { IsPlan (spoken words.now) captures
         → Runs heard_meaning S.Source K.Sink source.old source.new sink.old sink.new result }
 
-    // The histories that the lines of `replay` and `exchange` tell are legal, so that the laws of stations and of exchanges hold of them.
+    // The histories of the lines of `replay` and `exchange` are legal, so that the laws of stations and of exchanges
+    // hold of them.
     ensures legal_replay { (n : ℕ) → IsPlan (spoken words.now) (replays n)
         → Runs legal_replay S.Source K.Sink source.old source.new sink.old sink.new result }
     ensures legal_exchange { IsPlan (spoken words.now) exchanges

@@ -32,7 +32,7 @@ deed_line Tick = line.Tick
 deed_line (Send call) = line.Send call
 deed_line (Answer k accepts) = line.Answer k accepts
 
--- an event of a traffic file: of a call that is heard the expansion is left out
+-- an event of a traffic file; the expansion of a heard call is left out
 abbrev pub event_line : Event StationOwn Hearing → EventLine
 event_line (Does deed) = deed_line deed
 event_line (Comes (Hear call extra)) = line.Hear call

@@ -42,7 +42,7 @@ line_of_join got.Nothing = line.Nothing
 line_of_join (got.Reception group e) = line.Reception group e
 line_of_join (got.Evidence group sheet) = line.Evidence group sheet
 
--- the answer for a line of these, of which nothing can run out: what it says, or the column of bytes that are no such line
+-- the answer for a line of these, which takes no memory: what it says, or the column of bytes that are no such line
 abbrev pub ReadsAlways : {W : Type 0} (L : Spelling W) (as_line : W → Line) → List ℕ → Result Line LineFault → Type 0
 ReadsAlways {W = W} L as_line text (Ok read) = (says : W) × (L says text × (read ≡ as_line says))
 ReadsAlways L as_line text (Err (fault.Column n)) = IsColumn L text n
@@ -76,7 +76,7 @@ SaysAtPoint (traffic says) read = read ≡ at.Traffic says
 abbrev pub ReadsAtPoint : Point → List ℕ → Result GotAtPoint LineFault → Type 0
 ReadsAtPoint point text answer = ReadsWithRoom (IsPointLine point) SaysAtPoint text answer
 
--- what was read of a station's line, and of a line of a traffic file
+-- what a line of a station says, as a line of any file
 abbrev pub line_of_traffic : TrafficLine → Line
 line_of_traffic (Ship mmsi) = line.Ship mmsi
 line_of_traffic (Coast mmsi band) = line.Coast mmsi band
@@ -84,6 +84,7 @@ line_of_traffic (Base second) = line.Base second
 line_of_traffic (Group mmsi) = line.Group mmsi
 line_of_traffic (Event moment what) = line.Event moment (event_line what)
 
+-- what a line of a traffic file says, as a line of any file
 abbrev pub line_of_point : GotAtPoint → Line
 line_of_point (at.Joined says) = line_of_join says
 line_of_point (at.Traffic says) = line_of_traffic says
@@ -97,11 +98,12 @@ line_of_stream (x ∷ e) = line.Stream (x ∷ e)
 abbrev pub ReadsStream : List ℕ → Result Line LineFault → Type 0
 ReadsStream text answer = ReadsWithRoom IsStreamLine (λ e read. read ≡ line_of_stream e) text answer
 
--- what an event line of an exchange says, and what a line of a file of an exchange says
+-- what an event line of an exchange says, as a line of any file
 abbrev pub line_of_entry : entries.Entry → Line
 line_of_entry (AtShip moment what) = line.AtShip moment (exchange_line own.Ship what)
 line_of_entry (AtCoast moment what) = line.AtCoast moment (exchange_line own.Coast what)
 
+-- what a line of a file of an exchange says, as a line of any file
 abbrev pub line_of_world : Option WorldLine → Line
 line_of_world None = line.Nothing
 line_of_world (Some (world.Ship mmsi)) = line.Ship mmsi

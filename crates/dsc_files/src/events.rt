@@ -10,8 +10,8 @@ use traffic_lines::{
     CoastOwn, Deed, Event, Hearing, ShipLine, ShipOwn, StationLine, StationOwn, TrafficLine,
 };
 
-/// What an event line of any file says after its moment. `Position`, `Delay`, `Alert` and `Cancel` stand in files of ships alone,
-/// `Accept` and `Relay` in those of coast stations alone, and the others in both.
+/// What an event line of any file says after its moment. `Position`, `Delay`, `Alert` and `Cancel` come in files of
+/// ships alone, `Accept` and `Relay` in those of coast stations alone, and the others in both.
 #[derive(Clone, Copy, Debug, PartialEq, Eq)]
 pub enum EventLine {
     /// The ship is there, or doesn't know where it is.
@@ -26,7 +26,8 @@ pub enum EventLine {
     Tick,
     /// This call is to be sent.
     Send(Call),
-    /// The call that is held under this number, 1 to 16, is answered where the flag is true, and declined where it is false.
+    /// The call that is held under this number, 1 to 16, is answered where the flag is true, and declined where it is
+    /// false.
     Answer(u8, bool),
     /// This call is heard.
     Hear(Call),

@@ -16,8 +16,8 @@ ghost use Rattle.dsc_files.specs.Files.{ReadsLine};
 
 use dsc_lines::{evidence_is_read, one_call_line};
 
-/// The law that of the text that `put_call` writes of a call and of the expansion behind it, reading a line of calls can answer
-/// nothing but this call and this expansion.
+/// The law on the text that `put_call` writes of a call and of the expansion after it: reading a line of calls can
+/// answer nothing but this call and this expansion.
 #[tactic(auto, using(crate::proofs::Written::call_is_read))]
 pub fn written_calls_are_read()
     ensures { (call : Call) (extra : Extra) (answer : Result Line LineFault) → IsCall call → IsWholeOrAbsent extra
@@ -26,7 +26,8 @@ pub fn written_calls_are_read()
     one_call_line();
 }
 
-/// The law that of the text of evidence reading a line of join's input can answer nothing but its group and its sheet, or want of memory.
+/// The law that of the text of evidence reading a line of join's input can answer nothing but its group and its sheet,
+/// or want of memory.
 #[tactic(auto, using(crate::proofs::Written::evidence_line))]
 pub fn evidence_lines_are_read()
     ensures { (group : ℕ) (sheet : List Seen) (answer : Result Line LineFault) → group < 2 ^ 32 → IsSheet sheet

@@ -1,3 +1,4 @@
+//! What a line of a file of any kind says.
 ghost use Rattle.std.specs.Prelude.{◌≡◌, Some};
 ghost use Rattle.dsc_lines.specs.CallLine as calls;
 ghost use Rattle.dsc_files.specs.Files.{line_of_book, line_of_call, line_of_entry, line_of_join, line_of_point, line_of_sentence, line_of_traffic, line_of_world};
@@ -16,7 +17,7 @@ use traffic_lines::{Entry, ExchangePoint, Point, TrafficLine, WorldLine};
 pub enum FileKind {
     /// Receptions and evidence, which are joined.
     Join,
-    /// Calls, with an expansion behind them or none.
+    /// Calls, with an expansion after them or none.
     Call,
     /// Calls and sentences.
     Sentence,
@@ -73,7 +74,7 @@ impl From<JoinLine> for Line {
     }
 }
 
-/// What an answer says behind a call that was sent with this expansion behind it, or with none.
+/// What an answer says after a call that was sent with this expansion after it, or with none.
 fn extra_of(expansion: Option<Expansion>) -> Extra
     ensures { result ≡ calls.extra_of expansion }
 {

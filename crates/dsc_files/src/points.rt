@@ -57,8 +57,8 @@ fn line_at(point: Point, bytes: &[u8]) -> Result<TrafficLine, usize>
 }
 
 /// What a line says at this point of a traffic file, where it is no empty line, comment, reception or evidence (this
-/// project's profile). An error is the column: the least n, from 1, for which the first n bytes begin no such line of this
-/// point, and the length plus one where the line ends too early.
+/// project's profile). An error is the column: the least n, from 1, for which the first n bytes begin no such line of
+/// this point, and the length plus one where the line ends too early.
 pub fn read_traffic(point: Point, bytes: &[u8]) -> Result<TrafficLine, usize>
     ensures read { ReadsAs (IsTrafficLine point) bytes.now result }
     ensures counted { IfErr result (λ n. 1 ≤ n) }
@@ -67,7 +67,8 @@ pub fn read_traffic(point: Point, bytes: &[u8]) -> Result<TrafficLine, usize>
     line_at(point, bytes)
 }
 
-/// Reads one line at this point of a traffic file. An error is the column of bytes that are no such line, or want of memory.
+/// Reads one line at this point of a traffic file. An error is the column of bytes that are no such line, or want of
+/// memory.
 pub fn point_line(alloc: Global, point: Point, line: &[u8]) -> Result<PointLine, LineFault>
     ensures { ReadsAtPoint point line.now result }
 {

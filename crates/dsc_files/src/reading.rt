@@ -1,3 +1,4 @@
+//! Reading a line of a file of any kind.
 ghost use Rattle.dsc_files.specs.Files.{ReadsLine, ReadsStream};
 
 use crate::lines::{FileKind, Line};
@@ -22,8 +23,8 @@ fn added_line(alloc: Global, bytes: &[u8]) -> Result<Line, LineFault>
     }
 }
 
-/// Reads one line of a file of this kind, without its end. An error is the column of a line that is ill-formed, or want of
-/// memory.
+/// Reads one line of a file of this kind, without its end. An error is the column of a line that is ill-formed, or want
+/// of memory.
 pub fn line_of(alloc: Global, kind: FileKind, bytes: &[u8]) -> Result<Line, LineFault>
     ensures { ReadsLine kind bytes.now result }
 {

@@ -37,9 +37,9 @@ fn world_line_at(point: ExchangePoint, bytes: &[u8]) -> Result<WorldLine, usize>
     }
 }
 
-/// What a line says at this point of a file of an exchange, where it is no empty line or comment (this project's profile). An error
-/// is the column: the least n, from 1, for which the first n bytes begin no such line of this point, and the length plus one where
-/// the line ends too early.
+/// What a line says at this point of a file of an exchange, where it is no empty line or comment (this project's
+/// profile). An error is the column: the least n, from 1, for which the first n bytes begin no such line of this point,
+/// and the length plus one where the line ends too early.
 pub fn read_world(point: ExchangePoint, bytes: &[u8]) -> Result<WorldLine, usize>
     ensures read { ReadsAs (IsWorldLine point) bytes.now result }
     ensures counted { IfErr result (λ n. 1 ≤ n) }
@@ -48,7 +48,8 @@ pub fn read_world(point: ExchangePoint, bytes: &[u8]) -> Result<WorldLine, usize
     world_line_at(point, bytes)
 }
 
-/// Reads a line that says something at this point of a file of an exchange. An error is the column of bytes that are no such line.
+/// Reads a line that says something at this point of a file of an exchange. An error is the column of bytes that are no
+/// such line.
 fn said_in_world(point: ExchangePoint, line: &[u8]) -> Result<Option<WorldLine>, usize>
     requires { IsNothing line.now → ⊥ }
     ensures { Reads (IsWorldFileLine point) line.now result }
@@ -60,8 +61,8 @@ fn said_in_world(point: ExchangePoint, line: &[u8]) -> Result<Option<WorldLine>,
     }
 }
 
-/// Reads one line at this point of a file of an exchange. None says that the line says nothing: it is empty or a comment. An error is
-/// the column of bytes that are no such line.
+/// Reads one line at this point of a file of an exchange. None says that the line says nothing: it is empty or a
+/// comment. An error is the column of bytes that are no such line.
 pub fn world_line(point: ExchangePoint, line: &[u8]) -> Result<Option<WorldLine>, usize>
     ensures { Reads (IsWorldFileLine point) line.now result }
 {

@@ -112,7 +112,7 @@ run_signs bytes rest front back h k m =
     let r = run_list (codes "YB-") rest front back refl k in
     (after_list (codes " ") bytes rest h ∙ ap (λ (l : List ℕ). codes " " ++ l) (r.0 ∙ ap (λ (l : List ℕ). front ++ l) (end_nil back m) ∙ append-nil front), (r.1, r.2))
 
--- where no body stands
+-- where there is no body
 pub blank_missed : (rest : Grammar) (bytes : List ℕ) (left : ℕ) → is_sound rest ≡ true → (length bytes ≡ 0 → ⊥) → read (word (codes " ") rest) bytes ≡ Err left → read (behind_blank rest) bytes ≡ Err left
 blank_missed rest [] left sound some h = absurd (some refl)
 blank_missed rest (b ∷ bytes) left sound some h =
@@ -123,7 +123,7 @@ pub signs_behind_blank : IsBehindBlank signs
 unfolding read read_token
 signs_behind_blank = record { sound = refl; no_group = λ bytes. refl }
 
--- signs are packed, and tell what was packed
+-- signs are packed, and it is known what was packed
 pub packed_some : (bytes : List ℕ) (read : Option (List Element)) → list_all is_sign bytes ≡ true → (IsNone read → list_all is_sign bytes ≡ false) → IsSome read
 packed_some bytes (Some e) all fails = refl
 packed_some bytes None all fails = absurd (both_ways (list_all is_sign bytes) (fails refl) all)

@@ -58,7 +58,7 @@ use Rattle.dsc_lines.specs.Lines.{ReadsJoin, ReadsJoinedAt}
 use Rattle.dsc_lines.specs.inside.Points.{IsStationsByte}
 use Rattle.dsc_lines.proofs.WholeLines.{one_line}
 
--- ---- of lines that begin with a byte with which none of the one kind begins, the other kind tells the column
+-- ---- a line begins with a byte with which none of the one kind begins: the other kind decides its column
 
 module _ (b : ℕ) {U V W : Type 0} {N : U → List ℕ → Type 0} {K : V → List ℕ → Type 0} {L : W → List ℕ → Type 0} (both : IsChoice N K L) (other : (u : U) (rest : List ℕ) → N u (b ∷ rest) → ⊥) where
   only : (w : W) (rest : List ℕ) → L w (b ∷ rest) → (v : V) × K v (b ∷ rest)
@@ -179,7 +179,7 @@ call_column = others_column calls_choice
 abbrev pub ApartLaw : Type 0
 ApartLaw = (a b : Call) (x y : Extra) → IsCall a → IsCall b → IsWholeOrAbsent x → IsWholeOrAbsent y → reported_text a x ≡ reported_text b y → (a ≡ b) × (x ≡ y)
 
--- what follows a joined call tells what was sent behind it
+-- what follows a joined call shows what was sent after it
 one_expansion : (x y : Option Sets) → extra_of x ≡ extra_of y → x ≡ y
 one_expansion None None h = refl
 one_expansion None (Some y) h = absurd (cc)

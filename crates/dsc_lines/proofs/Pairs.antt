@@ -48,7 +48,7 @@ pair_read bytes a place b d symbol back p v h k is_p m s is_v =
     let place_on : a ≡ decimal p ++ (codes ":" ++ (decimal v ++ back)) = one.0 ∙ ap (λ (l : List ℕ). decimal p ++ l) colon in
     ((omega (arith, one.2), omega (arith, two.2)), after_list (codes " ") bytes a h ∙ ap (λ (l : List ℕ). codes " " ++ l) place_on ∙ pair_written (p, v) [] back)
 
--- pairs are sound, and can be told from a group
+-- pairs are sound, and differ from a group
 pub pairs_sound : (n : ℕ) → is_sound (repeated pair n) ≡ true
 pairs_sound zero = refl
 pairs_sound (suc zero) = refl
@@ -107,7 +107,7 @@ taken_fault bytes rest sheet left t some h n large =
     let all = t.goes_on (suc m) left next in
     subst (λ (k : ℕ). read (repeated pair k) bytes ≡ Err left) (omega (arith, few, large)) all
 
--- evidence behind its group
+-- evidence after its group
 pub no_group : (bytes : List ℕ) (left : ℕ) → ((rest : Grammar) → IsBehindBlank rest → read (grouped (behind_blank rest)) bytes ≡ Err left)
     → (n : ℕ) → length bytes < n → read (grouped (repeated pair n)) bytes ≡ Err left
 no_group bytes left h zero large = absurd (omega (arith, large))

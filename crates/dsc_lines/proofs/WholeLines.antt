@@ -180,7 +180,7 @@ group_back G parts bytes h =
           }
     ]
 
--- a group and a body are a reception behind an r, and a group and pairs evidence behind an e
+-- a group and a body are a reception after an r, and a group and pairs evidence after an e
 pub reception_of : (group : ℕ) (e : List Element) (bytes back : List ℕ) → IsNamed group bytes back → back ≡ body_text e → IsLine (reception group e) (letter_r ∷ bytes)
 reception_of group e bytes back name is = (name.0, (name.1.0, ap (λ (l : List ℕ). letter_r ∷ l) (named_written group bytes back name (behind_blank signs) (body_parts e) is)))
 

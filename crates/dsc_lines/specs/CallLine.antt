@@ -8,12 +8,12 @@ use Rattle.dsc_lines.specs.declared.calls.CallLine.{CallLine}
 use Rattle.dsc_lines.specs.declared.calls.CallLine.TheVariants.{Nothing, Call}
 use Rattle.dsc_lines.specs.JoinLine.{IsNothing}
 
--- what an answer says behind a call that was sent with this expansion behind it, or with none
+-- what an answer says after a call that was sent with this expansion after it, or with none
 abbrev pub extra_of : Option Sets → Extra
 extra_of None = Absent
 extra_of (Some x) = Whole x
 
--- the well-formed lines: those that say nothing; a call's text, with an expansion behind it or none
+-- the well-formed lines: those that say nothing; a call's text, with an expansion after it or none
 abbrev pub IsCallLine : CallLine → List ℕ → Type 0
 IsCallLine Nothing text = IsNothing text
 IsCallLine (Call call expansion) text = IsCallText (call, extra_of expansion) text

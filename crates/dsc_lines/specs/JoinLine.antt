@@ -83,7 +83,8 @@ evidence_line n = word (codes "e") (grouped (repeated pair n))
 abbrev pub text_of_evidence : (named : Bool) → ℕ → List (ℕ × ℕ) → List ℕ
 text_of_evidence named group pairs = written (evidence_line (length pairs)) (group_parts named group (pairs_parts pairs))
 
--- the well-formed lines: those that say nothing, and what the rows of receptions and of evidence write; pairs stand in any order
+-- the well-formed lines: those that say nothing, and what the rows of receptions and of evidence write; pairs come in
+-- any order
 abbrev pub IsLine : JoinLine → List ℕ → Type 0
 IsLine nothing text = IsNothing text
 IsLine (reception group e) text = (named : Bool) × (IsGroup named group × (text ≡ text_of_reception named group e))

@@ -24,8 +24,8 @@ Says nothing read = read ≡ got.Nothing
 Says (reception group e) read = read ≡ got.Reception group e
 Says (evidence group pairs) read = (sheet : List Seen) × ((read ≡ got.Evidence group sheet) × IsEnds (facts_of_pairs pairs) sheet)
 
--- the answer for a line of these, for which memory may run out: what it says, or the column of bytes that are no such line; want of
--- memory may come at any line
+-- the answer for a line of these, which takes memory: what it says, or the column of bytes that are no such line; want
+-- of memory may come at any line
 abbrev pub ReadsWithRoom : {V W : Type 0} (L : Spelling V) (says : V → W → Type 0) → List ℕ → Result W LineFault → Type 0
 ReadsWithRoom {V = V} L says text (Ok read) = (line : V) × (L line text × says line read)
 ReadsWithRoom L says text (Err (fault.Column n)) = IsColumn L text n
@@ -35,7 +35,8 @@ ReadsWithRoom L says text (Err fault.NoMemory) = Unit {0}
 abbrev pub ReadsJoin : List ℕ → Result Got LineFault → Type 0
 ReadsJoin text answer = ReadsWithRoom IsLine Says text answer
 
--- the answer for a line of join's input at this point of a traffic file; where it is none, faults of the station's lines are the point's
+-- the answer for a line of join's input at this point of a traffic file; a line that is none has the column of the
+-- station's lines at the point
 abbrev pub ReadsJoinedAt : Point → List ℕ → Result (Option Got) LineFault → Type 0
 ReadsJoinedAt point text (Ok (Some read)) = (line : JoinLine) × (IsPointLine point (joined line) text × Says line read)
 ReadsJoinedAt point text (Ok None) = (n : ℕ) → 1 ≤ n → IsColumn (IsTrafficLine point) text n → IsColumn (IsPointLine point) text n

@@ -11,7 +11,7 @@ pub data PointLine : Type 0 where
   joined : JoinLine → PointLine
   traffic : TrafficLine → PointLine
 
--- the points behind the base
+-- the points after the base
 abbrev pub IsBody : Point → Type 0
 IsBody Station = ⊥
 IsBody Base = ⊥
@@ -19,7 +19,7 @@ IsBody (Groups held) = Unit {0}
 IsBody Ship = Unit {0}
 IsBody Coast = Unit {0}
 
--- receptions and evidence stand behind the base, and empty lines and comments everywhere
+-- receptions and evidence come after the base, and empty lines and comments everywhere
 abbrev pub MayBeJoined : Point → JoinLine → Type 0
 MayBeJoined point nothing = Unit {0}
 MayBeJoined point (reception group e) = IsBody point

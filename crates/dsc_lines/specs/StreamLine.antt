@@ -8,6 +8,7 @@ use Rattle.dsc_lines.specs.JoinLine.{signs, signs_parts, IsNothing}
 abbrev pub elements_line : Grammar
 elements_line = word (codes "s") (word (codes " ") signs)
 
--- the well-formed lines, and which elements they add to the stream: none by a line that says nothing, and some by what the row writes of them
+-- the well-formed lines, and which elements they add to the stream: none by a line that says nothing, and some by what
+-- the row writes of them
 abbrev pub IsStreamLine : List Element → List ℕ → Type 0
 IsStreamLine e text = ((e ≡ []) × IsNothing text) ⊎ ((e ≢ []) × (text ≡ written elements_line (signs_parts e)))

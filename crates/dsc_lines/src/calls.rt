@@ -16,14 +16,14 @@ use slot_join::Extra;
 pub enum CallLine {
     /// The line is empty or a comment.
     Nothing,
-    /// A call, and the expansion behind it, if one is there.
+    /// A call, and the expansion after it, if one is there.
     Call {
         call: Call,
         expansion: Option<Expansion>,
     },
 }
 
-/// The expansion of what a text says behind a call.
+/// The expansion of what a text says after a call.
 fn expansion_in(extra: &Extra) -> Option<Expansion>
     requires { IsWholeOrAbsent extra.now }
     ensures { extra_of result ≡ extra.now }

@@ -15,7 +15,7 @@ use crate::join::JoinLine;
 use line_grammar::{Left, column, free_number, word};
 use slot_evidence::Sheet;
 
-/// A place and a symbol behind a blank, and what follows them.
+/// A place and a symbol after a blank, and what follows them.
 fn pair(bytes: &[u8]) -> Result<((u8, u8), &[u8]), Left>
     ensures pair { IfOk result (λ parts. IsPair parts.0 × (bytes.now ≡ pairs_text (parts.0 ∷ []) ++ parts.1.now)) }
     ensures goes_on { IfOk result (λ parts. (rest : Grammar) (left : ℕ) → read rest parts.1.now ≡ Err left
@@ -47,7 +47,7 @@ fn pairs(bytes: &[u8]) -> Result<Sheet, Left>
     Ok(sheet)
 }
 
-/// What a line of evidence says, by the bytes behind its `e`.
+/// What a line of evidence says, by the bytes after its `e`.
 fn evidence(bytes: &[u8]) -> Result<JoinLine, Left>
     ensures line { IfOk result (λ read. (says : Line) × (IsLine says (letter_e ∷ bytes.now) × Says says read)) }
     ensures left { IfErr result (λ left. (n : ℕ) → length bytes.now < n
@@ -58,7 +58,7 @@ fn evidence(bytes: &[u8]) -> Result<JoinLine, Left>
     Ok(JoinLine::Evidence { group, sheet })
 }
 
-/// Reads evidence, which is this line behind its `e`.
+/// Reads evidence, which is this line after its `e`.
 pub(crate) fn evidence_line(line: &[u8], rest: &[u8]) -> Result<JoinLine, LineFault>
     requires { line.now ≡ letter_e ∷ rest.now }
     ensures { ReadsJoin line.now result }

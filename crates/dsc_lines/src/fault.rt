@@ -1,3 +1,4 @@
+//! Why a line isn't read.
 ghost use Rattle.std.specs.Prelude.{◌≡◌};
 ghost use Rattle.dsc_lines.specs.declared.fault.LineFault.TheVariants.{NoMemory};
 

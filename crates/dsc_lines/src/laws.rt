@@ -80,14 +80,15 @@ pub fn one_exchange_line()
     one_world_line();
 }
 
-/// The law that the column of a line that says something is the same whether or not lines that say nothing stand in the file.
+/// The law that the column of a line that says something is the same whether or not the file has lines that say
+/// nothing.
 pub fn exchange_columns()
     ensures { (point : ExchangePoint) (text : List ℕ) (n : ℕ) → (IsNothing text → ⊥) → 1 ≤ n
         → IsColumn (IsWorldLine point) text n → IsColumn (IsWorldFileLine point) text n }
 {}
 
-/// The law that the text of evidence is a line of join's input, whose facts have the same ends: read, it gives the same group and
-/// the same sheet. It does nothing.
+/// The law that the text of evidence is a line of join's input, whose facts have the same ends: read, it gives the same
+/// group and the same sheet. It does nothing.
 #[tactic(auto, using(crate::proofs::SheetTexts::text_is_line, crate::proofs::SheetTexts::facts_same, crate::proofs::SheetTexts::text_has_ends, crate::proofs::SheetTexts::text_is_read))]
 pub fn evidence_is_read()
     ensures line { (group : ℕ) (sheet : List Seen) → group < 2 ^ 32 → IsSheet sheet

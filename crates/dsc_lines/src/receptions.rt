@@ -56,7 +56,7 @@ fn body(bytes: &[u8]) -> Result<&[u8], Left>
     signs(bytes)
 }
 
-/// The group and the signs of a reception, behind its `r`.
+/// The group and the signs of a reception, after its `r`.
 fn group_and_signs(bytes: &[u8]) -> Result<(u32, &[u8]), Left>
     ensures signs { IfOk result (λ parts. list_all is_sign parts.1.now ≡ true) }
     ensures line { IfOk result (λ parts. IsLine (reception parts.0 (map element_of parts.1.now)) (letter_r ∷ bytes.now)) }
@@ -75,7 +75,7 @@ pub(crate) fn elements_of(alloc: Global, signs: &[u8]) -> Result<Reception, Allo
     Ok(Reception::of_signs(alloc, signs)?.unwrap())
 }
 
-/// The elements of a body of at least one, read 64 signs at once. `None` comes where no such body stands there.
+/// The elements of a body of at least one, read 64 signs at once. `None` comes where no such body is there.
 fn packed_body(alloc: Global, bytes: &[u8]) -> Result<Option<Reception>, AllocError>
     ensures { IfOk result (λ read. IfSome read (λ elements. bytes.now ≡ body_text elements)) }
 {
@@ -88,7 +88,7 @@ fn packed_body(alloc: Global, bytes: &[u8]) -> Result<Option<Reception>, AllocEr
     Reception::of_signs(alloc, signs)
 }
 
-/// The group and the elements of a reception, behind its `r`, where it has some. Most lines are read by this.
+/// The group and the elements of a reception, after its `r`, where it has some. Most lines are read by this.
 fn packed_line(alloc: Global, bytes: &[u8]) -> Result<Option<(u32, Reception)>, AllocError>
     ensures { IfOk result (λ read. IfSome read (λ parts. IsLine (reception parts.0 parts.1) (letter_r ∷ bytes.now))) }
 {
@@ -101,7 +101,7 @@ fn packed_line(alloc: Global, bytes: &[u8]) -> Result<Option<(u32, Reception)>, 
     Ok(Some((group, elements)))
 }
 
-/// Reads a reception, which is this line behind its `r`.
+/// Reads a reception, which is this line after its `r`.
 pub(crate) fn reception_line(alloc: Global, line: &[u8], rest: &[u8]) -> Result<JoinLine, LineFault>
     requires { line.now ≡ letter_r ∷ rest.now }
     ensures { ReadsJoin line.now result }

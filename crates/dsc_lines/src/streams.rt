@@ -8,7 +8,7 @@ ghost use Rattle.dsc_lines.specs.StreamLine.{IsStreamLine};
 use crate::receptions::signs;
 use line_grammar::column;
 
-/// Reads a line behind its `s`.
+/// Reads a line after its `s`.
 fn elements_line<'a>(line: &[u8], rest: &'a [u8]) -> Result<&'a [u8], usize>
     requires { line.now ≡ 115 ∷ rest.now }
     ensures signs { IfOk result (λ signs. list_all is_sign signs.now ≡ true) }
@@ -21,8 +21,8 @@ fn elements_line<'a>(line: &[u8], rest: &'a [u8]) -> Result<&'a [u8], usize>
     }
 }
 
-/// Reads one line of a stream: the signs of the elements that it adds, `Y`, `B`, and `-` for a lost one. An empty line and a comment add
-/// none. An error is the column of bytes that are no such line.
+/// Reads one line of a stream: the signs of the elements that it adds, `Y`, `B`, and `-` for a lost one. An empty line
+/// and a comment add none. An error is the column of bytes that are no such line.
 #[tactic(auto, using(crate::proofs::Choices::other_stream))]
 pub fn stream_line(line: &[u8]) -> Result<&[u8], usize>
     ensures signs { IfOk result (λ signs. list_all is_sign signs.now ≡ true) }

@@ -10,7 +10,7 @@ use crate::join::{JoinLine, join_line};
 use std::alloc::Global;
 use traffic_lines::{Point, traffic_lines_begin};
 
-/// Whether receptions and evidence may stand at this point.
+/// Whether receptions and evidence may come at this point.
 fn is_body(point: Point) -> bool
     ensures { IsTrue result ↔ IsBody point }
 {
@@ -49,8 +49,8 @@ fn line_of_receivers(
     }
 }
 
-/// Reads a line of join's input at this point of a traffic file. None says that it is no such line: what it says is read as a line
-/// of the station. An error is the column of bytes that are no line of the point, or want of memory.
+/// Reads a line of join's input at this point of a traffic file. None says that it is no such line: what it says is
+/// read as a line of the station. An error is the column of bytes that are no line of the point, or want of memory.
 pub fn joined_line(alloc: Global, point: Point, line: &[u8]) -> Result<Option<JoinLine>, LineFault>
     ensures { ReadsJoinedAt point line.now result }
 {

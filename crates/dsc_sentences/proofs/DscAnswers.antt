@@ -22,7 +22,7 @@ use Rattle.dsc_sentences.proofs.DscFieldLaws.{format_kind, category_kind, two_ki
 abbrev Has : List (List ℕ) → DscFields → Type 0
 Has ts s = (texts s ≡ ts) × IsDsc s
 
--- reading the fields one behind another agrees with judging their texts
+-- reading the fields one after another agrees with judging their texts
 agrees : (b : List ℕ) → Agrees (read_fields b) (judged 1 shapes (firsts 11 b) (firsts 11 b)) (firsts 11 b) (Has (firsts 11 b))
 unfolding read_fields judged shapes texts
 agrees b =

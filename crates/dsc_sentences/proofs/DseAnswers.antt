@@ -58,7 +58,7 @@ rises_2 = record { small = omega arith; room = omega arith; none = nothing_four 
 pub rises_3 : Rises 3 4 3599 []
 rises_3 = record { small = omega arith; room = omega arith; none = nothing_four 3599; shape = refl; others = refl; above = above_none 3 }
 
--- what is left behind the last set is no field, or a code that isn't accepted
+-- what is left after the last set is no field, or a code that isn't accepted
 last_step : (k : ℕ) (parts : DseParts) (ts all : List (List ℕ)) (P : DseParts → Type 0) → ArePairs ts → (ts ≡ [] → P parts)
     → Agrees (cond (is_nothing (behind_commas ts)) (Ok parts) (Err (Field k))) (judged k (pair_shapes [] ts) ts all) all P
 unfolding judged pair_shapes accepts
@@ -96,7 +96,7 @@ sets_agree flag address ts all P pairs free h =
     let two : ts1 ≡ set_texts 2 4 s ++ set_texts 3 4 c = eq2 ∙ ap (λ (l : List (List ℕ)). set_texts 2 4 s ++ l) three in
     h e s c (eq1 ∙ ap (λ (l : List (List ℕ)). set_texts 0 8 e ++ l) two) r1 r2 r3))))
 
--- reading the fields one behind another agrees with judging their texts
+-- reading the fields one after another agrees with judging their texts
 pub agrees : (b : List ℕ) (ts : List (List ℕ)) → rest_of (rest_of (rest_of (rest_of b))) ≡ behind_commas ts → ts ≢ [] → ArePairs ts → list_all has_no_comma ts ≡ true
     → let all = first_of b ∷ first_of (rest_of b) ∷ first_of (rest_of (rest_of b)) ∷ first_of (rest_of (rest_of (rest_of b))) ∷ ts in
     Agrees (read_fields b) (judged 1 (shapes all) all all) all (Has all)
@@ -131,7 +131,7 @@ agrees b ts e4 some pairs free =
       },
     )))))))
 
--- texts as four and pairs behind them
+-- texts as four and pairs after them
 record Four (ts : List (List ℕ)) : Type 0 where
   total : List ℕ
   number : List ℕ
@@ -179,7 +179,7 @@ four_of ts h =
           ]
     ]
 
--- reading texts behind commas agrees with judging them
+-- reading texts after commas agrees with judging them
 agrees_all : (a b c d : List ℕ) (ts : List (List ℕ)) → ts ≢ [] → ArePairs ts → list_all has_no_comma (a ∷ b ∷ c ∷ d ∷ ts) ≡ true
     → let all = a ∷ b ∷ c ∷ d ∷ ts in Agrees (read_fields (behind_commas all)) (judged 1 (shapes all) all all) all (Has all)
 agrees_all a b c d ts some pairs free =

@@ -78,7 +78,7 @@ some_there LeftOut (Digits n) c h = inr (inl tt)
 some_there NoInformation s c h = inl tt
 some_there (Digits n) s c h = inl tt
 
--- the texts of a set, before others that don't begin with its code, tell what it says
+-- the texts of a set, before others that don't begin with its code, show what it says
 abbrev pub BeginsOther : ℕ → List (List ℕ) → Type 0
 BeginsOther n [] = Unit {0}
 BeginsOther n (c ∷ ts) = c ≢ digits 2 n

@@ -1,4 +1,4 @@
--- the sets of a DSE sentence, taken one behind another
+-- the sets of a DSE sentence, taken one after another
 use Rattle.std.proofs.Common.{◌≡◌, ℕ, ◌+◌, ◌<◌, ◌≤◌, ◌^◌, true, false, ◌||◌, nat_eq, nat_lt, cond, List, [], ◌∷◌, ◌++◌, filter, Option, Some, None, IfSome, refl, sym, ◌∙◌, ap, subst, arith, inl, inr, Result, Ok, Err}
 use Rattle.std.specs.List.{list_all}
 use Rattle.std.proofs.lemmas.Bool.{and_parts, and_from, and_left, cases_Bool, or_cases, eqb-true, lt-ltb, or_left, or_parts, false≢true}
@@ -124,7 +124,7 @@ ArePairs [] = Unit {0}
 ArePairs (c ∷ []) = ⊥
 ArePairs (c ∷ d ∷ ts) = ArePairs ts
 
--- what has to hold behind a set, be it there or not
+-- what has to hold after a set, be it there or not
 abbrev pub Goes : {V : Type 0} → ℕ → ℕ → ℕ → List ℕ → List (List ℕ) → List (List ℕ) → (Taken → Result V SentenceRefusal) → (V → Type 0) → Type 0
 Goes n width most ns ts all more P =
     (part : PartKind) (next : ℕ) (rest : List (List ℕ)) → ts ≡ set_texts n width part ++ rest → IsUpTo most part → ArePairs rest → list_all has_no_comma rest ≡ true

@@ -45,7 +45,7 @@ end_kind = record {
       ap (λ (l : List ℕ). end_text (end_in l)) k.0 ∙ end_letter (get_or t 0 0) k.1 ∙ sym k.0;
 }
 
--- whether a letter stands there
+-- whether a letter is there
 abbrev pub is_there : List ℕ → Bool
 is_there t = not (is_nothing t)
 

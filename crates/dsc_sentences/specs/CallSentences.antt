@@ -1,4 +1,4 @@
--- The sentences of a call and of the expansion behind it: this project's profile.
+-- The sentences of a call and of the expansion after it: this project's profile.
 use Rattle.std.specs.Prelude.{ℕ, true, false, List, ◌++◌, Option, Some, None, codes}
 use Rattle.call_values.specs.declared.calls.Call.{Call}
 use Rattle.call_values.specs.Views.{sender_of}
@@ -9,8 +9,8 @@ use Rattle.dsc_sentences.specs.Expansions.{of_expansion}
 use Rattle.dsc_sentences.specs.Dsc as dsc
 use Rattle.dsc_sentences.specs.Dse as dse
 
--- the DSC sentence of a call; where an expansion follows, it says so, and the expansion's DSE sentence with the call's sender stands
--- behind it
+-- the DSC sentence of a call; where an expansion follows, it says so, and the expansion's DSE sentence with the call's
+-- sender comes after it
 unfoldable pub sentences_of : Call → Option Sets → List ℕ
 sentences_of call None = sentence (codes "$CDDSC") (dsc.texts (of_call call false))
 sentences_of call (Some x) =

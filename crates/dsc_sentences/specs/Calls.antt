@@ -72,6 +72,7 @@ abbrev pub position_number : Option Fix → ℕ
 position_number (Some fix) = position_digits fix
 position_number None = 9999999999
 
+-- a position in ten digits
 abbrev pub position_place : Option Fix → List ℕ
 position_place position = decimals 10 (position_number position)
 
@@ -88,7 +89,7 @@ abbrev pub message_place : Message → List ℕ
 message_place (Fields f1 f2) = frequency_place f1 ++ frequency_place f2
 message_place (At position) = position_place position
 
--- the position that is told
+-- the position that a call gives
 abbrev pub kind_place : Kind → List ℕ
 kind_place (Test reply) = []
 kind_place AskPosition = []
@@ -106,13 +107,13 @@ abbrev pub time_number : Option (ℕ × ℕ) → ℕ
 time_number (Some time) = 100 * time.0 + time.1
 time_number None = 8888
 
--- the time at which a position that is told was right
+-- the time at which a given position was right
 abbrev pub kind_time : Kind → Option ℕ
 kind_time (Test reply) = None
 kind_time AskPosition = None
 kind_time (Position position time) = Some (time_number time)
 
--- the time of a distress or of a position that is told
+-- the time of a distress or of a given position
 abbrev pub time_of : Body → Option ℕ
 time_of (Alert casualty) = Some (time_number casualty.time)
 time_of (Distress from acknowledges casualty) = Some (time_number casualty.time)

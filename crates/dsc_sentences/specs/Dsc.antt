@@ -1,5 +1,5 @@
--- DSC sentences: the frame is that of IEC 61162-1; the fields, the values that each accepts, and the shortening of symbols to two
--- digits are this project's profile.
+-- DSC sentences: the frame is that of IEC 61162-1; the fields, the values that each accepts, and the shortening of
+-- symbols to two digits are this project's profile.
 use Rattle.std.specs.Prelude.{◌≡◌, ◌↔◌, ℕ, ◌≤◌, Bool, true, false, List, [], ◌∷◌, IfSome, IfOk, Result, Ok, Err, codes}
 use Rattle.dsc_symbols.specs.declared.last_digits.TheConstants.{CATEGORIES, FORMATS}
 use Rattle.call_values.specs.declared.choices.End.{End}

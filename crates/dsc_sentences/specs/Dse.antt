@@ -36,7 +36,7 @@ expansion_texts x = set_texts ENHANCED_POSITION 8 x.enhanced ++ (set_texts SPEED
 unfoldable pub texts : DseFields → List (List ℕ)
 texts s = codes "1" ∷ codes "1" ∷ flag_text s.flag ∷ digit_text s.address ∷ expansion_texts s.expansion
 
--- what the data behind a code may be
+-- what the data after a code may be
 abbrev pub data_shape : ℕ → Shape
 data_shape set =
     maybe (if set == ENHANCED_POSITION then number 8 LAST_ENHANCEMENT else if set == SPEED then number 4 LAST_SPEED else number 4 LAST_COURSE)
@@ -52,7 +52,7 @@ abbrev pub shapes : List (List ℕ) → List Shape
 shapes texts =
     letter (codes "1") ∷ letter (codes "1") ∷ letter (codes "AQR") ∷ digits 10 ∷ pair_shapes (ENHANCED_POSITION ∷ SPEED ∷ COURSE ∷ []) (drop 4 texts)
 
--- DSE sentences: the head, and one, two or three pairs behind four fields
+-- DSE sentences: the head, and one, two or three pairs after four fields
 abbrev pub dse : Form
 dse = record { head = codes "$CDDSE"; counts = 6 ∷ 8 ∷ 10 ∷ []; shapes = shapes }
 

@@ -18,12 +18,13 @@ pub record IsAccepted (line : List ℕ) (s : DscFields) : Type 0 where
   pub lawful : IsDsc s
   pub text : SentenceText s (with_line_end line)
 
--- what a line is told whose answer this is
+-- the verdict on a line with this answer
 abbrev pub verdict_in : Result (Option DscFields) SentenceRefusal → Verdict
 verdict_in (Ok found) = Accepted
 verdict_in (Err refusal) = Refused refusal
 
--- what judging a line answers: its verdict; of an accepted DSC sentence the fields, and none of an accepted DSE sentence
+-- what judging a line answers: its verdict, with the fields of an accepted DSC sentence, and none for an accepted DSE
+-- sentence
 pub record IsHeard (line : List ℕ) (answer : Result (Option DscFields) SentenceRefusal) : Type 0 where
   pub verdict : verdict_in answer ≡ verdict_of line
   pub found : IfOk answer (λ found. MatchOption found (is_dse line ≡ true) (IsAccepted line))

@@ -1,4 +1,4 @@
--- What is told of lines that are sentences: this project's profile.
+-- What is written of lines that are sentences: this project's profile.
 use Rattle.std.specs.Prelude.{ℕ, ◌-◌, ◌/◌, ◌%◌, ◌==◌, nat_eq, if◌then◌else◌, List, [], ◌∷◌, ◌++◌, length, take, slice_index, Result, Ok, Err, codes, decimal}
 use Rattle.std.specs.List.{starts_with}
 use Rattle.line_grammar.specs.Bytes.{line_feed, carriage_return, space}
@@ -23,12 +23,12 @@ with_line_end line = without_return line ++ carriage_return ∷ line_feed ∷ []
 abbrev pub form_of : List ℕ → Form
 form_of line = if starts_with nat_eq line (codes "$CDDSE") then dse else dsc
 
--- what is told of what is read
+-- the verdict on what was read
 abbrev pub told : Result (List (List ℕ)) SentenceRefusal → Verdict
 told (Ok texts) = Accepted
 told (Err refusal) = Refused refusal
 
--- what a line is told
+-- the verdict on a line
 unfoldable pub verdict_of : List ℕ → Verdict
 verdict_of line = told (texts_of (form_of line) (with_line_end line))
 

@@ -1,3 +1,4 @@
+//! The sentences of a call and of its expansion.
 ghost use Rattle.std.specs.Prelude.{◌≡◌};
 ghost use Rattle.dsc_sentences.specs.CallSentences.{sentences_of};
 
@@ -10,8 +11,8 @@ use call_values::Call;
 use expansion::Expansion;
 use text_pieces::append;
 
-/// The DSC sentence of a call, and behind it the DSE sentence of the expansion that follows the call, where one does. Each ends with CR
-/// and LF.
+/// The DSC sentence of a call, and after it the DSE sentence of the expansion that follows the call, where one does.
+/// Each ends with CR and LF.
 #[tactic(auto, unfolding(crate::specs::CallSentences::sentences_of))]
 pub fn put_sentences(call: &Call, expansion: &Option<Expansion>) -> ArrayVec<u8, 164>
     ensures { result.items ≡ sentences_of call.now expansion.now }

@@ -1,3 +1,4 @@
+//! The fields of the DSC sentence of a call.
 ghost use Rattle.std.specs.Prelude.{◌≡◌, ◌+◌, ◌≤◌, ◌++◌, true, IfSome};
 ghost use Rattle.arrayvec.specs.ArrayVec.{array_vec_len};
 ghost use Rattle.sentence_frame.specs.Shapes.{is_among};
@@ -206,7 +207,7 @@ fn time_number(time: &HourMinute) -> u16
     }
 }
 
-/// The time of a distress, or of a position that is told.
+/// The time of a distress, or of a given position.
 fn time_of(body: &Body) -> Option<u16>
     ensures value { result ≡ rows.time_of body.now }
     ensures range { IfSome result (λ n. n ≤ 9999) }

@@ -1,3 +1,4 @@
+//! DSC sentences by their fields.
 ghost use Rattle.std.specs.Prelude.{◌≡◌, ◌≤◌, IfSome, true};
 ghost use Rattle.sentence_frame.specs.Shapes.{is_among};
 ghost use Rattle.sentence_frame.specs.Texts.{IsDigits, IsUpToDigits};
@@ -7,8 +8,8 @@ use arrayvec::ArrayVec;
 use call_values::End;
 use std::marker::Model;
 
-/// The fields of a DSC sentence, whatever they say (this project's profile). Symbols from 100 on stand by their last two digits, and
-/// lists of digits by the digits' values.
+/// The fields of a DSC sentence, whatever they say (this project's profile). Symbols from 100 on are given by their
+/// last two digits, and lists of digits by the digits' values.
 #[derive(Debug, PartialEq, Eq, Drop)]
 pub struct DscFields {
     /// The format specifier.

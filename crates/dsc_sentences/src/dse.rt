@@ -1,3 +1,4 @@
+//! DSE sentences by their fields.
 ghost use Rattle.std.specs.Prelude.{◌≡◌};
 ghost use Rattle.expansion.specs.Expansions.{IsExpansion};
 ghost use Rattle.sentence_frame.specs.Texts.{IsDigits};

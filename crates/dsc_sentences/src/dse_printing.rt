@@ -1,3 +1,4 @@
+//! The bytes of a DSE sentence.
 ghost use Rattle.std.specs.Prelude.{◌≡◌, ◌+◌, ◌<◌, ◌≤◌, ◌++◌};
 ghost use Rattle.arrayvec.specs.ArrayVec.{array_vec_len};
 ghost use Rattle.sentence_frame.specs.Frames.{behind_commas};
@@ -40,7 +41,7 @@ fn flag_letter(flag: Flag) -> &'static [u8]
     }
 }
 
-/// Appends the code and the data of a set, each behind a comma, where it is there.
+/// Appends the code and the data of a set, each after a comma, where it is there.
 fn append_set_field(out: &mut ArrayVec<u8, 82>, set: u8, width: usize, part: &Part)
     requires room { array_vec_len out.old + width + 4 < 82 }
     ensures items { out.new.items ≡ out.old.items ++ behind_commas (set_texts set width part.now) }

@@ -1,3 +1,4 @@
+//! Reading a DSE sentence.
 ghost use Rattle.std.specs.Prelude.{◌≡◌, ◌+◌, ◌<◌, ◌≤◌, IfOk, IfErr, Ok, Err, codes};
 ghost use Rattle.sentence_frame.specs.Shapes as shape;
 ghost use Rattle.sentence_frame.specs.inside.Fields.{field};
@@ -32,8 +33,8 @@ fn flag(k: usize, text: &[u8]) -> Result<Flag, SentenceRefusal>
     }
 }
 
-/// Reads the set with this code, its digits so many and up to the most, where it comes next at field k; and answers the number of
-/// the field behind it.
+/// Reads the set with this code, its digits so many and up to the most, where it comes next at field k; and answers the
+/// number of the field after it.
 #[tactic(auto, unfolding(crate::specs::inside::DseReading::read_set, sentence_frame::specs::inside::Fields::field, sentence_frame::specs::inside::Fields::and_then))]
 fn read_set(
     fields: &mut Cursor,

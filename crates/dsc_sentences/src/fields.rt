@@ -1,3 +1,4 @@
+//! The texts of fields that may be empty, and of the ends of DSC sentences.
 ghost use Rattle.std.specs.Prelude.{◌≡◌, ◌≤◌, codes};
 ghost use Rattle.sentence_frame.specs.Shapes as shape;
 ghost use Rattle.sentence_frame.specs.Shapes.{number_of};

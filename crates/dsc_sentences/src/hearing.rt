@@ -1,3 +1,4 @@
+//! The sentence of a line that a receiver gave.
 ghost use Rattle.std.specs.Prelude.{◌≡◌, ◌≤◌, ◌++◌, ◌∷◌, [], length};
 ghost use Rattle.line_grammar.specs.Bytes.{line_feed, carriage_return};
 ghost use Rattle.dsc_sentences.specs.Heard.{IsHeard};
@@ -11,8 +12,9 @@ use arrayvec::ArrayVec;
 use sentence_frame::{LONGEST_SENTENCE, SentenceRefusal};
 use text_pieces::append;
 
-/// The DSC sentence of a line that has no LF: one CR at its end is dropped, and CR LF are added. A line that begins with `$CDDSE` is read
-/// as a DSE sentence, and where it is accepted the answer is None. A refused line gives its first refusal.
+/// The DSC sentence of a line that has no LF: one CR at its end is dropped, and CR LF are added. A line that begins
+/// with `$CDDSE` is read as a DSE sentence, and where it is accepted the answer is None. A refused line gives its first
+/// refusal.
 pub fn sentence_on(line: &[u8]) -> Result<Option<DscSentence>, SentenceRefusal>
     ensures { IsHeard line.now result }
 {

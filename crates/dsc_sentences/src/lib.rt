@@ -1,5 +1,5 @@
-//! DSC and DSE sentences: the sentences of calls and of expansions, printed and read (the frame is that of IEC 61162-1; the fields
-//! are this project's profile).
+//! DSC and DSE sentences: the sentences of calls and of expansions, printed and read (the frame is that of IEC 61162-1;
+//! the fields are this project's profile).
 #![tactic(auto)]
 
 mod call_sentences;

@@ -1,3 +1,4 @@
+//! Reading a DSC sentence.
 ghost use Rattle.std.specs.Prelude.{◌≡◌};
 ghost use Rattle.dsc_sentences.specs.Dsc.{IsReading};
 ghost use Rattle.dsc_sentences.specs.inside.DscReading as inside;

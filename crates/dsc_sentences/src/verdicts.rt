@@ -1,3 +1,4 @@
+//! Verdicts on lines that are to be sentences, and their texts.
 ghost use Rattle.std.specs.Prelude.{◌≡◌, ◌+◌, ◌≤◌, ◌++◌, ◌∷◌, length, decimal};
 ghost use Rattle.arrayvec.specs.ArrayVec.{array_vec_len};
 ghost use Rattle.line_grammar.specs.Bytes.{space};
@@ -9,15 +10,15 @@ use arrayvec::ArrayVec;
 use sentence_frame::{SentenceRefusal, hexadecimal};
 use text_pieces::{append, append_number};
 
-/// What is told of a sentence.
+/// The verdict on a sentence.
 #[derive(Clone, Copy, Debug, PartialEq, Eq)]
 pub enum Verdict {
     Accepted,
     Refused(SentenceRefusal),
 }
 
-/// What a line is told, which has no LF: one CR at its end is dropped, and CR LF are added. It is read as a DSE sentence where it begins
-/// with `$CDDSE`, and else as a DSC sentence.
+/// The verdict on a line, which has no LF: one CR at its end is dropped, and CR LF are added. It is read as a DSE
+/// sentence where it begins with `$CDDSE`, and else as a DSC sentence.
 pub fn verdict_on(line: &[u8]) -> Verdict
     ensures { result ≡ verdicts.verdict_of line.now }
 {

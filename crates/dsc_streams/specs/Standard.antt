@@ -6,6 +6,6 @@ pub record Port (S : Type 0) : Type 0 where
   pub stream : S
   pub faults : ℕ
 
--- what these sources and sinks tell of their bytes: nothing
+-- what contracts see of the bytes of these sources and sinks: nothing
 abbrev pub untold : Option (List ℕ)
 untold = None

@@ -1,13 +1,15 @@
 -- What a source loses and a sink gains: this project's profile.
 use Rattle.std.specs.Prelude.{◌≡◌, ℕ, ◌+◌, ◌-◌, ◌^◌, ◌<◌, min, List, [], ◌++◌, length, Option, Some, None, Result, MatchResult, take, ◌⊎◌}
 
--- the source lost these bytes from the front of what was left, where it tells its bytes; it can't start to tell them
+-- the source lost these bytes from the front of what was left, where contracts see its bytes; bytes that they don't see
+-- stay unseen
 abbrev pub Loses : Option (List ℕ) → Option (List ℕ) → List ℕ → Type 0
 Loses (Some all) (Some rest) bytes = all ≡ bytes ++ rest
 Loses None (Some _) _ = ⊥
 Loses _ None _ = Unit {0}
 
--- the sink gained these bytes behind what was written, where it tells its bytes; it can't start to tell them
+-- the sink gained these bytes after what was written, where contracts see its bytes; bytes that they don't see stay
+-- unseen
 abbrev pub Gains : Option (List ℕ) → Option (List ℕ) → List ℕ → Type 0
 Gains (Some old) (Some new) bytes = new ≡ old ++ bytes
 Gains None (Some _) _ = ⊥
@@ -21,15 +23,15 @@ ReadLoses old new result bytes = MatchResult result (λ n. Loses old new (take n
 abbrev pub WriteGains : {E : Type 0} → Option (List ℕ) → Option (List ℕ) → Result ℕ E → List ℕ → Type 0
 WriteGains old new result piece = MatchResult result (λ n. Gains old new (take n piece)) (λ _. Gains old new [])
 
--- no byte is left, where the source tells them
+-- no byte is left, where contracts see them
 abbrev pub IsEnded : Option (List ℕ) → Type 0
 IsEnded left = (rest : List ℕ) → left ≡ Some rest → rest ≡ []
 
--- every byte that was written is flushed, where the sink tells them
+-- every byte that was written is flushed, where contracts see them
 abbrev pub IsFlushed : Option (List ℕ) → ℕ → Type 0
 IsFlushed written flushed = (bytes : List ℕ) → written ≡ Some bytes → flushed ≡ length bytes
 
--- what tells its bytes now told them before
+-- contracts see a stream's bytes now only where they saw them before
 abbrev pub SeenBefore : Option (List ℕ) → Option (List ℕ) → Type 0
 SeenBefore old new = (bytes : List ℕ) → new ≡ Some bytes → (before : List ℕ) × (old ≡ Some before)
 

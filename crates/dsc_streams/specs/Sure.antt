@@ -19,7 +19,7 @@ pub record Store : Type 0 where
   pub piece : ℕ
   pub flushed : ℕ
 
--- a sink tells its bytes while it has kept all
+-- contracts see a sink's bytes while it has kept all
 abbrev pub told : Store → Option (List ℕ)
 told s = if s.whole then Some s.kept else None
 

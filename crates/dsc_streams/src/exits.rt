@@ -1,3 +1,4 @@
+//! The status with which a run ends.
 ghost use Rattle.std.specs.Prelude.{◌≡◌, ℕ, ◌≤◌, if◌then◌else◌};
 
 use std::marker::Model;

@@ -1,3 +1,4 @@
+//! In-memory streams of which some calls fail, for tests.
 ghost use Rattle.std.specs.Prelude.{◌≡◌, ◌+◌, ◌-◌, ◌<◌, ◌≤◌, ◌⊎◌, ◌↔◌, Some, [], length, IfOk, IsErr, OnOk, OnErr};
 ghost use Rattle.std.specs.List.{Contains};
 ghost use Rattle.dsc_streams.specs.Streams.{ReadLoses, Gains, WriteGains, Rises, RisesOnErr, IsEnded, IsFlushed, next};
@@ -17,6 +18,7 @@ struct Calls {
 }
 
 impl Calls {
+    /// No calls yet, of which those with these numbers are to fail.
     fn new(fail: Vec<u64>) -> Calls
         ensures { result ≡ record { fail = fail; count = 0; faults = 0 } }
     {
@@ -54,7 +56,7 @@ impl Calls {
     }
 }
 
-/// A source in memory of which some reads fail. It tells its bytes.
+/// An in-memory source of which some reads fail. Contracts see its bytes.
 #[derive(Drop)]
 pub struct ByteSource {
     source: SureSource,
@@ -112,7 +114,7 @@ impl Source for ByteSource {
     }
 }
 
-/// A sink in memory of which some calls fail, and each write without room. It tells its bytes.
+/// An in-memory sink of which some calls fail, and each write without room. Contracts see its bytes.
 #[derive(Drop)]
 pub struct ByteSink {
     sink: SureSink,

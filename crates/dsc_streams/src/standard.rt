@@ -1,3 +1,4 @@
+//! Streams of the system as sources and sinks.
 ghost use Rattle.std.specs.Prelude.{◌≡◌, None, ◌<◌, ◌≤◌, [], length, IfOk, OnOk, OnErr};
 ghost use Rattle.std.specs.Io.KnownBytes.{Keeps, ReadConsumes, WriteAppends};
 ghost use Rattle.dsc_streams.specs.Streams.{ReadLoses, Gains, WriteGains, Rises, RisesOnErr, IsEnded, IsFlushed, next};
@@ -50,18 +51,19 @@ fn flush_uninterrupted<W: Write>(writer: &mut W) -> io::Result<()>
     Err(io::Error::from(ErrorKind::Interrupted))
 }
 
-/// A stream of the system. It tells no bytes, and counts its failures.
+/// A stream of the system. Contracts see the count of its failures, and none of its bytes.
 #[derive(Drop)]
 pub struct StdStream<S> {
     stream: S,
     faults: u64,
 }
 
-/// A reader of the system as a source. What a read took from the reader, where the reader tells it, is said by `consumes`.
+/// A reader of the system as a source. The clause `consumes` says what a read took from the reader, where the reader's
+/// contract speaks of it.
 pub type StdSource<R> = StdStream<R>;
 
-/// A writer of the system as a sink. What a write appended to the writer, where the writer tells it, is said by `appends`;
-/// that a flush reaches the system no clause can say.
+/// A writer of the system as a sink. The clause `appends` says what a write appended to the writer, where the writer's
+/// contract speaks of it; that a flush reaches the system no clause can say.
 pub type StdSink<W> = StdStream<W>;
 
 impl<S> Model for StdStream<S> {
@@ -103,7 +105,7 @@ impl<R: Read> Source for StdStream<R> {
 
         ensures once { OnErr result (self.new.faults ≡ next self.old.faults) }
 
-        // Of what the reader tells: exactly these bytes were taken from it, and none only at its end.
+        // Where the reader's contract speaks of its bytes: exactly these were taken from it, and none only at its end.
         ensures consumes { ReadConsumes (R.remaining self.old.stream) (R.remaining self.new.stream) result into.new }
     {
         match read_uninterrupted(&mut self.stream, into) {
@@ -129,7 +131,7 @@ impl<W: Write> Sink for StdStream<W> {
 
         ensures once { OnErr result (self.new.faults ≡ next self.old.faults) }
 
-        // Of what the writer tells: exactly these bytes were appended to it.
+        // Where the writer's contract speaks of its bytes: exactly these were appended to it.
         ensures appends { WriteAppends (W.contents self.old.stream) (W.contents self.new.stream) result piece.now }
     {
         match write_uninterrupted(&mut self.stream, piece) {

@@ -1,3 +1,4 @@
+//! Sources and sinks: what contracts say of them.
 ghost use Rattle.std.specs.Prelude.{◌≡◌, ℕ, ◌<◌, ◌≤◌, Option, List, [], length, IfOk, OnOk, OnErr};
 ghost use Rattle.dsc_streams.specs.Streams.{ReadLoses, Gains, WriteGains, Rises, RisesOnErr, IsEnded, IsFlushed, next};
 
@@ -15,7 +16,7 @@ pub(crate) fn after(count: u64) -> u64
 
 /// Where bytes come from.
 pub trait Source {
-    /// The bytes that are left, where the source tells them.
+    /// The bytes that are left, where contracts see them.
     ghost left: { Self → Option (List ℕ) };
 
     /// How often it has failed. At 2^64 - 1 the count stays.
@@ -33,7 +34,7 @@ pub trait Source {
 
 /// Where bytes go to.
 pub trait Sink {
-    /// The bytes that were written, where the sink tells them.
+    /// The bytes that were written, where contracts see them.
     ghost written: { Self → Option (List ℕ) };
 
     /// How many of them are flushed.

@@ -1,3 +1,4 @@
+//! In-memory streams that never fail.
 ghost use Rattle.std.specs.Prelude.{◌≡◌, ◌+◌, ◌-◌, ◌<◌, ◌≤◌, Some, [], true, drop, length, take, vec_len, vec_capacity, IfOk, IsOk, OnOk, OnErr};
 ghost use Rattle.dsc_streams.specs.Streams.{ReadLoses, Gains, WriteGains, RisesOnErr, IsEnded, IsFlushed};
 ghost use Rattle.dsc_streams.specs.Sure.{Supply, Store, no_faults, told, stored};
@@ -6,7 +7,7 @@ use crate::{Failed, NoMemory, Sink, Source};
 use std::alloc::Global;
 use std::marker::Model;
 
-/// A source in memory that never fails, and tells its bytes.
+/// An in-memory source that never fails. Contracts see its bytes.
 #[derive(Drop)]
 pub struct SureSource {
     bytes: Vec<u8>,
@@ -60,8 +61,8 @@ impl Source for SureSource {
     }
 }
 
-/// A sink in memory that never fails. It drops what has no room, and tells its bytes while it has
-/// dropped none.
+/// An in-memory sink that never fails. It drops what has no room, and contracts see its bytes while it has dropped
+/// none.
 #[derive(Drop)]
 pub struct SureSink {
     kept: Vec<u8>,

@@ -1,3 +1,4 @@
+//! Writing a whole text to a sink.
 ghost use Rattle.std.specs.Prelude.{◌≡◌, ℕ, ◌++◌, List, OnOk, OnErr};
 ghost use Rattle.dsc_streams.specs.Streams.{Gains, Rises, SeenBefore};
 

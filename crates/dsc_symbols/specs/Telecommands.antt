@@ -4,7 +4,8 @@ use Rattle.dsc_symbols.specs.declared.telecommands.TheConstants.{FIRSTS, COMMS}
 use Rattle.dsc_symbols.specs.declared.notices.TheConstants.{SECONDS}
 use Rattle.dsc_symbols.specs.Ranges.{IsAmong}
 
--- the first telecommands: F3E and G3E all modes and duplex, polling, unable to comply, data, J3E, two modes of TTY, none
+-- the first telecommands: F3E and G3E all modes and duplex, polling, unable to comply, data, J3E, two modes of TTY,
+-- none
 abbrev pub IsFirst : ℕ → Type 0
 IsFirst = IsAmong FIRSTS
 

@@ -1,3 +1,5 @@
+//! The categories of calls (ITU-R M.493, category).
+
 /// Distress.
 pub const DISTRESS: u8 = 112;
 

@@ -1,3 +1,5 @@
+//! The ends of sequence, and which of them each kind of call may have.
+
 /// Acknowledge RQ: the call asks for an acknowledgement.
 pub const ACKNOWLEDGE_RQ: u8 = 117;
 

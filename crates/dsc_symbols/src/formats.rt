@@ -1,3 +1,5 @@
+//! The format specifiers (ITU-R M.493, format specifier).
+
 /// A distress alert.
 pub const DISTRESS: u8 = 112;
 

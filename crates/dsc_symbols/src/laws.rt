@@ -1,4 +1,5 @@
-//! The laws that symbols have these numbers. They do nothing. Each function here does nothing, and its contract is a theorem.
+//! The laws that symbols have these numbers. They do nothing. Each function here does nothing, and its contract is a
+//! theorem.
 ghost use Rattle.std.specs.Prelude.{◌≡◌, ◌∷◌, []};
 ghost use Rattle.dsc_symbols.specs.declared.formats.TheConstants as formats;
 ghost use Rattle.dsc_symbols.specs.declared.categories.TheConstants as categories;

@@ -1,3 +1,5 @@
+//! Symbols that messages have in place of values, or before them.
+
 /// No information, in place of a telecommand or of a character of a message.
 pub const NO_INFORMATION: u8 = 126;
 

@@ -1,3 +1,5 @@
+//! The natures of distress (ITU-R M.493, nature of distress).
+
 /// Fire, explosion.
 pub const FIRE_OR_EXPLOSION: u8 = 100;
 

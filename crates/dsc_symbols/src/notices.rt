@@ -1,3 +1,4 @@
+//! The second telecommands: why a station can't comply, and what is asked for besides.
 use crate::messages::NO_INFORMATION;
 
 /// No reason given.

@@ -1,3 +1,5 @@
+//! The symbols of the phasing sequence (ITU-R M.493, phasing sequence).
+
 /// The phasing symbol of each DX slot.
 pub const DX: u8 = 125;
 

@@ -1,3 +1,4 @@
+//! The first telecommands, and the subsequent communications of distress calls.
 use crate::messages::NO_INFORMATION;
 
 /// F3E or G3E telephony, all modes.

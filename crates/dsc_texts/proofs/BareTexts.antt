@@ -1,4 +1,4 @@
--- where nothing may follow a call, a blank behind it is refused
+-- where nothing may follow a call, a blank after it is refused
 use Rattle.std.proofs.Common.{◌≡◌, ℕ, ◌+◌, ◌<◌, ◌≤◌, true, List, [], ◌∷◌, ◌++◌, length, take, drop, codes, Result, Ok, Err, refl, sym, ◌∙◌, ap, subst, append-nil, append_assoc, arith, length-append}
 use Rattle.std.proofs.lemmas.List.{take-append-le, take-append-drop}
 use Rattle.std.proofs.Math.Seq.{take-append-add}
@@ -32,7 +32,7 @@ more_plain = refl
 blank_or_end : first none ≡ second none → ⊥
 blank_or_end e = absurd (cc)
 
--- no call's text is another's with a blank behind it
+-- no call's text is another's with a blank after it
 no_blank : (c u : Call) (more : List ℕ) → IsCall c → IsCall u → call_text u ≡ call_text c ++ (32 ∷ more) → ⊥
 no_blank c u more h k e =
     let line = written (calls finish) (call_parts u none) in
@@ -48,7 +48,7 @@ blank_in_front : (x : Sets) → (more : List ℕ) × (expansion_text x ≡ 32 �
 unfolding expansion_text
 blank_in_front x = (codes "exp" ++ written (sets finish) (expansion_parts x none), refl)
 
--- the column of a call's text with a blank behind it
+-- the column of a call's text with a blank after it
 no_further : (c : Call) (more : List ℕ) (n : ℕ) → IsCall c → IsColumn IsBareCallText (call_text c ++ (32 ∷ more)) n → length (call_text c) + 1 < n → ⊥
 no_further c more n h k less =
     let text = call_text c in

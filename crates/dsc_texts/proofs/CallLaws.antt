@@ -20,7 +20,7 @@ use Rattle.dsc_texts.proofs.CallTexts.{calls_section}
 use Rattle.dsc_texts.proofs.ExpansionTexts.{extra_section}
 use Rattle.line_grammar.proofs.Forms.{Texts, one_value, texts_alike}
 
--- the texts of calls with nothing behind them
+-- the texts of calls with nothing after them
 pub bare_is : (c : Call) → call_text c ≡ written (calls finish) (call_parts c none)
 unfolding call_text
 bare_is (Alert casualty) = refl

@@ -27,7 +27,7 @@ pub moved : {V : Type 0} {Lawful : V → Type 0} (G : Grammar) (place : Parts �
 moved G place f g bytes (Ok v) same h k = (k.0, k.1, same v h ∙ ap place k.2)
 moved G place f g bytes (Err left) same h k = k
 
--- a reader of a form that stands alone
+-- a reader of a form that is alone
 pub settled : {V : Type 0} (G : Grammar) (parts : V → Parts) (bytes : List ℕ) (r : Result V ℕ) → ReadsForm G (λ p. p) parts bytes r → ReadsTail G parts bytes r
 settled G parts bytes (Ok v) h = h.1 ∙ ap (λ (p : Parts). Ok p) (sym h.2)
 settled G parts bytes (Err left) h = h
@@ -43,7 +43,7 @@ from_enhanced_parts LeftOut s c q h = absurd h
 from_enhanced_parts NoInformation s c q h = refl
 from_enhanced_parts (Digits n) s c q h = refl
 
--- how sets are written: each behind its label, and nothing where it is left out
+-- how sets are written: each after its label, and nothing where it is left out
 there_written : (label : List ℕ) (token : Token) (width : ℕ) (x : PartKind) (rest : Grammar) (q : Parts) → IsThere x
     → written (labelled label token rest) (set_part width x q) ≡ label_and_set label width x ++ written rest q
 there_written label token width LeftOut rest q h = absurd h

@@ -13,7 +13,7 @@ pub letters_missed : (text bytes : List ℕ) (left : ℕ) → after text bytes �
 unfolding read_shape
 letters_missed text bytes left e = ap (and_letters text) e
 
--- letters that stand in front are read
+-- letters at the front are read
 pub letters_read : (text bytes back : List ℕ) → after text bytes ≡ Ok back → read_shape (letters text) bytes ≡ Ok (text, back)
 unfolding read_shape
 letters_read text bytes back e = ap (and_letters text) e
@@ -33,12 +33,12 @@ pub pair_read : (one two : Shape) (bytes front back text rest : List ℕ) → re
 unfolding read_shape
 pair_read one two bytes front back text rest d e = ap (λ (a : Result (List ℕ × List ℕ) ℕ). and_shape a (read_shape two)) d ∙ ap (behind front) e
 
--- an answer tells a value that shows what was read, or the fault
+-- an answer gives a value that shows what was read, or the fault
 pub record Shows {T A : Type 0} (shown : T → A) (read : Result A ℕ) (r : Result T ℕ) : Type 0 where
   pub value : IfOk r (λ t. read ≡ Ok (shown t))
   pub left : IfErr r (λ n. read ≡ Err n)
 
--- of two answers the one that is no fault, or the further fault
+-- the answer of two that is no fault, or else the further fault
 further_of : {T A : Type 0} (shown : T → A) (a b : Result A ℕ) (r s : Result T ℕ) → Shows shown a r → Shows shown b s → Shows shown (further a b) (further r s)
 further_of shown a b (Ok p) s h k = record { value = ap (λ x. further x b) h.value; left = tt }
 further_of shown a b (Err n) (Ok p) h k = record { value = ap (λ x. further x b) h.left ∙ ap (λ x. further (Err n) x) k.value; left = tt }

@@ -20,7 +20,7 @@ use Rattle.dsc_symbols.specs.declared.ends.TheConstants.{ACKNOWLEDGE_BQ, ACKNOWL
 use Rattle.dsc_texts.specs.CallParts.{relay_end, test_end}
 use Rattle.dsc_texts.specs.CallGrammar.{identity, symbol, nature, category, comm, first_command, second_command}
 
--- an identity is told by its nine digits
+-- an identity is determined by its nine digits
 pub identity_told : TokenTexts identity IsMmsi (digits 9)
 identity_told = numbers 9 _ IsMmsi (λ n h. grind (arith, nat_tests)) (λ n h. grind (arith, nat_tests)) (λ n h. omega (arith, h))
 

@@ -16,6 +16,7 @@ use Rattle.line_grammar.specs.Grammar.{Grammar, word, field, either}
 abbrev pub identity_shape : Shape
 identity_shape = fixed_number 9 IDENTITIES
 
+-- an identity in a line
 abbrev pub identity : Token
 identity = shaped identity_shape
 
@@ -71,17 +72,18 @@ area_shape =
     pair (fixed_number 3 ((0, 180) ∷ [])) (
     pair (fixed_number 2 ((0, 99) ∷ [])) (fixed_number 2 ((0, 99) ∷ [])))))
 
+-- an area in a line
 abbrev pub area : Token
 area = shaped area_shape
 
--- whom a relay is for
+-- who a relay is addressed to
 abbrev pub address : Token
 address =
     shaped (choice (letters (codes "all")) (
     choice (pair (letters (codes "area:")) area_shape) (
     choice (pair (letters (codes "group:")) identity_shape) (pair (letters (codes "one:")) identity_shape))))
 
--- none, six digits of hundreds of hertz or of a channel behind 3 or 90, or eight digits of tens of hertz behind 4
+-- none, six digits of hundreds of hertz or of a channel after 3 or 90, or eight digits of tens of hertz after 4
 abbrev pub frequency : Token
 frequency =
     shaped (choice (letters (codes "none"))
@@ -121,13 +123,15 @@ frequencies rest = labelled (codes " f1=") frequency (labelled (codes " f2=") fr
 abbrev pub message : Grammar → Grammar
 message rest = either (frequencies rest) (labelled (codes " at=") position rest)
 
--- the ends of sequence of a relay, of a test, and of a call to one station
+-- the ends of sequence of a relay
 abbrev pub relay_ends : List (ℕ × ℕ)
 relay_ends = RELAY_ENDS
 
+-- the ends of sequence of a test
 abbrev pub test_ends : List (ℕ × ℕ)
 test_ends = TEST_ENDS
 
+-- the ends of sequence of a call to one station
 abbrev pub all_ends : List (ℕ × ℕ)
 all_ends = ENDS
 
@@ -175,20 +179,23 @@ test rest = labelled (codes "test to=") identity (sender (end test_ends rest))
 abbrev pub position_request : Grammar → Grammar
 position_request rest = labelled (codes "askpos to=") identity (sender rest)
 
--- a position is told
+-- a position is given
 abbrev pub position_answer : Grammar → Grammar
 position_answer rest = labelled (codes "pos to=") identity (sender (labelled (codes " pos=") position (labelled (codes " time=") time rest)))
 
--- a call of the last three forms, of the last seven, of all but the first, and of any form
+-- the texts of tests, position requests and position answers
 abbrev pub services : Grammar → Grammar
 services rest = either (test rest) (either (position_request rest) (position_answer rest))
 
+-- the texts of the calls that aren't distress calls
 abbrev pub other_calls : Grammar → Grammar
 other_calls rest = either (all_ships rest) (either (area_call rest) (either (group_call rest) (either (individual rest) (services rest))))
 
+-- the texts of all calls but alerts
 abbrev pub all_but_alerts : Grammar → Grammar
 all_but_alerts rest = either (ack rest) (either (relay rest) (either (relay_ack rest) (other_calls rest)))
 
+-- the texts of all calls
 abbrev pub calls : Grammar → Grammar
 calls rest = either (alert rest) (all_but_alerts rest)
 
@@ -196,20 +203,23 @@ calls rest = either (alert rest) (all_but_alerts rest)
 abbrev pub set_shape : ℕ → ℕ → Shape
 set_shape width most = choice (letters (codes "none")) (fixed_number width ((0, most) ∷ []))
 
+-- a set of an expansion in a line: so many digits, up to a bound, or none
 abbrev pub set : ℕ → ℕ → Token
 set width most = shaped (set_shape width most)
 
--- the enhanced position, the speed and the course of an expansion
+-- an enhanced position after its label
 abbrev pub enhanced : Grammar → Grammar
 enhanced rest = labelled (codes " enh=") (set 8 LAST_ENHANCEMENT) rest
 
+-- a speed after its label
 abbrev pub speed : Grammar → Grammar
 speed rest = labelled (codes " speed=") (set 4 LAST_SPEED) rest
 
+-- a course after its label
 abbrev pub course : Grammar → Grammar
 course rest = labelled (codes " course=") (set 4 LAST_COURSE) rest
 
--- what may stand there or be left out
+-- what may be there or be left out
 abbrev pub perhaps : (Grammar → Grammar) → Grammar → Grammar
 perhaps section rest = either rest (section rest)
 

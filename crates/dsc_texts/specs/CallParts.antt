@@ -46,7 +46,7 @@ frequency_text (Hf n) = digits 6 (bounds.HF_CHANNELS + n)
 frequency_text (Vhf n) = digits 6 (bounds.VHF_CHANNELS + n)
 frequency_text (Tens n) = digits 8 (bounds.TENS + n)
 
--- whom a relay is for
+-- who a relay is addressed to
 abbrev pub address_text : To → List ℕ
 address_text to.All = codes "all"
 address_text (to.Area a) = codes "area:" ++ area_text a
@@ -94,14 +94,14 @@ test_end reply = if reply then ACKNOWLEDGE_BQ else ACKNOWLEDGE_RQ
 abbrev pub end_parts : ℕ → Parts → Parts
 end_parts symbol rest = part (digits 3 symbol) rest
 
--- the parts of a test, of a call that asks for a position, and of one that tells it
+-- the parts of a test, of a call that asks for a position, and of one that gives it
 abbrev pub service_parts : ℕ → Category → ℕ → Kind → Parts → Parts
 service_parts to category from (Test reply) rest = part (digits 9 to) (sender_parts category from (end_parts (test_end reply) rest))
 service_parts to category from AskPosition rest = part (digits 9 to) (sender_parts category from rest)
 service_parts to category from (Position position time) rest =
     part (digits 9 to) (sender_parts category from (part (position_text position) (part (time_text time) rest)))
 
--- the parts of a call's text, and of what stands behind it
+-- the parts of a call's text, and of what comes after it
 abbrev pub parts_of : Call → Parts → Parts
 parts_of (Alert casualty) rest = part (digits 9 casualty.mmsi) (casualty_parts casualty rest)
 parts_of (Ack from casualty) rest = distress_parts from casualty rest
@@ -116,7 +116,7 @@ parts_of (Individual to category from one two message end) rest =
     part (digits 9 to) (request_parts category from one two (message_parts message (end_parts (end_symbol end) rest)))
 parts_of (Service to category from kind) rest = service_parts to category from kind rest
 
--- the grammar of a call's form, and of what stands behind it
+-- the grammar of a call's form, and of what comes after it
 abbrev pub form_of : Call → Grammar → Grammar
 form_of (Alert casualty) = grammar.alert
 form_of (Ack from casualty) = grammar.ack
@@ -145,12 +145,13 @@ abbrev pub perhaps_parts : ℕ → PartKind → Parts → Parts
 perhaps_parts width LeftOut rest = first rest
 perhaps_parts width kind rest = second (part (set_text width kind) rest)
 
--- the parts of an expansion's text, from its first set on, and of what stands behind it
+-- the parts of an expansion's text, from its first set on, and of what comes after it
 abbrev pub set_parts : PartKind → PartKind → PartKind → Parts → Parts
 set_parts LeftOut LeftOut course rest = second (second (part (set_text 4 course) rest))
 set_parts LeftOut speed course rest = second (first (part (set_text 4 speed) (perhaps_parts 4 course rest)))
 set_parts enhanced speed course rest = first (part (set_text 8 enhanced) (perhaps_parts 4 speed (perhaps_parts 4 course rest)))
 
+-- the parts of an expansion's text
 abbrev pub expansion_parts : Sets → Parts → Parts
 expansion_parts x rest = set_parts x.enhanced x.speed x.course rest
 

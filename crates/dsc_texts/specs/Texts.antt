@@ -10,7 +10,7 @@ use Rattle.slot_join.specs.declared.joined.Joined.{Joined}
 use Rattle.slot_join.specs.declared.joined.Joined.TheVariants.{Reported, Missing, Differ, Outside, Check}
 use Rattle.dsc_texts.specs.CallParts.{call_text, expansion_text}
 
--- what stands behind a reported call: nothing, an expansion, or the first place at which no expansion goes on
+-- what comes after a reported call: nothing, an expansion, or the first place at which no expansion goes on
 abbrev pub extra_text : Extra → List ℕ
 extra_text Absent = []
 extra_text (Whole x) = expansion_text x
@@ -20,7 +20,7 @@ extra_text (Broken n) = codes " broken " ++ decimal n
 abbrev pub reported_text : Call → Extra → List ℕ
 reported_text call extra = call_text call ++ extra_text extra
 
--- the bytes are the text of a call whose parts are in their ranges, with nothing behind it
+-- the bytes are the text of a call whose parts are in their ranges, with nothing after it
 abbrev pub IsBareCallText : Call → List ℕ → Type 0
 IsBareCallText call bytes = IsCall call × (bytes ≡ call_text call)
 

@@ -1,3 +1,4 @@
+//! The text of a group's answer.
 ghost use Rattle.std.specs.Prelude.{◌≡◌, ◌+◌, ◌≤◌, ◌++◌, [], ◌∷◌, codes, decimal};
 ghost use Rattle.arrayvec.specs.ArrayVec.{array_vec_len};
 ghost use Rattle.line_grammar.specs.Bytes.{line_feed};
@@ -28,6 +29,7 @@ pub fn put_answer_line(group: u32, answer: &Joined) -> ArrayVec<u8, 289>
     out
 }
 
+/// Appends a group's answer without its line feed: `g`, the group's number, and the report; at most 182 bytes.
 #[tactic(auto, unfolding(crate::specs::Texts::answer_text))]
 fn append_answer<const N: usize>(out: &mut ArrayVec<u8, N>, group: u32, answer: &Joined)
     requires { array_vec_len out.old + 182 ≤ N }
@@ -39,6 +41,7 @@ fn append_answer<const N: usize>(out: &mut ArrayVec<u8, N>, group: u32, answer: 
     append_report(out, answer);
 }
 
+/// Appends what an answer says after its group; at most 161 bytes.
 fn append_report<const N: usize>(out: &mut ArrayVec<u8, N>, answer: &Joined)
     requires { array_vec_len out.old + 161 ≤ N }
     ensures items { out.new.items ≡ out.old.items ++ report_text answer.now }
@@ -73,6 +76,7 @@ fn append_report<const N: usize>(out: &mut ArrayVec<u8, N>, answer: &Joined)
     }
 }
 
+/// Appends a blank and a number; at most 21 bytes.
 fn append_behind_blank<const N: usize>(out: &mut ArrayVec<u8, N>, number: u8)
     requires { array_vec_len out.old + 21 ≤ N }
     ensures items { out.new.items ≡ out.old.items ++ codes " " ++ decimal number }

@@ -1,3 +1,4 @@
+//! The texts of calls.
 ghost use Rattle.std.specs.Prelude.{◌≡◌, ◌+◌, ◌≤◌, ◌++◌};
 ghost use Rattle.arrayvec.specs.ArrayVec.{array_vec_len};
 ghost use Rattle.dsc_texts.specs.CallParts.{call_text};
@@ -129,6 +130,7 @@ pub fn append_call<const N: usize>(out: &mut ArrayVec<u8, N>, call: &Call)
     }
 }
 
+/// Appends the text of a distress alert; at most 65 bytes.
 #[tactic(auto, unfolding(crate::specs::CallParts::call_text))]
 fn append_alert<const N: usize>(out: &mut ArrayVec<u8, N>, casualty: &Casualty)
     requires { array_vec_len out.old + 65 ≤ N }
@@ -151,6 +153,7 @@ fn test_end(reply: bool) -> u8
     }
 }
 
+/// Appends the text of a test, or of a call about a ship's position; at most 70 bytes.
 #[tactic(auto, unfolding(crate::specs::CallParts::call_text))]
 fn append_service<const N: usize>(
     out: &mut ArrayVec<u8, N>,

@@ -1,3 +1,4 @@
+//! Readers of the text of an expansion, set by set.
 ghost use Rattle.std.specs.Prelude.{◌≡◌, ◌<◌, ◌≤◌, ◌^◌, ◌∷◌, [], IfOk, IfErr, Ok, Err};
 ghost use Rattle.line_grammar.specs.Grammar.{finish, first, second};
 ghost use Rattle.line_grammar.specs.Shapes as shape;
@@ -44,7 +45,7 @@ fn set_value(width: usize, most: u32, bytes: &[u8]) -> Result<(Part, &[u8]), Lef
     further(&none, &told)
 }
 
-/// Reads a set behind its label.
+/// Reads a set after its label.
 fn set(line: &mut Cursor, label: &[u8], width: usize, most: u32) -> Result<Part, Left>
     requires width { width ≤ 8 }
     requires most { most < 10 ^ width }
@@ -67,7 +68,7 @@ fn course(bytes: &[u8]) -> Result<Part, Left>
     Ok(course)
 }
 
-/// Reads the end, where no course is told.
+/// Reads the end, where there is no course.
 #[tactic(auto, unfolding(line_grammar::specs::inside::Reading::read))]
 fn no_course(bytes: &[u8]) -> Result<Part, Left>
     ensures lawful { IfOk result (λ course. IsUpTo LAST_COURSE course) }
@@ -96,7 +97,7 @@ fn speed(bytes: &[u8]) -> Result<(Part, Part), Left>
     Ok((speed, course))
 }
 
-/// Reads what may follow the speed, where none is told.
+/// Reads what may follow the speed, where there is none.
 fn no_speed(bytes: &[u8]) -> Result<(Part, Part), Left>
     ensures lawful { IfOk result (λ sets. IsUpTo LAST_SPEED sets.0 × IsUpTo LAST_COURSE sets.1) }
     ensures reads { ReadsForm (perhaps grammar.course finish) first inside.perhaps_speed bytes.now result }

@@ -1,3 +1,4 @@
+//! The text of what follows a reported call.
 ghost use Rattle.std.specs.Prelude.{◌≡◌, ◌+◌, ◌≤◌, ◌++◌, length};
 ghost use Rattle.arrayvec.specs.ArrayVec.{array_vec_len};
 ghost use Rattle.dsc_texts.specs.CallParts.{expansion_text};
@@ -9,7 +10,7 @@ use expansion::{Expansion, Part, PartKind};
 use slot_join::Extra;
 use text_pieces::{append, append_digits, append_number};
 
-/// Appends what stands behind a call, which takes at most 40 bytes.
+/// Appends what comes after a call, which takes at most 40 bytes.
 pub fn append_extra<const N: usize>(out: &mut ArrayVec<u8, N>, extra: &Extra)
     requires { array_vec_len out.old + 40 ≤ N }
     ensures items { out.new.items ≡ out.old.items ++ extra_text extra.now }
@@ -25,6 +26,7 @@ pub fn append_extra<const N: usize>(out: &mut ArrayVec<u8, N>, extra: &Extra)
     }
 }
 
+/// Appends the text of an expansion: `exp` and each set after its label; at most 40 bytes.
 fn append_expansion<const N: usize>(out: &mut ArrayVec<u8, N>, expansion: &Expansion)
     requires { array_vec_len out.old + 40 ≤ N }
     ensures items { out.new.items ≡ out.old.items ++ expansion_text expansion.now }
@@ -37,7 +39,7 @@ fn append_expansion<const N: usize>(out: &mut ArrayVec<u8, N>, expansion: &Expan
     append_set(out, b" course=", 4, &expansion.course());
 }
 
-/// Appends a set behind its label, and nothing where it is left out.
+/// Appends a set after its label, and nothing where it is left out.
 fn append_set<const N: usize>(out: &mut ArrayVec<u8, N>, label: &[u8], width: usize, set: &Part)
     requires width { 4 ≤ width }
     requires room { array_vec_len out.old + (length label.now + width) ≤ N }

@@ -1,3 +1,4 @@
+//! Readers of the fields of call texts: positions, times, areas, frequencies and addresses.
 #![tactic(auto, unfolding(line_grammar::specs::inside::Reading::read_token))]
 
 ghost use Rattle.std.specs.Prelude.{◌≡◌, ◌≤◌, ◌<◌, ◌^◌, ◌++◌, ◌∷◌, [], IfOk, IfErr, Ok, Err, List, ℕ, codes, true};
@@ -25,8 +26,8 @@ pub fn spelled<'a, T: Drop>(text: &[u8], value: T, bytes: &'a [u8]) -> Result<(T
     Ok((value, rest))
 }
 
-/// A number of at most this in so many digits at the front of these bytes, and what follows it. Where the width is a constant, the loop
-/// folds.
+/// A number of at most this in so many digits at the front of these bytes, and what follows it. Where the width is a
+/// constant, the loop folds.
 #[inline(always)]
 fn up_to(width: usize, most: u8, bytes: &[u8]) -> Result<(u8, &[u8]), Left>
     requires width { width ≤ 3 }
@@ -216,7 +217,7 @@ impl Token for Field {
     }
 }
 
-/// An area behind its word at the front of these bytes, and what follows it.
+/// An area after its word at the front of these bytes, and what follows it.
 fn to_area(bytes: &[u8]) -> Result<(To, &[u8]), Left>
     ensures value { IfOk result (λ parts. read_shape (shape.pair (shape.letters (codes "area:")) grammar.area_shape)
         bytes.now ≡ Ok (texts.address_text parts.0, parts.1.now)) }
@@ -231,7 +232,7 @@ fn to_area(bytes: &[u8]) -> Result<(To, &[u8]), Left>
     Ok((To::Area(area), rest))
 }
 
-/// A group's identity behind its word at the front of these bytes, and what follows it.
+/// A group's identity after its word at the front of these bytes, and what follows it.
 fn to_group(bytes: &[u8]) -> Result<(To, &[u8]), Left>
     ensures value { IfOk result (λ parts. read_shape (shape.pair (shape.letters (codes "group:"))
         grammar.identity_shape) bytes.now ≡ Ok (texts.address_text parts.0, parts.1.now)) }
@@ -246,7 +247,7 @@ fn to_group(bytes: &[u8]) -> Result<(To, &[u8]), Left>
     Ok((To::Group(group), rest))
 }
 
-/// A station's identity behind its word at the front of these bytes, and what follows it.
+/// A station's identity after its word at the front of these bytes, and what follows it.
 fn to_one(bytes: &[u8]) -> Result<(To, &[u8]), Left>
     ensures value { IfOk result (λ parts. read_shape (shape.pair (shape.letters (codes "one:")) grammar.identity_shape)
         bytes.now ≡ Ok (texts.address_text parts.0, parts.1.now)) }
@@ -261,7 +262,7 @@ fn to_one(bytes: &[u8]) -> Result<(To, &[u8]), Left>
     Ok((To::One(station), rest))
 }
 
-/// Whom a relay is for: all, or an area, a group or a station behind a word.
+/// Who a relay is addressed to: all, or an area, a group or a station after a word.
 impl Token for To {
     ghost token = { grammar.address };
 

@@ -1,3 +1,4 @@
+//! Readers of the forms of call texts.
 ghost use Rattle.std.specs.Prelude.{codes};
 ghost use Rattle.line_grammar.specs.Grammar.{first, second};
 ghost use Rattle.dsc_texts.specs.CallGrammar as grammar;
@@ -238,7 +239,7 @@ pub fn position_request<T: Tail>(bytes: &[u8]) -> Result<(Call, T), Left>
     Ok((call, tail))
 }
 
-/// Reads a position that is told.
+/// Reads a position that is given.
 pub fn position_answer<T: Tail>(bytes: &[u8]) -> Result<(Call, T), Left>
     ensures { ReadsForm (grammar.position_answer T.grammar) (last 10) (parts_with T.parts) bytes.now result }
 {
@@ -257,7 +258,7 @@ pub fn position_answer<T: Tail>(bytes: &[u8]) -> Result<(Call, T), Left>
     Ok((call, tail))
 }
 
-/// Reads a test, a position that is asked for, or one that is told.
+/// Reads a test, a position that is asked for, or one that is given.
 fn service<T: Tail>(bytes: &[u8]) -> Result<(Call, T), Left>
     ensures { ReadsForm (grammar.services T.grammar) (last 8) (parts_with T.parts) bytes.now result }
 {
@@ -265,8 +266,8 @@ fn service<T: Tail>(bytes: &[u8]) -> Result<(Call, T), Left>
     further(&test(bytes), &positions)
 }
 
-/// Reads a call that is no distress call. The form that the bytes are of ends the search. It stands out of line, so that no other form
-/// clears the room of these.
+/// Reads a call that is no distress call. The form that the bytes are of ends the search. It isn't inlined, so that no
+/// other form clears the room of these.
 #[inline(never)]
 fn other_call<T: Tail>(bytes: &[u8]) -> Result<(Call, T), Left>
     ensures { ReadsForm (grammar.other_calls T.grammar) (last 4) (parts_with T.parts) bytes.now result }
@@ -289,7 +290,7 @@ fn other_call<T: Tail>(bytes: &[u8]) -> Result<(Call, T), Left>
     further(&to_all, &to_others)
 }
 
-/// Reads a call that is no distress alert. It stands out of line for the same reason.
+/// Reads a call that is no distress alert. It isn't inlined for the same reason.
 #[inline(never)]
 fn all_but_alert<T: Tail>(bytes: &[u8]) -> Result<(Call, T), Left>
     ensures { ReadsForm (grammar.all_but_alerts T.grammar) (last 1) (parts_with T.parts) bytes.now result }

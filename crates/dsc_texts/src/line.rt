@@ -1,3 +1,4 @@
+//! Readers that keep what is left of a line in a cursor.
 ghost use Rattle.std.specs.Prelude.{◌≡◌, OnOk, IfOk, IsOkAnd, IfErr, Ok, Err};
 ghost use Rattle.line_grammar.specs.Grammar.{none};
 ghost use Rattle.line_grammar.specs.inside.Reading.{after, ended};
@@ -14,7 +15,7 @@ pub fn word(line: &mut Cursor, text: &[u8]) -> Result<(), Left>
     Ok(())
 }
 
-/// Reads a word that nearly always stands there.
+/// Reads a word that is nearly always there.
 #[inline(always)]
 pub fn whole_word(line: &mut Cursor, text: &[u8]) -> Result<(), Left>
     ensures read { OnOk result (after text.now line.old ≡ Ok line.new) }
@@ -24,7 +25,7 @@ pub fn whole_word(line: &mut Cursor, text: &[u8]) -> Result<(), Left>
     Ok(())
 }
 
-/// Goes on behind a value that was read at the front of these bytes.
+/// Goes on after a value that was read at the front of these bytes.
 pub fn take<'a, T: Copy>(
     line: &mut Cursor<'a>,
     read: &Result<(T, &'a [u8]), Left>,

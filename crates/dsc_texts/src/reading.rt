@@ -1,3 +1,4 @@
+//! Reading the text of a call whole.
 ghost use Rattle.std.specs.Prelude.{◌≡◌, ◌≤◌, length, IfErr};
 ghost use Rattle.line_grammar.specs.Columns.{ReadsAs, with_column};
 ghost use Rattle.line_grammar.specs.Grammar.{none};
@@ -65,8 +66,8 @@ pub fn read_call(text: &[u8]) -> Result<(Call, Extra), usize>
     }
 }
 
-/// The same as `bare_call_of`. An error is the column: the least n for which the first n bytes begin no call's text, and
-/// the length plus one where the text ends too early.
+/// The same as `bare_call_of`. An error is the column: the least n for which the first n bytes begin no call's text,
+/// and the length plus one where the text ends too early.
 pub fn read_bare_call(text: &[u8]) -> Result<Call, usize>
     ensures { ReadsAs IsBareCallText text.now result }
 {

@@ -1,3 +1,4 @@
+//! Sections that several forms of call texts have in common.
 ghost use Rattle.std.specs.Prelude.{◌≡◌, codes, IfOk};
 ghost use Rattle.line_grammar.specs.Grammar.{part};
 ghost use Rattle.dsc_texts.specs.CallGrammar as grammar;
@@ -12,7 +13,7 @@ use call_values::{
 use cursor::Cursor;
 use line_grammar::Left;
 
-/// Reads a value behind its label.
+/// Reads a value after its label.
 #[inline(always)]
 pub fn field<T: Token>(line: &mut Cursor, label: &[u8]) -> Result<T, Left>
     ensures { ReadsSection (labelled label.now T.token) (λ v. part (T.text v)) line.old result line.new }

@@ -1,3 +1,4 @@
+//! What may come after a call's text: nothing, or an expansion.
 ghost use Rattle.line_grammar.specs.Grammar as line;
 ghost use Rattle.line_grammar.specs.Grammar.{Grammar, Parts};
 ghost use Rattle.dsc_texts.specs.CallGrammar as grammar;
@@ -8,7 +9,7 @@ use crate::expansions::expansion_or_end;
 use expansion::Expansion;
 use line_grammar::{Left, end};
 
-/// What may stand behind a call, to the end of its text.
+/// What may come after a call, to the end of its text.
 pub trait Tail: Copy {
     /// Its grammar.
     ghost grammar: { Grammar };

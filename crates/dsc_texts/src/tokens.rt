@@ -1,4 +1,4 @@
-//! Values that stand in texts as one token, and those of one number.
+//! Values that texts have as one token, and those of one number.
 #![tactic(auto, unfolding(line_grammar::specs::inside::Reading::read_token))]
 
 ghost use Rattle.std.specs.Prelude.{◌≡◌, IfOk, IfErr, Ok, Err, List, ℕ};
@@ -18,7 +18,7 @@ use dsc_symbols::notices::SECONDS;
 use dsc_symbols::telecommands::{COMMS, FIRSTS};
 use line_grammar::{Left, fixed_number};
 
-/// A value that stands in texts as one token.
+/// A value that texts have as one token.
 pub trait Token: Copy {
     /// The token.
     ghost token: { Token };

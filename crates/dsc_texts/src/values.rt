@@ -1,3 +1,4 @@
+//! The texts of the values that call texts have.
 ghost use Rattle.std.specs.Prelude.{◌≡◌, ◌+◌, ◌≤◌, ◌++◌, [], Some};
 ghost use Rattle.arrayvec.specs.ArrayVec.{array_vec_len};
 ghost use Rattle.line_grammar.specs.Shapes.{digits};
@@ -26,6 +27,7 @@ pub fn append_position<const N: usize>(out: &mut ArrayVec<u8, N>, position: &Pos
     }
 }
 
+/// Appends the ten digits of a known position.
 fn append_fix<const N: usize>(out: &mut ArrayVec<u8, N>, fix: &Fix)
     requires { array_vec_len out.old + 10 ≤ N }
     ensures items { out.new.items ≡ out.old.items ++ position_text (Some fix.now) }
@@ -66,6 +68,7 @@ pub fn append_area<const N: usize>(out: &mut ArrayVec<u8, N>, area: &Area)
     append_digits(out, 2, u64::from(area.east()));
 }
 
+/// Appends the digits of a frequency or channel field as on air, or `none`; at most 8 bytes.
 fn append_field<const N: usize>(out: &mut ArrayVec<u8, N>, field: &Field)
     requires { array_vec_len out.old + 8 ≤ N }
     ensures items { out.new.items ≡ out.old.items ++ frequency_text field.now }
@@ -84,7 +87,7 @@ fn append_field<const N: usize>(out: &mut ArrayVec<u8, N>, field: &Field)
     }
 }
 
-/// Appends whom a relay is for.
+/// Appends who a relay is addressed to.
 pub fn append_address<const N: usize>(out: &mut ArrayVec<u8, N>, to: &To)
     requires { array_vec_len out.old + 15 ≤ N }
     ensures items { out.new.items ≡ out.old.items ++ address_text to.now }
@@ -107,7 +110,7 @@ pub fn append_address<const N: usize>(out: &mut ArrayVec<u8, N>, to: &To)
     }
 }
 
-/// Appends the fields of a casualty behind its identity: nature of distress, position, time and communication.
+/// Appends the fields of a casualty after its identity: nature of distress, position, time and communication.
 pub fn append_casualty<const N: usize>(out: &mut ArrayVec<u8, N>, casualty: &Casualty)
     requires { array_vec_len out.old + 45 ≤ N }
     ensures items { out.new.items ≡ out.old.items
@@ -134,7 +137,8 @@ pub fn append_from<const N: usize>(out: &mut ArrayVec<u8, N>, from: &Mmsi)
     append_digits(out, 9, u64::from(from.number()));
 }
 
-/// Appends a ship in distress, in 64 bytes: ` casualty=`, its identity, nature of distress, position, time and communication.
+/// Appends a ship in distress, in 64 bytes: ` casualty=`, its identity, nature of distress, position, time and
+/// communication.
 pub fn append_ship_in_distress<const N: usize>(out: &mut ArrayVec<u8, N>, casualty: &Casualty)
     requires { array_vec_len out.old + 64 ≤ N }
     ensures items { out.new.items ≡ out.old.items

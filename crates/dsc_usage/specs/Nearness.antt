@@ -3,7 +3,8 @@ use Rattle.std.specs.Prelude.{ℕ, ◌≤◌, ◌<◌, ◌*◌, List, [], ◌∷
 use Rattle.std.specs.Str.{chars}
 use Rattle.strsim.specs.Edits.{osa_table}
 
--- how many slips lead from one text to the other: a character too many, one too few, another one, or two that changed places
+-- how many slips lead from one text to the other: a character too many, one too few, another one, or two that changed
+-- places
 abbrev pub slips : List ℕ → List ℕ → ℕ
 slips word name = (osa_table (chars word) (chars name)).last_row (length (chars name))
 

@@ -1,3 +1,4 @@
+//! Which command a word nearly is.
 ghost use Rattle.std.specs.Prelude.{◌≡◌, IfOk, IfSome, true, false, Contains};
 ghost use Rattle.dsc_usage.specs.Nearness.{IsNear, command_names};
 
@@ -18,8 +19,8 @@ const COMMANDS: [&str; 10] = [
     "make",
 ];
 
-/// Whether a word becomes the name by so many slips at most, and by fewer than half as many as the name has bytes. A slip is a character
-/// too many, one too few, another one, or two that changed places. The error is want of memory.
+/// Whether a word becomes the name by so many slips at most, and by fewer than half as many as the name has bytes. A
+/// slip is a character too many, one too few, another one, or two that changed places. The error is want of memory.
 fn is_near(alloc: Global, word: &str, name: &str, most: usize) -> Result<bool, AllocError>
     ensures near { IfOk result (λ is. is ≡ true → IsNear most word.now name.now) }
     ensures far { IfOk result (λ is. is ≡ false → IsNear most word.now name.now → ⊥) }
@@ -41,8 +42,8 @@ fn first_near(alloc: Global, word: &str, most: usize) -> Result<Option<&'static 
     Ok(None)
 }
 
-/// The command that was meant by a word that is none: one to which a single slip leads, or else two. `None` where there is none, and of
-/// a command itself. The error is want of memory.
+/// The command that was meant by a word that is none: one to which a single slip leads, or else two. `None` where there
+/// is none, and of a command itself. The error is want of memory.
 pub fn nearest_command(alloc: Global, word: &str) -> Result<Option<&'static str>, AllocError>
     ensures near { IfOk result (λ found. IfSome found (λ name. IsNear 2 word.now name.now)) }
     ensures command { IfOk result (λ found. IfSome found (λ name. Contains command_names name.now)) }

@@ -1,5 +1,7 @@
-/// How the program is used, in ten lines at most: its version, its commands with their options, and where its manual is. The last line
-/// has no line feed.
+//! How the program is used.
+
+/// How the program is used, in ten lines at most: its version, its commands with their options, and where its manual
+/// is. The last line has no line feed.
 pub const USAGE: &str = "dsc 0.10.0: calls of maritime digital selective calling (DSC)
 usage: dsc COMMAND < INPUT > OUTPUT, where COMMAND is one of
   join [--workers N]    evidence [--workers N]    watch [--workers N]

@@ -72,7 +72,7 @@ met_word word (n ∷ ns) command e = go (bytes_eq n word) refl e (met_word word 
     go true is h rest = let same : n ≡ command = cc in sym same ∙ same_text n word is
     go false is h rest = rest h
 
--- ---- the words behind the command
+-- ---- the words after the command
 
 stopped_next : (command : Text) (ws : List Text) (x : Text) → walked app.top.rules names (stopped_at command ws) x ≡ stopped_at command (ws ++ x ∷ [])
 unfolding walked

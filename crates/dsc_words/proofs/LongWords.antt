@@ -16,7 +16,7 @@ abbrev pub spelled : Text → Option Text → Text
 spelled name None = codes "--" ++ name
 spelled name (Some value) = codes "--" ++ name ++ codes "=" ++ value
 
--- what stands behind a first byte c
+-- what comes after a first byte c
 stripped : (c : ℕ) (word rest : Text) → strip_byte c word ≡ Some rest → word ≡ c ∷ rest
 stripped c [] rest e = absurd (none-some _ e)
 stripped c (x ∷ xs) rest e = go (x == c) refl e

@@ -16,7 +16,7 @@ use Rattle.dsc_words.proofs.OptionTurns.{leaf}
 abbrev before : Walk
 before = walk_from nothing_held
 
--- behind the number, which is taken at the end
+-- after the number, which is taken at the end
 abbrev behind : Text → Walk
 behind text = record {
   held = record { rows = []; pending = Some (codes "number", text ∷ []); skip = 0 };

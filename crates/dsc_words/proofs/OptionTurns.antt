@@ -22,7 +22,7 @@ leaf s = built_leaf (inherited (with_leaf_noted (marked_built dsc.top)) s)
 abbrev pub rule : Text → Rule
 rule long = with_index 1 (filled (option_rule long))
 
--- ---- where the walk stands
+-- ---- where the walk is
 
 -- nothing waits for a value
 abbrev pub at_rest : List Row → Option (Text × List Text) → Walk

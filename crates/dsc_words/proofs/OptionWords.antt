@@ -37,7 +37,7 @@ module _ (name long : Text) where
       let is = option_next_is name long rows x ∙ ap (λ d. next_by s w x d (long_of x)) undashed in
       goes w x xs (with_value rows x) (is ∙ option_turn name long rows x (long_of x) turn) e
 
-  -- ---- the option stands twice: the words fail in the end
+  -- ---- the option comes twice: the words fail in the end
 
   twice_with_value : (value again : Text) (xs : List Text) → HasNoDashes xs → faults (command name long) (with_value (row value ∷ []) again) xs ≡ [] → ⊥
   unfolding walk_fault defaults_fault

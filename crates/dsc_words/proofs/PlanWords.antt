@@ -162,7 +162,7 @@ pub record Taken (words : List Text) (plan : Plan) : Type 0 where
   pub gives : subcommand_of dsc words ≡ Some (found, rows)
   pub asked : IsAsked found (first_of (codes "number") rows) plan
 
--- words that pass for a command pass behind its name
+-- words that pass for a command pass after its name
 command_taken : (name : Text) (s : Shape) → Has name s → (plan : Plan) (program word : Text) (ws : List Text) → word ≡ name → HasNoDashes ws
     → level_fault (leaf s) [] nothing_held ws false [] ≡ [] → IsAsked name (first_of (codes "number") (rows_after (leaf s).rules [] ws)) plan → Taken (program ∷ word ∷ ws) plan
 command_taken name s has plan program word ws at undashed passes asked =
@@ -203,7 +203,7 @@ has_watch = record { undashed = refl; met = refl; fault = λ ws. refl; rows = λ
 has_encode : Has (codes "encode") (with_option (codes "encode") (codes "dots"))
 has_encode = record { undashed = refl; met = refl; fault = λ ws. refl; rows = λ ws. refl }
 
--- the command of this name stands alone
+-- the command of this name is alone
 abbrev HasNoOption : Text → Type 0
 HasNoOption name = Has name (new_shape name)
 

@@ -1,4 +1,4 @@
--- One word of a command, and the words behind it.
+-- One word of a command, and the words after it.
 use Rattle.std.proofs.Common.{◌≡◌, Bool, true, false, List, [], ◌∷◌, ℕ, length, fold, subst, sym}
 use Rattle.std.specs.Prelude.{Option, Some, None, codes, if◌then◌else◌, slice_get}
 use Rattle.std.specs.Option.{option_map_or}
@@ -35,7 +35,7 @@ turn_passes s w x xs e =
     first_passes (turn_fault s [] w x) (walk_fault s [] (walked s.rules [] w x) xs)
     (first_passes (walk_fault s [] w (x ∷ xs)) (end_fault s (fold (walked s.rules []) w (x ∷ xs)).held) e)
 
--- words without fault have none behind their first word
+-- words without fault have none after their first word
 pub rest_passes : (s : Shape) (w : Walk) (x : Text) (xs : List Text) → faults s w (x ∷ xs) ≡ [] → faults s (walked s.rules [] w x) xs ≡ []
 unfolding walk_fault
 rest_passes s w x xs e =
@@ -60,7 +60,7 @@ turn_by s w word dashes long =
     let met = if dashes then (w.held, trailing w.position) else long_or_other s.rules w.waiting word long w.held in
     or_else (if dashes then [] else flag_word_fault s.rules s.args_override_self long word w.held) (step_fault s w.position met.0 met.1)
 
--- the walk behind a word, by what it is
+-- the walk after a word, by what it is
 abbrev pub next_by : Shape → Walk → Text → Bool → Option (Text × Option Text) → Walk
 next_by s w word dashes long =
     let met = if dashes then (w.held, trailing w.position) else long_or_other s.rules w.waiting word long w.held in
@@ -72,7 +72,7 @@ short_by s w word short =
     let met = short_or_plain s.rules w.waiting word short w.held in
     or_else (option_map_or (λ flags. bundle_fault s.rules s.args_override_self flags w.held) short []) (step_fault s w.position met.0 met.1)
 
--- the walk behind a word that may be a short option
+-- the walk after a word that may be a short option
 abbrev pub short_next : Shape → Walk → Text → Option Text → Walk
 short_next s w word short =
     let met = short_or_plain s.rules w.waiting word short w.held in
@@ -86,7 +86,7 @@ char_by s w word flags first k =
     or_else (bundle_step_fault s.rules s.args_override_self first flags 0 w.held (flags_fault s.rules s.args_override_self k))
     (step_fault s w.position after.0 after.1)
 
--- the walk behind a word that begins with one dash, by the character there
+-- the walk after a word that begins with one dash, by the character there
 abbrev pub char_next : Shape → Walk → Text → Text → Option ℕ → ℕ → Walk
 char_next s w word flags first k =
     let met = bundle_step s.rules first flags 0 plain w.held (bundle_met s.rules k) in

@@ -3,6 +3,7 @@ use Rattle.std.specs.Prelude.{◌≡◌, ◌⊎◌, ◌≤◌, ◌++◌, ◌∷�
 use Rattle.dsc_words.specs.declared.plans.Plan.{Plan}
 use Rattle.dsc_words.specs.declared.plans.Plan.TheVariants.{Join, Evidence, Encode, Sentences, Replay, Make, Capture, Watch, Exchange, Book}
 
+-- the bytes of a text
 abbrev pub Text : Type 0
 Text = List ℕ
 
@@ -10,7 +11,7 @@ Text = List ℕ
 abbrev pub IsNumber : ℕ → Text → ℕ → Type 0
 IsNumber most text n = (text ≡ decimal n) × (1 ≤ n) × (n ≤ most)
 
--- nothing stands there, or the option's name and the text that it is given: two words, or one with `=` between them
+-- nothing is there, or the option's name and the text that it is given: two words, or one with `=` between them
 abbrev pub IsOption : Text → List Text → Option Text → Type 0
 IsOption name words None = words ≡ []
 IsOption name words (Some text) =
@@ -43,7 +44,7 @@ IsGroups (Some text) n = IsNumber 1000 text n
 abbrev pub HasGroups : List Text → ℕ → Type 0
 HasGroups words n = (text : Text) × (words ≡ text ∷ []) × IsNumber 1000 text n
 
--- the command's word, and the words behind it
+-- the command's word, and the words after it
 abbrev pub IsCommand : Text → List Text → Plan → Type 0
 IsCommand command words (Join n) = (command ≡ codes "join") × HasWorkers words n
 IsCommand command words (Evidence n) = (command ≡ codes "evidence") × HasWorkers words n

@@ -1,3 +1,4 @@
+//! The command line as `clap` sees it.
 ghost use Rattle.std.specs.Prelude.{◌≡◌, IfOk, false};
 ghost use Rattle.clap.specs.Words.{app_of, shape_of};
 ghost use Rattle.clap.specs.declared.builder.command.Command.TheViews.{out-Command as fields_of};
@@ -6,8 +7,8 @@ ghost use Rattle.dsc_words.specs.inside.CommandLine.{dsc, program, with_first_co
 use clap::{Arg, Command};
 use std::alloc::{AllocError, Global};
 
-/// The program's command line: its commands, one a line. It is made in frames of their own: the copies that this takes are gone while
-/// words are read.
+/// The program's command line: its commands, one a line. It is made in frames of their own: the copies that this takes
+/// are gone while words are read.
 #[inline(never)]
 pub fn command_line<'a>(alloc: Global) -> Result<Command<'a>, AllocError>
     ensures { IfOk result (λ r. app_of r ≡ dsc) }
@@ -28,7 +29,7 @@ fn with_first_commands<'a>(alloc: Global, program: Command<'a>) -> Result<Comman
     Ok(program)
 }
 
-/// The program with the commands behind these.
+/// The program with the commands after these.
 #[inline(never)]
 fn with_last_commands<'a>(alloc: Global, program: Command<'a>) -> Result<Command<'a>, AllocError>
     ensures { IfOk result (λ r. app_of r ≡ with_last_commands (app_of program.entry)) }
@@ -61,7 +62,7 @@ fn with_option<'a>(alloc: Global, name: &'a str, long: &'a str) -> Result<Comman
     Command::new(alloc, name).arg(Arg::new(alloc, "number").long(long))
 }
 
-/// A command without options, behind which one number has to stand.
+/// A command without options, after which one number has to come.
 fn with_number<'a>(alloc: Global, name: &'a str) -> Result<Command<'a>, AllocError>
     ensures shape { IfOk result (λ r. shape_of r ≡ with_number name.now) }
     ensures local { IfOk result (λ r. (fields_of r).has_globals ≡ false) }

@@ -1,3 +1,4 @@
+//! Numbers of the command line.
 ghost use Rattle.std.specs.Prelude.{IfSome, IsNone, ℕ};
 ghost use Rattle.dsc_words.specs.Words.{IsNumber};
 

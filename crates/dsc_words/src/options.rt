@@ -1,3 +1,4 @@
+//! The ranges of the numbers of options.
 ghost use Rattle.std.specs.Prelude.{ℕ, Bool, IfSome, IsNone, option_map};
 ghost use Rattle.dsc_words.specs.Words.{IsDots, IsGroups, IsWorkers};
 

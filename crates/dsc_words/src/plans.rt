@@ -1,3 +1,4 @@
+//! What the words of the command line ask for.
 ghost use Rattle.std.specs.Prelude.{◌≡◌, ℕ, List};
 ghost use Rattle.dsc_words.specs.Words.{IsPlan};
 ghost use Rattle.dsc_words.specs.declared.plans.Plan.{Plan};
@@ -11,18 +12,19 @@ pub enum Plan {
     Join { workers: u8 },
     /// `evidence [--workers N]`: the facts of each group. 1 to 64 workers, 1 where none are given.
     Evidence { workers: u8 },
-    /// `encode [--dots D]`: the transmissions of calls, behind 200 dots where `long` and else behind 20.
+    /// `encode [--dots D]`: the transmissions of calls, after 200 dots where `long` and else after 20.
     Encode { long: bool },
     /// `sentences`: the sentences of calls, and verdicts on sentences.
     Sentences,
-    /// `replay [--workers N]`: what a station does at the events of a traffic file. 1 to 64 workers, 1 where none are given.
+    /// `replay [--workers N]`: what a station does at the events of a traffic file. 1 to 64 workers, 1 where none are
+    /// given.
     Replay { workers: u8 },
     /// `make N`: how the receptions of N generated groups are joined. 1 to 1,000 groups.
     Make { groups: u16 },
     /// `capture`: every call of a stream of elements.
     Capture,
-    /// `watch [--workers N]`: a call of each group as soon as a batch ends that reports it, and at the end what `join` says. 1 to 64
-    /// workers, 1 where none are given.
+    /// `watch [--workers N]`: a call of each group as soon as a batch ends that reports it, and at the end what `join`
+    /// says. 1 to 64 workers, 1 where none are given.
     Watch { workers: u8 },
     /// `exchange`: a ship and a coast station over a link, by the events of a file.
     Exchange,

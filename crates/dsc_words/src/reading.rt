@@ -1,3 +1,4 @@
+//! Reading the words of the command line.
 ghost use Rattle.std.specs.Prelude.{◌≡◌, ◌↔◌, List, [], IfOk, IfSome, IsNone, IsErrOf, drop, map, codes, string_bytes, option_map};
 ghost use Rattle.std.specs.List.{list_any};
 ghost use Rattle.std.specs.Str.{bytes_eq};
@@ -14,8 +15,8 @@ use clap::{ArgMatches, Error};
 use std::alloc::Global;
 
 // In a frame of its own: what `clap` builds doesn't lie on the stack while a command runs.
-/// The plan that the words are; the first of them is the program's name. `Refused` where they are none, and `Memory` where
-/// no memory was found to read them.
+/// The plan that the words are; the first of them is the program's name. `Refused` where they are none, and `Memory`
+/// where no memory was found to read them.
 #[inline(never)]
 pub fn plan_of(alloc: Global, words: &[String]) -> Result<Plan, PlanError>
     ensures planned { IfOk result (IsPlan (map string_bytes words.now)) }
@@ -29,7 +30,7 @@ pub fn plan_of(alloc: Global, words: &[String]) -> Result<Plan, PlanError>
     read(&matches).ok_or(PlanError::Refused)
 }
 
-/// Whether a word behind the program's name is `--`, which `clap` passes over.
+/// Whether a word after the program's name is `--`, which `clap` passes over.
 fn has_dashes(words: &[String]) -> bool
     ensures { result ≡ list_any (λ word. bytes_eq (string_bytes word) (codes "--")) (drop 1 words.now) }
 {

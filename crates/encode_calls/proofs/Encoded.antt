@@ -18,7 +18,7 @@ calls_append [] b = refl
 calls_append (line.Nothing ∷ a) b = calls_append a b
 calls_append (line.Call c expansion ∷ a) b = ap (λ (l : List (Call × Option Sets)). (c, expansion) ∷ l) (calls_append a b)
 
--- the lines of further calls stand behind those of the first, and are numbered on
+-- the lines of further calls come after those of the first, and are numbered on
 pub encoded_append : (long : Bool) (number : ℕ) (a b : List (Call × Option Sets)) → encoded long number (a ++ b) ≡ encoded long number a ++ encoded long (number + length a) b
 unfolding encoded
 encoded_append long number [] b =

@@ -1,3 +1,4 @@
+//! The command `encode`.
 ghost use Rattle.std.specs.Prelude.{◌≡◌, ◌<◌, ◌+◌, ◌++◌, ◌∷◌, Bool, true, false, length, [], OnOk};
 ghost use Rattle.encode_calls.specs.Encoding.{calls_of, encode_meaning, encoded};
 ghost use Rattle.encode_calls.specs.inside.Progress.{HasEncoded};

@@ -1,3 +1,4 @@
+//! The line of a reception that heard a whole transmission.
 ghost use Rattle.std.specs.Prelude.{◌≡◌, ◌++◌, OnOk};
 ghost use Rattle.encode_calls.specs.Encoding.{encoded_line};
 
@@ -8,7 +9,7 @@ use expansion::Expansion;
 use itoa::Buffer;
 use std::alloc::AllocError;
 
-/// Appends the line of a reception of this group, which heard the call and the expansion behind it whole.
+/// Appends the line of a reception of this group, which heard the call and the expansion after it whole.
 pub(crate) fn append_line(
     out: &mut Vec<u8>,
     long: bool,

@@ -63,9 +63,9 @@ fn append_words(out: &mut Vec<u8>, symbols: &[u8]) -> Result<(), AllocError>
     Ok(())
 }
 
-/// Appends the signs of a transmission, of which the slots show these symbols, each below 128. They are those of the dot pattern, 200
-/// where it is long, and else 20, and ten of each slot's word (ITU-R M.493, dot pattern and the ten-unit code). The error is want of
-/// memory: then what stood before stays, and a front of the signs may stand behind it.
+/// Appends the signs of a transmission whose slots show these symbols, each below 128. They are those of the dot
+/// pattern, 200 where it is long, and else 20, and ten of each slot's word (ITU-R M.493, dot pattern and the ten-unit
+/// code). The error is want of memory: then what was there before stays, and a front of the signs may be after it.
 #[inline(always)]
 pub fn append_signs(out: &mut Vec<u8>, slots: &[u8], long: bool) -> Result<(), AllocError>
     requires { All (λ v. v < 128) slots.now }

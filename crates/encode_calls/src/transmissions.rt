@@ -11,7 +11,7 @@ use expansion::{Expansion, spell_sets};
 use text_pieces::append;
 use time_diversity::on_air;
 
-/// The symbols of a call, and of the expansion behind it, if one is there.
+/// The symbols of a call, and of the expansion after it, if one is there.
 fn list_of(call: &Call, expansion: &Option<Expansion>) -> ArrayVec<u8, 64>
     ensures list { result.items ≡ list_on_air call.now expansion.now }
     ensures length { (4 ≤ length result.items) × (length result.items ≤ 64) }
@@ -30,8 +30,8 @@ fn list_of(call: &Call, expansion: &Option<Expansion>) -> ArrayVec<u8, 64>
     list
 }
 
-/// The symbols of all slots of a call's transmission, and of the expansion behind it, if one is there
-/// (ITU-R M.493, call sequence and time diversity).
+/// The symbols of all slots of a call's transmission, and of the expansion after it, if one is there (ITU-R M.493, call
+/// sequence and time diversity).
 pub fn slots_of(call: &Call, expansion: &Option<Expansion>) -> ArrayVec<u8, 160>
     ensures slots { result.items ≡ diversity.on_air (list_on_air call.now expansion.now) }
     ensures length { length result.items ≤ 140 }

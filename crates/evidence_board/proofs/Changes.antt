@@ -1,4 +1,4 @@
--- Changes of one place, one behind another.
+-- Changes of one place, one after another.
 use Rattle.std.proofs.Common.{◌≡◌, ℕ, ◌+◌, ◌≤◌, min, max, true, refl, arith, ap, sym, ◌∙◌, subst, inl, inr, add-one}
 use Rattle.std.proofs.lemmas.Bool.{cases_eq, eq-eqb, or_left, or_right}
 use Rattle.slot_evidence.specs.declared.places.Seen.{Seen}

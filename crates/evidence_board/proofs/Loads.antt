@@ -150,7 +150,7 @@ sheet_further F old new k x size inside is same below p under =
       | inr apart ↦ ap (λ (s : List Seen). seen_at s p) is ∙ get_or-set_other old k p x seen.None apart ∙ below p (omega arith)
     ]
 
--- a change below leaves the places behind blank
+-- a change below leaves the later places blank
 pub sheet_beyond : (old new : List Seen) (k : ℕ) (x : Seen) → new ≡ set old k x → ((p : ℕ) → k ≤ p → seen_at old p ≡ seen.None) → (p : ℕ) → k + 1 ≤ p → seen_at new p ≡ seen.None
 sheet_beyond old new k x is above p over = ap (λ (s : List Seen). seen_at s p) is ∙ get_or-set_other old k p x seen.None (λ e. omega arith) ∙ above p (omega arith)
 
@@ -212,6 +212,6 @@ words_none words p past above none = ap (seen_between (slice_index words p)) (ge
 pub set_unseen : (sheet : List Seen) (p : ℕ) (x : Seen) → seen_at sheet p ≡ seen.None → x ≡ seen.None → sheet ≡ set sheet p x
 set_unseen sheet p x unseen is = sym (set-get_or sheet p seen.None) ∙ ap (set sheet p) (unseen ∙ sym is)
 
--- behind a change of one place the sheet of what was seen below it stays
+-- after a change of one place the sheet of what was seen below it stays
 pub kept_stays : (before after : View) (sheet : List Seen) (k : ℕ) (c : Place) → Changed before k c after → ((p : ℕ) → p < k → seen_at sheet p ≡ kept_of (place_at before p).seen) → (p : ℕ) → p < k → seen_at sheet p ≡ kept_of (place_at after p).seen
 kept_stays before after sheet k c changed below p under = below p under ∙ ap (λ (x : Place). kept_of x.seen) (sym (changed.others p (λ e. omega arith)))

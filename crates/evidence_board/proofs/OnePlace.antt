@@ -91,7 +91,7 @@ module _ (facts : List (ℕ × ℕ)) (p : ℕ) (words : Reach) (views : List Vie
         seen_allowed = each_set (λ view. AreAllowed facts p (place_at view p).seen) views k w kept.seen_allowed (subst (λ (c : Place). AreAllowed facts p c.seen) (sym is) (narrow _ (kept.seen_allowed k v at)));
       }
 
-  -- kind 2: a symbol is posted as a greatest one, behind a least one
+  -- kind 2: a symbol is posted as a greatest one, after a least one
   pub past_posted : (x n : ℕ) (w : View) → IsAllowed facts p x → n ≡ suc x → (place_at v p).given.least ≤ x → place_at w p ≡ posted_past n (place_at v p) → IsPlaceKept facts p (record words { past = max words.past n }) (set views k w)
   past_posted x n w lawful next low is =
       let one : Reach = record { least = 128; past = n } in

@@ -1,4 +1,4 @@
--- Each kind of step keeps the rule, and tells what it tells.
+-- Each kind of step keeps the rule, and its seat learns what the definitions say.
 use Rattle.std.proofs.Common.{◌≡◌, ◌≢◌, ℕ, zero, suc, ◌+◌, ◌<◌, ◌≤◌, min, max, List, [], ◌∷◌, set, length, slice_index, slice_index_or, replicate, refl, arith, ap, sym, ◌∙◌, ◌⊎◌, subst, inl, inr, length-set}
 use Rattle.std.proofs.lemmas.Bool.{cases_eq}
 use Rattle.std.proofs.lemmas.List.{get_or-set_same, get_or-set_other, get_or-map, set-get_or, length-map, length-replicate}

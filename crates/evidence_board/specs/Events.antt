@@ -12,12 +12,12 @@ abbrev pub word_after : ℕ → Event → Reach → Reach
 word_after p (as_least place v) words = if p == place then record words { least = min words.least v } else words
 word_after p (as_greatest place v) words = if p == place then record words { past = max words.past (suc v) } else words
 
--- the two words of place p after events, one behind another
+-- the two words of place p after events, one after another
 abbrev pub words_behind : ℕ → List Event → Reach → Reach
 words_behind p [] words = words
 words_behind p (event ∷ events) words = words_behind p events (word_after p event words)
 
--- and from an empty board on
+-- the two words of place p after events, from an empty board on
 abbrev pub words_after : List Event → ℕ → Reach
 words_after events p = words_behind p events no_reach
 

@@ -8,8 +8,8 @@ abbrev pub lows_after : ℕ → ℕ → ℕ
 lows_after lows zero = lows
 lows_after lows (suc greatest) = lows + 1
 
--- a look at one place: the greatest word was loaded, and behind it the least where the greatest wasn't empty; what the seat
--- saw is what it saw before or more, and may be posted
+-- a look at one place: the greatest word was loaded, and after it the least where the greatest wasn't empty; what the
+-- seat saw is what it saw before or more, and may be posted
 pub record IsLooked (facts : List (ℕ × ℕ)) (p : ℕ) (before after : Place) : Type 0 where
   pub given : after.given ≡ before.given
   pub loads : after.loads ≡ before.loads + 1

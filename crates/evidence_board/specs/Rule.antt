@@ -6,7 +6,8 @@ use Rattle.slot_evidence.specs.Allowed.{IsAllowed}
 use Rattle.evidence_board.specs.declared.seats.TheConstants.{WHOLE}
 use Rattle.evidence_board.specs.Views.{Reach, Place, View, place_at, spent}
 
--- the two words of a place: its least symbol, 128 for none, and behind 64 least words the number after its greatest, 0 for none
+-- the two words of a place: its least symbol, 128 for none; and, 64 words later, the number after its greatest, 0 for
+-- none
 abbrev pub words_of : List ℕ → ℕ → Reach
 words_of words p = record { least = slice_index words p; past = slice_index words (64 + p) }
 

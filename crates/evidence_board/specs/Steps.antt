@@ -10,7 +10,7 @@ posted_least v place = record place {
   seen = record place.seen { least = min place.seen.least v };
 }
 
--- a number was posted that stands after a greatest symbol
+-- a number was posted that comes after a greatest symbol
 abbrev pub posted_past : ℕ → Place → Place
 posted_past n place = record place {
   given = record place.given { past = max place.given.past n };

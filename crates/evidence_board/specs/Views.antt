@@ -20,7 +20,7 @@ united a b = record { least = min a.least b.least; past = max a.past b.past }
 abbrev pub reach_of : Seen → Reach
 reach_of seen = record { least = least_of seen; past = past_of seen }
 
--- and what a sheet keeps of symbols that reach so far
+-- what a sheet keeps of symbols that reach so far
 abbrev pub kept_of : Reach → Seen
 kept_of reach = seen_between reach.least reach.past
 

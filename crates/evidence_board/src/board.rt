@@ -17,8 +17,9 @@ use slot_evidence::{Sheet, sheet_is_lawful};
 use std::alloc::{AllocError, Global};
 use std::marker::Model;
 
-/// 128 words that threads share: of each of 64 places the least symbol that was posted, and the greatest one plus one. A call makes
-/// single steps on them and waits for no other. Contracts see a board as its table's name, which its seats have too.
+/// 128 words that threads share: of each of 64 places the least symbol that was posted, and the greatest one plus one.
+/// A call makes single steps on them and waits for no other. Contracts see a board as its table's name, which its seats
+/// have too.
 #[derive(Drop)]
 pub struct Board<A: Allowed> {
     words: Words<A>,
@@ -45,7 +46,8 @@ impl<A: Allowed> Board<A> {
         Ok((Board { words }, Seat::first(token)))
     }
 
-    /// Posts what a sheet keeps, the least symbol of each place before the greatest. Condition: it may be posted on this board.
+    /// Posts what a sheet keeps, the least symbol of each place before the greatest. Condition: it may be posted on
+    /// this board.
     pub fn admit(&self, mut seat: Seat<A>, sheet: &Sheet) -> Seat<A>
         requires board { seat.table ≡ self.now }
         requires allowed { OnlyAllowed A.facts sheet.now }
@@ -75,7 +77,8 @@ impl<A: Allowed> Board<A> {
         post(&self.words, &mut seat.token, sheet);
     }
 
-    /// Makes two seats of one, with half of its share each and all that it knows. The new one has loaded nothing. Condition: a share of at least 2.
+    /// Makes two seats of one, with half of its share each and all that it knows. The new one has loaded nothing.
+    /// Condition: a share of at least 2.
     pub fn split(&self, mut seat: Seat<A>) -> (Seat<A>, Seat<A>)
         requires board { seat.table ≡ self.now }
         requires share { 2 ≤ seat.view.share }
@@ -140,9 +143,9 @@ impl<A: Allowed> Board<A> {
         seat.share += share;
     }
 
-    /// Looks at the board: at each place the greatest word is loaded, and behind it the least word where the greatest isn't empty. It
-    /// answers what the seat then saw of each place, which is what was loaded, and no less than it saw before. Where only facts of a set
-    /// may be posted and this seat posted the ends of the set, it sees these.
+    /// Looks at the board: at each place the greatest word is loaded, and after it the least word where the greatest
+    /// isn't empty. It answers what the seat then saw of each place, which is what was loaded, and no less than it saw
+    /// before. Where only facts of a set may be posted and this seat posted the ends of the set, it sees these.
     pub fn look(&self, mut seat: Seat<A>) -> (Seat<A>, Sheet)
         requires { seat.table ≡ self.now }
         ensures board { result.0.table ≡ self.now }
@@ -173,8 +176,8 @@ impl<A: Allowed> Board<A> {
         look(&self.words, &mut seat.token)
     }
 
-    /// Ends the board, and answers all that was admitted through the seats that were joined into this one: none of them saw more. Condition:
-    /// the seat has the whole share.
+    /// Ends the board, and answers all that was admitted through the seats that were joined into this one: none of them
+    /// saw more. Condition: the seat has the whole share.
     pub fn close(self, seat: Seat<A>) -> Sheet
         requires board { seat.table ≡ self }
         requires whole { seat.view.share ≡ WHOLE }

@@ -8,9 +8,9 @@ ghost use Rattle.evidence_board.specs.Views.{View};
 use crate::allowed::Allowed;
 use crate::seats::{Seat, WHOLE};
 
-/// The law of the core: after any list of events the words of each place are the least and the greatest of its events, so lists
-/// of the same events, in any order and with any repetition, end alike. It speaks of boards: the words that the rule keeps are those
-/// that some events leave.
+/// The law of the core: after any list of events the words of each place are the least and the greatest of its events,
+/// so lists of the same events, in any order and with any repetition, end alike. It speaks of boards: the words that
+/// the rule keeps are those that some events leave.
 pub fn one_core()
     ensures least { (events : List Event) (p : ℕ) → IsLeast events p (words_after events p).least }
     ensures greatest { (events : List Event) (p : ℕ) → IsPastGreatest events p (words_after events p).past }
@@ -27,7 +27,8 @@ pub fn seats_are_at_rest<A: Allowed>(seat: &Seat<A>)
     let _share = &seat.share;
 }
 
-/// The law that fixes the whole share of a board: 1,073,741,824. That the shares of its seats add up to it is part of the board's rule.
+/// The law that fixes the whole share of a board: 1,073,741,824. That the shares of its seats add up to it is part of
+/// the board's rule.
 pub fn whole_share()
     ensures { WHOLE ≡ 1073741824 }
 {}

@@ -1,4 +1,5 @@
-//! A board of shared words: each of its seats posts what it knows of a call, and looks at it, by single steps for which no call waits.
+//! A board of shared words: each of its seats posts what it knows of a call, and looks at it, by single steps for which
+//! no call waits.
 #![tactic(auto)]
 
 mod allowed;

@@ -28,7 +28,7 @@ fn keep(sheet: &mut Sheet, p: u8, least: u64, past: u64)
     sheet.add(p, (past - 1) as u8);
 }
 
-/// Loads the greatest word of a place, and behind it the least one where the greatest isn't empty.
+/// Loads the greatest word of a place, and after it the least one where the greatest isn't empty.
 fn look_place<A: Allowed>(words: &Words<A>, token: &mut Token, sheet: &mut Sheet, p: u8)
     requires table { token.old.table ≡ words.now }
     requires place { p < 64 }

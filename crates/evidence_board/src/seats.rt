@@ -10,8 +10,8 @@ use std::marker::{Model, PhantomData};
 /// The share of a board's first seat.
 pub const WHOLE: u32 = 1_073_741_824;
 
-/// The token of one poster of a board, with its share. Contracts see it as its table and what it knows. A seat that is dropped
-/// takes its share with it: its board can't be closed any more, but it can be looked at.
+/// The token of one poster of a board, with its share. Contracts see it as its table and what it knows. A seat that is
+/// dropped takes its share with it: its board can't be closed any more, but it can be looked at.
 #[derive(Drop)]
 pub struct Seat<A: Allowed> {
     pub(crate) token: Token,

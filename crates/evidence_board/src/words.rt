@@ -1,5 +1,5 @@
-//! The words that threads share. This file alone has their table and what steps on it, and each kind of step stands here once: so a
-//! seat counts a load only where this file loads that word, and no other file can make a step.
+//! The words that threads share. This file alone has their table and the steps on it, and each kind of step is here
+//! once: so a seat counts a load only where this file loads that word, and no other file can make a step.
 ghost use Rattle.std.specs.Prelude.{◌≡◌, ℕ, ◌+◌, ◌<◌, ◌≤◌, IfOk, length};
 ghost use Rattle.std.specs.Mem.Slots.{slots_items, slots_len, IsFull};
 ghost use mathlib.Core.Option.{none};
@@ -162,7 +162,8 @@ fn empty_words() -> [u64; 128]
     words
 }
 
-/// What one seat steps with. Contracts see it as its table and what the seat knows, which changes by the steps of `Words` alone.
+/// What one seat steps with. Contracts see it as its table and what the seat knows, which changes by the steps of
+/// `Words` alone.
 #[derive(Drop)]
 pub(crate) struct Token {
     seat: Stepper,
@@ -245,8 +246,8 @@ impl<A: Allowed> Words<A> {
         least_word(&self.table.shared, &mut token.seat, p)
     }
 
-    /// Loads the greatest word of a place: the number after the greatest symbol, or 0. It raises the count of such loads by one at
-    /// this place, and no other count.
+    /// Loads the greatest word of a place: the number after the greatest symbol, or 0. It raises the count of such
+    /// loads by one at this place, and no other count.
     pub(crate) fn load_past(&self, token: &mut Token, p: u8) -> u64
         requires table { token.old.table ≡ self.now }
         requires place { p < 64 }
@@ -270,7 +271,7 @@ impl<A: Allowed> Words<A> {
         Token { seat }
     }
 
-    /// Joins a seat into another. A load that changes nothing tells then that the share is at most the whole one.
+    /// Joins a seat into another. A load that changes nothing shows then that the share is at most the whole one.
     pub(crate) fn join(&self, token: &mut Token, other: Token)
         requires table { (token.old.table ≡ self.now) × (other.table ≡ self.now) }
         requires alive { 1 ≤ token.old.view.share }

@@ -1,4 +1,5 @@
--- How the ship's distress alert ends in an exchange: the end by an acknowledgement is that of ITU-R M.541; all else is this project's profile.
+-- How the ship's distress alert ends in an exchange: the end by an acknowledgement is that of ITU-R M.541; all else is
+-- this project's profile.
 use Rattle.std.specs.Prelude.{◌≡◌, ℕ, ◌&&◌, Bool, true, false, Some, is_some, IsTrue, List, ◌∷◌, ◌++◌, slice_get}
 use Rattle.std.specs.List.{list_any}
 use Rattle.call_values.specs.declared.calls.Call.{Call}
@@ -69,7 +70,7 @@ pub record IsSentByCoast (sent : Call) (e : WorldEntry) : Type 0 where
   pub last : List Act
   pub acts : e.gave ≡ did (first ++ act.Send sent times ∷ last)
 
--- at an entry behind a history the coast station hears a call that the ship sent
+-- at an entry after a history the coast station hears a call that the ship sent
 pub record IsGotByCoast (heard : Call) (e : WorldEntry) (before : WorldHistory) : Type 0 where
   pub at : ℕ
   pub number : ℕ
@@ -77,8 +78,8 @@ pub record IsGotByCoast (heard : Call) (e : WorldEntry) (before : WorldHistory) 
   pub sent : slice_get (sent_by (ends_of before).ship) number ≡ Some heard
   pub accepted : is_accepted e.gave ≡ true
 
--- the coast station sent an acknowledgement of an alert which the ship had sent, which had come to the coast station before, and whose
--- identity was accepted there after that, at the latest at the entry that acknowledges it
+-- the coast station sent an acknowledgement of an alert which the ship had sent, which had come to the coast station
+-- before, and whose identity was accepted there after that, at the latest at the entry that acknowledges it
 pub record AcknowledgesSentAlert (acknowledgement : Call) (casualty : Casualty) (earlier : WorldHistory) : Type 0 where
   pub later : WorldHistory
   pub sent : WorldEntry
@@ -90,8 +91,8 @@ pub record AcknowledgesSentAlert (acknowledgement : Call) (casualty : Casualty) 
   pub heard : IsGotByCoast (call.Alert casualty) got before
   pub accepted : IsTrue (list_any (accepts_casualty casualty.mmsi) (sent ∷ between))
 
--- a delivery to the ship is that of an acknowledgement which the coast station sent of the ship's own alert, and which goes back to this
--- alert
+-- a delivery to the ship is that of an acknowledgement which the coast station sent of the ship's own alert, and which
+-- goes back to this alert
 pub record IsAcknowledgement (own number : ℕ) (earlier : WorldHistory) : Type 0 where
   pub from : ℕ
   pub casualty : Casualty
@@ -104,7 +105,7 @@ abbrev pub IsCancel : ShipWhat → Type 0
 IsCancel Cancel = Unit {0}
 IsCancel _ = ⊥
 
--- an event at which the ship's alert may end behind a history: a cancel, or the delivery of such an acknowledgement
+-- an event at which the ship's alert may end after a history: a cancel, or the delivery of such an acknowledgement
 abbrev pub MayEnd : (own : ℕ) → WorldEvent → WorldHistory → Type 0
 MayEnd own (world.Ship e) earlier = IsCancel e.what
 MayEnd own (world.ShipGets at number) earlier = IsAcknowledgement own number earlier

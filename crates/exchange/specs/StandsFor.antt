@@ -21,7 +21,7 @@ pub record WorldParts : Type 0 where
   pub from_ship : List Call
   pub from_coast : List Call
 
--- an exchange of these parties stands for a history: it is legal, and each part is what the history tells
+-- an exchange of these parties stands for a history: it is legal, and each part is what the history says
 pub record Stands (parts : WorldParts) (who : Parties) (w : WorldHistory) : Type 0 where
   pub legal : IsLegal who w
   pub ship : ShipStands parts.ship who.ship (ends_of w).ship
@@ -29,13 +29,13 @@ pub record Stands (parts : WorldParts) (who : Parties) (w : WorldHistory) : Type
   pub from_ship : parts.from_ship ≡ sent_by (ends_of w).ship
   pub from_coast : parts.from_coast ≡ sent_by (ends_of w).coast
 
--- what a step told
+-- what a step gave
 abbrev pub given_of : Told → Given
 given_of (told.Acts acts) = did acts.items
 given_of (told.Refused refusal) = refuses refusal
 given_of (told.Nothing number) = nothing number
 
--- what a step told, with the acts that it gave into a list
+-- what a step gave, with its acts in a list
 abbrev pub given_with : Outcome → List Act → Given
 given_with outcome.Done acts = did acts
 given_with (outcome.Refused refusal) acts = refuses refusal

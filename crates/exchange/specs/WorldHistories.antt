@@ -55,10 +55,11 @@ abbrev pub with_entry : {What : Type 0} → Option (Entry What) → History What
 with_entry (Some e) h = e ∷ h
 with_entry None h = h
 
--- the entry of each end at an event, behind the histories of the ends
+-- the entry of the ship's history that an event of the exchange gives, if it gives one
 abbrev pub ship_entry : Ends → WorldEntry → Option (Entry ShipWhat)
 ship_entry ends e = entry_of (ship_what (sent_by ends.coast) e.event) e.gave
 
+-- the entry of the coast station's history that an event of the exchange gives, if it gives one
 abbrev pub coast_entry : Ends → WorldEntry → Option (Entry CoastWhat)
 coast_entry ends e = entry_of (coast_what (sent_by ends.ship) e.event) e.gave
 

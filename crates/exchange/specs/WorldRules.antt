@@ -23,11 +23,12 @@ pub record Parties : Type 0 where
   pub ship : Identities
   pub coast : Station
 
--- an event at an end isn't a heard call
+-- an event of the ship's own: any but the hearing of a call
 abbrev pub IsOwnOfShip : ShipWhat → Type 0
 IsOwnOfShip (at_ship.Heard call) = ⊥
 IsOwnOfShip _ = Unit {0}
 
+-- an event of the coast station's own: any but the hearing of a call
 abbrev pub IsOwnOfCoast : CoastWhat → Type 0
 IsOwnOfCoast (at_coast.Heard call) = ⊥
 IsOwnOfCoast _ = Unit {0}
@@ -56,7 +57,7 @@ abbrev pub given_at : {What : Type 0} → Rules What → History What → (at nu
 given_at rules h at number heard None = nothing number
 given_at rules h at number heard (Some call) = given_by (answer_to rules h at (heard call))
 
--- what an event gives behind the histories of the ends
+-- what an event gives after the histories of the ends
 abbrev pub answer_behind : Parties → Ends → WorldEvent → Given
 answer_behind who ends (world.Ship e) = given_by (answer_to (ship_rules who.ship) ends.ship e.at e.what)
 answer_behind who ends (world.Coast e) = given_by (answer_to (coast_rules who.coast) ends.coast e.at e.what)
@@ -69,7 +70,7 @@ answer_behind who ends (world.CoastGets at number) =
 abbrev pub world_continued : Parties → WorldHistory → WorldEvent → WorldHistory
 world_continued who w event = record { event = event; gave = answer_behind who (ends_of w) event } ∷ w
 
--- each event is from outside, and gave what it gives behind those before it
+-- each event is from outside, and gave what it gives after those before it
 abbrev pub AreAnswered : Parties → WorldHistory → Type 0
 AreAnswered who [] = Unit {0}
 AreAnswered who (e ∷ w) = IsFromOutside e.event × (e.gave ≡ answer_behind who (ends_of w) e.event) × AreAnswered who w

@@ -1,8 +1,9 @@
+//! The events of an exchange: those of the two stations, and deliveries.
 use coast_station::CoastEvent;
 use ship_station::ShipEvent;
 
-/// What happens in an exchange (this project's profile): an event at one end, or a call of the other end that comes to it. Moments are in
-/// milliseconds, and calls are counted from 0 on in the order in which an end sent them.
+/// What happens in an exchange (this project's profile): an event at one end, or a call of the other end that comes to
+/// it. Moments are in milliseconds, and calls are counted from 0 on in the order in which an end sent them.
 #[derive(Clone, Copy, Debug, PartialEq, Eq)]
 pub enum WorldEvent {
     /// An event at the ship, which isn't a heard call.

@@ -1,5 +1,5 @@
-//! A ship and a coast station over a link that loses, repeats and reorders: every call that one end has sent may come to the other end at
-//! any time, any number of times, or never.
+//! A ship and a coast station over a link that loses, repeats and reorders: every call that one end has sent may come
+//! to the other end at any time, any number of times, or never.
 #![tactic(auto)]
 
 mod events;

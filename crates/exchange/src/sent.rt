@@ -1,3 +1,4 @@
+//! The calls that an end has sent, by their numbers.
 ghost use Rattle.std.specs.Prelude.{◌≡◌, ◌+◌, ◌≤◌, ◌++◌, length, vec_len, vec_capacity};
 ghost use Rattle.exchange.specs.Sent.{calls_of};
 

@@ -1,3 +1,4 @@
+//! The steps of one end: an event of its own, or a call that the other end sent.
 ghost use Rattle.std.specs.Prelude.{◌≡◌, ◌+◌, ◌≤◌, ◌++◌, Some, slice_get, vec_len, vec_capacity};
 ghost use Rattle.traffic_rules.specs.Histories.{History};
 ghost use Rattle.traffic_rules.specs.Rules.{answer_to};
@@ -12,7 +13,7 @@ use call_values::Call;
 use stations::Station;
 use traffic_rules::{Acts, StationRefusal};
 
-/// Notes the calls that an end sent, and tells what it gave.
+/// Notes the calls that an end sent, and answers what it gave.
 fn outcome_of(answer: Result<(), StationRefusal>, sent: &mut Vec<Call>, acts: &Acts) -> Outcome
     requires { vec_len sent.old + MOST_SENT ≤ vec_capacity sent.old }
     ensures gave { given_with result acts.now.items ≡ given_by (answer_with answer acts.now.items) }

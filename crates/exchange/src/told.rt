@@ -1,3 +1,4 @@
+//! What an event of an exchange gives.
 use traffic_rules::{Acts, StationRefusal};
 
 /// What a step of an exchange gives (this project's profile).

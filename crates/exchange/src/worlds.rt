@@ -1,3 +1,4 @@
+//! An exchange: a ship, a coast station, and the calls that each has sent.
 ghost use Rattle.std.specs.Prelude.{◌≡◌, [], IfOk, OnOk, OnErr};
 ghost use Rattle.exchange.specs.WorldHistories.{WorldHistory, ends_of};
 ghost use Rattle.exchange.specs.WorldRules.{Parties, IsFromOutside, answer_behind, world_continued};
@@ -14,8 +15,8 @@ use std::alloc::{AllocError, Global};
 use std::marker::Model;
 use traffic_rules::Acts;
 
-/// A ship and a coast station, with the calls that each has sent. Contracts see the stations and the lists, and not how much room is kept
-/// for these.
+/// A ship and a coast station, with the calls that each has sent. Contracts see the stations and the lists, and not how
+/// much room is kept for these.
 #[derive(Drop)]
 pub struct World {
     ship: Ship,
@@ -38,8 +39,8 @@ impl Model for World {
 }
 
 impl World {
-    /// A ship without groups and a coast station that works in this band, before their first events. Nothing was sent. The two identities
-    /// are to differ: no station hears calls of its own identity. It takes no memory.
+    /// A ship without groups and a coast station that works in this band, before their first events. Nothing was sent.
+    /// The two identities are to differ: no station hears calls of its own identity. It takes no memory.
     pub fn new(alloc: Global, ship: Mmsi, coast: Mmsi, band: Band) -> World
         ensures { Stands result (record {
           ship = record { own = ship; groups = [] };
@@ -54,10 +55,11 @@ impl World {
         }
     }
 
-    /// Does what is due at an event, which at an end isn't a heard call (this project's profile; the stations' procedures are those of
-    /// ITU-R M.541). A delivery is the hearing of the call of its number out of those that the other end had sent by then, and gives
-    /// `Nothing` exactly where there is none. After `Refused`, `Nothing` and want of memory the world is unchanged. Room for 32 more
-    /// calls of the acting end is taken before anything else. An act puts its call into the list once, however often in a row it sends it.
+    /// Does what is due at an event, which at an end isn't a heard call (this project's profile; the stations'
+    /// procedures are those of ITU-R M.541). A delivery is the hearing of the call of its number out of those that the
+    /// other end had sent by then, and gives `Nothing` exactly where there is none. After `Refused`, `Nothing` and want
+    /// of memory the world is unchanged. Room for 32 more calls of the acting end is taken before anything else. An act
+    /// puts its call into the list once, however often in a row it sends it.
     pub fn step(&mut self, event: &WorldEvent) -> Result<Told, AllocError>
         requires { IsFromOutside event.now }
         ensures answer { IfOk result (λ told. (who : Parties) (w : WorldHistory) → Stands self.old who w
@@ -75,8 +77,8 @@ impl World {
         })
     }
 
-    /// The same as `step`, with the acts in a list of the caller. They stand there where the outcome is `Done`; after another one the list
-    /// has no meaning.
+    /// The same as `step`, with the acts in a list of the caller. They are there where the outcome is `Done`; after
+    /// another one the list has no meaning.
     pub fn step_into(&mut self, event: &WorldEvent, acts: &mut Acts) -> Result<Outcome, AllocError>
         requires { IsFromOutside event.now }
         ensures answer { IfOk result (λ outcome. (who : Parties) (w : WorldHistory) → Stands self.old who w

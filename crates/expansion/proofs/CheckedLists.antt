@@ -62,7 +62,7 @@ checked_stop e l new Outside p =
           never_viable e (v.front ++ (v.next ∷ [])) v.never (subst (IsViable e) list viable));
     }
 
--- behind what the check covers stands the check
+-- after what the check covers comes the check
 pub checked_found : (e : End) (x : Sets) (l rest more : List ℕ) (want symbol : ℕ) → IsExpansion x → l ≡ covered x e ++ rest
     → want ≡ check_of (covered x e) → rest ≡ symbol ∷ more → symbol ≡ want → BeginsChecked e l x
 checked_found e x l rest more want symbol h list w is found = record {

@@ -52,7 +52,7 @@ no_longer x y e t s a h k p =
     let count : 0 ≡ length (t ++ (a ∷ s)) = ap length same.1 in
     absurd (omega (arith, length-append t (a ∷ s)))
 
--- no check stands after an expansion's whole list
+-- no check comes after an expansion's whole list
 no_check_after : (x y : Sets) (e : End) (t : List ℕ) → IsExpansion x → IsExpansion y → covered y e ≡ spell x e ++ t → ⊥
 no_check_after x y e t h k p =
     let tail : List ℕ = end_symbol e ∷ end_symbol e ∷ t in

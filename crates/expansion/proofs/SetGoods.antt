@@ -1,4 +1,4 @@
--- The sets of expansions can be told while they are read.
+-- The sets of expansions can be recognized while they are read.
 use Rattle.std.proofs.Common.{ℕ, ◌==◌, List, arith}
 use Rattle.symbol_reader.specs.declared.letters.Letter.TheVariants.{Exactly, Either, OneOf}
 use Rattle.symbol_reader.specs.inside.Languages.{Only, Then}

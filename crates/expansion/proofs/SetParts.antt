@@ -28,7 +28,7 @@ ends_apart Ask = record { enhanced = λ k. absurd (omega arith); speed = λ k. a
 ends_apart Reply = record { enhanced = λ k. absurd (omega arith); speed = λ k. absurd (omega arith); course = λ k. absurd (omega arith) }
 ends_apart Plain = record { enhanced = λ k. absurd (omega arith); speed = λ k. absurd (omega arith); course = λ k. absurd (omega arith) }
 
--- a set that is there: its specifier, and what stands after it
+-- a set that is there: its specifier, and what comes after it
 there : (specifier : ℕ) (digits : ℕ → List ℕ) (p : PartKind) → IsThere p → set_symbols specifier digits p ≡ specifier ∷ told_symbols digits p
 there specifier digits LeftOut h = absurd h
 there specifier digits NoInformation h = refl
@@ -40,7 +40,7 @@ course_and course last = set_symbols COURSE four_digits course ++ (last ∷ [])
 abbrev speed_and : PartKind → PartKind → ℕ → List ℕ
 speed_and speed course last = set_symbols SPEED four_digits speed ++ course_and course last
 
--- the course that is told after this symbol, and the list of both
+-- the course that comes after this symbol, and the list of both
 record CourseTold (last : ℕ) (enhanced speed : PartKind) (next : ℕ) (x : Sets) (l : List ℕ) : Type 0 where
   course : PartKind
   range : IsUpTo 3599 course
@@ -77,7 +77,7 @@ to_course last enhanced speed next false x l e h p =
       list = ap (λ a. a ∷ l) is ∙ ap (λ a. last ∷ a) tail;
     }
 
--- the speed and the course that are told after this symbol
+-- the speed and the course that come after this symbol
 record SpeedTold (last : ℕ) (enhanced : PartKind) (next : ℕ) (x : Sets) (l : List ℕ) : Type 0 where
   speed : PartKind
   course : PartKind

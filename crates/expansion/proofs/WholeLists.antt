@@ -133,7 +133,7 @@ left_outside e l new v elsewhere = record {
 pub outside_short : (e : End) (l : List ℕ) (n x : ℕ) → EndsOutside e l n x → n ≤ 14
 outside_short e l n x o = let k : n ≡ length o.front = o.place in omega (arith, part_short e o.front o.part)
 
--- where what the check covers is left, no check stands
+-- where a list leaves what the check covers, no check comes
 pub checked_outside : (e : End) (l new : List ℕ) → Reads (CheckedSets e) l (Err Outside) new
     → EndsOutside e l (length l - length new) (get_or l (length l - length new) 0)
 checked_outside e l new p =
@@ -238,7 +238,7 @@ closed_refused e x l rest new v want r false h list w t at else =
     let n : length l - length new ≡ length l - length rest → ⊥ = eqb-false _ _ t in
     subst (λ a. IsReading e l (Err a)) (sym (else n)) (closed_outside e x l rest new v h list n)
 
--- what the check covers stands before its place
+-- what the check covers comes before its place
 pub covered_part : (e : End) (x : Sets) (l rest : List ℕ) → l ≡ covered x e ++ rest → take (length l - length rest) l ≡ covered x e
 covered_part e x l rest list =
     ap (λ k. take k l) (checked_length e x l rest list) ∙ ap (λ a. take (length (covered x e)) a) list

@@ -82,8 +82,8 @@ pub record BeginsChecked (last : End) (l : List ℕ) (expansion : Sets) : Type 0
   pub lawful : IsExpansion expansion
   pub list : l ≡ through_check expansion last ++ rest
 
--- place n is the first at which no expansion's list goes on, none being at its check before it: the list ends there, or has a symbol there
--- with which none goes on
+-- place n is the first at which no expansion's list goes on, and no check comes before it: the list ends there, or has
+-- a symbol there with which none goes on
 pub record StopsOpen (last : End) (l : List ℕ) (n : ℕ) : Type 0 where
   pub front : List ℕ
   pub rest : List ℕ

@@ -26,6 +26,6 @@ covered x last =
 abbrev pub through_check : Sets → End → List ℕ
 through_check x last = covered x last ++ (check_of (covered x last) ∷ [])
 
--- an expansion's whole list: the end of sequence stands twice more after the check
+-- an expansion's whole list: the end of sequence comes twice more after the check
 abbrev pub spell : Sets → End → List ℕ
 spell x last = covered x last ++ (check_of (covered x last) ∷ end_symbol last ∷ end_symbol last ∷ [])

@@ -45,7 +45,8 @@ pub fn read_back()
         → IsExpansion x → IsReading e (spell x e ++ rest) answer → answer ≡ Ok (x, length (spell x e)) }
 {}
 
-/// The law that the specifiers of the sets of an expansion have these numbers, and these last two digits (this project's profile).
+/// The law that the specifiers of the sets of an expansion have these numbers, and these last two digits (this
+/// project's profile).
 pub fn expansion_numbers()
     ensures enhanced_position { specifiers.ENHANCED_POSITION ≡ 100 }
     ensures speed { specifiers.SPEED ≡ 102 }

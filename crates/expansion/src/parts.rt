@@ -1,3 +1,4 @@
+//! A set of an expansion: left out, without information, or digits.
 ghost use Rattle.std.specs.Prelude.{◌≡◌, ◌↔◌, IsTrue};
 ghost use Rattle.expansion.specs.declared.parts.PartKind.{PartKind};
 ghost use Rattle.expansion.specs.Parts.{IsThere, IsUpTo};

@@ -1,3 +1,4 @@
+//! Readers of the characters of an expansion, set by set.
 ghost use Rattle.std.specs.Prelude.{◌≡◌, ◌≤◌};
 ghost use Rattle.symbol_reader.specs.inside.Reading.{Reads};
 ghost use Rattle.expansion.specs.inside.Grammar as grammar;
@@ -38,7 +39,7 @@ fn after_first(list: &mut Cursor, first: u8, end: u8) -> Result<Sets, Stop>
     after_enhanced(list, enhanced, next, end)
 }
 
-/// Reads what follows this specifier or end of sequence, the enhanced position standing before it.
+/// Reads what follows this specifier or end of sequence, after the enhanced position.
 fn after_enhanced(list: &mut Cursor, enhanced: Part, next: u8, end: u8) -> Result<Sets, Stop>
     ensures { Reads (grammar.AfterEnhanced end enhanced next) list.old result list.new }
 {
@@ -50,7 +51,7 @@ fn after_enhanced(list: &mut Cursor, enhanced: Part, next: u8, end: u8) -> Resul
     after_speed(list, enhanced, speed, later, end)
 }
 
-/// Reads what follows this specifier or end of sequence, the enhanced position and the speed standing before it.
+/// Reads what follows this specifier or end of sequence, after the enhanced position and the speed.
 fn after_speed(
     list: &mut Cursor,
     enhanced: Part,
@@ -91,7 +92,7 @@ fn eight_digits(list: &mut Cursor) -> Result<Part, Stop>
     Ok(Part::digits(eight_of(initial, b, c, d)))
 }
 
-/// The number whose eight digits stand in these characters.
+/// The number whose eight digits are in these characters.
 fn eight_of(a: u8, b: u8, c: u8, d: u8) -> u32
     ensures { result ≡ grammar.eight_of a b c d }
 {

@@ -1,3 +1,4 @@
+//! Reading the list of an expansion, and why a list is none.
 ghost use Rattle.std.specs.Prelude.{◌≡◌, ◌++◌};
 ghost use Rattle.expansion.specs.Expansions.{IsExpansion};
 ghost use Rattle.expansion.specs.Spelling as sequence;
@@ -10,8 +11,8 @@ use call_values::End;
 use cursor::Cursor;
 use symbol_reader::{ReadRefusal, Stop, check, closing};
 
-/// Reads the expansion whose list with this end of sequence is a prefix of the given one, and answers it with that list's
-/// length. Places are counted from the expansion's first symbol.
+/// Reads the expansion whose list with this end of sequence is a prefix of the given one, and answers it with that
+/// list's length. Places are counted from the expansion's first symbol.
 pub fn read_sets(list: &[u8], end: End) -> Result<(Expansion, usize), ReadRefusal>
     ensures { IsReading end list.now result }
 {
@@ -62,9 +63,9 @@ fn refusal(place: usize, n: u8, want: u8, got: u8) -> ReadRefusal
     }
 }
 
-/// Reads the expansion whose list with this end of sequence, up to its check, begins the given one: what stands behind the check
-/// isn't looked at. An error is the first place, counted from the expansion's first symbol, at which no expansion's list goes on,
-/// which is the length of the given list where that ends too early.
+/// Reads the expansion whose list with this end of sequence, up to its check, begins the given one: what comes after
+/// the check isn't looked at. An error is the first place, counted from the expansion's first symbol, at which no
+/// expansion's list goes on, which is the length of the given list where that ends too early.
 pub fn read_checked(list: &[u8], end: End) -> Result<Expansion, usize>
     ensures { IsCheckedReading end list.now result }
 {

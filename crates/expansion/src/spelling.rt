@@ -1,3 +1,4 @@
+//! The list of an expansion, as it is sent.
 ghost use Rattle.std.specs.Prelude.{◌≡◌, ◌+◌, ◌≤◌, ◌++◌, ◌∷◌, [], length};
 ghost use Rattle.call_values.specs.Ends.{end_symbol};
 ghost use Rattle.expansion.specs.declared.specifiers.TheConstants as specifiers;
@@ -14,8 +15,8 @@ use call_values::End;
 use dsc_symbols::messages::NO_INFORMATION;
 use symbol_reader::{check, eight_digits, four_digits};
 
-/// An expansion's list with this end of sequence: its sets, the end of sequence, the error check character, and the end of
-/// sequence twice more, at most 15 symbols (this project's profile).
+/// An expansion's list with this end of sequence: its sets, the end of sequence, the error check character, and the end
+/// of sequence twice more, at most 15 symbols (this project's profile).
 pub fn spell_sets(x: &Expansion, end: End) -> ArrayVec<u8, 16>
     ensures list { result.items ≡ sequence.spell x.now end }
     ensures short { length result.items ≤ 15 }

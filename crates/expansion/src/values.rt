@@ -1,3 +1,4 @@
+//! An expansion: its three sets, of which at least one is there.
 ghost use Rattle.std.specs.Prelude.{◌≡◌, ◌↔◌, IfSome, IsSome};
 ghost use Rattle.expansion.specs.declared.values.Sets.{Sets};
 ghost use Rattle.expansion.specs.Parts.{IsUpTo};
@@ -36,8 +37,8 @@ impl Model for Expansion {
 }
 
 impl Expansion {
-    /// The expansion of these sets, and `None` exactly where all three are left out, the enhanced position's digits pass
-    /// 99,999,999, the speed 9,999 or the course 3,599.
+    /// The expansion of these sets, and `None` exactly where all three are left out, the enhanced position's digits
+    /// pass 99,999,999, the speed 9,999 or the course 3,599.
     pub fn new(enhanced: Part, speed: Part, course: Part) -> Option<Expansion>
         ensures value { IfSome result (λ x. x ≡ record { enhanced = enhanced; speed = speed; course = course }) }
         ensures some { IsSome result ↔ IsExpansion (record { enhanced = enhanced; speed = speed; course = course }) }

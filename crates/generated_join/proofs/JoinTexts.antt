@@ -1,4 +1,4 @@
--- What `join` tells of lines of which the answers were counted.
+-- What `join` writes of lines whose answers were counted.
 use Rattle.std.proofs.Common.{◌≡◌, ℕ, Bool, ◌&&◌, cond, List, [], ◌∷◌, map, flat_map, refl, ap, subst}
 use Rattle.std.specs.List.{list_all, AllByRecursion}
 use Rattle.slot_join.specs.Answer.{IsAnswer, is_reported}

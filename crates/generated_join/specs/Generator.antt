@@ -1,4 +1,5 @@
--- The input of `make N`: this project's profile, over the distress alert, the dot pattern and the time diversity of ITU-R M.493.
+-- The input of `make N`: this project's profile, over the distress alert, the dot pattern and the time diversity of
+-- ITU-R M.493.
 use Rattle.std.specs.Prelude.{ℕ, ◌+◌, ◌%◌, ◌==◌, nat_le, Bool, true, ◌&&◌, ◌||◌, if◌then◌else◌, List, ◌++◌, map, length, slice_index, replicate, Some}
 use Rattle.std.specs.List.{flat_map, range_with_len}
 use Rattle.dsc_symbols.specs.declared.natures.TheConstants.{FIRE_OR_EXPLOSION}
@@ -25,13 +26,14 @@ alert_of k = Alert (record {
   comm = ALL_MODES;
 })
 
--- a slot of group k's alert is lost to receiver j: behind the phasing sequence one slot of four in turn; and in every seventh group both
--- slots of place 9
+-- a slot of group k's alert is lost to receiver j: after the phasing sequence one slot of four in turn; and in every
+-- seventh group both slots of place 9
 abbrev pub is_lost : ℕ → ℕ → ℕ → Bool
 is_lost k j slot =
     (nat_le 16 slot && (slot + j) % 4 == 0) || (k % 7 == 6 && (slot == dx_slot 9 || slot == rx_slot 9))
 
--- what receiver j hears of a slot that shows a symbol: its word, and nothing but B, which is no word, where the slot is lost
+-- what receiver j hears of a slot that shows a symbol: its word, and nothing but B, which is no word, where the slot is
+-- lost
 abbrev pub slot_heard : ℕ → ℕ → (slot symbol : ℕ) → List Element
 slot_heard k j slot symbol = if is_lost k j slot then replicate 10 B else word_of symbol
 

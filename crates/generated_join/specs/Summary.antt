@@ -28,7 +28,8 @@ pub record Answered : Type 0 where
   pub group : ℕ
   pub answer : Joined
 
--- the summary counts the groups that lines name, the receptions among the lines, and the answers to all facts of each group
+-- the summary counts the groups that lines name, the receptions among the lines, and the answers to all facts of each
+-- group
 pub record IsSummary (said : List JoinLine) (summary : Summary) : Type 0 where
   pub all : List Answered
   pub are_groups : AreGroups said (map (λ one. one.group) all)
@@ -48,7 +49,8 @@ summary_text summary =
     number_line (codes "groups ") summary.groups ++ (number_line (codes "receptions ") summary.receptions
     ++ (number_line (codes "reported ") summary.reported ++ number_line (codes "missing ") summary.missing))
 
--- what `make n` writes, and its status: the summary of the generated lines of n groups; 1 exactly where some group isn't reported
+-- what `make n` writes, and its status: the summary of the generated lines of n groups; 1 exactly where some group
+-- isn't reported
 pub record IsMade (n : ℕ) (text : List ℕ) (status : ℕ) : Type 0 where
   pub summary : Summary
   pub is_summary : IsSummary (generated n) summary

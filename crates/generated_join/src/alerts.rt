@@ -1,3 +1,4 @@
+//! The alerts of generated groups.
 ghost use Rattle.std.specs.Prelude.{◌≡◌, ◌≤◌};
 ghost use Rattle.generated_join.specs.Generator.{alert_of};
 

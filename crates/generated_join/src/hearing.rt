@@ -1,3 +1,4 @@
+//! What the receivers of a generated group hear.
 ghost use Rattle.std.specs.Prelude.{◌≡◌, ◌+◌, ◌*◌, ◌<◌, ◌≤◌, ◌++◌, false, IfOk, length, map, take, drop, replicate};
 ghost use Rattle.ten_unit.specs.declared.character.Element.TheVariants.{B};
 ghost use Rattle.phasing.specs.Sent.{sent};
@@ -17,8 +18,8 @@ pub const FIRST_LOST_SLOT: u16 = 16;
 /// The place of which both copies are lost to every receiver in some groups.
 pub const LOST_PLACE: u8 = 9;
 
-/// Whether a slot of the group's alert is lost to this receiver, whose numbers count from 0: of four slots in turn one is, and in
-/// every seventh group both slots of the lost place.
+/// Whether a slot of the group's alert is lost to this receiver, whose numbers count from 0: one of four slots in turn
+/// is, and in every seventh group both slots of the lost place.
 fn is_lost(group: u16, receiver: u16, slot: u16) -> bool
     requires { (receiver < RECEPTIONS) × (slot ≤ 140) }
     ensures { result ≡ generator.is_lost group receiver slot }
@@ -39,8 +40,9 @@ fn lose(signs: &mut [u8], slot: u16)
     signs[begin..begin + 10].copy_from_slice(b"BBBBBBBBBB");
 }
 
-/// The signs of what this receiver hears of the group's alert, of which the slots show these symbols, at most 140, and which is sent as
-/// this transmission: the dot pattern of 20 elements, and the slots one after another (ITU-R M.493, dot pattern and time diversity).
+/// The signs of what this receiver hears of the group's alert, whose slots show these symbols, at most 140. The alert
+/// is sent as this transmission: the dot pattern of 20 elements, and the slots one after another (ITU-R M.493, dot
+/// pattern and time diversity).
 pub(crate) fn heard(
     alloc: Global,
     group: u16,

@@ -1,3 +1,4 @@
+//! The join of generated groups.
 ghost use Rattle.std.specs.Prelude.{◌≡◌, ◌≤◌, IfOk, length};
 ghost use Rattle.join_groups.specs.Groups.{group_facts};
 ghost use Rattle.slot_join.specs.Answer.{IsAnswer};
@@ -16,8 +17,8 @@ use std::alloc::{AllocError, Global};
 /// At most so many groups are generated.
 pub const MOST_MADE: u16 = 1000;
 
-/// The answer to a group: what each of its receptions shows is met in one sheet, as one worker of `join` has it, and the answer to
-/// this is reported.
+/// The answer to a group: what each of its receptions shows is met in one sheet, as one worker of `join` has it, and
+/// the answer to this is reported.
 fn answer_to(alloc: Global, group: u16) -> Result<Joined, AllocError>
     requires { group ≤ MOST_MADE }
     ensures { IfOk result (IsAnswer (group_facts (lines_of_group group) group)) }
@@ -34,8 +35,9 @@ fn answer_to(alloc: Global, group: u16) -> Result<Joined, AllocError>
     Ok(report(&sheet))
 }
 
-/// The summary of the join of so many generated groups, at most 1,000, by one worker, which enters the gate once, before the first
-/// reception. It joins one group after another, and keeps four numbers of those that it is done with. The error is want of memory.
+/// The summary of the join of so many generated groups, at most 1,000, by one worker, which enters the gate once,
+/// before the first reception. It joins one group after another, and keeps four numbers of those that it is done with.
+/// The error is want of memory.
 pub fn summary_of<G: Gate>(alloc: Global, groups: u16, gate: &G) -> Result<Summary, AllocError>
     requires { groups ≤ MOST_MADE }
     ensures { IfOk result (IsSummary (generated groups)) }

@@ -16,7 +16,8 @@ pub fn generated_lines_are_read()
     ensures { (n : ℕ) → n ≤ 2 ^ 32 → AreLines (generated n) (generated_texts n) }
 {}
 
-/// The law that `join` over lines of which this is the summary ends with status 0 where all groups were reported, and else with 1.
+/// The law that `join` over lines of which this is the summary ends with status 0 where all groups were reported, and
+/// else with 1.
 pub fn joins_end_so()
     ensures { (said : List JoinLine) (summary : Numbers) (is : IsSummary said summary)
         → (text : List ℕ) × IsJoinText said text (if list_all (λ one. is_reported one.answer) is.all then 0 else 1) }

@@ -1,3 +1,4 @@
+//! The summary of a generated join, and its line.
 ghost use Rattle.std.specs.Prelude.{◌≡◌, ◌+◌, ◌<◌, ◌≤◌, ◌++◌, List, if◌then◌else◌, codes, decimal, length};
 ghost use Rattle.std.specs.List.{list_all};
 ghost use Rattle.arrayvec.specs.ArrayVec.{array_vec_len};
@@ -12,8 +13,8 @@ use slot_join::is_reported;
 use slot_join::Joined;
 use text_pieces::{append, append_number};
 
-/// The numbers of a joined input: its groups and receptions, the groups of which a call was reported, and those of which
-/// the answer names a missing place.
+/// The numbers of a joined input: its groups and receptions, the groups of which a call was reported, and those of
+/// which the answer names a missing place.
 #[derive(Clone, Copy, Debug, PartialEq, Eq)]
 pub struct Summary {
     pub groups: u16,

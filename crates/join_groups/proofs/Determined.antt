@@ -20,7 +20,7 @@ use Rattle.join_groups.specs.Meanings.{EndsTelling, groups_meaning}
 use Rattle.join_groups.proofs.Rising.{same_rising}
 use Rattle.join_groups.proofs.LinesTaken.{OneLine, same_said}
 
--- of a group with these facts one thing is told
+-- one thing is told of a group with these facts
 abbrev pub TellsOnce : Telling → Type 0
 TellsOnce tells = (F : Facts) (a b : GroupLine) → a.group ≡ b.group → tells F a → tells F b → (a.line ≡ b.line) × (a.is_well ≡ b.is_well)
 

@@ -104,7 +104,7 @@ says_reception (reception g heard) group e is =
     parts : {group g : ℕ} {e heard : List Element} → got.Reception group e ≡ got.Reception g heard → (group ≡ g) × (e ≡ heard)
     parts h = (cc, cc)
 
--- a line of evidence names its group, and its sheet keeps the ends of what it tells
+-- a line of evidence names its group, and its sheet keeps the ends of what it says
 pub says_evidence : (line : JoinLine) (group : ℕ) (sheet : List Seen) → Says line (got.Evidence group sheet)
     → ((k : ℕ) → names k line ≡ (group == k)) × IsEnds (facts_of_line group line) sheet
 says_evidence nothing group sheet is = absurd (two is)

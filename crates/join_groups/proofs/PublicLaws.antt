@@ -13,7 +13,7 @@ pub use Rattle.join_groups.proofs.Rising.{same_rising}
 pub use Rattle.join_groups.proofs.Holding.{holds_same}
 -- before the first line all is kept
 pub use Rattle.join_groups.proofs.Keeping.{keeps_none}
--- lines one behind another, and that lines say one thing
+-- lines one after another, and that lines say one thing
 pub use Rattle.join_groups.proofs.LinesTaken.{lines_push, same_said}
 -- groups are full exactly where a line brings one too many
 pub use Rattle.join_groups.proofs.Keeping.{full_brings, brings_full}

@@ -22,7 +22,7 @@ use Rattle.join_groups.specs.Output.{GroupLine, Telling, TellsAnswer, TellsEvide
 use Rattle.join_groups.specs.Laws.{AreOfGroup}
 use Rattle.join_groups.proofs.Naming.{unnamed_facts}
 
--- the laws of the crates below that these stand on
+-- the laws of the crates below that these rest on
 pub record Laws : Type 0 where
   pub answers : (F G : Facts) (answer : Joined) → ((p : ℕ) → AreAlike (F p) (G p)) → IsAnswer F answer → IsAnswer G answer
   pub kept : (S T : Symbols) (x : Seen) → AreAlike S T → IsSeen S x → IsSeen T x

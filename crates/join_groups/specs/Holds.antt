@@ -30,12 +30,14 @@ pub record IsFull (named : ℕ → Bool) (group : ℕ) : Type 0 where
   pub are : (k : ℕ) → is_among groups k ≡ named k
   pub many : MOST_GROUPS ≤ length groups
 
--- what is held of a group with this number, or with none: facts that are in its sheet, and those that the open batch shows
+-- what is held of a group with this number, or with none: facts that are in its sheet, and those that the open batch
+-- shows
 abbrev pub IsHeld : (named : Bool) → Facts → (closed : ℕ → Facts) → (sheets : ℕ) → List GroupReception → Option ℕ → Type 0
 IsHeld named F closed sheets batch None = (named ≡ false) × ((p v : ℕ) → F p v ≡ false)
 IsHeld named F closed sheets batch (Some n) = (named ≡ true) × (n < sheets) × ((p v : ℕ) → F p v ≡ (closed n p v || facts_of_group batch n p v))
 
--- these groups are held, each with all its facts, where numbers are found so: closed are the facts that sheets keep the ends of
+-- these groups are held, each with all its facts, where numbers are found so: closed are the facts that sheets keep the
+-- ends of
 pub record HoldsIn (found : ℕ → Option ℕ) (sheets : List (List Seen)) (batch : List GroupReception) (named : ℕ → Bool) (F : ℕ → Facts) : Type 0 where
   pub closed : ℕ → Facts
   pub are_sheets : AreSheets closed sheets (length sheets)
@@ -48,6 +50,7 @@ pub record HoldsIn (found : ℕ → Option ℕ) (sheets : List (List Seen)) (bat
 abbrev pub number_in : NamedGroups → ℕ → Option ℕ
 number_in groups k = lookup (λ n. is_eq (nat_cmp k n)) groups.numbers.entries
 
+-- groups hold these facts of the groups that were named
 abbrev pub Holds : NamedGroups → (named : ℕ → Bool) → (F : ℕ → Facts) → Type 0
 Holds groups named F = HoldsIn (number_in groups) groups.sheets.items groups.batch.items named F
 

@@ -8,7 +8,7 @@ use Rattle.join_groups.specs.declared.groups.TheConstants.{MOST_GROUPS}
 use Rattle.join_groups.specs.Groups.{AreLines, names, is_named, AreGroups}
 use Rattle.join_groups.specs.Output.{Telling, IsGroupsText}
 
--- behind what was said this line names a new group, though there are as many groups as an input may have
+-- after what was said this line names a new group, though there are as many groups as an input may have
 pub record BringsTooMany (said : List JoinLine) (line : JoinLine) : Type 0 where
   pub group : ℕ
   pub named : names group line ≡ true
@@ -17,7 +17,7 @@ pub record BringsTooMany (said : List JoinLine) (line : JoinLine) : Type 0 where
   pub are_groups : AreGroups said groups
   pub many : MOST_GROUPS ≤ length groups
 
--- behind these lines this one brings a group too many
+-- after these lines this one brings a group too many
 pub record IsOverfull (earlier : Lines) (text : List ℕ) : Type 0 where
   pub said : List JoinLine
   pub are_lines : AreLines said earlier
@@ -31,7 +31,7 @@ pub record EndsTelling (tells : Telling) (lines : Lines) (text : List ℕ) (stat
   pub are_lines : AreLines said lines
   pub is_text : IsGroupsText tells said text status
 
--- lines are those of receptions and evidence; nothing is told before all are known
+-- lines are those of receptions and evidence; nothing is given before all are known
 abbrev pub groups_meaning : Telling → Meaning
 groups_meaning tells = record {
   IsIllFormed = λ earlier text n. IsColumn IsLine text n;

@@ -19,18 +19,18 @@ pub record GroupLine : Type 0 where
   pub line : List ℕ
   pub is_well : Bool
 
--- a way to tell of a group with these facts
+-- a rule for what is told of a group with these facts
 abbrev pub Telling : Type 1
 Telling = Facts → GroupLine → Type 0
 
--- by the line of the answer to its facts; all is well where a call was reported
+-- a group's line is that of the answer to its facts; all is well where a call was reported
 pub record TellsAnswer (F : Facts) (told : GroupLine) : Type 0 where
   pub answer : Joined
   pub is_answer : IsAnswer F answer
   pub line_is : told.line ≡ answer_line told.group answer
   pub well_is : told.is_well ≡ is_reported answer
 
--- by the line of the ends of its facts; all is well
+-- a group's line is that of the ends of its facts; all is well
 pub record TellsEvidence (F : Facts) (told : GroupLine) : Type 0 where
   pub sheet : List Seen
   pub are_ends : IsEnds F sheet

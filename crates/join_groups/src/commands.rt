@@ -1,3 +1,4 @@
+//! The commands `join` and `evidence`.
 ghost use Rattle.std.specs.Prelude.{◌≡◌, ℕ, ◌+◌, ◌≤◌, ◌++◌, ◌∷◌, [], List, length, IfOk, IfErr, OnOk};
 ghost use Rattle.line_engine.specs.Lines.{Lines};
 ghost use Rattle.line_engine.specs.Commands.{IsTakenBehind, IsRefusedBehind, KeepsText, StandsBelow};
@@ -16,7 +17,8 @@ use line_engine::{Command, Refusal};
 use receiver_pool::Joiner;
 use std::alloc::{AllocError, Global};
 
-/// The command that tells of each group once its lines are all known: `join` by answers, `evidence` by ends. Workers join its receptions.
+/// The command that writes a line of each group once its lines are all known: `join` the group's answer, `evidence` its
+/// ends. Workers join its receptions.
 #[derive(Drop)]
 pub struct TellGroups<W: Joiner, T: Teller> {
     alloc: Global,

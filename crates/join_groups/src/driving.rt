@@ -1,3 +1,4 @@
+//! Running a command that writes a line of each group.
 ghost use Rattle.std.specs.Prelude.{◌≤◌, All, IfOk};
 ghost use Rattle.line_engine.specs.Runs.{IsRun};
 ghost use Rattle.receiver_pool.specs.Groups.{facts_of_group, IsShort, Shows};
@@ -11,9 +12,9 @@ use receiver_pool::{Gate, GroupReception, GroupSheet, Workers, pool_groups};
 use std::alloc::{AllocError, Global};
 use std::thread::Threads;
 
-/// Reads lines of receptions and evidence to their end, and tells of each group that they name, by rising number. So many workers, 1 to 64,
-/// join the receptions: one joins each at once, and several join batches of at most 256. Each enters the gate first thing, once in each
-/// batch; one worker enters it before the first line.
+/// Reads lines of receptions and evidence to their end, and writes a line of each group that they name, by rising
+/// number. So many workers, 1 to 64, join the receptions: one joins each at once, and several join batches of at
+/// most 256. Each enters the gate first thing, once in each batch; one worker enters it before the first line.
 ///
 /// | Status | What it says |
 /// |---|---|

@@ -1,3 +1,4 @@
+//! The groups that lines named, and what is held of them.
 ghost use Rattle.std.specs.Prelude.{◌≡◌, ◌≢◌, ◌⊎◌, ◌↔◌, ℕ, ◌+◌, ◌<◌, ◌≤◌, Bool, false, nat_le, length, [], None, Some, IfOk, IfErr, IfSome, OnOk};
 ghost use Rattle.slot_evidence.specs.Facts.{Facts, facts_of, no_facts};
 ghost use Rattle.slot_evidence.specs.Sheet.{IsEnds};
@@ -18,8 +19,8 @@ pub const MOST_GROUPS: usize = 1024;
 /// A batch holds at most this many receptions.
 pub const MOST_IN_BATCH: usize = 256;
 
-/// The groups that lines named: each has a number, by first appearance, and a sheet with that number. Receptions wait in a batch until
-/// several workers join it into the sheets; a single worker joins each at once.
+/// The groups that lines named: each has a number, by first appearance, and a sheet with that number. Receptions wait
+/// in a batch until several workers join it into the sheets; a single worker joins each at once.
 #[derive(Drop)]
 pub struct NamedGroups {
     pub(crate) numbers: BTreeMap<u32, usize>,
@@ -97,8 +98,8 @@ impl NamedGroups {
         Ok(())
     }
 
-    /// Takes in what a receiver heard of a group, at most 1,000,000 elements: at once where one worker works alone, and else in a batch,
-    /// which is joined when it is full. A group too many leaves all as it was.
+    /// Takes in what a receiver heard of a group, at most 1,000,000 elements: at once where one worker works alone, and
+    /// else in a batch, which is joined when it is full. A group too many leaves all as it was.
     pub fn hear<W: Joiner>(
         &mut self,
         workers: &W,
@@ -135,9 +136,10 @@ impl NamedGroups {
         }
     }
 
-    /// Takes what a receiver heard of a group, at most 1,000,000 elements, into the batch, and leaves the batch open. One worker who works
-    /// alone reads it at once, and where nobody watches the group any more, or it shows nothing beyond what is known of the group, there is
-    /// nothing to be seen beside that worker, and it doesn't wait. A group too many leaves all as it was.
+    /// Takes what a receiver heard of a group, at most 1,000,000 elements, into the batch, and leaves the batch open.
+    /// One worker who works alone reads it at once, and where nobody watches the group any more, or it shows nothing
+    /// beyond what is known of the group, there is nothing to be seen beside that worker, and it doesn't wait. A group
+    /// too many leaves all as it was.
     pub fn wait<W: WatchedJoiner>(
         &mut self,
         workers: &W,
@@ -236,15 +238,15 @@ impl NamedGroups {
         if !self.batch.is_empty() {
             workers.join_into(&mut self.sheets, &self.batch)?;
 
-            // The list moves behind the first batch's receptions. So their memory serves the next batches: at the heap's end it would go
-            // back to the system, and come anew page by page, at each of them.
+            // The list moves to memory beyond the first batch's receptions. So their memory serves the next batches: at
+            // the heap's end it would go back to the system, and come anew page by page, at each of them.
             self.batch.reserve_exact(MOST_IN_BATCH)?;
             self.batch.clear();
         }
         Ok(())
     }
 
-    /// Ends the batch as `close_batch` does, with workers at whom a watcher looks, and gives the watcher back.
+    /// Ends the batch as `close_batch` does, with workers whose boards a watcher looks at, and gives the watcher back.
     pub fn close_watched<W: WatchedJoiner>(
         &mut self,
         workers: &W,
@@ -275,7 +277,8 @@ impl NamedGroups {
         self.numbers.get(&group).copied()
     }
 
-    /// The sheet of a group, whose facts then begin anew. It is that of no facts where the group isn't known. The batch has ended.
+    /// The sheet of a group, whose facts then begin anew. It is that of no facts where the group isn't known. The batch
+    /// has ended.
     pub fn take_out(&mut self, group: u32) -> Sheet
         requires ready { HoldsSome self.old }
         requires ended { self.old.batch.items ≡ [] }

@@ -32,7 +32,7 @@ pub fn lines_determine_output()
     one_sheet();
 }
 
-/// The law that texts depend on the set of lines alone: neither their order nor how often one stands there can be seen.
+/// The law that texts depend on the set of lines alone, not on their order nor on how often one is there.
 pub fn texts_forget_order()
     ensures join { (said other : List JoinLine) (text : List ℕ) (status : ℕ)
         → ((line : JoinLine) → Contains said line ↔ Contains other line)
@@ -46,8 +46,8 @@ pub fn texts_forget_order()
     evidence_is_read();
 }
 
-/// The law that the line of evidence which is written for all lines of a group stands for them: whatever other lines there are, the
-/// texts are the same with it in their place. So evidence of evidence is itself.
+/// The law that the line of evidence which is written for all lines of a group stands for them: whatever other lines
+/// there are, the texts are the same with it in their place. So evidence of evidence is itself.
 pub fn evidence_stands_for_lines()
     ensures line { (k : ℕ) (sheet : List Seen) → k < 2 ^ 32 → IsSheet sheet
         → IsLine (evidence k (pairs_below 64 sheet)) (evidence_text k sheet) }
@@ -64,8 +64,8 @@ pub fn evidence_stands_for_lines()
     evidence_is_read();
 }
 
-/// The law that facts determine texts: lines that name the same groups, each with alike facts, have one text and status, whatever
-/// else they say.
+/// The law that facts determine texts: lines that name the same groups, each with alike facts, have one text and
+/// status, whatever else they say.
 pub fn facts_determine_texts()
     ensures join { (said other : List JoinLine) (text : List ℕ) (status : ℕ) → HaveAlikeFacts said other
         → IsJoinText said text status → IsJoinText other text status }

@@ -1,4 +1,4 @@
-//! The groups of an input: the facts of each, and the commands that tell of them.
+//! The groups of an input: the facts of each, and the commands that write a line of each.
 #![tactic(auto)]
 
 mod commands;

@@ -12,7 +12,8 @@ use live_watch::WatchedJoiner;
 use receiver_pool::Joiner;
 use std::alloc::Global;
 
-/// Takes a line of receptions or evidence. A line that is ill-formed, or that brings a group too many, leaves the groups as they were.
+/// Takes a line of receptions or evidence. A line that is ill-formed, or that brings a group too many, leaves the
+/// groups as they were.
 pub(crate) fn take_line<W: Joiner>(
     groups: &mut NamedGroups,
     workers: &W,
@@ -60,8 +61,8 @@ pub fn take_read<W: Joiner>(
     }
 }
 
-/// The same of workers who join a batch only where it is closed, but for a reception of a group that nobody watches any more: one who works
-/// alone reads that at once.
+/// The same of workers who join a batch only where it is closed, but for a reception of a group that nobody watches any
+/// more: one who works alone reads that at once.
 pub fn take_waiting<W: WatchedJoiner>(
     groups: &mut NamedGroups,
     workers: &W,

@@ -1,3 +1,4 @@
+//! The line of each group: its answer, or its ends.
 ghost use Rattle.std.specs.Prelude.{◌≡◌, ℕ, ◌++◌, List, [], IfOk, if◌then◌else◌};
 ghost use Rattle.slot_evidence.specs.Facts.{Facts};
 ghost use Rattle.slot_evidence.specs.Sheet.{IsEnds};
@@ -14,7 +15,7 @@ use slot_evidence::Sheet;
 use slot_join::{Joined, report};
 use std::alloc::AllocError;
 
-/// A way to tell of a group by a line.
+/// A way to write the line of a group.
 pub trait Teller: Drop {
     /// What is told of a group with these facts.
     ghost tells: { Telling };
@@ -26,7 +27,7 @@ pub trait Teller: Drop {
             → tells F (record { group = group; line = line; is_well = is_well })))) };
 }
 
-/// Tells the answer to a group's facts; all is well where a call was reported.
+/// Writes the answer to a group's facts; all is well where a call was reported.
 #[derive(Drop)]
 pub struct Answers;
 
@@ -40,7 +41,7 @@ impl Teller for Answers {
     }
 }
 
-/// Tells the ends of a group's facts; all is well.
+/// Writes the ends of a group's facts; all is well.
 #[derive(Drop)]
 pub struct Ends;
 
@@ -53,7 +54,8 @@ impl Teller for Ends {
     }
 }
 
-/// Tells of each group by rising number, and answers whether all is well with all of them. No reception waits any more.
+/// Writes the line of each group by rising number, and answers whether all is well with all of them. No reception waits
+/// any more.
 pub fn tell_all<T: Teller>(groups: &NamedGroups, out: &mut Vec<u8>) -> Result<bool, AllocError>
     requires { HoldsSome groups.now }
     ensures { IfOk result (λ is_well. (said : List JoinLine) → Keeps groups.now said → groups.now.batch.items ≡ []

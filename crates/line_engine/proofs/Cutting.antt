@@ -35,7 +35,7 @@ pub no_lines : lines_of [] ≡ []
 unfolding lines_of
 no_lines = refl
 
--- an open line, whatever comes behind it
+-- an open line, whatever comes after it
 pub record IsOpenLine (text more : List ℕ) : Type 0 where
   pub line : List ℕ
   pub later : Lines
@@ -77,7 +77,7 @@ feed_first bytes k short h =
     let feed : slice_index bytes k ≡ 10 = eqb-true (slice_index bytes k) 10 h in
     sym (take-append-drop k bytes) ∙ ap (λ (l : List ℕ). take k bytes ++ l) (drop_more bytes k 0 short ∙ ap (λ (x : ℕ). x ∷ drop (k + 1) bytes) feed)
 
--- whatever comes behind these bytes, they are these lines, and then those that begin with what is left
+-- whatever comes after these bytes, they are these lines, and then those that begin with what is left
 abbrev pub GoesOn : List ℕ → Lines → List ℕ → Type 0
 GoesOn taken lines left = (more : List ℕ) → lines_of (taken ++ more) ≡ lines ++ lines_of (left ++ more)
 
@@ -102,7 +102,7 @@ pub at_end : (taken : List ℕ) (lines : Lines) (left : List ℕ) → GoesOn tak
 at_end taken lines left h =
     ap lines_of (sym (append-nil taken)) ∙ h [] ∙ ap (λ (l : List ℕ). lines ++ lines_of l) (append-nil left)
 
--- the bytes behind the first line feed
+-- the bytes after the first line feed
 pub behind_feed : (rest back : List ℕ) (at : ℕ) → back ≡ drop at rest → take (length back - 1) (drop 1 back) ≡ drop (at + 1) rest
 behind_feed rest back at e = take_rest back 1 ∙ ap (λ (l : List ℕ). drop 1 l) e ∙ drop-drop 1 at rest
 

@@ -8,7 +8,7 @@ use Rattle.line_engine.specs.Output.{IsFaulty, IsSoFar, IsOutput, Asks}
 use Rattle.line_engine.specs.Determined.{IsDetermined, BeginsWith}
 use Rattle.line_engine.proofs.FirstFaults.{one_first, none_first, split_twice}
 
--- two first faults of lines stand behind the same lines
+-- two first faults of lines come after the same lines
 pub same_earlier : (meaning : Meaning) (lines : Lines) (m n : ℕ) (a b : Fault) (h : IsFirstFault meaning lines m a) (k : IsFirstFault meaning lines n b) → h.earlier ≡ k.earlier
 same_earlier meaning lines m n a b h k =
     elim (split_twice h.earlier h.line h.later k.earlier k.line k.later (sym h.list ∙ k.list)) [

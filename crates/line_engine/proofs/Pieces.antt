@@ -36,7 +36,7 @@ no_window meaning stands_for written faults left sink command pending gives fres
   };
 }
 
--- a run behind a read
+-- a run after a read
 pub record IsReadOn {Command Sink : Type 0} (meaning : Meaning) (stands_for : Command → Lines → List ℕ → Type 0) (written : Sink → Option (List ℕ)) (faults : Sink → ℕ) (left_before left_after : Option (List ℕ))
     (start : Sink) (window : List ℕ) (count : ℕ) (command : Command) (pending : List ℕ) (sink : Sink) : Type 0 where
   pub taken : List ℕ

@@ -9,5 +9,6 @@ pub use Rattle.line_engine.proofs.Outputs.{one_text, begins_output, begins_asked
 -- every text begins with nothing, and no lines have no fault
 pub use Rattle.line_engine.proofs.Outputs.{begins_empty}
 pub use Rattle.line_engine.proofs.Faultless.{none_yet}
--- where it is known whether a line is ill-formed, and lines have texts, each input has an output; a line of lines without a fault is well-formed
+-- where it is known whether a line is ill-formed, and lines have texts, each input has an output; a line of lines
+-- without a fault is well-formed
 pub use Rattle.line_engine.proofs.HasOutputs.{has_outputs, lacks_no_output, sound_line_of}

@@ -6,7 +6,7 @@ use Rattle.std.proofs.lemmas.List.{length-take, length-take-le, take-append-le, 
 use Rattle.std.proofs.Math.Seq.{take-append-add}
 use borrow.Rule.Slice.PartMut.{post_of}
 
--- one piece is written behind the bytes
+-- one piece is written after the bytes
 abbrev written : List ℕ → List ℕ → ℕ → ℕ → List ℕ
 written bytes into len k = take len bytes ++ (into ++ post_of len k bytes)
 

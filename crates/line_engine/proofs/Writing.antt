@@ -12,7 +12,7 @@ nothing_written written faults sink = record { gained = Gains-none (written sink
 abbrev pub IsPart : (before after : Option (List ℕ)) → List ℕ → Type 0
 IsPart before after text = (front : List ℕ) × (rest : List ℕ) × (text ≡ front ++ rest) × Gains before after front
 
--- a front of a text was written behind another, and then there was a fault
+-- a front of a text was written after another, and then there was a fault
 pub fails_behind : {Sink : Type 0} {written : Sink → Option (List ℕ)} {faults : Sink → ℕ} {old new : Sink} (mid : Sink) (done front back text : List ℕ) → Gains (written old) (written mid) done → faults mid ≡ faults old
     → Gains (written mid) (written new) front → Rises (faults mid) (faults new) → text ≡ (done ++ front) ++ back → (start : Sink) (before : List ℕ) → HasWritten written faults start old before
     → Fails written faults start new (before ++ text)

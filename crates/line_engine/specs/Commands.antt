@@ -1,16 +1,16 @@
--- What a command answers to one line, and for which lines it stands: this project's profile.
+-- What a command answers to one line, and which lines it stands for: this project's profile.
 use Rattle.std.specs.Prelude.{◌≡◌, ℕ, ◌<◌, List, ◌++◌, length}
 use Rattle.line_engine.specs.declared.command.Refusal.{Refusal}
 use Rattle.line_engine.specs.declared.command.Refusal.TheVariants.{Column, TooManyGroups, Memory}
 use Rattle.line_engine.specs.Lines.{Lines}
 use Rattle.line_engine.specs.Meaning.{Meaning}
 
--- behind these lines this one is neither ill-formed nor brings a group too many
+-- after these lines this one is neither ill-formed nor brings a group too many
 pub record IsTakenBehind (meaning : Meaning) (earlier : Lines) (line : List ℕ) : Type 0 where
   pub well_formed : (n : ℕ) → meaning.IsIllFormed earlier line n → ⊥
   pub not_overfull : meaning.IsOverfull earlier line → ⊥
 
--- behind these lines this one is refused for this reason; want of memory may come at any line
+-- after these lines this one is refused for this reason; want of memory may come at any line
 abbrev pub IsRefusedBehind : Meaning → (earlier : Lines) → (line : List ℕ) → Refusal → Type 0
 IsRefusedBehind meaning earlier line (Column n) = meaning.IsIllFormed earlier line n
 IsRefusedBehind meaning earlier line TooManyGroups = ((n : ℕ) → meaning.IsIllFormed earlier line n → ⊥) × meaning.IsOverfull earlier line

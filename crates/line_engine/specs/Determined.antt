@@ -30,8 +30,8 @@ pub record IsDetermined (meaning : Meaning) : Type 0 where
   -- its text begins with what its first lines give
   pub ends : (first later : Lines) (text whole : List ℕ) (status : ℕ) → IsFaultless meaning (first ++ later) → meaning.Gives first text → meaning.Ends (first ++ later) whole status → BeginsWith whole text
 
--- behind lines without a fault it is known whether one more is ill-formed, and whether it brings a group too many; and lines without a
--- fault give some text, and are an input with some text and status
+-- after lines without a fault it is known whether one more is ill-formed, and whether it brings a group too many; and
+-- lines without a fault give some text, and are an input with some text and status
 pub record IsComplete (meaning : Meaning) : Type 0 where
   pub column : (earlier : Lines) (line : List ℕ) → IsFaultless meaning earlier
       → ((n : ℕ) × meaning.IsIllFormed earlier line n) ⊎ ((n : ℕ) → meaning.IsIllFormed earlier line n → ⊥)
@@ -48,6 +48,6 @@ pub record IsNeverStuck (meaning : Meaning) : Type 0 where
   pub gives : (lines : Lines) → IsFaultless meaning lines → ((text : List ℕ) → meaning.Gives lines text → ⊥) → ⊥
   pub ends : (lines : Lines) → IsFaultless meaning lines → ((text : List ℕ) (status : ℕ) → meaning.Ends lines text status → ⊥) → ⊥
 
--- no input lacks an output: where this holds and outputs are found by no rule, there is one all the same
+-- it can't be that an input has no output; no rule finds one
 abbrev pub LacksNoOutput : Meaning → Type 0
 LacksNoOutput meaning = (lines : Lines) → ((text : List ℕ) (status : ℕ) → IsOutput meaning lines text status → ⊥) → ⊥

@@ -1,4 +1,5 @@
--- How a run ends, by its status, over what its source and its sink told before it and tell after it: this project's profile.
+-- How a run ends, by its status, and by what contracts see of its source and its sink before it and after it: this
+-- project's profile.
 use Rattle.std.specs.Prelude.{◌≡◌, ℕ, ◌≤◌, ◌⊎◌, List, [], ◌++◌, length, Option, Some}
 use Rattle.dsc_streams.specs.Streams.{Loses, Gains, IsEnded, IsFlushed}
 use Rattle.line_engine.specs.Lines.{Lines, lines_of, IsCutInto}
@@ -10,7 +11,7 @@ use Rattle.line_engine.specs.Output.{IsWhole, IsFaulty, IsSoFar, Asks, AsksEarly
 abbrev pub IsFinished : ℕ → Type 0
 IsFinished status = (status ≡ 0) ⊎ (status ≡ 1)
 
--- the statuses of a run that told of a fault in its input
+-- the statuses of a run that named a fault in its input
 abbrev pub IsOfFault : ℕ → Type 0
 IsOfFault status = (status ≡ 3) ⊎ (status ≡ 7)
 
@@ -18,11 +19,11 @@ IsOfFault status = (status ≡ 3) ⊎ (status ≡ 7)
 abbrev pub IsBrokenOff : ℕ → Type 0
 IsBrokenOff status = (status ≡ 4) ⊎ (status ≡ 5) ⊎ (status ≡ 6)
 
--- what may follow the bytes that were taken: nothing, or what the source tells is left
+-- what may follow the bytes that were taken: nothing, or what contracts see left in the source
 abbrev pub IsRest : (left : Option (List ℕ)) → List ℕ → Type 0
 IsRest left rest = (rest ≡ []) ⊎ (left ≡ Some rest)
 
--- exactly this text was appended, where it is told, and all bytes are flushed
+-- exactly this text was appended, where contracts see it, and all bytes are flushed
 pub record Writes (before after : Option (List ℕ)) (flushed : ℕ) (text : List ℕ) : Type 0 where
   pub appended : Gains before after text
   pub all : IsFlushed after flushed
@@ -69,8 +70,8 @@ pub record TellsSoFar (meaning : Meaning) (left_before left_after before after :
   pub gives : meaning.Gives lines text
   pub appended : Gains before after text
 
--- 5: a front of a text that the input asks for was appended, whatever is left of the input; of the text of an input without a fault only
--- where the source was read to its end
+-- 5: a front of a text that the input asks for was appended, whatever is left of the input; the text of an input
+-- without a fault counts only where the source was read to its end
 pub record CutsOff (meaning : Meaning) (left_before left_after before after : Option (List ℕ)) : Type 0 where
   pub taken : List ℕ
   pub lost : Loses left_before left_after taken
@@ -79,7 +80,7 @@ pub record CutsOff (meaning : Meaning) (left_before left_after before after : Op
   pub early : IsEnded left_after ⊎ ((rest : List ℕ) → IsRest left_after rest → AsksEarly meaning (lines_of (taken ++ rest)) text)
   pub writes : WritesFront before after text
 
--- 6: a front of what first lines of the input gave was appended, whatever is left of it
+-- 6: a front of what the first lines of the input gave was appended, whatever is left of it
 pub record TellsFront (meaning : Meaning) (left_before left_after before after : Option (List ℕ)) : Type 0 where
   pub taken : List ℕ
   pub lost : Loses left_before left_after taken

@@ -7,12 +7,12 @@ use Rattle.line_engine.specs.declared.faults.Fault.TheVariants.{TooManyLines, To
 use Rattle.line_engine.specs.Lines.{Lines}
 use Rattle.line_engine.specs.Meaning.{Meaning}
 
--- a line behind these stands within the limits of lines and of bytes
+-- a line after these is within the limits of lines and of bytes
 pub record IsWithin (earlier : Lines) (line : List ℕ) : Type 0 where
   pub few : length earlier < MOST_LINES
   pub short : length line ≤ LONGEST_LINE
 
--- the fault of a line behind these: the first of these four, in this order
+-- the fault of a line after these: the first of these four, in this order
 abbrev pub IsFault : Meaning → (earlier : Lines) → (line : List ℕ) → Fault → Type 0
 IsFault meaning earlier line TooManyLines = MOST_LINES ≤ length earlier
 IsFault meaning earlier line TooLong = (length earlier < MOST_LINES) × (LONGEST_LINE < length line)
@@ -40,7 +40,7 @@ fault_name TooLong = codes " too long"
 fault_name (Column n) = codes " column " ++ decimal n
 fault_name TooManyGroups = codes " too many groups"
 
--- the line that tells of a fault
+-- the line that names a fault
 unfoldable pub fault_line : ℕ → Fault → List ℕ
 fault_line number fault = codes "dsc: line " ++ decimal number ++ fault_name fault ++ line_feed ∷ []
 

@@ -7,7 +7,7 @@ use Rattle.line_grammar.specs.Bytes.{line_feed}
 abbrev pub Lines : Type 0
 Lines = List (List ℕ)
 
--- a test of bytes: whether it stands inside a line
+-- a test of bytes: whether it is inside a line
 abbrev pub is_inside : ℕ → Bool
 is_inside b = not (b == line_feed)
 
@@ -21,8 +21,8 @@ unfoldable pub lines_of : List ℕ → Lines
 lines_of [] = []
 lines_of (b ∷ bytes) = if is_inside b then lengthened b (lines_of bytes) else [] ∷ lines_of bytes
 
--- these bytes are whole lines and an open end without a line feed: whatever comes behind, the input is these lines, and then those
--- that begin with the open end
+-- these bytes are whole lines and an open end without a line feed: whatever comes after them, the input is these lines,
+-- and then those that begin with the open end
 pub record IsCutInto (bytes : List ℕ) (lines : Lines) (end : List ℕ) : Type 0 where
   pub is_open : list_all is_inside end ≡ true
   pub goes_on : (more : List ℕ) → lines_of (bytes ++ more) ≡ lines ++ lines_of (end ++ more)

@@ -4,9 +4,9 @@ use Rattle.line_engine.specs.Lines.{Lines}
 
 -- the meaning of a command, over the whole list of lines
 pub record Meaning : Type 1 where
-  -- behind these lines this one is ill-formed at this column
+  -- after these lines this one is ill-formed at this column
   pub IsIllFormed : (earlier : Lines) → (line : List ℕ) → (column : ℕ) → Type 0
-  -- behind these lines this one, which is well-formed, brings a group too many
+  -- after these lines this one, which is well-formed, brings a group too many
   pub IsOverfull : (earlier : Lines) → (line : List ℕ) → Type 0
   -- these lines, of which none has a fault, give this text before it is known whether others follow
   pub Gives : (lines : Lines) → (text : List ℕ) → Type 0

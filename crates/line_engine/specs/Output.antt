@@ -10,7 +10,7 @@ pub record IsWhole (meaning : Meaning) (lines : Lines) (text : List ℕ) (status
   pub faultless : IsFaultless meaning lines
   pub ends : meaning.Ends lines text status
 
--- an input of these lines has a fault: its text is what the lines before the first one gave, and the line that tells of it
+-- an input of these lines has a fault: its text is what the lines before the first one gave, and the line that names it
 pub record IsFaulty (meaning : Meaning) (lines : Lines) (text : List ℕ) (status : ℕ) : Type 0 where
   pub number : ℕ
   pub fault : Fault

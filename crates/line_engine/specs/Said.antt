@@ -3,7 +3,7 @@ use Rattle.std.specs.Prelude.{◌≡◌, ℕ, List, [], ◌∷◌, ◌++◌}
 use Rattle.line_engine.specs.Lines.{Lines}
 use Rattle.line_engine.specs.Meaning.{Meaning}
 
--- what these lines say behind earlier ones, where a line says a function of itself and of all before it
+-- what these lines say after earlier ones, where a line says a function of itself and of all before it
 unfoldable pub said_behind : (says : Lines → List ℕ → List ℕ) → (earlier lines : Lines) → List ℕ
 said_behind says earlier [] = []
 said_behind says earlier (line ∷ lines) = says earlier line ++ said_behind says (earlier ++ line ∷ []) lines

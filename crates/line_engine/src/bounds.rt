@@ -1,3 +1,5 @@
+//! The limits of an input, and the sizes of the engine's buffers.
+
 /// An input has at most this many lines.
 pub const MOST_LINES: usize = 65_536;
 

@@ -1,3 +1,4 @@
+//! A command: what is made of the lines of an input.
 ghost use Rattle.std.specs.Prelude.{◌≡◌, ℕ, ◌+◌, ◌≤◌, ◌⊎◌, List, [], ◌∷◌, ◌++◌, length, IfOk, IfErr, OnOk};
 ghost use Rattle.line_engine.specs.declared.command.Refusal.TheVariants.{Memory as memory};
 ghost use Rattle.line_engine.specs.Lines.{Lines};
@@ -63,8 +64,8 @@ pub trait Command: Drop {
             → IsRefusedBehind meaning lines line.now refusal) }
         ensures unsaid { IfErr result (λ refusal. KeepsText refusal out.old.items out.new.items) };
 
-    /// Appends what may be said before more lines come. The engine asks for it behind the lines of each read, before it writes what is
-    /// pending and reads on. A command that has nothing to say there keeps this.
+    /// Appends what may be said before more lines come. The engine asks for it after the lines of each read, before it
+    /// writes what is pending and reads on. A command that has nothing to say there keeps this.
     fn pause(&mut self, out: &mut Vec<u8>) -> Result<(), AllocError>
         requires { StandsBelow stands_for self.old out.old.items (MOST_LINES + 1) }
         ensures { OnOk result ((lines : Lines) (written : List ℕ)

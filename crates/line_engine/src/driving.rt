@@ -1,3 +1,4 @@
+//! A run: the lines of a source to a command, and its text to a sink.
 ghost use Rattle.std.specs.Prelude.{◌≡◌, ◌≢◌, ◌⊎◌, ℕ, List, [], OnOk, IfErr, IsErrOf};
 ghost use Rattle.dsc_streams.specs.Streams.{Rises, SeenBefore};
 ghost use Rattle.line_engine.specs.declared.halts.Halt.TheVariants as halts;
@@ -51,7 +52,7 @@ fn take_input<C: Command, S: Source, K: Sink>(
     }
 }
 
-/// Gives the lines of a source to a command, and tells each part of the run's promise.
+/// Gives the lines of a source to a command, and has each part of the run's promise as a clause.
 fn run_lines<C: Command, S: Source, K: Sink>(
     alloc: Global,
     command: &mut C,
@@ -112,18 +113,18 @@ fn run_lines<C: Command, S: Source, K: Sink>(
 /// Reads a source to its end and gives its lines to a command, one after the other; writes what the command gives,
 /// and the line of the first fault; and ends with a status.
 ///
-/// Behind the lines of a read the command may say more. What is given is written before each read, and as soon as 64 KiB of it are
-/// pending. A fault is told as soon as its line is known. One buffer of 128 KiB, an open line and the pending text are kept of an input,
-/// however long it is. Behind the run the command is done with.
+/// After the lines of a read the command may say more. What is given is written before each read, and as soon as 64 KiB
+/// of it are pending. A fault is named as soon as its line is known. One buffer of 128 KiB, an open line and the
+/// pending text are kept of an input, however long it is. After the run the command is done with.
 ///
 /// | Status | What it says |
 /// |---|---|
 /// | 0, 1 | the command ended its input, and all it gave was written and flushed |
-/// | 3 | a line is ill-formed, and the line of this first fault was written behind what the lines before it gave |
+/// | 3 | a line is ill-formed, and the line of this first fault was written after what the lines before it gave |
 /// | 4 | the source failed: what the lines so far gave was written |
 /// | 5 | the sink failed: a front of the text may have been written |
 /// | 6 | there was no memory: a front of what the lines so far gave may have been written |
-/// | 7 | a limit was passed, and the line of this first fault was written behind what the lines before it gave |
+/// | 7 | a limit was passed, and the line of this first fault was written after what the lines before it gave |
 pub fn drive<C: Command, S: Source, K: Sink>(
     alloc: Global,
     command: &mut C,

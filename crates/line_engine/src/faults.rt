@@ -1,3 +1,4 @@
+//! The faults of an input, their lines and statuses.
 ghost use Rattle.std.specs.Prelude.{◌≡◌, ◌+◌, ◌≤◌, ◌++◌};
 ghost use Rattle.arrayvec.specs.ArrayVec.{array_vec_len};
 ghost use Rattle.line_engine.specs.Faults.{fault_line, fault_name};
@@ -10,7 +11,7 @@ use text_pieces::{append, append_number};
 /// What is wrong with a line of an input.
 #[derive(Clone, Copy, Debug, PartialEq, Eq)]
 pub enum Fault {
-    /// The line stands behind line 65,536.
+    /// The line comes after line 65,536.
     TooManyLines,
     /// The line has more than 4,200 bytes.
     TooLong,
@@ -27,8 +28,8 @@ pub(crate) struct FirstFault {
     pub fault: Fault,
 }
 
-/// The line that tells of a fault in the input: `dsc: line 3 column 7`, `dsc: line 2 too long`,
-/// `dsc: line 65537 too many lines` or `dsc: line 9 too many groups`.
+/// The line that names a fault in the input: `dsc: line 3 column 7`, `dsc: line 2 too long`, `dsc: line 65537 too many
+/// lines` or `dsc: line 9 too many groups`.
 #[tactic(auto, unfolding(crate::specs::Faults::fault_line))]
 pub(crate) fn put_fault(first: &FirstFault) -> ArrayVec<u8, 80>
     ensures { result.items ≡ fault_line first.now.line first.now.fault }

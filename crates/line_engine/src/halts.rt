@@ -1,3 +1,4 @@
+//! Why a run stops before its input's end.
 ghost use Rattle.std.specs.Prelude.{◌≡◌};
 
 use crate::faults::FirstFault;

@@ -1,3 +1,4 @@
+//! Laws: each function here does nothing, and its contract is a theorem over definitions.
 ghost use Rattle.std.specs.Prelude.{◌≡◌, ℕ, ◌⊎◌, List, [], ◌∷◌, ◌++◌};
 ghost use Rattle.line_engine.specs.declared.faults.Fault.{Fault};
 ghost use Rattle.line_engine.specs.Lines.{Lines, lines_of, IsCutInto};

@@ -1,5 +1,5 @@
-//! One engine for every command that reads lines: it cuts the input, gives each line to the command, writes
-//! what the command gave, and tells the first fault.
+//! One engine for every command that reads lines: it cuts the input, gives each line to the command, writes what the
+//! command gave, and names the first fault.
 #![tactic(auto)]
 
 mod bounds;

@@ -1,3 +1,4 @@
+//! Writing what a command gave, and the line of a fault.
 ghost use Rattle.std.specs.Prelude.{◌≡◌, ◌≢◌, ◌⊎◌, ℕ, List, [], ◌++◌, IfErr, OnOk, OnErr};
 ghost use Rattle.line_engine.specs.Endings.{Writes};
 ghost use Rattle.line_engine.specs.inside.Progress.{HasWritten, Fails, PendingFails};

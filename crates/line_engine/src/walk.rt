@@ -1,3 +1,4 @@
+//! The lines of bytes that were read, given to a command one by one.
 ghost use Rattle.std.specs.Prelude.{◌≡◌, ℕ, ◌+◌, ◌-◌, ◌*◌, ◌<◌, ◌≤◌, true, Option, List, [], ◌∷◌, ◌++◌, length, drop, IfOk, IfErr, OnOk};
 ghost use Rattle.std.specs.List.{list_all};
 ghost use Rattle.line_grammar.specs.Bytes.{line_feed};
@@ -12,7 +13,7 @@ use crate::telling::write_pending;
 use dsc_streams::Sink;
 use memchr::memchr;
 
-/// Whether a line behind so many lines, which has so many bytes, is within the limits.
+/// Whether a line after so many lines, which has so many bytes, is within the limits.
 fn check_limits(count: usize, len: usize) -> Result<(), Halt>
     requires { count ≤ MOST_LINES }
     ensures within { OnOk result ((count < MOST_LINES) × (len ≤ LONGEST_LINE)) }
@@ -33,7 +34,7 @@ fn check_limits(count: usize, len: usize) -> Result<(), Halt>
     Ok(())
 }
 
-/// Whether an open line behind so many lines is within the limits so far. There is none where no byte is left.
+/// Whether an open line after so many lines is within the limits so far. There is none where no byte is left.
 pub(crate) fn check_open(count: usize, left: usize) -> Result<(), Halt>
     requires { count ≤ MOST_LINES }
     ensures within { OnOk result ((0 < left → count < MOST_LINES) × (left ≤ LONGEST_LINE)) }
@@ -45,7 +46,7 @@ pub(crate) fn check_open(count: usize, left: usize) -> Result<(), Halt>
     check_limits(count, left)
 }
 
-/// Gives a line behind so many lines to the command.
+/// Gives a line after so many lines to the command.
 fn take_line<C: Command>(
     command: &mut C,
     count: usize,
@@ -77,7 +78,7 @@ fn take_line<C: Command>(
     }
 }
 
-/// Gives the bytes behind the last line feed to the command, as the last line, if there are any.
+/// Gives the bytes after the last line feed to the command, as the last line, if there are any.
 pub(crate) fn take_last<C: Command>(
     command: &mut C,
     count: usize,
@@ -101,7 +102,7 @@ pub(crate) fn take_last<C: Command>(
     take_line(command, count, rest, out)
 }
 
-/// Gives a line behind so many lines to the command, and writes what is pending where that is much.
+/// Gives a line after so many lines to the command, and writes what is pending where that is much.
 fn take_and_write<C: Command, K: Sink>(
     command: &mut C,
     count: usize,
@@ -132,7 +133,7 @@ fn take_and_write<C: Command, K: Sink>(
     write_pending(out, sink)
 }
 
-/// Has the command say what may be said before more lines come, where it was given some behind the first `before`.
+/// Has the command say what may be said before more lines come, where it was given some after the first `before`.
 pub(crate) fn pause<C: Command>(
     command: &mut C,
     before: usize,
@@ -152,14 +153,14 @@ pub(crate) fn pause<C: Command>(
     Ok(())
 }
 
-/// How many lines were given to the command, and how many bytes are left behind the last line feed.
+/// How many lines were given to the command, and how many bytes are left after the last line feed.
 #[derive(Clone, Copy)]
 pub(crate) struct Walked {
     pub count: usize,
     pub left: usize,
 }
 
-/// Gives each line of these bytes that a line feed ends to the command, behind so many lines.
+/// Gives each line of these bytes that a line feed ends to the command, after so many lines.
 pub(crate) fn take_lines<C: Command, K: Sink>(
     command: &mut C,
     count: usize,

@@ -1,3 +1,4 @@
+//! The bytes that were read and not yet taken.
 ghost use Rattle.std.specs.Prelude.{◌≡◌, ℕ, ◌+◌, ◌-◌, ◌≤◌, List, [], ◌++◌, length, drop, IfOk, OnOk, OnErr};
 ghost use Rattle.dsc_streams.specs.Streams.{Loses, Rises, IsEnded};
 
@@ -55,7 +56,7 @@ impl Window {
         self.len = left;
     }
 
-    /// Reads at most one piece behind its bytes, and says how many came, 0 at the end of the input.
+    /// Reads at most one piece after its bytes, and answers how many came, 0 at the end of the input.
     pub(crate) fn read<S: Source>(&mut self, source: &mut S) -> Result<usize, Failed>
         requires { length self.old ≤ LONGEST_LINE }
         ensures given { IfOk result (λ n. (given : List ℕ) × (self.new ≡ self.old ++ given) × (length given ≡ n)

@@ -25,7 +25,7 @@ after_step c b text bytes back true e more h =
     cc
 after_step c b text bytes back false e more h = absurd (cc)
 
--- behind a word that was read stand the bytes that are left
+-- after a word that was read come the bytes that are left
 pub after_list : (text bytes back : List ℕ) → after text bytes ≡ Ok back → bytes ≡ text ++ back
 unfolding after
 after_list [] bytes back h = let e : bytes ≡ back = cc in e
@@ -48,7 +48,7 @@ pub word_missed : (text : List ℕ) (rest : Grammar) (bytes : List ℕ) (left : 
 unfolding read
 word_missed text rest bytes left h = ap (λ (r : Result (List ℕ) ℕ). and_then r (read rest)) h
 
--- the fault is behind a word that was read
+-- the fault is after a word that was read
 pub word_on : (text : List ℕ) (rest : Grammar) (bytes back : List ℕ) (left : ℕ) → after text bytes ≡ Ok back → read rest back ≡ Err left → read (word text rest) bytes ≡ Err left
 unfolding read
 word_on text rest bytes back left h k = ap (λ (r : Result (List ℕ) ℕ). and_then r (read rest)) h ∙ k
@@ -58,7 +58,7 @@ pub token_missed : (token : Token) (rest : Grammar) (bytes : List ℕ) (left : �
 unfolding read
 token_missed token rest bytes left h = ap (λ (r : Result (List ℕ × List ℕ) ℕ). and_part r (read rest)) h
 
--- or behind it
+-- or after it
 pub token_on : (token : Token) (rest : Grammar) (bytes front back : List ℕ) (left : ℕ) → read_token token bytes ≡ Ok (front, back) → read rest back ≡ Err left → read (field token rest) bytes ≡ Err left
 unfolding read
 token_on token rest bytes front back left h k =
@@ -81,12 +81,12 @@ both_miss one two bytes m n left h k e =
     ∙ ap (λ (r : Result Parts ℕ). further (Err m) (named second r)) k
     ∙ ap (λ (i : ℕ). Err i) (sym e)
 
--- the end is missed where a byte stands
+-- the end is missed where there is a byte
 pub no_end : (b : ℕ) (bytes : List ℕ) → read finish (b ∷ bytes) ≡ Err (suc (length bytes))
 unfolding read ended
 no_end b bytes = refl
 
--- and a word where another byte stands, or none
+-- and a word where there is another byte, or none
 pub no_word : (c : ℕ) (text : List ℕ) (rest : Grammar) (b : ℕ) (bytes : List ℕ) → (b ≡ c → ⊥) → read (word (c ∷ text) rest) (b ∷ bytes) ≡ Err (suc (length bytes))
 unfolding read after
 no_word c text rest b bytes h =

@@ -131,7 +131,7 @@ number_begun least most b next bytes rest e h f k =
     (subst (λ (n : ℕ). (is_digit b && goes_on least most n) ≡ true) same k)
     ∙ ap (λ (n : ℕ). read_digits least most n (b ∷ []) rest) (sym same)
 
--- the digits behind the first one
+-- the digits after the first one
 abbrev Digits : (least most begun n : ℕ) (bytes rest : List ℕ) → Type 0
 Digits least most begun n bytes rest =
     (front : List ℕ) → (all : List ℕ) × (read_digits least most begun front bytes ≡ judged least n all rest) × (value_after 0 front ≡ begun → value_after 0 all ≡ n)

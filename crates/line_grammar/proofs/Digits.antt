@@ -1,4 +1,4 @@
--- digits of one width tell numbers apart
+-- digits of one width differ where their numbers do
 use Rattle.std.proofs.Common.{◌≡◌, ℕ, zero, suc, ◌+◌, ◌-◌, ◌*◌, ◌/◌, ◌%◌, ◌^◌, ◌<◌, List, [], ◌∷◌, ◌++◌, length, refl, sym, ◌∙◌, ap, arith}
 use Rattle.std.proofs.Math.Nat.{pow-suc, pow-zero}
 use Rattle.line_grammar.specs.Shapes.{digits}
@@ -31,7 +31,7 @@ fronts (x ∷ a) r (y ∷ b) s h e =
     let rest = fronts a r b s (omega (arith, h)) (cc) in
     (ap (λ (c : ℕ). c ∷ a) head ∙ ap (λ (l : List ℕ). y ∷ l) rest.0, rest.1)
 
--- so many digits in front tell one number
+-- so many digits at the front are of one number
 pub one_front : (width m n : ℕ) (r s : List ℕ) → m < 10 ^ width → n < 10 ^ width → digits width m ++ r ≡ digits width n ++ s → (m ≡ n) × (r ≡ s)
 one_front width m n r s h k e =
     let same = fronts (digits width m) r (digits width n) s (digits_length width m ∙ sym (digits_length width n)) e in

@@ -65,7 +65,7 @@ seam token G bytes front back z f follow m heads =
           absurd (cc)
     ]
 
--- the fault behind a token is the fault
+-- the fault after a token is the fault
 field_past : (token : Token) (G : Grammar) (bytes front back : List ℕ) (left : ℕ) → may_follow token G ≡ true → Munches token bytes front back → Stops (Spells G) back left
     → (d q r : List ℕ) → back ≡ d ++ q → length q < left → IsField token G (front ++ (d ++ r)) → ⊥
 field_past token G bytes front back left follow m s [] q r e short f =
@@ -106,7 +106,7 @@ Stops-field token G bytes front back left follow m s = record {
       s.none g.parts (subst (λ (l : List ℕ). Spells G g.parts l) same g.spelled);
 }
 
--- where no token stands, its fault is the fault
+-- where there is no token, its fault is the fault
 miss_past : (token : Token) (G : Grammar) (bytes : List ℕ) (left : ℕ) → Misses token bytes left → (p q r : List ℕ) → bytes ≡ p ++ q → length q < left → IsField token G (p ++ r) → ⊥
 miss_past token G bytes left m p q r e short f =
     elim (split f.front f.back p r (sym f.list)) [

@@ -9,7 +9,7 @@ use Rattle.line_grammar.proofs.Grammars.{reads}
 use Rattle.line_grammar.proofs.Written.{tells_all, written_spells, spelled_parts, one_line, written_is_read}
 use Rattle.line_grammar.proofs.Sections.{Form}
 
--- the values of a section to the end have these texts, which its grammar tells apart
+-- the values of a section to the end have these texts, and its grammar distinguishes them
 pub record Texts {V : Type 0} (G : Grammar) (Lawful : V → Type 0) (parts : V → Parts) (text : V → List ℕ) : Type 0 where
   pub form : Form G Lawful parts
   pub sound : is_sound G ≡ true

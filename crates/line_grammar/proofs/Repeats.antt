@@ -1,4 +1,4 @@
--- parts that stand in a line any number of times
+-- parts that a line has any number of times
 use Rattle.std.proofs.Common.{◌≡◌, ℕ, suc, ◌+◌, ◌-◌, ◌≤◌, ◌<◌, max, true, List, ◌∷◌, ◌++◌, length, codes, Result, Err, ◌∙◌, ap, subst, arith}
 use Rattle.line_grammar.specs.Columns.{Begins, IsColumn}
 use Rattle.line_grammar.specs.Grammar.{Grammar, word, Parts, second, Spells}
@@ -8,7 +8,8 @@ use Rattle.line_grammar.specs.inside.Reading.{ended, named, further, read}
 use Rattle.line_grammar.proofs.Stops.{Stops, Reads, left_le, IsColumn-stops}
 use Rattle.line_grammar.proofs.Grammars.{reads}
 
--- a language without end: what one grammar spells is a line of it, and a line of it is spelled by all that are large enough
+-- a language without end: what one grammar spells is a line of it, and a line of it is spelled by all that are large
+-- enough
 pub record IsLimit {W : Type 0} (G : ℕ → Grammar) (L : W → List ℕ → Type 0) : Type 0 where
   pub to : (n : ℕ) (parts : Parts) (bytes : List ℕ) → Spells (G n) parts bytes → (w : W) × L w bytes
   pub back : (w : W) (bytes : List ℕ) → L w bytes → (m : ℕ) × ((n : ℕ) → m ≤ n → (parts : Parts) × Spells (G n) parts bytes)

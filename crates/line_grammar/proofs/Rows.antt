@@ -50,7 +50,7 @@ pub goes_on : (bytes : List ℕ) (left : ℕ) → ended bytes ≡ Err left → r
 unfolding read
 goes_on bytes left h = h
 
--- the exit of ? from what stands to the end of a line, and from a row
+-- the exit of ? from what goes to the end of a line, and from a row
 pub leaves_tail : {V : Type 0} (G : Grammar) (parts : V → Parts) (old bytes : List ℕ) (r : Result V ℕ) (left : ℕ) → old ≡ bytes → IsErrAnd r (λ y. y ≡ left) → read G old ≡ Err left
     → ReadsTail G parts bytes r
 leaves_tail G parts old bytes (Ok v) left s h k = absurd h
@@ -102,7 +102,7 @@ module _ {V : Type 0} (place : Parts → Parts) (Lawful : V → Type 0) (parts :
   first_row G H bytes (Ok v) ok h = (h.0, first_form (G finish) (H finish) place (λ v. parts v none) bytes (Ok v) ok h.1)
   first_row G H bytes (Err left) ok h = absurd (cc)
 
--- rows that tell the values of a section apart, to the end of a line
+-- rows that distinguish the values of a section, to the end of a line
 pub record WholeRows {V : Type 0} (rows : Grammar → Grammar) (Lawful : V → Type 0) (parts : V → Parts → Parts) : Type 0 where
   pub section : Section rows Lawful parts
   pub sound : is_sound (rows finish) ≡ true

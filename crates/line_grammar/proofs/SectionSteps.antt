@@ -5,14 +5,14 @@ use Rattle.line_grammar.specs.Grammar.{Grammar, word, field, either, Parts, part
 use Rattle.line_grammar.specs.inside.Reading.{after, read_token, and_then, and_part, named, further, read}
 use Rattle.line_grammar.specs.Sections.{labelled, ReadsSection, ReadsForm}
 
--- a field behind its label
+-- a field after its label
 pub no_label : {V : Type 0} (label : List ℕ) (token : Token) (parts : V → Parts → Parts) (old new : List ℕ) (r : Result V ℕ) (left : ℕ) → IsErrAnd r (λ y. y ≡ left)
     → after label old ≡ Err left → ReadsSection (labelled label token) parts old r new
 unfolding read
 no_label label token parts old new (Ok v) left h e = absurd h
 no_label label token parts old new (Err n) left h e = λ rest. ap (λ (r : Result (List ℕ) ℕ). and_then r (read (field token rest))) e ∙ ap (λ (m : ℕ). Err m) (sym h)
 
--- a field reads as its token does behind its label
+-- a field reads as its token does after its label
 pub field_answer : {V R : Type 0} (now : R → List ℕ) (label : List ℕ) (token : Token) (text : V → List ℕ) (old mid at new : List ℕ) (fields : Result (V × R) ℕ) (r : Result V ℕ)
     → after label old ≡ Ok mid → at ≡ mid → IfOk fields (λ p. read_token token at ≡ Ok (text p.0, now p.1)) → IfErr fields (λ left. read_token token at ≡ Err left)
     → IfOk r (λ v. IsOkAnd fields (λ p. (p.0 ≡ v) × (now p.1 ≡ new))) → IfErr r (λ left. fields ≡ Err left) → ReadsSection (labelled label token) (λ v. part (text v)) old r new
@@ -58,7 +58,7 @@ named_same : (r : Result Parts ℕ) → r ≡ named (λ p. p) r
 named_same (Ok p) = refl
 named_same (Err left) = refl
 
--- a word that stands in front is read
+-- a word at the front is read
 pub word_read : (text old mid : List ℕ) → after text old ≡ Ok mid → IsRead (word text) (λ p. p) old mid
 unfolding read
 word_read text old mid h rest = ap (λ (r : Result (List ℕ) ℕ). and_then r (read rest)) h ∙ named_same (read rest mid)
@@ -68,7 +68,7 @@ pub word_left : (text old : List ℕ) (left : ℕ) → after text old ≡ Err le
 unfolding read
 word_left text old left h rest = ap (λ (r : Result (List ℕ) ℕ). and_then r (read rest)) h
 
--- what stands behind a form to the end
+-- what comes after a form to the end
 pub whole : (G : Grammar → Grammar) (K : Grammar) (f : Parts → Parts) (old mid at : List ℕ) (own : Parts) → IsRead G f old mid → at ≡ mid → read K at ≡ Ok own → read (G K) old ≡ Ok (f own)
 whole G K f old mid at own h s k = h K ∙ ap (λ (l : List ℕ). named f (read K l)) (sym s) ∙ ap (named f) k
 
@@ -92,7 +92,7 @@ either_form G H place parts bytes (Err m) (Ok v) h k =
 either_form G H place parts bytes (Err m) (Err n) h k =
     ap (λ (x : Result Parts ℕ). further (named first x) (named second (read H bytes))) h ∙ ap (λ (x : Result Parts ℕ). further (Err m) (named second x)) k
 
--- two sections and what stands behind them to the end
+-- two sections and what comes after them to the end
 pub two_before : (G H : Grammar → Grammar) (K : Grammar) (f g : Parts → Parts) (old mid new : List ℕ) (r : Result Parts ℕ) → IsRead G f old mid → IsRead H g mid new → read K new ≡ r
     → read (G (H K)) old ≡ named (λ p. f (g p)) r
 two_before G H K f g old mid new r h k e = both G H f g old mid new h k K ∙ ap (named (λ p. f (g p))) e
@@ -111,7 +111,7 @@ second_form G H place parts bytes (Ok v) s fails ok h k = absurd (cc)
 second_form G H place parts bytes (Err m) (Ok v) fails ok h k = either_form G H place parts bytes (Err m) (Ok v) h k
 second_form G H place parts bytes (Err m) (Err n) fails ok h k = absurd (cc)
 
--- the further of two answers, as code tells it
+-- the further of two answers, as code gives it
 pub further_form : {V : Type 0} (G H : Grammar) (place : Parts → Parts) (parts : V → Parts) (bytes : List ℕ) (answer r s : Result V ℕ) → answer ≡ further r s
     → ReadsForm G (λ p. place (first p)) parts bytes r → ReadsForm H (λ p. place (second p)) parts bytes s → ReadsForm (either G H) place parts bytes answer
 further_form G H place parts bytes answer r s e h k = subst (ReadsForm (either G H) place parts bytes) (sym e) (either_form G H place parts bytes r s h k)

@@ -39,8 +39,8 @@ finish_is (part front q) h = absurd h
 finish_is (first q) h = absurd h
 finish_is (second q) h = absurd h
 
--- a section has the parts of the lawful values, each value its own, and then those of what follows; and it is written alike
--- whatever follows it, and spelled so
+-- a section has the parts of the lawful values, each value its own, and then those of what follows; and it is written
+-- alike whatever follows it, and spelled so
 pub record Section {V : Type 0} (G : Grammar → Grammar) (Lawful : V → Type 0) (parts : V → Parts → Parts) : Type 0 where
   pub is : (v : V) → Lawful v → (rest : Grammar) (q : Parts) → AreParts rest q → AreParts (G rest) (parts v q)
   pub of : (rest : Grammar) (p : Parts) → AreParts (G rest) p → (v : V) × (q : Parts) × Lawful v × (p ≡ parts v q) × AreParts rest q
@@ -67,7 +67,7 @@ fielded {V = V} {token = token} {Lawful = Lawful} {text = text} told = record {
   front = λ v h rest q back k. (told.is v h, (back, ap (λ (l : List ℕ). l ++ back) (append-nil (text v)), k));
 }
 
--- a section behind a word, which has no part
+-- a section after a word, which has no part
 pub worded : {V : Type 0} {G : Grammar → Grammar} {Lawful : V → Type 0} {parts : V → Parts → Parts} (label : List ℕ) → Section G Lawful parts → Section (λ rest. word label (G rest)) Lawful parts
 worded {G = G} {parts = parts} label s = record {
   is = s.is;
@@ -77,7 +77,7 @@ worded {G = G} {parts = parts} label s = record {
   front = λ v h rest q back k. (let line = written (G finish) (parts v none) in (line ++ back, append_assoc label line back, s.front v h rest q back k));
 }
 
--- a field behind its label
+-- a field after its label
 pub labelled : {V : Type 0} {token : Token} {Lawful : V → Type 0} {text : V → List ℕ} (label : List ℕ) → TokenTexts token Lawful text → Section (λ rest. word label (field token rest)) Lawful (λ v q. part (text v) q)
 labelled label told = worded label (fielded told)
 

@@ -201,7 +201,7 @@ pub record IsNext (more : ℕ) (ranges : List (ℕ × ℕ)) (n b : ℕ) (bytes :
   pub goes_on : fits more ranges (10 * n + (b - 48)) ≡ true
   pub rest : Numbered more ranges (10 * n + (b - 48)) bytes
 
--- a number's digits begin with one behind which the rest goes on
+-- a number's digits begin with one after which the rest goes on
 pub numbered_next : (more : ℕ) (ranges : List (ℕ × ℕ)) (n b : ℕ) (bytes : List ℕ) → Numbered (suc more) ranges n (b ∷ bytes) → IsNext more ranges n b bytes
 numbered_next more ranges n b bytes h =
     let x = h.0 / 10 ^ more in

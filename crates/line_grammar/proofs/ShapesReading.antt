@@ -5,7 +5,7 @@ use Rattle.line_grammar.specs.Tokens.{is_digit}
 use Rattle.line_grammar.specs.inside.Reading.{after, behind, and_letters, fits, read_numeral}
 use Rattle.line_grammar.proofs.ShapesNumerals.{digits_none, are_all, Numbered, numbered_some, numbered_none, numbered_more, numbered_next}
 
--- no such part stands there, and this many bytes are left where none goes on
+-- no such part is there, and this many bytes are left where none goes on
 pub record Fails (P : List ℕ → Type 0) (bytes : List ℕ) (left : ℕ) : Type 0 where
   pub front : List ℕ
   pub back : List ℕ
@@ -76,7 +76,7 @@ fails_other Q b bytes example is nothing never = record {
   none = other_none Q b bytes nothing never;
 }
 
--- behind a byte
+-- after a byte
 byte_past : (P Q : List ℕ → Type 0) (b : ℕ) (bytes : List ℕ) (left : ℕ) → ((l : List ℕ) → Q (b ∷ l) → P l) → Fails P bytes left → (p q rest : List ℕ) → b ∷ bytes ≡ p ++ q → length q < left → Q (p ++ rest) → ⊥
 byte_past P Q b bytes left from f [] q rest e short k = omega (arith, fails_le P bytes left f, ap length e)
 byte_past P Q b bytes left from f (x ∷ p) q rest e short k =

@@ -35,7 +35,7 @@ pub after_done : (text rest : List ℕ) (i : ℕ) → length text ≤ i → afte
 unfolding after
 after_done text rest i past = ap (λ (t : List ℕ). after t rest) (drop_all i text past)
 
--- a word that stands at the front as a whole
+-- a word that is at the front as a whole
 after_whole : (text rest : List ℕ) → after text (text ++ rest) ≡ Ok rest
 unfolding after
 after_whole [] rest = refl

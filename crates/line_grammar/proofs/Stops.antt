@@ -30,7 +30,7 @@ Begins-take L front k b = record {
   whole = subst (L b.value) (ap (λ (l : List ℕ). l ++ b.rest) (sym (take-append-drop k front)) ∙ append_assoc (take k front) (drop k front) b.rest) b.whole;
 }
 
--- how many are left tells the column
+-- how many are left gives the column
 pub IsColumn-stops : {W : Type 0} (L : W → List ℕ → Type 0) (bytes : List ℕ) (left n : ℕ) → Stops L bytes left → n + left ≡ length bytes + 1 → IsColumn L bytes n
 IsColumn-stops L bytes left n s e =
     let long : length bytes ≡ length s.front + left = ap length s.list ∙ length-append s.front s.back ∙ ap (λ (k : ℕ). length s.front + k) s.left_is in

@@ -13,7 +13,7 @@ pub record Munches (token : Token) (bytes front back : List ℕ) : Type 0 where
   pub is_token : IsToken token front
   pub longer : (x : ℕ) (rest more : List ℕ) → back ≡ x ∷ rest → IsToken token (front ++ (x ∷ more)) → ⊥
 
--- no token stands there, and this many bytes are left where none goes on
+-- no token is there, and this many bytes are left where none goes on
 pub record Misses (token : Token) (bytes : List ℕ) (left : ℕ) : Type 0 where
   pub front : List ℕ
   pub back : List ℕ

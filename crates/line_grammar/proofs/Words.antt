@@ -24,7 +24,7 @@ byte_past c L M bytes left byte s (x ∷ p) q e short b =
     let l = byte_rest c L M (p ++ b.rest) b.value byte (subst (λ (y : ℕ). M b.value (y ∷ (p ++ b.rest))) at b.whole) in
     s.past p q rest short (record { value = l.0; rest = b.rest; whole = l.1 })
 
--- the fault behind a byte is the fault
+-- the fault after a byte is the fault
 pub Stops-byte : {V W : Type 0} (c : ℕ) (L : V → List ℕ → Type 0) (M : W → List ℕ → Type 0) (bytes : List ℕ) (left : ℕ) → IsByte c L M → Stops L bytes left → Stops M (c ∷ bytes) left
 Stops-byte c L M bytes left byte s =
     let b = byte.to s.begins.value (s.front ++ s.begins.rest) s.begins.whole in

@@ -24,7 +24,7 @@ written_spells (field token rest) (second a) h = absurd h
 written_spells (either left right) none h = absurd h
 written_spells (either left right) (part a b) h = absurd h
 
--- a test of grammars: whether they tell each byte of a line
+-- a test of grammars: whether they determine each byte of a line
 abbrev pub tells_all : Grammar → Bool
 tells_all finish = true
 tells_all anything = false

@@ -24,7 +24,7 @@ abbrev pub ReadsAs : {W : Type 0} (L : Spelling W) (bytes : List ℕ) → Result
 ReadsAs {W = W} L bytes (Ok w) = L w bytes × ((u : W) → L u bytes → u ≡ w)
 ReadsAs L bytes (Err n) = IsColumn L bytes n
 
--- an answer that tells how many bytes are left at the fault, with the column in their place
+-- an answer that says how many bytes are left at the fault, with the column in their place
 abbrev pub with_column : {W : Type 0} (bytes : List ℕ) → Result W ℕ → Result W ℕ
 with_column bytes (Ok w) = Ok w
 with_column bytes (Err left) = Err (length bytes + 1 - left)

@@ -2,8 +2,8 @@
 use Rattle.std.specs.Prelude.{◌≡◌, ℕ, List, [], ◌++◌}
 use Rattle.line_grammar.specs.Tokens.{Token, IsToken}
 
--- what may stand from a place to the end of a line: nothing, anything, a word and what follows it, a token
--- and what follows it, or either of two
+-- what may come from a place to the end of a line: nothing, anything, a word and what follows it, a token and what
+-- follows it, or either of two
 pub data Grammar : Type 0 where
   finish : Grammar
   anything : Grammar

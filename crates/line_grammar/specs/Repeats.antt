@@ -1,4 +1,4 @@
--- Parts that stand in a line any number of times, one behind the other: this project's profile.
+-- Parts that a line has any number of times, one after the other: this project's profile.
 use Rattle.std.specs.Prelude.{ℕ, zero, suc, ◌≤◌, List, codes}
 use Rattle.line_grammar.specs.Grammar.{Grammar, finish, word, either, Parts, Spells}
 

@@ -8,8 +8,8 @@ use Rattle.line_grammar.specs.inside.Reading.{read}
 abbrev pub IsWritten : {V : Type 0} (rows : Grammar → Grammar) (Lawful : V → Type 0) (parts : V → Parts → Parts) → V → List ℕ → Type 0
 IsWritten rows Lawful parts v bytes = Lawful v × (bytes ≡ written (rows finish) (parts v none))
 
--- a reader of rows to the end of a line: the bytes were read whole as a value in its ranges whose parts stand at this place among the
--- rows; or this many bytes are left
+-- a reader of rows to the end of a line: the bytes were read whole as a value in its ranges whose parts are at this
+-- place among the rows; or this many bytes are left
 abbrev pub ReadsRow : {V : Type 0} (rows : Grammar → Grammar) (place : Parts → Parts) (Lawful : V → Type 0) (parts : V → Parts → Parts) → (bytes : List ℕ) → Result V ℕ → Type 0
 ReadsRow rows place Lawful parts bytes (Ok v) = Lawful v × ((own : Parts) × (read (rows finish) bytes ≡ Ok own) × (parts v none ≡ place own))
 ReadsRow rows place Lawful parts bytes (Err left) = read (rows finish) bytes ≡ Err left

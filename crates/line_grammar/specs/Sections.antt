@@ -1,10 +1,10 @@
--- Readers of sections of lines, and where a form stands among others: this project's profile.
+-- Readers of sections of lines, and the place of a form among others: this project's profile.
 use Rattle.std.specs.Prelude.{◌≡◌, ℕ, zero, suc, List, Result, Ok, Err}
 use Rattle.line_grammar.specs.Grammar.{Grammar, word, field, Parts, first, second}
 use Rattle.line_grammar.specs.Tokens.{Token}
 use Rattle.line_grammar.specs.inside.Reading.{read, named}
 
--- a token behind its label, and what follows it
+-- a token after its label, and what follows it
 abbrev pub labelled : List ℕ → Token → Grammar → Grammar
 labelled label token rest = word label (field token rest)
 
@@ -14,23 +14,23 @@ abbrev pub ReadsSection : {V : Type 0} (G : Grammar → Grammar) (parts : V → 
 ReadsSection G parts old (Ok v) new = (rest : Grammar) → read (G rest) old ≡ named (parts v) (read rest new)
 ReadsSection G parts old (Err left) new = (rest : Grammar) → read (G rest) old ≡ Err left
 
--- a reader of a form: the bytes were read whole as a value whose parts stand at this place among the forms; or this many
+-- a reader of a form: the bytes were read whole as a value whose parts are at this place among the forms; or this many
 -- bytes are left where they leave it
 abbrev pub ReadsForm : {V : Type 0} (G : Grammar) (place : Parts → Parts) (parts : V → Parts) → (bytes : List ℕ) → Result V ℕ → Type 0
 ReadsForm G place parts bytes (Ok v) = (own : Parts) × (read G bytes ≡ Ok own) × (parts v ≡ place own)
 ReadsForm G place parts bytes (Err left) = read G bytes ≡ Err left
 
--- a reader of what stands from a place to the end of a line
+-- a reader of what comes from a place to the end of a line
 abbrev pub ReadsTail : {V : Type 0} (G : Grammar) (parts : V → Parts) → (bytes : List ℕ) → Result V ℕ → Type 0
 ReadsTail G parts bytes (Ok v) = read G bytes ≡ Ok (parts v)
 ReadsTail G parts bytes (Err left) = read G bytes ≡ Err left
 
--- the parts of a form that stands behind so many others, and before the last
+-- the parts of a form that comes after so many others, and before the last
 abbrev pub nth : ℕ → Parts → Parts
 nth zero parts = first parts
 nth (suc n) parts = second (nth n parts)
 
--- the parts of the last form, which stands behind so many others
+-- the parts of the last form, which comes after so many others
 abbrev pub last : ℕ → Parts → Parts
 last zero parts = parts
 last (suc n) parts = second (last n parts)

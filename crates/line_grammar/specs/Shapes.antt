@@ -1,4 +1,4 @@
--- Shapes: parts of a line whose own bytes tell where they end. This project's profile.
+-- Shapes: parts of a line whose own bytes show where they end. This project's profile.
 use Rattle.std.specs.Prelude.{◌≡◌, ℕ, zero, suc, ◌+◌, ◌/◌, ◌%◌, Bool, true, ◌&&◌, nat_le, List, [], ◌∷◌, ◌++◌, ◌⊎◌}
 use Rattle.std.specs.List.{list_any}
 use Rattle.line_grammar.specs.Bytes.{digit_zero}
@@ -12,7 +12,8 @@ digits (suc width) n = digits width (n / 10) ++ (digit_zero + n % 10) ∷ []
 abbrev pub is_within : List (ℕ × ℕ) → ℕ → Bool
 is_within ranges n = list_any (λ range. nat_le range.0 n && nat_le n range.1) ranges
 
--- a shape: these letters, a number of these ranges in a fixed number of digits, one shape and then another, or one of two
+-- a shape: these letters, a number of these ranges in a fixed number of digits, one shape and then another, or one of
+-- two
 pub data Shape : Type 0 where
   letters : List ℕ → Shape
   fixed_number : ℕ → List (ℕ × ℕ) → Shape

@@ -12,7 +12,7 @@ is_one_of bytes b = list_any (λ c. c == b) bytes
 abbrev pub is_digit : ℕ → Bool
 is_digit b = nat_le digit_zero b && nat_le b digit_nine
 
--- the number of more digits behind those of a number
+-- the number of more digits after those of a number
 abbrev pub value_after : ℕ → List ℕ → ℕ
 value_after n [] = n
 value_after n (b ∷ digits) = value_after (10 * n + (b - digit_zero)) digits
@@ -30,7 +30,8 @@ pub record IsNumber (least most : ℕ) (bytes : List ℕ) : Type 0 where
   pub low : least ≤ value_after 0 bytes
   pub high : value_after 0 bytes ≤ most
 
--- a token: one or more of these bytes, a number from the first to the second in as many digits as it has, or what has this shape
+-- a token: one or more of these bytes, a number from the first to the second in as many digits as it has, or what has
+-- this shape
 pub data Token : Type 0 where
   run : List ℕ → Token
   free_number : ℕ → ℕ → Token

@@ -1,3 +1,4 @@
+//! Laws: each function here does nothing, and its contract is a theorem over definitions.
 ghost use Rattle.std.specs.Prelude.{◌≡◌, ◌+◌, ◌-◌, ◌≤◌, ℕ, List, length, Ok, Err, true};
 ghost use Rattle.line_grammar.specs.Columns.{ReadsAs, IsColumn, with_column};
 ghost use Rattle.line_grammar.specs.Grammar.{AreParts, Grammar, Parts, Spells, written};
@@ -24,8 +25,8 @@ pub fn written_lines_are_read()
         → read G (written G parts) ≡ Ok parts }
 {}
 
-/// Where parts of a line may stand any number of times, there is a grammar for every number, and they grow. Where the
-/// plain readers of all that are large enough stop with so many bytes left, this is the column of a line of all of them.
+/// Where a line may have parts any number of times, there is a grammar for every number, and they grow. Where the plain
+/// readers of all that are large enough stop with so many bytes left, this is the column of a line of all of them.
 pub fn growing_grammars_are_read()
     ensures { (G : ℕ → Grammar) (least : ℕ) (bytes : List ℕ) (left : ℕ) → Grow G → ((n : ℕ) → is_sound (G n) ≡ true)
         → ((n : ℕ) → least ≤ n → read (G n) bytes ≡ Err left)

@@ -1,3 +1,4 @@
+//! Numbers in lines that have so many digits, in ranges.
 ghost use Rattle.std.specs.Prelude.{◌≡◌, ℕ, ◌+◌, ◌-◌, ◌*◌, ◌<◌, ◌≤◌, ◌^◌, ◌&&◌, true, false, ◌++◌, IfOk, IfErr, IfSome, MatchOption, Ok, Err};
 ghost use Rattle.line_grammar.specs.Bytes.{digit_zero};
 ghost use Rattle.line_grammar.specs.Shapes as shape;
@@ -17,7 +18,7 @@ fn power_of_ten(exponent: usize) -> u64
     10u64.pow(exponent as u32)
 }
 
-/// Whether some number of these ranges has so many digits more behind those of this one.
+/// Whether some number of these ranges has so many digits more after those of this one.
 #[tactic(auto, unfolding(crate::specs::inside::Reading::fits))]
 fn fits(more: usize, ranges: &[(u64, u64)], number: u64) -> bool
     requires { more ≤ 10 }
@@ -27,7 +28,7 @@ fn fits(more: usize, ranges: &[(u64, u64)], number: u64) -> bool
     ranges.iter().any(|range| range.0 / power <= number && number <= range.1 / power)
 }
 
-/// The number with this digit more, where some number of these ranges has so many digits behind them.
+/// The number with this digit more, where some number of these ranges has so many digits after them.
 fn with_digit(more: usize, ranges: &[(u64, u64)], number: u64, byte: u8) -> Option<u64>
     requires more { more ≤ 10 }
     requires number { number < 2 ^ 60 }
@@ -46,8 +47,8 @@ fn with_digit(more: usize, ranges: &[(u64, u64)], number: u64, byte: u8) -> Opti
     }
 }
 
-/// A number of these ranges in so many digits at the front of these bytes, and what follows it, digit by digit: so the first that
-/// no number goes on with is found.
+/// A number of these ranges in so many digits at the front of these bytes, and what follows it, digit by digit: so the
+/// first that no number goes on with is found.
 #[inline(never)]
 fn digit_by_digit<'a>(
     width: usize,
@@ -104,8 +105,8 @@ fn has(ranges: &[(u64, u64)], number: u64) -> bool
         .any(|range| range.0 <= number && number <= range.1)
 }
 
-/// A number of these ranges in so many digits at the front of these bytes, and what follows it. Only where none is there, the digits are
-/// judged one by one. Where the width and the ranges are constants, the loops fold.
+/// A number of these ranges in so many digits at the front of these bytes, and what follows it. Only where none is
+/// there, the digits are judged one by one. Where the width and the ranges are constants, the loops fold.
 #[inline(always)]
 pub fn fixed_number<'a>(
     width: usize,

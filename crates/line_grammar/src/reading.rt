@@ -1,3 +1,4 @@
+//! Reading words and digits of a line, and the column of a fault.
 ghost use Rattle.std.specs.Prelude.{◌≡◌, ◌+◌, ◌≤◌, ◌<◌, ◌^◌, length, IfOk, IfErr, OnOk, Ok, Err};
 ghost use Rattle.std.specs.List.{prefix_len};
 ghost use Rattle.line_grammar.specs.Grammar.{none};
@@ -5,7 +6,8 @@ ghost use Rattle.line_grammar.specs.Tokens as tokens;
 ghost use Rattle.line_grammar.specs.inside.Reading as readers;
 ghost use Rattle.line_grammar.specs.inside.Reading.{after, ended, read_token};
 
-/// How many bytes of a text were left to read at its fault: from where it leaves what its grammar has, 0 where it ends too early.
+/// How many bytes of a text were left to read at its fault: from where it leaves what its grammar has, 0 where it ends
+/// too early.
 pub type Left = usize;
 
 /// What follows a word at the front of these bytes.
@@ -26,8 +28,8 @@ pub fn word<'a>(text: &[u8], bytes: &'a [u8]) -> Result<&'a [u8], Left>
     Ok(rest)
 }
 
-/// The same as `word`, for a word that nearly always stands there. It compares the word whole, and goes byte by byte only where another
-/// stands there. Where the word is a constant, the comparison folds.
+/// The same as `word`, for a word that is nearly always there. It compares the word whole, and goes byte by byte only
+/// where another is there. Where the word is a constant, the comparison folds.
 #[inline(always)]
 pub fn whole_word<'a>(text: &[u8], bytes: &'a [u8]) -> Result<&'a [u8], Left>
     ensures rest { IfOk result (λ rest. after text.now bytes.now ≡ Ok rest.now) }
@@ -71,8 +73,8 @@ pub fn end(bytes: &[u8]) -> Result<(), Left>
     }
 }
 
-/// Of two answers the one that is no fault, or the further fault. By reference, since the borrow checker has no rule for
-/// a call that takes by value a `Result` of a value with an invariant beside the bytes that follow it.
+/// The answer of two that is no fault, or else the further fault. By reference, since the borrow checker has no rule
+/// for a call that takes by value a `Result` of a value with an invariant beside the bytes that follow it.
 pub fn further<T: Copy>(first: &Result<T, Left>, second: &Result<T, Left>) -> Result<T, Left>
     ensures { result ≡ readers.further first.now second.now }
 {

@@ -34,7 +34,7 @@ pub record Alike : Type 0 where
   pub unions : (S T U V : Symbols) → AreAlike S T → AreAlike U V → AreAlike (λ v. S v || U v) (λ v. T v || V v)
   pub sheet : (F : Facts) (sheet : List Seen) (p : ℕ) → IsEnds F sheet → AreAlike (F p) (facts_in sheet p)
 
--- where a look with the sheet of these facts tells no call, they report none
+-- where a look with the sheet of these facts reports no call, they report none
 pub last_unreported : Alike → (sheet : List Seen) (before after : Option Call) (told : News) (F : Facts) → IsEnds F sheet → IsNews sheet before after told → IsUnreported F after
 last_unreported laws sheet before after (news.Same call) F ends is = subst (λ (t : Option Call). IsUnreported F t) (sym is.1) tt
 last_unreported laws sheet before after (news.New call) F ends is = subst (λ (t : Option Call). IsUnreported F t) (sym is.1) tt

@@ -1,4 +1,4 @@
--- A watcher's round stays one behind each look, and what it tells at its end.
+-- A watcher's round stays one after each look, and what it answers at its end.
 use Rattle.std.proofs.Common.{◌≡◌, ◌≢◌, ◌⊎◌, ℕ, ◌+◌, ◌<◌, ◌≤◌, false, true, List, Option, Some, None, length, set, slice_index, refl, sym, ap, subst, ◌∙◌, inl, inr, arith}
 use Rattle.std.proofs.lemmas.Bool.{cases_eq, cases_lt}
 use Rattle.std.proofs.Math.Bool.{or-false}

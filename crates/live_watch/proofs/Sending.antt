@@ -28,7 +28,7 @@ use Rattle.slot_join.specs.OneCall.{ShowsNoOther, IsCallOrMissing}
 use Rattle.live_watch.specs.Told.{IsShownAt, IsTold}
 use Rattle.live_watch.proofs.Telling.{before_end}
 
--- format specifiers stand twice at the start of calls, and nothing else does
+-- format specifiers come twice at the start of calls, and nothing else does
 abbrev pub FormatsBegin : Type 0
 FormatsBegin = (f : ℕ) → IsFormat f ↔ IsViable (f ∷ f ∷ [])
 

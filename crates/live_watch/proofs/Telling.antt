@@ -25,7 +25,7 @@ OneCheckPlace = (c d : Call) (rest : List ℕ) → IsCall c → IsCall d → up_
 abbrev pub OneEndPlace : Type 0
 OneEndPlace = (l : List ℕ) (x : ℕ) → IsAtEnd l → IsViable (l ++ x ∷ []) → IsAtCheck (l ++ x ∷ [])
 
--- what stands before the first end of sequence
+-- what comes before the first end of sequence
 abbrev pub before_end : Call → List ℕ
 before_end c = format_of c ∷ (format_of c ∷ fields_of c)
 

@@ -22,7 +22,7 @@ sight_at watched i d below = get_or-map sight_of watched i nothing_watched d bel
 same_sight : (a b : Sight) → a.group ≡ b.group → a.seen ≡ b.seen → a ≡ b
 same_sight a b group seen = λ i. record { group = group i; seen = seen i }
 
--- a sight stands among those of the groups
+-- a sight is among those of the groups
 pub found : (watched : List WatchedGroup) (i : ℕ) (s : Sight) → i < length watched → (watched_at watched i).group ≡ s.group → (watched_at watched i).call ≡ s.seen → Contains (sights_of watched) s
 found watched i s below group call = (i, omega (arith, below, seen_long watched), sight_at watched i s below ∙ same_sight (sight_of (watched_at watched i)) s group call)
 
@@ -32,7 +32,7 @@ where_found watched s c =
     let is = sym (sight_at watched c.0 s below) ∙ c.2 in
     (c.0, below, ap (λ (x : Sight). x.group) is, ap (λ (x : Sight). x.seen) is)
 
--- what was seen of a group that stands somewhere, or nowhere
+-- what was seen of a group that is somewhere in the list, or nowhere
 sight_by : (watched : List WatchedGroup) (place group : ℕ) (one : WatchedGroup) (call : Option Call) → IsPlaceOf watched place group → one ≡ watched_at watched place → one.call ≡ call → IsSightOf (sights_of watched) group call
 sight_by watched place group one None at is call = inr (found watched place (record { group = group; seen = None }) at.0 at.1 (ap (λ (w : WatchedGroup). w.call) (sym is) ∙ call))
 sight_by watched place group one (Some c) at is call = found watched place (record { group = group; seen = Some c }) at.0 at.1 (ap (λ (w : WatchedGroup). w.call) (sym is) ∙ call)

@@ -45,8 +45,9 @@ pub record IsSeenWith (known : List Seen) (view : View) (call : Call) : Type 0 w
 abbrev pub known_of : List (List Seen) → ℕ → List Seen
 known_of known group = slice_index_or known group []
 
--- a watcher went round the boards of these groups with these seats, where before it watched the same groups: it forgot no call; it saw none
--- but of its group's own board; and of a watched group that has a board it saw one, or what its seat knows reports none
+-- a watcher went round the boards of these groups with these seats: it watches the same groups as before; it forgot no
+-- call; each new call is of its group's own board; and if a watched group has a board, the watcher saw a call of it, or
+-- what its seat knows reports none
 pub record WentRound (before after : List Sight) (known : List (List Seen)) (groups : List ℕ) (seats : List Held) : Type 0 where
   pub same : map (λ sight. sight.group) after ≡ map (λ sight. sight.group) before
   pub kept : (group : ℕ) (call : Call) → HasSeen before group call → HasSeen after group call

@@ -8,8 +8,8 @@ use Rattle.receiver_pool.specs.declared.group_entries.GroupSheet.{GroupSheet}
 use Rattle.receiver_pool.specs.Groups.{facts_of_group, IsShort, Shows}
 use Rattle.live_watch.specs.Batches.{Sight, HasWatched}
 
--- it may be called with what is known, a batch of receptions that aren't too long, and a watcher; and then gives what the batch shows of
--- each group, and the watcher, who watched it
+-- it may be called with what is known, a batch of receptions that aren't too long, and a watcher; and then gives what
+-- the batch shows of each group, and the watcher, who watched it
 pub record JoinsWatched {Z E : Type 0} (may : Bor (List (List Seen)) → Bor (List GroupReception) → List Sight → Type 0)
     (gives : Bor (List (List Seen)) → Bor (List GroupReception) → List Sight → Result (Vec GroupSheet Z × List Sight) E → Type 0) : Type 0 where
   pub accepts : (known : Bor (List (List Seen))) (batch : Bor (List GroupReception)) (watcher : List Sight) → All IsShort batch.now → may known batch watcher

@@ -23,8 +23,8 @@ pub record Reports (sheet : List Seen) (call : Call) : Type 0 where
   pub extra : Extra
   pub answer : IsAnswer (facts_in sheet) (Reported call extra)
 
--- the news of a look with this sheet: the call that was told before; or the first that a sheet reports, which is told from then on;
--- or, where none is told, the answer of the sheet, which reports none
+-- the news of a look with this sheet: the call that was told before; or the first that a sheet reports, which is told
+-- from then on; or, where none is told, the answer of the sheet, which reports none
 abbrev pub IsNews : List Seen → (before after : Option Call) → News → Type 0
 IsNews sheet before after (news.Same call) = (before ≡ Some call) × (after ≡ Some call)
 IsNews sheet before after (news.New call) = (before ≡ None) × (after ≡ Some call) × Reports sheet call

@@ -59,9 +59,10 @@ struct WatchedGroup {
     group: usize,
     /// The call that was seen of it, if any.
     call: SeenCall,
-    /// Where its board stands among those of the batch.
+    /// The place of its board among those of the batch.
     board: Option<usize>,
-    /// Whether somebody looked there, or nobody need look before something new is posted: what was known of the group reports no call.
+    /// Whether somebody looked there, or nobody need look before something new is posted: what was known of the group
+    /// reports no call.
     is_looked: bool,
     /// How often something new had been posted there before the last look.
     posts: u32,
@@ -96,8 +97,8 @@ impl WatchedGroup {
         self.group < known.len() && self.is_judged(&known[self.group])
     }
 
-    /// Begins a batch in which its board stands at this place, if it has one. Where what was known of the group was judged before, nobody need
-    /// look there before something new is posted.
+    /// Begins a batch in which its board is at this place, if it has one. Where what was known of the group was judged
+    /// before, nobody need look there before something new is posted.
     fn begin(&mut self, known: &[Sheet], board: Option<usize>)
         ensures kept { (self.new.group ≡ self.old.group) × (self.new.call ≡ self.old.call) × (self.new.board ≡ board) }
         ensures judged { self.new.is_looked ≡ true → IsReportOf (known_of known.now self.old.group) None }
@@ -107,8 +108,8 @@ impl WatchedGroup {
         self.posts = 0;
     }
 
-    /// Whether nothing is to be seen of it by a look at its board, on which something new was posted so often: a call was seen, or nothing is
-    /// new. The last look is made also where none was made before that need be.
+    /// Whether nothing is to be seen of it by a look at its board, on which something new was posted so often: a call
+    /// was seen, or nothing is new. The last look is made also where none was made before that need be.
     fn is_over(&self, posts: u32, is_last: bool) -> bool
         ensures over { result ≡ true → is_last ≡ true → IsDone self.now }
         ensures open { result ≡ false → self.now.call ≡ None }
@@ -162,7 +163,7 @@ fn with_known(known: &[Sheet], group: usize, sheet: &Sheet) -> Sheet
     all
 }
 
-/// Where a group stands in a list: it is sought here first.
+/// The place of a group in a list: it is sought here first.
 fn place_of(groups: &[usize], here: usize, group: usize) -> Option<usize>
     ensures { IsBoardOf groups.now group result }
 {
@@ -177,7 +178,8 @@ fn place_of(groups: &[usize], here: usize, group: usize) -> Option<usize>
     None
 }
 
-/// Finds the board of each group: the k-th board is that of the k-th of these groups. No seat of them has seen anything.
+/// Finds the board of each group: the k-th board is that of the k-th of these groups. No seat of them has seen
+/// anything.
 fn find_boards(watched: &mut [WatchedGroup], known: &[Sheet], groups: &[usize])
     ensures { (seats : List Held) → HaveSeenNothing (length groups.now) seats
         → IsRound known.now groups.now watched.old watched.new seats }
@@ -192,8 +194,8 @@ fn find_boards(watched: &mut [WatchedGroup], known: &[Sheet], groups: &[usize])
     }
 }
 
-/// Looks at the board of the group with this index, where a call is still to be seen of it and there is something new. The last look is made
-/// also where there is nothing.
+/// Looks at the board of the group with this index, where a call is still to be seen of it and there is something new.
+/// The last look is made also where there is nothing.
 fn look_once(
     index: usize,
     watched: &mut [WatchedGroup],
@@ -271,7 +273,7 @@ fn look_on(
     }
 }
 
-/// Goes round the boards of groups, and once more behind the last post.
+/// Goes round the boards of groups, and once more after the last post.
 fn go_through(
     watched: &mut [WatchedGroup],
     known: &[Sheet],
@@ -291,7 +293,7 @@ fn go_through(
     go_once(watched, known, boards, seats, posts, true);
 }
 
-/// Where the group with this number stands among those that are watched: it is sought here first.
+/// The place of the group with this number among those that are watched: it is sought here first.
 fn place_among(watched: &[WatchedGroup], here: usize, group: usize) -> Option<usize>
     ensures { MatchOption result (IsNoneOf watched.now group) (λ place. IsPlaceOf watched.now place group) }
 {
@@ -306,9 +308,10 @@ fn place_among(watched: &[WatchedGroup], here: usize, group: usize) -> Option<us
     None
 }
 
-/// A watcher of a batch. It goes round the boards of the groups that it watches, and looks at those on which there is something new, until
-/// it has seen a call of each; and once more after the last post. What was known of a group before the batch counts with what its board
-/// shows. Contracts see it as the groups that it watches, each with the call that it saw.
+/// A watcher of a batch. It goes round the boards of the groups that it watches, and looks at those on which there is
+/// something new, until it has seen a call of each; and once more after the last post. What was known of a group before
+/// the batch counts with what its board shows. Contracts see it as the groups that it watches, each with the call that
+/// it saw.
 #[derive(Drop)]
 pub struct BatchWatcher {
     watched: Vec<WatchedGroup>,
@@ -334,7 +337,8 @@ impl BatchWatcher {
         }
     }
 
-    /// Watches the group with this number too, of which a sheet may be known that reports no call. The error is want of memory.
+    /// Watches the group with this number too, of which a sheet may be known that reports no call. The error is want of
+    /// memory.
     pub fn add(&mut self, group: usize, unreported: Option<Unreported>) -> Result<(), AllocError>
         ensures { OnOk result (self.new ≡ self.old ++ record { group = group; seen = None } ∷ []) }
     {
@@ -342,7 +346,8 @@ impl BatchWatcher {
         Ok(())
     }
 
-    /// The call that it saw of the group with this number, if any. The group is sought first at the place at which it was added.
+    /// The call that it saw of the group with this number, if any. The group is sought first at the place at which it
+    /// was added.
     pub fn seen_of(&self, here: usize, group: usize) -> Option<Call>
         ensures { IsSightOf self.now group result }
     {
@@ -384,9 +389,9 @@ impl Beside for BatchWatcher {
     }
 }
 
-/// What a batch of receptions shows, as `pool_groups` says it, by 1 to 64 workers and with one fork, while a watcher goes round the boards
-/// of the groups that it watches. It enters the gate once, before its first look, with the number `workers`. Where it has no group to watch,
-/// this is `pool_groups`. The error is want of memory.
+/// What a batch of receptions shows, as `pool_groups` says it, by 1 to 64 workers and with one fork, while a watcher
+/// goes round the boards of the groups that it watches. It enters the gate once, before its first look, with the number
+/// `workers`. Where it has no group to watch, this is `pool_groups`. The error is want of memory.
 pub fn watch_batch<R: Threads + Sync, G: Gate>(
     rt: &R,
     alloc: Global,
@@ -418,7 +423,8 @@ pub trait WatchedJoiner: Drop {
         requires { length heard.now ≤ LONGEST }
         ensures { IfSome result (λ sheet. IsEnds (facts_of heard.now) sheet) };
 
-    /// Joins a batch of receptions into the sheets of their groups, and gives the watcher back. The error is want of memory.
+    /// Joins a batch of receptions into the sheets of their groups, and gives the watcher back. The error is want of
+    /// memory.
     fn join_watched(
         &self,
         watcher: BatchWatcher,
@@ -432,7 +438,8 @@ pub trait WatchedJoiner: Drop {
         ensures watched { IfOk result (λ after. HasWatched watcher after sheets.old batch.now) };
 }
 
-/// Workers who read batches by this function, as `watch_batch` does. One who works alone also reads a reception by itself.
+/// Workers who read batches by this function, as `watch_batch` does. One who works alone also reads a reception by
+/// itself.
 #[derive(Drop)]
 pub struct WatchedWorkers<J> {
     alone: Alone,

@@ -1,3 +1,4 @@
+//! Laws: each function here does nothing, and its contract is a theorem over definitions.
 ghost use Rattle.std.specs.Prelude.{◌≡◌, ℕ, true};
 ghost use Rattle.call_values.specs.declared.calls.Call.{Call};
 ghost use Rattle.call_values.specs.Calls.{IsCall};
@@ -12,8 +13,9 @@ ghost use Rattle.live_watch.specs.Told.{IsTold};
 use call_grammar::{formats_begin_calls, one_check_place, one_end_place};
 use slot_join::call_or_missing_place;
 
-/// The laws of told calls. A call that facts report may be told of them; what may be told of facts may be told of more; and where the
-/// places of a call that was sent showed no other symbols than its own, no other call may be told. It does nothing.
+/// The laws of told calls. A call that facts report may be told; what may be told of facts may be told of more; and
+/// where the places of a call that was sent showed no other symbols than its own, no other call may be told. It does
+/// nothing.
 pub fn told_calls()
     ensures answered { (F : Facts) (call : Call) (extra : Extra) → IsAnswer F (Reported call extra) → IsTold F call }
     ensures more { (F G : Facts) (call : Call) → ((p v : ℕ) → F p v ≡ true → G p v ≡ true) → IsTold F call

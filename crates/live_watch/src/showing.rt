@@ -31,8 +31,8 @@ fn either_keeps(sheet: &Sheet, first: usize, second: usize, symbol: u8) -> bool
     keeps(sheet, first, symbol) || keeps(sheet, second, symbol)
 }
 
-/// Whether a sheet keeps a call's symbol of a place of its list; of that of the first end of sequence, those of the second and the third
-/// may show it too.
+/// Whether a sheet keeps a call's symbol of a place of its list; of that of the first end of sequence, those of the
+/// second and the third may show it too.
 fn shows_place(sheet: &Sheet, call: &Call, list: &[u8], place: usize) -> bool
     requires list { list.now ≡ spelled call.now }
     requires short { length list.now ≤ 32 }
@@ -49,8 +49,9 @@ fn shows_place(sheet: &Sheet, call: &Call, list: &[u8], place: usize) -> bool
     false
 }
 
-/// Whether a sheet shows a call: of each place up to the error check character it keeps the call's symbol. Then, and only then, the call may
-/// be told of what the sheet keeps; and so it may be told of all facts whose ends the sheet keeps.
+/// Whether a sheet shows a call: for each place up to the error check character it keeps the call's symbol. Then, and
+/// only then, the call may be told of what the sheet keeps; and so it may be told of all facts whose ends the sheet
+/// keeps.
 pub fn shows_call(sheet: &Sheet, call: &Call) -> bool
     ensures shown { result ≡ true → IsTold (facts_in sheet.now) call.now }
     ensures hidden { result ≡ false → IsTold (facts_in sheet.now) call.now → ⊥ }
@@ -71,8 +72,8 @@ pub fn shows_call(sheet: &Sheet, call: &Call) -> bool
     true
 }
 
-/// The call to tell of a sheet's facts: the one that a watcher saw, where the sheet shows it, and else the one that the sheet reports. None is
-/// told only where the facts report none.
+/// The call to report of a sheet's facts: the one that a watcher saw, where the sheet shows it, and else the one that
+/// the sheet reports. There is none only where the facts report none.
 pub fn call_to_tell(sheet: &Sheet, seen: Option<Call>) -> Option<Call>
     ensures watched { (F : Facts) → IsEnds F sheet.now → IsWatched F result }
     ensures exact { IsToTell (facts_in sheet.now) seen result }
@@ -110,7 +111,7 @@ impl Unreported {
     }
 }
 
-/// The call to tell of a sheet's facts, as `call_to_tell` finds it, or that there is none.
+/// The call to report of a sheet's facts, as `call_to_tell` finds it, or that there is none.
 pub fn judge(sheet: &Sheet, seen: Option<Call>) -> Result<Call, Unreported>
     ensures call { IfOk result (λ call. (F : Facts) → IsEnds F sheet.now → IsWatched F (Some call)) }
     ensures exact { IfOk result (λ call. IsToTell (facts_in sheet.now) seen (Some call)) }

@@ -18,7 +18,7 @@ use slot_evidence::{Sheet, sheet_has_facts};
 use slot_join::{Joined, looks_report_the_call, one_answer, report};
 use std::marker::Model;
 
-/// What a look at a board tells.
+/// What a look at a board shows.
 #[derive(Clone, Copy, Debug, PartialEq, Eq)]
 pub enum News {
     /// The first call that a look reported.
@@ -29,7 +29,7 @@ pub enum News {
     Not(Joined),
 }
 
-/// A seat that looks at its board until it can tell a call. Contracts see it as its seat and the call that it told.
+/// A seat that looks at its board until it can report a call. Contracts see it as its seat and the call that it told.
 #[derive(Drop)]
 pub struct Watcher<A: Allowed> {
     seat: Seat<A>,
@@ -56,8 +56,8 @@ impl<A: Allowed> Watcher<A> {
         Watcher { seat, told: None }
     }
 
-    /// Makes one look, and says what it tells: the call that was told before, or the first call that a look reports, which is then told,
-    /// or the answer to what the board shows, which is then no call.
+    /// Makes one look, and answers what it shows: the call that was told before, or the first call that a look reports,
+    /// which is then told, or the answer to what the board shows, which is then no call.
     pub fn poll(self, board: &Board<A>) -> (Watcher<A>, News)
         requires { self.seat.table ≡ board.now }
         ensures board { result.0.seat.table ≡ board.now }
@@ -69,7 +69,8 @@ impl<A: Allowed> Watcher<A> {
             → IsEnds F (given_sheet self.seat.view) → IsEnds F (seen_sheet result.0.seat.view) }
         ensures news { IsNews (seen_sheet result.0.seat.view) self.told result.0.told result.1 }
 
-        // Where one call's facts alone may be posted, no other call is told; and it is told where the seat knew each of its places.
+        // Where one call's facts alone may be posted, no other call is told; and it is told where the seat knew each of
+        // its places.
         ensures one { (call : Sent) (tail : List ℕ) → IsCall call → AreOneCalls A.facts call tail
             → IsNewsOf call (seen_sheet result.0.seat.view) result.1 }
         ensures known { (call : Sent) (tail : List ℕ) → IsCall call → AreOneCalls A.facts call tail
@@ -122,7 +123,7 @@ impl<A: Allowed> Watcher<A> {
     }
 }
 
-/// What a look with this sheet tells a watcher that told this call, or none.
+/// What a look with this sheet shows a watcher that told this call, or none.
 fn news_of(told: Option<Call>, sheet: &Sheet) -> News
     ensures { IsNews sheet.now told (call_in result) result }
 {
@@ -134,7 +135,7 @@ fn news_of(told: Option<Call>, sheet: &Sheet) -> News
     }
 }
 
-/// What an answer tells where no call was told.
+/// What an answer says where no call was told.
 fn first_news(joined: Joined) -> News
     ensures { IsFirst joined result }
 {

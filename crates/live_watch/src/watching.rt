@@ -112,8 +112,8 @@ fn poll_last<A: Allowed>(watcher: Watcher<A>, board: &Board<A>) -> Watcher<A>
     watcher
 }
 
-/// Ends a watch behind its workers: the sheet of all that was posted, and the call that was told. A call that the watcher told before is told;
-/// where it told none, it polls once more.
+/// Ends a watch after its workers: the sheet of all that was posted, and the call that was told. A call that the
+/// watcher told before stays; where it told none, it polls once more.
 fn end_watch<A: Allowed>(
     board: Board<A>,
     watcher: Watcher<A>,
@@ -161,10 +161,11 @@ fn watch_on<A: Allowed, R: Threads + Sync, G: Gate>(
     Ok(end_watch(board, watcher, seat))
 }
 
-/// Joins receptions as `pool` does, on a board that begins with a sheet, while a watcher polls it beside 1 to 64 workers: until it has told
-/// a call, at most 64 times, and once more behind them where it has told none. It answers the sheet of all facts, and the call that was
-/// told: each of its symbols was shown. None is told only where the facts report no call. The watcher enters the gate once, before its first
-/// poll, with the number `workers`. The error is want of memory.
+/// Joins receptions as `pool` does, on a board that begins with a sheet. A watcher polls the board beside 1 to 64
+/// workers: until it has told a call, at most 64 times, and once more after them where it has told none. It answers the
+/// sheet of all facts, and the call that was told, each of whose symbols was shown; none only where the facts report no
+/// call. The watcher enters the gate once, before its first poll, with the number `workers`. The error is want of
+/// memory.
 pub fn watch<R: Threads + Sync, G: Gate>(
     rt: &R,
     alloc: Global,

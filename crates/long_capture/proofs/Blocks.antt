@@ -15,7 +15,7 @@ use Rattle.long_capture.proofs.Near.{at_index}
 use Rattle.long_capture.proofs.LastElements.{length-put}
 use Rattle.long_capture.proofs.Steps.{at_end}
 
--- so many of these elements stand in the stream from a place on
+-- so many of these elements are in the stream from a place on
 abbrev pub AreNext : List Element → ℕ → ℕ → List Element → Type 0
 AreNext e n count ys = (k : ℕ) → k < count → element_at e (n + 150 + k) ≡ get_or ys k Lost
 
@@ -50,7 +50,7 @@ quiet_block was count few e n reads = record {
   none = λ lead low high. reads.quiet (lead + 1449 - n) lead (omega arith) (omega arith);
 }
 
--- the elements that were put behind others
+-- the elements that were put after others
 pub next_block : (e ys more : List Element) (count : ℕ) → length ys ≡ count → AreNext (e ++ (ys ++ more)) (length e) count ys
 next_block e ys more count size k below =
     let place : length e + 150 + k ≡ 150 + (length e + k) = omega arith in
@@ -69,7 +69,7 @@ pub record IsSkip (old new : Scan) (xs : List Element) (count : ℕ) : Type 0 wh
   pub reads : (e : List Element) (n : ℕ) → Reads old e n → AreNext e n count xs → Reads new e (n + count)
   pub quiet : (e : List Element) (n : ℕ) → Reads old e n → AreQuiet e (n - 1449) (n + count - 1449)
 
--- a front of the elements stands where they do
+-- a front of the elements is where they are
 front_next : (e xs more : List Element) (count : ℕ) → count ≤ length xs → AreNext (e ++ (take count xs ++ more)) (length e) count xs
 front_next e xs more count front k below = next_block e (take count xs) more count (length-take-le count xs front) k below ∙ get_or-take count xs k Lost below
 

@@ -43,7 +43,7 @@ rest_phased laws w e q k window few =
     ∙ window.same (1 + (k + i)) (omega arith)
     ∙ ap (element_at e) there)
 
--- the first phased index behind a window's first one, or none
+-- the first phased index after a window's first one, or none
 pub record IsAfter (w : List Element) (after : ℕ) : Type 0 where
   pub within : after ≤ 1599
   pub phased : after < 1599 → is_phased (rest_of w) (after + 150) ≡ true
@@ -77,7 +77,7 @@ cut_at w e q end next j window few inside back =
 whole_at : (w e : List Element) (q end j : ℕ) → IsWindow w e q → j < 1440 → j < end → element_at (take end w) (150 + j) ≡ element_at e (q + j)
 whole_at w e q end j window few below = at_index (take end w) j ∙ get_or-take end w j Lost below ∙ window.same j (omega arith)
 
--- where the leads of the stream behind a start aren't phased, the window has none among the first 1,440
+-- where the leads of the stream after a start aren't phased, the window has none among the first 1,440
 far_after : Laws → (w e : List Element) (q after : ℕ) → IsWindow w e q → IsAfter w after → ((k : ℕ) → k < 1440 → is_phased e (q + 1 + k) ≡ false) → 1440 ≤ after
 far_after laws w e q after window is none =
     elim (cases_lt after 1440) [

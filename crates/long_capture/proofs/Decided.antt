@@ -47,7 +47,7 @@ more_window e more lead inside = record {
   same = λ k below. at_window e lead k below ∙ sym (at_more e more (lead + k) (omega arith));
 }
 
--- a window has a first phased index behind its first one, or none
+-- a window has a first phased index after its first one, or none
 abbrev is_after : List Element → ℕ → Bool
 is_after w k = is_phased (rest_of w) (k + 150)
 

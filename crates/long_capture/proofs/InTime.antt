@@ -20,7 +20,7 @@ kept_at e next place near =
           element_at-inside (take (next - 150) e) place late ∙ get_or-take (next - 150) e (place - 150) Lost (omega arith) ∙ sym (element_at-inside e place late)
     ]
 
--- a slot that ends behind the cut is not inside
+-- a slot that ends after the cut is not inside
 cut_off : (e : List Element) (next lead s v : ℕ) → next < lead + 10 * s + 10 → shows (take (next - 150) e) lead s v ≡ false
 unfolding shows
 cut_off e next lead s v past =

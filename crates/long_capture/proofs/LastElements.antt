@@ -1,4 +1,4 @@
--- the last 1,600 of a list of elements, when one is put behind them
+-- the last 1,600 of a list of elements, when one is put after them
 use Rattle.std.proofs.Common.{◌≡◌, ◌≢◌, ℕ, ◌+◌, ◌-◌, ◌<◌, ◌≤◌, List, [], ◌∷◌, ◌++◌, length, take, drop, set, get_or, inl, inr, arith, ap, sym, ◌∙◌, length-append, get_or-set_other, get_or-set_same}
 use Rattle.std.proofs.lemmas.Bool.{cases_lt}
 use Rattle.std.proofs.lemmas.List.{ext_get_or, length-take-le, length-drop, length-set, get_or-take, get_or-drop, get_or_append_left, get_or-append_right, drop-drop, drop-append-le}
@@ -16,7 +16,7 @@ length-last buffer end low high = length-take-le 1600 (drop (end - 1600) buffer)
 pub at_last : (buffer : List Element) (end i : ℕ) → i < 1600 → get_or (last_of buffer end) i Lost ≡ get_or buffer (end - 1600 + i) Lost
 at_last buffer end i below = get_or-take 1600 (drop (end - 1600) buffer) i Lost below ∙ get_or-drop (end - 1600) buffer i Lost
 
--- an element of a window when another is put behind it
+-- an element of a window when another is put after it
 pub pushed_before : (w : List Element) (x : Element) (i : ℕ) → length w ≡ 1600 → i < 1599 → get_or (drop 1 w ++ x ∷ []) i Lost ≡ get_or w (1 + i) Lost
 pushed_before w x i long below =
     get_or_append_left (drop 1 w) (x ∷ []) Lost i (omega (arith, length-drop 1 w)) ∙ get_or-drop 1 w i Lost
@@ -54,7 +54,7 @@ window_more buffer end x low high =
           ∙ ap (λ (n : ℕ). get_or (drop 1 (last_of buffer end) ++ x ∷ []) n Lost) at
     ])
 
--- ---- when several are put behind it
+-- ---- when several are put after it
 
 last_is : (buffer : List Element) (end : ℕ) → 1600 ≤ end → last_of buffer end ≡ drop (end - 1600) (take end buffer)
 last_is buffer end low =

@@ -1,4 +1,4 @@
--- the starts of a stream, told one behind another
+-- the starts of a stream, told one after another
 use Rattle.std.proofs.Common.{◌≡◌, ℕ, zero, suc, ◌+◌, ◌-◌, ◌<◌, ◌≤◌, Bool, false, cond, List, [], ◌∷◌, ◌++◌, Option, Some, None, add-zero, arith, ap, sym, subst, ◌∙◌, refl}
 use Rattle.std.specs.Prelude.{ℤ, option_to_list}
 use Rattle.std.specs.List.{filter, range_with_len}

@@ -10,7 +10,7 @@ use Rattle.phasing.specs.inside.Places.{element_at}
 use Rattle.phasing.proofs.PublicLaws.{element_at-inside}
 use Rattle.slot_evidence.specs.Facts.{facts_at}
 
--- the laws of phasing that proofs here stand on
+-- the laws of phasing that proofs here rest on
 pub record Laws : Type 0 where
   pub slot : (e f : List Element) (q r s v : ℕ) → ((i : ℕ) → i < 10 → element_at e (q + 10 * s + i) ≡ element_at f (r + 10 * s + i)) → shows e q s v ≡ shows f r s v
   pub lead : (e f : List Element) (q r : ℕ) → ((i : ℕ) → i < 160 → element_at e (q + i) ≡ element_at f (r + i)) → is_phased e q ≡ is_phased f r

@@ -18,7 +18,7 @@ use Rattle.long_capture.specs.Starts.{before, next_start, facts_from}
 use Rattle.long_capture.proofs.InTime.{in_time}
 use Rattle.long_capture.proofs.Near as near
 
--- the laws of the crates below that this one stands on
+-- the laws of the crates below that this one rests on
 pub record Laws : Type 0 where
   pub near : near.Laws
   pub heard : heard.Laws

@@ -72,7 +72,7 @@ window_at was window x e n pushed reads here late = record {
   same = λ k below. window_step was window x e n pushed reads here k (n - 1449 + k) below (omega arith);
 }
 
--- what a look says of the leads behind
+-- what a look says of the leads after it
 looked_quiet : (e : List Element) (q : ℕ) (answer : Option Start) (quiet : ℕ) → Looks e q answer quiet → (k : ℕ) → k < quiet → is_phased e (q + 1 + k) ≡ false
 looked_quiet e q None quiet looks k below =
     let index : q + 1 + k ≡ q + (k + 1) = omega arith in
@@ -135,7 +135,7 @@ pub tells_none : (e : List Element) (low high : ℕ) (answer : Option Start) →
 tells_none e low high None none tells = tells
 tells_none e low high (Some start) none tells = absurd (cc)
 
--- the element that was put behind others
+-- the element that was put after others
 pub at_end : (e : List Element) (x : Element) (more : List Element) → element_at (e ++ x ∷ more) (length e + 150) ≡ x
 at_end e x more =
     let place : length e + 150 ≡ 150 + length e = omega arith in

@@ -1,4 +1,4 @@
--- For which stream a capture stands, and how far it has decided its starts: this project's profile.
+-- Which stream a capture stands for, and how far it has decided its starts: this project's profile.
 use Rattle.std.specs.Prelude.{◌≡◌, ℕ, ◌+◌, ◌-◌, ◌≤◌, List, ◌++◌, length}
 use Rattle.ten_unit.specs.declared.character.Element.{Element}
 use Rattle.long_capture.specs.declared.bounds.TheConstants.{TAIL, UNDECIDED}
@@ -9,7 +9,8 @@ use Rattle.long_capture.specs.inside.Reads.{Reads}
 abbrev pub taken : Capture → ℕ
 taken capture = capture.scan.seen - capture.lost
 
--- so many elements of a stream decide the leads below this one: those of the origins that are at least 1,600 elements back
+-- so many elements of a stream decide the leads below this one: those of the origins that are at least 1,600 elements
+-- back
 abbrev pub decided : ℕ → ℕ
 decided count = count - UNDECIDED
 

@@ -1,5 +1,5 @@
--- The starts of a long stream and the facts at each: this project's profile, over the phasing sequence and the time diversity of ITU-R M.493.
--- A lead counts from 150 elements before the stream's first one.
+-- The starts of a long stream and the facts at each: this project's profile, over the phasing sequence and the time
+-- diversity of ITU-R M.493. A lead counts from 150 elements before the stream's first one.
 use Rattle.std.specs.Prelude.{ℕ, ◌+◌, ◌-◌, List, length, take, find, Option, Some, None}
 use Rattle.std.specs.List.{filter, range_with_len}
 use Rattle.ten_unit.specs.declared.character.Element.{Element}
@@ -19,7 +19,7 @@ starts e = starts_below e (length e + LEAD_OF_FIRST)
 abbrev pub next_start : List Element → ℕ → Option ℕ
 next_start e lead = find (is_phased e) (range_with_len (lead + 1) (length e + LEAD_OF_FIRST))
 
--- what stands before a start: of a stream without a further one, all of it
+-- what comes before the next start: without one, the whole stream
 abbrev pub before : List Element → Option ℕ → List Element
 before e None = e
 before e (Some lead) = take (lead - LEAD_OF_FIRST) e

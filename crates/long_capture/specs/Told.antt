@@ -7,7 +7,8 @@ use Rattle.slot_evidence.specs.Sheet.{IsEnds}
 use Rattle.long_capture.specs.declared.starts.Start.{Start}
 use Rattle.long_capture.specs.Starts.{facts_from}
 
--- this is the start at a lead: the lead is phased, the origin is 150 below it, and the sheet keeps the ends of the facts there
+-- this is the start at a lead: the lead is phased, the origin is 150 below it, and the sheet keeps the ends of the
+-- facts there
 pub record IsStart (e : List Element) (lead : ℕ) (start : Start) : Type 0 where
   pub phased : is_phased e lead ≡ true
   pub origin : start.at ≡ pos lead -ℤ pos LEAD_OF_FIRST
@@ -31,7 +32,8 @@ pub record IsNextStart (e : List Element) (low high : ℕ) (start : Start) : Typ
   pub quiet : AreQuiet e low lead
   pub is : IsStart e lead start
 
--- what an answer tells of the leads from one up to another: that none is a start, or that the last of them alone is this one
+-- what an answer says of the leads from one up to another: that none is a start, or that the last of them alone is this
+-- one
 abbrev pub Tells : List Element → ℕ → ℕ → Option Start → Type 0
 Tells e low high None = AreQuiet e low high
 Tells e low high (Some start) = IsNextStart e low high start

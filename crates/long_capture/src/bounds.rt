@@ -3,12 +3,12 @@ use phasing::{LEAD_OF_FIRST, PHASING_ELEMENTS};
 use ten_unit::ELEMENTS;
 use time_diversity::SLOTS;
 
-/// The elements from an origin on that its facts may rest on: those of the slots of all places. So many origins after the first one
-/// of a window are searched.
+/// The elements from an origin on that its facts may rest on: those of the slots of all places. So many origins after
+/// the first one of a window are searched.
 pub const SEARCHED_AHEAD: u32 = SLOTS as u32 * ELEMENTS as u32;
 
-/// So many elements decide the origin at the first of them: its slots are among them, and a start inside of these slots shows by
-/// the phasing slots.
+/// So many elements decide the origin at the first of them: its slots are among them, and a start inside of these slots
+/// shows by the phasing slots.
 pub const WINDOW: usize = (SEARCHED_AHEAD + PHASING_ELEMENTS) as usize;
 
 /// Lost elements after the end that decide its last origins.

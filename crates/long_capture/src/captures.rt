@@ -1,3 +1,4 @@
+//! A capture: it takes a long stream element by element, and answers its starts.
 ghost use Rattle.std.specs.Prelude.{◌+◌, ◌≤◌, ◌^◌};
 ghost use Rattle.long_capture.specs.declared.bounds.TheConstants.{TAIL};
 
@@ -39,10 +40,12 @@ impl Capture {
         }
     }
 
-    /// Takes the next element of the stream. With N elements taken it decides the origin N - 1600, where that is at least -150,
-    /// and answers the start there, if the origin is phased. It may be called up to 2^40 times, and not behind `finish`.
+    /// Takes the next element of the stream. With N elements taken it decides the origin N - 1600, where that is at
+    /// least -150, and answers the start there, if the origin is phased. It may be called up to 2^40 times, and not
+    /// after `finish`.
     ///
-    /// An element mostly costs a store and a count: 64 origins are searched at once, and only where the last search ended.
+    /// An element mostly costs a store and a count: 64 origins are searched at once, and only where the last search
+    /// ended.
     pub fn take(&mut self, x: Element) -> Option<Start>
         requires few { taken self.old < 2 ^ 40 }
         requires going { IsOpen self.old }
@@ -53,8 +56,9 @@ impl Capture {
         self.scan.step(x)
     }
 
-    /// Takes a front of the next elements, at least one if there is one: as many as decide that no origin is a start, in one copy, or the
-    /// one that wants a search. It is as if `take` had taken them one by one, and only the last of them can decide a start.
+    /// Takes a front of the next elements, at least one if there is one: as many as decide that no origin is a start,
+    /// in one copy, or the one that wants a search. It is as if `take` had taken them one by one, and only the last of
+    /// them can decide a start.
     pub fn take_block(&mut self, xs: &[Element]) -> Taken
         requires few { taken self.old + length xs.now ≤ 2 ^ 40 }
         requires going { IsOpen self.old }
@@ -77,8 +81,8 @@ impl Capture {
         }
     }
 
-    /// Answers the next start of the whole stream behind the last origin that was decided, and decides it and all before it. `None`
-    /// comes exactly where there is no further one.
+    /// Answers the next start of the whole stream after the last origin that was decided, and decides it and all before
+    /// it. `None` comes exactly where there is no further one.
     pub fn finish(&mut self) -> Option<Start>
         ensures ending { (e : List Element) → Ending self.old e → Ending self.new e }
         ensures tells { (e : List Element) → Ending self.old e → Tells e (reached self.old) (reached self.new) result }

@@ -33,12 +33,12 @@ pub fn numbers_of_elements()
     ensures undecided { UNDECIDED ≡ 1449 }
 {}
 
-/// The law that a stream may end behind any of its elements.
+/// The law that a stream may end after any of its elements.
 pub fn taking_ends()
     ensures { (capture : Capture) (e : List Element) → Stands capture e → Ending capture e }
 {}
 
-/// The law that the answers of `take` and `finish`, one behind another, are the starts of the stream in their order.
+/// The law that the answers of `take` and `finish`, one after another, are the starts of the stream in their order.
 pub fn answers_add_up()
     ensures { (e : List Element) (low high : ℕ) (list : List Start) (answer : Option Start)
         → AreStarts e (starts_below e low) list
@@ -53,15 +53,16 @@ pub fn one_list()
     one_sheet();
 }
 
-/// The law that where the leads from one up to another are quiet no start is new, and that behind quiet ones the next start alone is.
+/// The law that where the leads from one up to another are quiet no start is new, and that after quiet ones the next
+/// start alone is.
 pub fn starts_go_on()
     ensures quiet { (e : List Element) (low high : ℕ) → AreQuiet e low high → starts_below e high ≡ starts_below e low }
     ensures next { (e : List Element) (low high : ℕ) (start : Start) (is : IsNextStart e low high start)
         → starts_below e high ≡ starts_below e low ++ is.lead ∷ [] }
 {}
 
-/// The law that a lead which is decided stays so: 1,600 elements from its origin on decide whether it is phased, and its facts, whatever
-/// follows.
+/// The law that a lead which is decided stays so: 1,600 elements from its origin on decide whether it is phased, and
+/// its facts, whatever follows.
 pub fn decided_starts_stay()
     ensures phased { (e more : List Element) (lead : ℕ) → lead + DECIDING ≤ length e
         → is_phased (e ++ more) lead ≡ is_phased e lead }
@@ -84,8 +85,9 @@ pub fn slots_end_in_time()
     none_past_the_end();
 }
 
-/// The law that at a start whose reception is of a list of a call with a tail, wrong in one sense alone, the answer to its facts is the
-/// call, or names a place of it that showed nothing, whatever stands before the start and behind the next one.
+/// The law on a start whose reception is of a list of a call with a tail, wrong in one sense alone: whatever comes
+/// before the start and after the next one, the answer to its facts is the call, or names a place of it that showed
+/// nothing.
 pub fn start_reports_the_call()
     ensures { (e : List Element) (lead : ℕ) (call : Call) (tail : List ℕ) (answer : Joined) → IsCall call
         → IsOneWayAt e (spell call ++ tail) lead

@@ -1,4 +1,5 @@
-//! Every call of one long stream of elements: its starts, which are its phased origins, in order, each with the sheet of its facts.
+//! Every call of one long stream of elements: its starts, which are its phased origins, in order, each with the sheet
+//! of its facts.
 #![tactic(auto)]
 
 mod bounds;

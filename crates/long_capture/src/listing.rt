@@ -1,4 +1,5 @@
-//! A whole stream through a capture, as a list: a caller of all its calls, which has the definition of the starts as its contract.
+//! A whole stream through a capture, as a list: a caller of all its calls, which has the definition of the starts as
+//! its contract.
 ghost use Rattle.std.specs.Prelude.{◌≡◌, ◌≤◌, ◌++◌, length, option_to_list, IfOk, OnOk};
 ghost use Rattle.long_capture.specs.Starts.{starts};
 ghost use Rattle.long_capture.specs.Told.{AreStarts};
@@ -10,7 +11,7 @@ use phasing::LONGEST;
 use std::alloc::{AllocError, Global};
 use ten_unit::Element;
 
-/// Puts an answer's start behind the others, if it has one.
+/// Puts an answer's start after the others, if it has one.
 fn add(list: &mut Vec<Start>, answer: Option<Start>) -> Result<(), AllocError>
     ensures { OnOk result (list.new.items ≡ list.old.items ++ option_to_list answer) }
 {

@@ -52,8 +52,8 @@ impl Scan {
         self.look()
     }
 
-    /// Takes a front of the next elements, which decide that no origin is a start, and answers how many they are. It takes none only where
-    /// there is none, or where the next one wants a search.
+    /// Takes a front of the next elements, which decide that no origin is a start, and answers how many they are. It
+    /// takes none only where there is none, or where the next one wants a search.
     pub fn skip(&mut self, xs: &[Element]) -> usize
         requires { self.old.seen + length xs.now < 2 ^ 62 }
         ensures front { result ≤ length xs.now }
@@ -70,7 +70,7 @@ impl Scan {
         count
     }
 
-    /// Whether the origin at the window's first element is a start, and how many behind it are no starts.
+    /// Whether the origin at the window's first element is a start, and how many after it are no starts.
     #[inline(never)]
     fn look(&mut self) -> Option<Start>
         requires { self.old.seen < 2 ^ 63 }

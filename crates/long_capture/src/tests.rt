@@ -1,3 +1,4 @@
+//! Starts of streams by hand, and the capture compared with the definition's program.
 use crate::{Start, listing, plain};
 use dsc_symbols::worked::{ALERT, ALERT_SLOTS};
 use slot_evidence::Seen;
@@ -64,7 +65,7 @@ fn a_stream_that_begins_late(rt: HostRuntime) -> Result<(), Fail> {
     Ok(())
 }
 
-/// An alert that breaks off behind slot 26, where the next one begins: nothing of the next is a fact of the first.
+/// An alert that breaks off after slot 26, where the next one begins: nothing of the next is a fact of the first.
 #[test]
 fn a_start_inside_of_another(rt: HostRuntime) -> Result<(), Fail> {
     let whole = alerts(rt.alloc(), 1)?;

@@ -40,7 +40,7 @@ impl Window {
         }
     }
 
-    /// Puts an element behind the others. The first one goes.
+    /// Puts an element after the others. The first one goes.
     #[inline(always)]
     pub fn push(&mut self, x: Element)
         ensures { self.new ≡ drop 1 self.old ++ x ∷ [] }
@@ -50,8 +50,8 @@ impl Window {
         self.end = end + 1;
     }
 
-    /// Puts a front of these elements behind the others, as far as there is room before the last ones move, and answers how many they
-    /// are: at least one, if there is one. As many first ones go.
+    /// Puts a front of these elements after the others, as far as there is room before the last ones move, and answers
+    /// how many they are: at least one, if there is one. As many first ones go.
     pub fn push_front(&mut self, xs: &[Element]) -> usize
         ensures front { result ≤ length xs.now }
         ensures some { 0 < length xs.now → 0 < result }
@@ -73,7 +73,8 @@ impl Window {
     }
 }
 
-/// Where the next element goes: at the window's end, or, where there is no room, behind the last elements, which move to the front.
+/// Where the next element goes: at the window's end, or, where there is no room, after the last elements, which move to
+/// the front.
 #[inline(always)]
 fn free(buffer: &mut [Element; ROOM], end: usize) -> usize
     requires low { WINDOW ≤ end }

@@ -13,11 +13,11 @@ use Rattle.phasing.specs.Start.{start_symbols, formats}
 none_early : List Element → ℕ → Bool
 none_early s n = list_all (λ lead. not (is_phased s lead)) (range_with_len 0 n)
 
--- what is sent of a format behind a dot pattern has no phased lead before the true one
+-- the elements sent of a format after a dot pattern have no phased lead before the true one
 early_of : Bool → ℕ → Bool
 early_of long format = none_early (sent (start_symbols format) long) (dot_count long + 150)
 
--- each format behind the short dot pattern and behind the long one: each lead is tried
+-- each format after the short dot pattern and after the long one: each lead is tried
 short_early : list_all (early_of false) formats ≡ true
 unfolding early_of none_early is_phased shows is_word word_of dots sent
 short_early = refl
@@ -53,7 +53,7 @@ early : (format : ℕ) (long : Bool) → list_any (λ f. f == format) formats �
 early format false h = one_of_all (early_of false) formats format short_early h
 early format true h = one_of_all (early_of true) formats format long_early h
 
--- no lead before the one behind the dots is phased on what is sent at the start of a call
+-- no lead before the one after the dots is phased on what is sent at the start of a call
 pub early_unphased : (format : ℕ) (long : Bool) (k : ℕ) → list_any (λ f. f == format) formats ≡ true → k < dot_count long + 150 → is_phased (sent (start_symbols format) long) k ≡ false
 unfolding early_of
 early_unphased format long k h below =

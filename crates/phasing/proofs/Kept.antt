@@ -1,4 +1,5 @@
--- where a reception lost elements, and else has those that were sent, each slot that shows a symbol shows it in what was sent
+-- where a reception lost elements, and else has those that were sent, each slot that shows a symbol shows it in what
+-- was sent
 use Rattle.std.proofs.Common.{◌≡◌, ℕ, ◌+◌, ◌-◌, ◌*◌, ◌/◌, ◌%◌, ◌<◌, ◌≤◌, ◌⊎◌, inl, inr, Bool, true, false, ◌&&◌, cond, nat_le, List, [], ◌∷◌, length, get_or, take, drop, map, refl, arith, ap, sym, subst, ◌∙◌}
 use Rattle.std.specs.Prelude.{count_by}
 use Rattle.std.specs.List.{list_all}
@@ -30,7 +31,8 @@ word-sent v i below h =
     element-sent (get_or (digits v) i 0)
     (sym (get_or-map element (digits v) i 0 Lost below) ∙ ap (λ (l : List Element). get_or l i Lost) (sym (word-digits v)) ∙ h)
 
--- the ten elements from an index on, counted from 150 before the first, are inside the list and are the word of a symbol
+-- the ten elements from an index on, counted from 150 before the first, are inside the list and are the word of a
+-- symbol
 pub record IsWordAt (e : List Element) (at v : ℕ) : Type 0 where
   pub low : 150 ≤ at
   pub high : at + 10 ≤ length e + 150
@@ -61,7 +63,7 @@ shown e lead s v w =
     let whole = cond-true _ (take 10 (drop (lead + 10 * s - 150) e)) [] within ∙ w.word in
     ap (λ (l : List Element). elements_eq l (word_of v)) whole ∙ elements_own (word_of v)
 
--- below a bound each element that was received is lost or the one that was sent, which stands so many elements further on
+-- below a bound each received element is lost, or is the sent element so many places further on
 pub record IsKept (e sent : List Element) (shift bound : ℕ) : Type 0 where
   pub same : (i : ℕ) → i < length e → i < bound → (get_or e i Lost ≡ Lost) ⊎ (get_or e i Lost ≡ get_or sent (i + shift) Lost)
   pub long : bound + shift ≤ length sent
@@ -74,7 +76,7 @@ kept_element : (x y z : Element) → x ≡ z → (z ≡ Lost → ⊥) → (x ≡
 kept_element x y z same here (inl lost) = absurd (here (sym same ∙ lost))
 kept_element x y z same here (inr kept) = sym kept ∙ same
 
--- a word that was received stands in what was sent
+-- a word that was received is in what was sent
 kept_word : (e s : List Element) (shift bound at v : ℕ) → IsKept e s shift bound → at + 10 ≤ bound + 150 → IsWordAt e at v → IsWordAt s (at + shift) v
 kept_word e s shift bound at v k below w =
     let low : 150 ≤ at = w.low in

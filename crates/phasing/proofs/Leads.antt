@@ -8,7 +8,7 @@ use Rattle.phasing.specs.Origin.{dx_right, rx_right, is_enough, is_phased, lead_
 use Rattle.phasing.specs.Slot.{shows}
 use Rattle.phasing.proofs.Slots.{shows-past, shows-early}
 
--- no origin behind all elements is phased
+-- no origin after all elements is phased
 pub is_phased-past : (e : List Element) (lead : ℕ) → length e + 150 ≤ lead → is_phased e lead ≡ false
 unfolding is_phased
 is_phased-past e lead past = simp shows-past

@@ -105,7 +105,7 @@ and_true : (t : Bool) → (t && true) ≡ t
 and_true true = refl
 and_true false = refl
 
--- 64 bytes are signs from one on, and behind the last sign those of lost elements
+-- 64 bytes are the signs from one of them on, and after the last sign those of lost elements
 pub record IsBlock (signs : List ℕ) (begin : ℕ) (block : List ℕ) : Type 0 where
   pub each : (i : ℕ) → i < 64 → get_or block i 0 ≡ get_or signs (begin + i) 45
   pub all : list_all is_sign block ≡ list_all is_sign (take 64 (drop begin signs))

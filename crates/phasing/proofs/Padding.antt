@@ -1,4 +1,4 @@
--- lists, and behind them so many of one value that there are 64
+-- lists, and after them so many of one value that there are 64
 use Rattle.std.proofs.Common.{◌≡◌, ℕ, ◌+◌, ◌-◌, ◌<◌, List, ◌++◌, length, drop, get_or, inl, inr, refl, arith, ap, sym, ◌∙◌, length-append}
 use Rattle.std.proofs.Math.ListN.{replicate}
 use Rattle.std.proofs.lemmas.Bool.{cases_lt}

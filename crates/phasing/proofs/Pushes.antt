@@ -1,4 +1,4 @@
--- elements that are kept as bits: one of them, and one more behind them
+-- elements that are kept as bits: one of them, and one more after them
 use Rattle.std.proofs.Common.{◌≡◌, ◌≢◌, ℕ, ◌+◌, ◌*◌, ◌/◌, ◌%◌, ◌^◌, ◌<◌, ◌≤◌, Bool, cond, bit_and, bit_or, inl, inr, false, true, List, [], ◌∷◌, ◌++◌, length, get_or, set, slice_index_or, refl, sym, ap, subst, ◌∙◌, arith}
 use Rattle.std.specs.Int.{bit_at, w64}
 use Rattle.std.proofs.lemmas.Bool.{cases_eq, cases_lt}

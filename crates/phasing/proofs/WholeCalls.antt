@@ -1,4 +1,4 @@
--- what is sent of a call has its origin behind the dots, and each slot shows there what was sent
+-- the transmission of a call has its origin after the dots, and each slot shows there what was sent
 use Rattle.std.proofs.Common.{◌≡◌, ℕ, zero, suc, ◌+◌, ◌-◌, ◌*◌, ◌<◌, ◌≤◌, ◌==◌, inr, Bool, true, false, List, [], ◌∷◌, ◌++◌, length, get_or, take, drop, Some, refl, arith, ap, sym, subst, ◌∙◌, length-append}
 use Rattle.std.specs.List.{list_any, flat_map}
 use Rattle.std.proofs.lemmas.List.{length-take}
@@ -26,7 +26,7 @@ length-sent slots long =
     let words = length-words slots in
     omega (arith, length-append (dots (dot_count long)) (flat_map word_of slots), length-dots (dot_count long), words)
 
--- the ten elements of a word stand behind those of the words before it
+-- the ten elements of a word come after those of the words before it
 word_part : (slots : List ℕ) (s : ℕ) → s < length slots → take 10 (drop (10 * s) (flat_map word_of slots)) ≡ word_of (get_or slots s 0)
 word_part [] s below = absurd (omega (arith, below))
 word_part (v ∷ slots) zero below =
@@ -77,7 +77,7 @@ phased slots long format h enough =
 enough : (slots : List ℕ) (format : ℕ) → take 16 slots ≡ start_symbols format → 16 ≤ length slots
 enough slots format h = omega (arith, length-take 16 slots, ap length h)
 
--- the origin of what is sent of a call stands behind the dots
+-- the origin of a call's transmission is after the dots
 pub whole_found : (slots : List ℕ) (long : Bool) (format : ℕ) → list_any (λ f. f == format) formats ≡ true → take 16 slots ≡ start_symbols format → lead_of (sent slots long) ≡ Some (dot_count long + 150)
 whole_found slots long format f h =
     found (sent slots long) slots long (dot_count long + 150) format f h (record {

@@ -1,4 +1,5 @@
--- The origin of a reception: ITU-R M.493, section on the phasing sequence. That no origin stands before -150 is this project's profile.
+-- The origin of a reception: ITU-R M.493, section on the phasing sequence. That no origin is before -150 is this
+-- project's profile.
 use Rattle.std.specs.Prelude.{ℕ, ◌+◌, ◌-◌, ◌/◌, Bool, ◌&&◌, ◌||◌, nat_le, List, [], ◌∷◌, length, count_by, find, Option, option_map, ℤ, pos, ◌-ℤ◌}
 use Rattle.std.specs.List.{range_with_len}
 use Rattle.dsc_symbols.specs.declared.phasing.TheConstants.{DX, RX_7}

@@ -25,7 +25,7 @@ element_in planes i =
 unfoldable pub elements_in : List Planes → ℕ → List Element
 elements_in planes n = map (element_in planes) (range_with_len 0 n)
 
--- the words keep these elements, and behind the last one lost ones
+-- the words keep these elements, and lost ones after the last
 pub record Keep (planes : List Planes) (e : List Element) : Type 0 where
   pub room : length e ≤ 64 * length planes
   pub each : (k : ℕ) → k < length planes → IsPlanes (slice_index_or planes k no_planes).y (slice_index_or planes k no_planes).b (64 * k) (λ p. slice_index_or e p Lost)

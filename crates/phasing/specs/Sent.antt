@@ -1,4 +1,5 @@
--- What a station sends: ITU-R M.493, sections on the dot pattern and on the phasing sequence. The numbers of dots are this project's profile.
+-- What a station sends: ITU-R M.493, sections on the dot pattern and on the phasing sequence. The numbers of dots are
+-- this project's profile.
 use Rattle.std.specs.Prelude.{ℕ, ◌%◌, ◌==◌, Bool, if◌then◌else◌, List, ◌++◌, map, flat_map}
 use Rattle.std.specs.List.{range_with_len}
 use Rattle.ten_unit.specs.declared.character.Element.{Element}

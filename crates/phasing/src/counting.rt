@@ -1,8 +1,10 @@
+//! A count up to three, for 64 places at once.
 ghost use Rattle.std.specs.Prelude.{ℕ, ◌+◌, Bool, cond};
 ghost use Rattle.ten_unit.specs.inside.Marks.{IsMarks};
 ghost use Rattle.phasing.specs.inside.Marked.{IsCount};
 
-/// How many tests hold at each of 64 places, as far as three: a bit a place says whether it is at least one, two, three.
+/// How many tests hold at each of 64 places, as far as three: a bit a place says whether it is at least one, two,
+/// three.
 #[derive(Clone, Copy)]
 pub(crate) struct Count {
     pub one: u64,

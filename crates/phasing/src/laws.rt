@@ -30,8 +30,8 @@ pub fn origin_is_least()
     ensures none { (e : List Element) (k : ℕ) → lead_of e ≡ None → is_phased e k ≡ false }
 {}
 
-/// The law that a call whose start is intact is found at its origin, however late the reception begins: the origin, which is what
-/// `origin` answers, is 150 below the lead.
+/// The law that a call whose start is intact is found at its origin, however late the reception begins: the origin,
+/// which is what `origin` answers, is 150 below the lead.
 pub fn late_starts_are_found()
     ensures lead { (e : List Element) (slots : List ℕ) (long : Bool) (lead : ℕ) (format : ℕ)
         → list_any (λ f. f == format) formats ≡ true → take 16 slots ≡ start_symbols format
@@ -41,7 +41,7 @@ pub fn late_starts_are_found()
         → IsIntactStart e slots long lead → origin_of e ≡ Some (pos lead -ℤ pos LEAD_OF_FIRST) }
 {}
 
-/// The law that what is sent of a call has its origin behind the dots, and that each slot shows its symbol there.
+/// The law that a call's transmission has its origin after the dots, and that each slot shows its symbol there.
 pub fn whole_calls_are_found()
     ensures lead { (slots : List ℕ) (long : Bool) (format : ℕ) → list_any (λ f. f == format) formats ≡ true
         → take 16 slots ≡ start_symbols format → lead_of (sent slots long) ≡ Some (dot_count long + LEAD_OF_FIRST) }
@@ -50,8 +50,8 @@ pub fn whole_calls_are_found()
     ensures length { (slots : List ℕ) (long : Bool) → length (sent slots long) ≡ dot_count long + 10 * length slots }
 {}
 
-/// The law that the ten elements of a slot decide what it shows, and the 160 from an origin on whether it is phased, whatever
-/// stands around them.
+/// The law that the ten elements of a slot decide what it shows, and the 160 from an origin on whether it is phased,
+/// whatever is around them.
 pub fn elements_decide()
     ensures slot { (e f : List Element) (q r s v : ℕ)
         → ((i : ℕ) → i < 10 → element_at e (q + 10 * s + i) ≡ element_at f (r + 10 * s + i))

@@ -1,4 +1,5 @@
-//! Phasing of ITU-R M.493: where a transmission's slots stand in a reception, and what they show; and the elements that are sent.
+//! Phasing of ITU-R M.493: where a transmission's slots are in a reception, and what they show; and the elements that
+//! are sent.
 #![tactic(auto)]
 
 mod counting;

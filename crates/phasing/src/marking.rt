@@ -1,3 +1,4 @@
+//! Marks of the places at which words of phasing symbols begin, 64 places at once.
 ghost use Rattle.std.specs.Prelude.{◌≡◌, ℕ, ◌+◌, ◌<◌, ◌≤◌, Bool, List, length};
 ghost use Rattle.ten_unit.specs.inside.Marks.{IsMarks, IsPlanes};
 ghost use Rattle.ten_unit.specs.Word.{element_eq, word_of};
@@ -17,7 +18,7 @@ pub(crate) struct Phasing {
 }
 
 impl Phasing {
-    /// No word begins before a reception's first element, which stands at place 150.
+    /// No word begins before a reception's first element, which is at place 150.
     pub fn before() -> Self
         ensures { (base : ℕ) (e : List Element) → base + 64 ≤ LEAD_OF_FIRST → ArePhasing result base (element_at e) }
     {
@@ -25,8 +26,8 @@ impl Phasing {
     }
 }
 
-/// The marks of the 64 places that begin so many places behind the low word's first one. The high word has those of the
-/// 64 places behind the low word's.
+/// The marks of the 64 places that begin so many places after the low word's first one. The high word has those of the
+/// 64 places after the low word's.
 #[inline(always)]
 pub(crate) fn shifted(low: u64, high: u64, shift: u32) -> u64
     requires { shift < 64 }
@@ -36,7 +37,7 @@ pub(crate) fn shifted(low: u64, high: u64, shift: u32) -> u64
     low >> shift | high << 1 << (63 - shift)
 }
 
-/// At which of the 64 places that begin so many places behind the first planes' this element stands.
+/// At which places this element is: of the 64 that begin so many places after the first planes' first one.
 #[inline(always)]
 fn element_marked(element: Element, here: Planes, next: Planes, shift: u32) -> u64
     requires { shift < 64 }
@@ -52,8 +53,9 @@ fn element_marked(element: Element, here: Planes, next: Planes, shift: u32) -> u
     }
 }
 
-/// At which of 64 places these elements stand so many places behind. Each place is tested for the first of them, the place behind it for
-/// the second, and so on. Where they are constant, the loop and its choices fold into shifts by constants.
+/// At which of 64 places these elements come so many places later. Each place is tested for the first of them, the
+/// place after it for the second, and so on. Where they are constant, the loop and its choices fold into shifts by
+/// constants.
 #[inline(always)]
 fn run_marked(elements: &[Element], behind: u32, here: Planes, next: Planes) -> u64
     requires { behind + length elements.now ≤ 10 }
@@ -67,8 +69,8 @@ fn run_marked(elements: &[Element], behind: u32, here: Planes, next: Planes) -> 
     all
 }
 
-/// At which of 64 places a word begins. The elements that most of the phasing symbols share come first, so that the compiler tests
-/// them once.
+/// At which of 64 places a word begins. The elements that most of the phasing symbols share come first, so that the
+/// compiler tests them once.
 #[inline(always)]
 fn word_marked(word: &[Element; 10], here: Planes, next: Planes) -> u64
     ensures { (base : ℕ) (e : ℕ → Element) → IsPlanes here.y here.b base e → IsPlanes next.y next.b (base + 64) e
@@ -78,7 +80,7 @@ fn word_marked(word: &[Element; 10], here: Planes, next: Planes) -> u64
 }
 
 /// At which of 64 places the words of the phasing symbols begin (ITU-R M.493, phasing sequence). The planes are of
-/// these places and of the 64 behind them.
+/// these places and of the 64 after them.
 #[inline(always)]
 pub(crate) fn phasing_marked(here: Planes, next: Planes) -> Phasing
     ensures { (base : ℕ) (e : ℕ → Element) → IsPlanes here.y here.b base e → IsPlanes next.y next.b (base + 64) e

@@ -40,7 +40,7 @@ fn dx_right(e: &[Element], lead: u32) -> usize
         .count()
 }
 
-/// The words of the phasing symbols RX 7 down to RX 0, which stand in the RX slots 1, 3, .. 15.
+/// The words of the phasing symbols RX 7 down to RX 0, which are in the RX slots 1, 3, .. 15.
 pub(crate) fn rx_words() -> [[Element; 10]; 8]
     ensures { AreRxWords result }
 {
@@ -95,9 +95,9 @@ fn is_enough(dx: usize, rx: usize) -> bool
     dx >= 2 && rx >= 1 || rx >= 2 && dx >= 1 || rx >= 3
 }
 
-/// Whether an origin from -150 to 1,000,000 is phased in a reception (ITU-R M.493, phasing sequence): whether at least two DX
-/// and one RX phasing symbols are right there, or two RX and one DX, or three RX. It tests this one origin; `lead` and
-/// `first_phased` search many at once.
+/// Whether an origin from -150 to 1,000,000 is phased in a reception (ITU-R M.493, phasing sequence): whether at least
+/// two DX and one RX phasing symbols are right there, or two RX and one DX, or three RX. It tests this one origin;
+/// `lead` and `first_phased` search many at once.
 pub fn phased(e: &[Element], o: i32) -> bool
     requires length { length e.now ≤ LONGEST }
     requires from { negsuc (LEAD_OF_FIRST - 1) ≤ℤ o }

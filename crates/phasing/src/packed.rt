@@ -14,7 +14,8 @@ use std::alloc::{AllocError, Global};
 use std::marker::Model;
 use ten_unit::{Element, Planes, pack_signs};
 
-/// The elements that one receiver heard, in their order, 64 of them in two words of bits. Contracts see it as the list of them.
+/// The elements that one receiver heard, in their order, 64 of them in two words of bits. Contracts see it as the list
+/// of them.
 #[derive(Debug, Drop)]
 pub struct Reception {
     planes: Vec<Planes>,
@@ -69,7 +70,8 @@ impl Reception {
         Ok(())
     }
 
-    /// The elements as a list. They are kept as bits, so that no slice of them can be lent. The error is want of memory.
+    /// The elements as a list. They are kept as bits, so that no slice of them can be lent. The error is want of
+    /// memory.
     pub fn elements(&self, alloc: Global) -> Result<Vec<Element>, AllocError>
         ensures { IfOk result (λ list. list.items ≡ self.now) }
     {
@@ -80,8 +82,8 @@ impl Reception {
         Ok(list)
     }
 
-    /// The elements of these signs, which are `Y`, `B`, and `-` for a lost one (this project's profile), and `None` where a byte is no sign.
-    /// The error is want of memory.
+    /// The elements of these signs, which are `Y`, `B`, and `-` for a lost one (this project's profile), and `None`
+    /// where a byte is no sign. The error is want of memory.
     pub fn of_signs(alloc: Global, signs: &[u8]) -> Result<Option<Reception>, AllocError>
         ensures some { IfOk result (λ packed. IfSome packed (λ p. (list_all is_sign signs.now ≡ true)
             × (p ≡ map element_of signs.now))) }
@@ -177,7 +179,7 @@ fn with_element(here: Planes, at: u32, element: Element) -> Planes
     }
 }
 
-/// These signs, fewer than 64, and those of lost elements behind them.
+/// These signs, fewer than 64, and after them those of lost elements.
 fn padded(signs: &[u8]) -> [u8; 64]
     requires { length signs.now < 64 }
     ensures { result ≡ signs.now ++ drop (length signs.now) (replicate 64 45) }
@@ -187,7 +189,8 @@ fn padded(signs: &[u8]) -> [u8; 64]
     block
 }
 
-/// The elements of 64 signs from one on as bits, of which those past the last one are lost. `None` where one of them is no sign.
+/// The elements of 64 signs from one on as bits, of which those past the last one are lost. `None` where one of them is
+/// no sign.
 #[inline(always)]
 fn signs_packed(signs: &[u8], begin: usize) -> Option<Planes>
     requires { begin ≤ length signs.now }

@@ -1,3 +1,4 @@
+//! The origin of a reception, found 64 leads at once.
 ghost use Rattle.std.specs.Prelude.{◌≡◌, ℕ, ◌+◌, ◌<◌, ◌≤◌, true, false, List, length, IfSome, IsNone};
 ghost use Rattle.ten_unit.specs.declared.character.Element.{Element};
 ghost use Rattle.ten_unit.specs.inside.Marks.{IsMarks, IsPlanes};
@@ -11,7 +12,8 @@ use crate::reception::{LEAD_OF_FIRST, LONGEST};
 use crate::window::Elements;
 use ten_unit::Planes;
 
-/// How many DX slots show their phasing symbol at each of 64 leads, from the marks of the places from the first lead on.
+/// How many DX slots show their phasing symbol at each of 64 leads, from the marks of the places from the first lead
+/// on.
 fn dx_right(first: &Phasing, second: &Phasing, third: &Phasing) -> Count
     ensures { (base : ℕ) (e : List Element) → ArePhasing first.now base (element_at e)
         → ArePhasing second.now (base + 64) (element_at e)
@@ -52,7 +54,8 @@ fn enough(dx: Count, rx: Count) -> u64
     dx.two & rx.one | rx.two & dx.one | rx.three
 }
 
-/// At which of 64 leads enough phasing symbols are right. Slot 15 of the last lead begins in the fourth block of 64 places.
+/// At which of 64 leads enough phasing symbols are right. Slot 15 of the last lead begins in the fourth block of 64
+/// places.
 fn phased(first: &Phasing, second: &Phasing, third: &Phasing, fourth: &Phasing) -> u64
     ensures { (base : ℕ) (e : List Element) → ArePhasing first.now base (element_at e)
         → ArePhasing second.now (base + 64) (element_at e)
@@ -68,7 +71,7 @@ fn phased(first: &Phasing, second: &Phasing, third: &Phasing, fourth: &Phasing) 
 /// The elements of three slots. In fewer no three phasing symbols can be right.
 const SHORTEST: usize = 30;
 
-/// What a block of 64 leads takes from the places behind it, and which of its leads are phased.
+/// What a block of 64 leads takes from the places after it, and which of its leads are phased.
 #[derive(Drop)]
 struct Searched {
     marks: Phasing,
@@ -76,8 +79,9 @@ struct Searched {
     phased: u64,
 }
 
-/// At which of 64 leads, from 22 behind this element on, enough phasing symbols are right. The marks are of three blocks of 64 places,
-/// the planes of the elements behind them. It gives the marks of the fourth block and the planes behind that.
+/// At which of 64 leads, from 22 after this element on, enough phasing symbols are right. The marks are of three blocks
+/// of 64 places, the planes of the elements after them. It gives the marks of the fourth block and the planes after
+/// that.
 #[inline(always)]
 fn search_block<E: Elements>(
     e: E,
@@ -106,9 +110,9 @@ fn search_block<E: Elements>(
     }
 }
 
-/// The first phased lead from the first block on, which begins 128 elements before this one. The marks are of three blocks of
-/// 64 places, the planes of the elements behind them. The first bit of a block that is enough is the lead. Three blocks are one turn,
-/// so that three marks move to the place of three only once.
+/// The first phased lead from the first block on, which begins 128 elements before this one. The marks are of three
+/// blocks of 64 places, the planes of the elements after them. The first bit of a block that is enough is the lead.
+/// Three blocks are one turn, so that three marks move to the place of three only once.
 #[inline(always)]
 fn first_from<E: Elements>(
     e: E,
@@ -157,12 +161,12 @@ fn first_from<E: Elements>(
 }
 
 /// The lead of a reception's origin (ITU-R M.493, phasing sequence): the origin, counted from 150 elements before the
-/// reception's first one. `None` comes exactly where no origin from -150 on is phased. None is below lead 40, where
-/// two RX slots at most, and no DX slot, stand in the reception.
+/// reception's first one. `None` comes exactly where no origin from -150 on is phased. None is below lead 40, where the
+/// reception has no DX slot and two RX slots at most.
 ///
-/// It tests 64 leads at once, in place of each lead and slot in turn: a block of 64 elements is two words of bits, shifts
-/// and ands of them give the places at which each phasing symbol's word begins, and three words count at each lead the
-/// symbols that are right, as far as three. Four blocks of 64 places move over the reception, from lead 22 on, so that
+/// It tests 64 leads at once, in place of each lead and slot in turn. A block of 64 elements is two words of bits.
+/// Shifts and ands of them give the places at which each phasing symbol's word begins. Three words count the right
+/// symbols at each lead, as far as three. Four blocks of 64 places move over the reception, from lead 22 on, so that
 /// element 0 is the first of a block. It takes under 1 KB of stack at any length.
 pub fn lead<E: Elements>(e: E) -> Option<u32>
     requires { length (E.list e) ≤ LONGEST }
@@ -178,8 +182,8 @@ pub fn lead<E: Elements>(e: E) -> Option<u32>
     first_from(e, 0, Phasing::before(), Phasing::before(), third, next)
 }
 
-/// The first index of a reception that is a phased origin, whatever is phased before its first element, and its length where
-/// none is (ITU-R M.493, phasing sequence). It searches as `lead` does, from lead 150 on.
+/// The first index of a reception that is a phased origin, whatever is phased before its first element, and its length
+/// where none is (ITU-R M.493, phasing sequence). It searches as `lead` does, from lead 150 on.
 pub fn first_phased<E: Elements>(e: E) -> u32
     requires { length (E.list e) ≤ LONGEST }
     ensures within { result ≤ length (E.list e) }

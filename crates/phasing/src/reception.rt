@@ -1,3 +1,4 @@
+//! The bounds of a reception, and the symbol that a slot shows.
 ghost use Rattle.std.specs.Prelude.{◌≡◌, ℕ, ◌<◌, ◌≤◌, length, Some, IfSome, IsTrue};
 ghost use Rattle.phasing.specs.Slot as diversity;
 
@@ -12,8 +13,8 @@ const PHASING_SLOTS: u32 = 16;
 /// The elements of these slots: they decide whether an origin is phased.
 pub const PHASING_ELEMENTS: u32 = PHASING_SLOTS * ELEMENTS as u32;
 
-/// The lead of an origin at a reception's first element. Leads count from all but one of these slots before it: a reception of the last
-/// one alone is never phased (this project's profile).
+/// The lead of an origin at a reception's first element. Leads count from all but one of these slots before it: a
+/// reception of the last one alone is never phased (this project's profile).
 pub const LEAD_OF_FIRST: u32 = (PHASING_SLOTS - 1) * ELEMENTS as u32;
 
 /// The lead of an origin at the end of the longest reception.

@@ -1,3 +1,4 @@
+//! The elements of a transmission: its dot pattern, and the words of its slots.
 ghost use Rattle.std.specs.Prelude.{◌≡◌, ◌+◌, ◌*◌, ◌<◌, ◌≤◌, ◌++◌, All, length};
 ghost use Rattle.arrayvec.specs.ArrayVec.{array_vec_len};
 ghost use Rattle.phasing.specs.Sent.{dots, dot_count, sent};

@@ -1,3 +1,4 @@
+//! Origins by hand, and the fast search compared with the plain one.
 use crate::{
     Elements, LONGEST, Reception, first_phased, lead, origin, phased, plain, slot_symbol,
     transmission,
@@ -121,7 +122,7 @@ fn is_first_alike(e: &[Element]) -> bool {
     (0..e.len() as i32).all(|o| o > first || phased(e, o) == (o == first))
 }
 
-/// An alert behind dots, which begins later and later: its lead is each from 350 down to 0, and so at each edge of a
+/// An alert after dots, which begins later and later: its lead is each from 350 down to 0, and so at each edge of a
 /// block. Then one that ends earlier and earlier, from 720 elements down to none.
 #[test]
 fn each_lead_and_each_length(rt: HostRuntime) -> Result<(), Fail> {
@@ -150,7 +151,7 @@ fn noise(alloc: Global, count: u32, mut seed: u32) -> Result<Vec<Element>, Alloc
     Ok(elements)
 }
 
-/// Two transmissions behind noise, in which most slots of phasing are lost, each time others.
+/// Two transmissions after noise, in which most phasing slots are lost, each time others.
 #[test]
 fn two_alerts_in_noise(rt: HostRuntime) -> Result<(), Fail> {
     let mut firsts = 0u32;
@@ -179,8 +180,8 @@ fn two_alerts_in_noise(rt: HostRuntime) -> Result<(), Fail> {
     Ok(())
 }
 
-/// A reception that grows by one element at a time is at each length the one that is made of the list, bit by bit, up to
-/// and over the edges of two blocks.
+/// A reception that grows by one element at a time is at each length the one that is made of the list, bit by bit, up
+/// to and over the edges of two blocks.
 #[test]
 fn elements_one_by_one(rt: HostRuntime) -> Result<(), Fail> {
     let elements = noise(rt.alloc(), 130, 1)?;
@@ -202,7 +203,7 @@ fn elements_one_by_one(rt: HostRuntime) -> Result<(), Fail> {
     Ok(())
 }
 
-/// A call that comes element by element, behind one that was made of signs.
+/// A call that comes element by element, after one that was made of signs.
 #[test]
 fn a_call_element_by_element(rt: HostRuntime) -> Result<(), Fail> {
     let elements = received(rt.alloc(), 0, &ALERT_SLOTS, &[])?;

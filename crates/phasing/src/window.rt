@@ -1,3 +1,4 @@
+//! Elements that are read 64 at once from any place on.
 ghost use Rattle.std.specs.Prelude.{◌≡◌, ℕ, ◌+◌, ◌<◌, List, length, slice_index_or};
 ghost use Rattle.ten_unit.specs.declared.character.Element.{Element as AnElement};
 ghost use Rattle.ten_unit.specs.inside.Marks.{IsPlanes};
@@ -25,8 +26,8 @@ pub trait Elements: Copy {
     fn count(self) -> usize
         ensures { result ≡ length (list self) };
 
-    /// The 64 elements from one on as bits, of which those past the last one are lost. Places count, as leads do, from 150 elements
-    /// before the first one.
+    /// The 64 elements from one on as bits, of which those past the last one are lost. Places count, as leads do, from
+    /// 150 elements before the first one.
     fn planes_from(self, begin: usize) -> Planes
         ensures { IsPlanes result.y result.b (begin + LEAD_OF_FIRST) (element_at (list self)) };
 }

@@ -26,7 +26,7 @@ shown_same F G (entry ∷ entries) same are = record {
   are = λ k p v. sym (same k p v) ∙ are.are k p v;
 }
 
--- two lists of entries, one behind the other
+-- two lists of entries, one after the other
 pub shown_append : (F G : ℕ → Facts) (xs ys : List GroupSheet) → AreShown F xs → AreShown G ys → AreShown (λ k. union (F k) (G k)) (xs ++ ys)
 shown_append F G [] ys f g = shown_same G (λ k. union (F k) (G k)) ys (λ k p v. sym (or_false_left (F k p v) (G k p v) (f k p v))) g
 shown_append F G (x ∷ xs) ys f g = record {

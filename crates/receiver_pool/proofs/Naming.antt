@@ -106,7 +106,7 @@ pub apart_with : (groups : List ℕ) (g : ℕ) (b : Bool) → is_listed groups g
 apart_with groups g true is apart = apart
 apart_with groups g false is apart = apart_push groups g is apart
 
--- what is known of a group that stands in the list, and of one that doesn't
+-- what is known of a group that is in the list, and of one that isn't
 pub list_known : (groups : List ℕ) (g i : ℕ) → i < length groups → slice_index groups i ≡ g → groups ≡ with_group groups g
 list_known groups g i inside is = sym (ap (λ (b : Bool). cond b groups (groups ++ g ∷ [])) (listed_at groups g i inside is))
 

@@ -93,7 +93,7 @@ same_ends s t F one other leasts pasts ends = record {
   ];
 }
 
--- what two sets share of ends, a union doesn't tell them apart
+-- sets with the same ends have unions with the same ends
 pub alike_posted : ((S T : Symbols) (x : Seen) → AreAlike S T → IsSeen S x → IsSeen T x) → ((S : Symbols) → AreAlike S S)
     → ((S T U V : Symbols) → AreAlike S T → AreAlike U V → AreAlike (λ v. S v || U v) (λ v. T v || V v))
     → ((F : Facts) (sheet : List Seen) (p : ℕ) → IsEnds F sheet → AreAlike (F p) (facts_in sheet p))

@@ -16,7 +16,7 @@ use Rattle.evidence_board.specs.Seats.{Held}
 use Rattle.receiver_pool.specs.Rows.{IsSeatOf, AreSeats, no_seat, seat_at, table_at}
 use Rattle.receiver_pool.proofs.Turning.{Row}
 
--- what stands at each place
+-- what is at each place
 abbrev pub Seats : ℕ → (ℕ → Facts) → List TableId → ℕ → Held → Type 0
 Seats share F boards j seat = IsSeatOf (table_at boards j) share (F j) seat
 
@@ -37,7 +37,7 @@ AnySeat j seat = seat ≡ seat
 abbrev pub Unseen : ℕ → Held → Type 0
 Unseen j seat = IsEnds no_facts (seen_sheet seat.view)
 
--- the seat that stands there in a row
+-- the seat at that place of a row
 abbrev pub Same : List Held → ℕ → Held → Type 0
 Same seats j seat = seat ≡ seat_at seats j
 

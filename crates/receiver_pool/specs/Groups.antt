@@ -48,7 +48,8 @@ abbrev pub groups_of : List GroupReception → List ℕ
 groups_of [] = []
 groups_of (heard ∷ batch) = heard.group ∷ filter (λ k. not (heard.group == k)) (groups_of batch)
 
--- the entries show these facts of each group; there is one of each group that the batch names, in the order in which it first names them
+-- the entries show these facts of each group; there is one of each group that the batch names, in the order in which it
+-- first names them
 pub record Shows (F : ℕ → Facts) (batch : List GroupReception) (entries : List GroupSheet) : Type 0 where
   pub facts : AreShown F entries
   pub groups : (n : ℕ) → All (Belongs n) batch → All (IsOneOf n) entries

@@ -6,17 +6,19 @@ use Rattle.slot_evidence.specs.Sheet.{IsEnds}
 use Rattle.evidence_board.specs.Views.{spent, given_sheet, seen_sheet}
 use Rattle.evidence_board.specs.Seats.{Held}
 
--- what stands where there is no board, and no seat
+-- what stands for a board where there is none
 abbrev pub no_table : TableId
 no_table = record { words = 0; slots = 0; views_name = 0; atom = 0; block = 0; offset = 0; slot_names = [] }
 
+-- what stands for a seat where there is none
 abbrev pub no_seat : Held
 no_seat = record { table = no_table; view = spent }
 
--- the board with this number, and the seat with this number
+-- the board with this number
 abbrev pub table_at : List TableId → ℕ → TableId
 table_at boards k = slice_index_or boards k no_table
 
+-- the seat with this number
 abbrev pub seat_at : List Held → ℕ → Held
 seat_at seats k = slice_index_or seats k no_seat
 
@@ -38,7 +40,7 @@ pub record Sit (least : ℕ) (boards : List TableId) (seats : List Held) : Type 
   pub facts : ℕ → Facts
   pub are_seats : AreSeats share facts boards seats
 
--- behind something that was done the seats are as they were: each has its board, its share and what was posted through it
+-- the seats are as before: each has its board, its share and what was posted through it
 abbrev pub AreAsBefore : List TableId → List Held → List Held → Type 0
 AreAsBefore boards before after = (share : ℕ) (F : ℕ → Facts) → AreSeats share F boards before → AreSeats share F boards after
 

@@ -10,14 +10,15 @@ use Rattle.receiver_pool.specs.declared.group_entries.GroupReception.{GroupRecep
 use Rattle.receiver_pool.specs.Groups.{facts_of_group, groups_of}
 use Rattle.receiver_pool.specs.Rows.{seat_at}
 
--- a seat saw no more than these facts show: at each place no symbol below their least one, and none above their greatest
+-- a seat saw no more than these facts show: at each place no symbol below their least one, and none above their
+-- greatest
 pub record SawWithin (F : Facts) (view : View) : Type 0 where
   pub sheet : List Seen
   pub ends : IsEnds F sheet
   pub within : (p : ℕ) → p < 64 → IsWithin (place_at view p).seen (reach_of (seen_at sheet p))
 
--- somebody went round the boards of a batch's groups with a seat of each: no seat saw more than the batch shows of its group, and this
--- holds of the groups and the seats
+-- somebody went round the boards of a batch's groups with a seat of each: no seat saw more than the batch shows of its
+-- group, and this holds of the groups and the seats
 pub record HasGoneRound (batch : List GroupReception) (Saw : List ℕ → List Held → Type 0) : Type 0 where
   pub seats : List Held
   pub count : length seats ≡ length (groups_of batch)

@@ -17,8 +17,8 @@ use evidence_board::{AllFacts, Board, Seat, all_facts_may_be_posted};
 use phasing::LONGEST;
 use slot_evidence::{Reception, Sheet, ends_are_kept, sheet_is_lawful, shown_by};
 
-/// Takes what a reception shows into a sheet of all that was posted through a seat of the board with this number, where it is one's turn,
-/// and posts it where that is new, and notes it.
+/// Takes what a reception shows into a sheet of all that was posted through a seat of the board with this number, where
+/// it is one's turn, and posts it where that is new, and notes it.
 fn post_turn(
     board: &Board<AllFacts>,
     seat: &mut Seat<AllFacts>,
@@ -55,9 +55,8 @@ fn post_turn(
     posts.note(number, &shown);
 }
 
-/// Posts the receptions of workers who have entered on the boards of their groups, each as soon as it was read, but for those that show
-/// nothing new of the batch.
-/// The sheets are those of all that was posted.
+/// Posts the receptions of workers who have entered on the boards of their groups, each as soon as it was read, but for
+/// those that show nothing new of the batch. The sheets are those of all that was posted.
 pub(crate) fn post_turns(
     entered: &Entered,
     boards: &[Board<AllFacts>],

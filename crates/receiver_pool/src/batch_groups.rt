@@ -15,13 +15,13 @@ use phasing::Elements;
 use slot_evidence::Sheet;
 use std::alloc::{AllocError, Global};
 
-/// How many groups are remembered by where they stand. Of two with one remainder the search finds the other.
+/// How many groups are remembered by their places. If two have one remainder, the search finds the other.
 const REMEMBERED: usize = 512;
 
-/// In place of the number of a group: none stands here yet.
+/// In place of a group's place: none is remembered yet.
 const NOWHERE: usize = usize::MAX;
 
-/// Where a group stands in a list, if it does.
+/// The place of a group in a list, if it has one.
 fn find(groups: &[usize], group: usize) -> Option<usize>
     ensures some { IfSome result (λ place. (place < length groups.now) × (slice_index groups.now place ≡ group)) }
     ensures none { result ≡ None → is_listed groups.now group ≡ false }
@@ -34,7 +34,8 @@ fn find(groups: &[usize], group: usize) -> Option<usize>
     None
 }
 
-/// The same where it is remembered of each remainder whether a group with it stands in the list, and where one does.
+/// The same, with the help of what is remembered of each remainder: whether a group with it is in the list, and where
+/// one is.
 fn known_place(groups: &[usize], remembered: &[usize; 512], group: usize) -> Option<usize>
     requires { AreRemembered groups.now remembered.now }
     ensures some { IfSome result (λ place. (place < length groups.now) × (slice_index groups.now place ≡ group)) }
@@ -70,7 +71,7 @@ fn place_of(
     Ok(next)
 }
 
-/// The groups that a batch names, and of each reception where its group stands among them.
+/// The groups that a batch names, and for each reception the place of its group among them.
 pub(crate) fn number_groups(
     alloc: Global,
     batch: &[GroupReception],
@@ -86,11 +87,11 @@ pub(crate) fn number_groups(
     Ok((groups, places))
 }
 
-/// How workers share a batch: each reception is the turn of one of them, and goes into the sheet of its group. Where somebody looks at
-/// the boards, each is posted as soon as it was read.
+/// How workers share a batch: each reception is the turn of one of them, and goes into the sheet of its group. Where
+/// somebody looks at the boards, each is posted as soon as it was read.
 #[derive(Drop)]
 pub struct Turns {
-    /// Of each reception where its group stands among those of the batch.
+    /// For each reception the place of its group among those of the batch.
     pub places: Vec<usize>,
     /// How many workers there are: worker w takes the receptions whose index leaves w when divided by their number.
     pub workers: u32,

@@ -40,8 +40,8 @@ pub fn take_sheet(sheets: &mut [Sheet], number: usize) -> Sheet
     sheet
 }
 
-/// One thread, for the workers from `low` on and below `high`: they enter the gate, and it joins their receptions, and posts what these
-/// showed of each group; where somebody looks at the boards, each reception at once.
+/// One thread, for the workers from `low` on and below `high`: they enter the gate, and it joins their receptions, and
+/// posts what these showed of each group; where somebody looks at the boards, each reception at once.
 fn work<G: Gate>(
     alloc: Global,
     boards: &[Board<AllFacts>],
@@ -77,8 +77,8 @@ fn work<G: Gate>(
     Ok(seats)
 }
 
-/// The workers from `low` on and below `high`, in so many threads by halves of halves, or in one for each of them where that is less. Each
-/// thread has a seat of every board.
+/// The workers from `low` on and below `high`, in so many threads by halves of halves, or in one for each of them where
+/// that is less. Each thread has a seat of every board.
 #[cycle(groups)]
 pub(crate) fn fork_groups<R: Threads + Sync, G: Gate>(
     rt: &R,
@@ -134,9 +134,9 @@ pub(crate) fn fork_groups<R: Threads + Sync, G: Gate>(
     Ok(joined)
 }
 
-/// All workers. An empty thread comes first where there are more than two threads: a kernel may put the first new thread on the processor of the
-/// one that starts it, where it waits until that one has done its own share. The worker started behind it then has another processor, and
-/// begins at once.
+/// All workers. An empty thread comes first where there are more than two threads: a kernel may put the first new
+/// thread on the processor of the one that starts it, where it waits until that one has done its own share. The worker
+/// started after it then has another processor, and begins at once.
 fn start_groups<R: Threads + Sync, G: Gate>(
     rt: &R,
     alloc: Global,
@@ -201,10 +201,10 @@ fn share_groups<R: Threads + Sync, G: Gate>(
     close_each(alloc, boards, seats)
 }
 
-/// What a batch of receptions shows: one entry for each group that it names, in the order in which it first names them, with what it showed
-/// of the group. 1 to 64 workers read them with one fork: worker w takes the receptions whose index leaves w when divided by their number.
-/// Each enters the gate once, first thing, and posts what it read of each group on that group's board. With one worker nothing is forked,
-/// and there is no board. The error is want of memory.
+/// What a batch of receptions shows: one entry for each group that it names, in the order in which it first names them,
+/// with what it showed of the group. 1 to 64 workers read them with one fork: worker w takes the receptions whose index
+/// leaves w when divided by their number. Each enters the gate once, first thing, and posts what it read of each group
+/// on that group's board. With one worker nothing is forked, and there is no board. The error is want of memory.
 pub fn pool_groups<R: Threads + Sync, G: Gate>(
     rt: &R,
     alloc: Global,

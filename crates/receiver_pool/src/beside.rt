@@ -25,12 +25,14 @@ use std::thread::{Threads, join};
 
 /// Somebody beside the workers of a batch, who looks at their boards while they post.
 pub trait Beside: Drop + Send {
-    /// What it has seen: of what it was and what it is, what was known of the groups by their numbers, the groups of the boards, and the seats.
+    /// What it has seen: of what it was and what it is, what was known of the groups by their numbers, the groups of
+    /// the boards, and the seats.
     ghost has_seen: { Self → Self → List (List Seen) → List ℕ → List Held → Type 0 };
 
-    /// Goes round the boards, with a seat of each: the k-th board is that of the k-th group. What was known of a group before the batch
-    /// is the sheet with the group's number, and `posts` says on which board there is something new, and whether all was posted. The seats
-    /// have seen nothing. Each keeps its board, its share and what was posted through it.
+    /// Goes round the boards, with a seat of each: the k-th board is that of the k-th group. What was known of a group
+    /// before the batch is the sheet with the group's number, and `posts` says on which board there is something new,
+    /// and whether all was posted. The seats have seen nothing. Each keeps its board, its share and what was posted
+    /// through it.
     fn go_round(
         &mut self,
         known: &[Sheet],
@@ -46,7 +48,7 @@ pub trait Beside: Drop + Send {
         ensures seen { has_seen self.old self.new known.now groups.now seats.new };
 }
 
-/// What is done beside the workers, behind the gate, which is entered with their number.
+/// What is done beside the workers, after the gate, which is entered with their number.
 fn go_beside<G: Gate, B: Beside>(
     known: &[Sheet],
     groups: &[usize],
@@ -173,12 +175,12 @@ fn share_beside<R: Threads + Sync, G: Gate, B: Beside>(
     Ok((sheets, beside))
 }
 
-/// What a batch of receptions shows, as `pool_groups` says it, while somebody looks at the boards on which its workers post. This one has
-/// a thread beside theirs, also where one worker works alone; all are made by one fork. Each reception is posted as soon as it was read, and
-/// one that shows nothing beyond what was known of its group isn't new to this one.
-/// Behind the gate, which is entered once with the number `workers`, this one goes round the boards with what was known of the groups
-/// before. The answer is an entry for each group that the batch names, and the one who looked, whose seats saw no more than the batch shows
-/// of their groups. The error is want of memory.
+/// What a batch of receptions shows, as `pool_groups` says it, while somebody looks at the boards on which its workers
+/// post. This one has a thread beside theirs, also where one worker works alone; all are made by one fork. Each
+/// reception is posted as soon as it was read, and one that shows nothing beyond what was known of its group isn't new
+/// to this one. After the gate, which is entered once with the number `workers`, this one goes round the boards with
+/// what was known of the groups before. The answer is an entry for each group that the batch names, and the one who
+/// looked, whose seats saw no more than the batch shows of their groups. The error is want of memory.
 pub fn pool_groups_beside<R: Threads + Sync, G: Gate, B: Beside>(
     rt: &R,
     alloc: Global,

@@ -103,8 +103,8 @@ pub(crate) fn join_each(
     }
 }
 
-/// Looks at the board with this number through its seat, as `Board::look_at` does: what the seat then saw of each place. The other seats
-/// stay as they are.
+/// Looks at the board with this number through its seat, as `Board::look_at` does: what the seat then saw of each
+/// place. The other seats stay as they are.
 pub fn look_at<A: Allowed>(boards: &[Board<A>], seats: &mut [Seat<A>], number: usize) -> Sheet
     requires seats { Sit 1 boards.now seats.old }
     requires number { number < length boards.now }

@@ -3,11 +3,13 @@ ghost use Rattle.std.specs.Prelude.{◌≡◌};
 
 /// What each worker, numbered from 0, calls once before its first reception. It answers nothing and changes no result.
 pub trait Gate: Sync {
+    /// Called by the worker with this number; a test may have it wait here.
     fn enter(&self, worker: u32);
 }
 
-/// What workers have that have entered the gate: those from `low` on and below `high`, for whom one thread acts. `enter` alone makes it,
-/// and receptions are read for those who have it, so that a thread which reads one before its workers enter doesn't compile.
+/// What workers have that have entered the gate: those from `low` on and below `high`, for which one thread acts.
+/// `enter` alone makes it, and receptions are read for those who have it, so that a thread which reads one before its
+/// workers enter doesn't compile.
 #[derive(Drop)]
 pub(crate) struct Entered {
     pub(crate) low: u32,
@@ -24,7 +26,7 @@ pub(crate) fn enter<G: Gate>(gate: &G, low: u32, high: u32) -> Entered
     Entered { low, high }
 }
 
-/// The gate of the program, which stands open.
+/// The gate of the program, which is open.
 #[derive(Clone, Copy, Debug, PartialEq, Eq)]
 pub struct Open;
 

@@ -35,7 +35,8 @@ pub(crate) fn is_mine(index: usize, workers: u32, low: u32, high: u32) -> bool
     (low as usize <= turn) & (turn < high as usize)
 }
 
-/// The sheet of the receptions of workers who have entered: those whose index leaves the number of one of them when divided by that of all.
+/// The sheet of the receptions of workers who have entered: those whose index leaves the number of one of them when
+/// divided by that of all.
 fn heard_by(entered: &Entered, list: &[Reception], workers: u32) -> Sheet
     requires workers { 0 < workers }
     requires short { All (λ heard. length heard ≤ LONGEST) list.now }
@@ -58,7 +59,8 @@ fn elements_of(list: &[Reception]) -> usize {
     elements
 }
 
-/// One thread, for the workers from `low` on and below `high`: they enter the gate, and it joins their receptions, and posts what these showed.
+/// One thread, for the workers from `low` on and below `high`: they enter the gate, and it joins their receptions, and
+/// posts what these showed.
 fn work<A: Allowed, G: Gate>(
     board: &Board<A>,
     mut seat: Seat<A>,
@@ -83,7 +85,8 @@ fn work<A: Allowed, G: Gate>(
     seat
 }
 
-/// The workers from `low` on and below `high`, in so many threads by halves of halves, or in one for each of them where that is less.
+/// The workers from `low` on and below `high`, in so many threads by halves of halves, or in one for each of them where
+/// that is less.
 #[cycle(workers)]
 fn fork<A: Allowed, R: Threads + Sync, G: Gate>(
     rt: &R,
@@ -138,9 +141,9 @@ fn fork<A: Allowed, R: Threads + Sync, G: Gate>(
     board.join(first, second)
 }
 
-/// Posts through a seat all that receptions show, by one worker or more, who take turns as those of `pool` do: each enters the gate once,
-/// first thing. Conditions: all that the receptions show may be posted on the board, and the seat's share is at least the number of the
-/// workers.
+/// Posts through a seat all that receptions show, by one worker or more, who take turns as those of `pool` do: each
+/// enters the gate once, first thing. Conditions: all that the receptions show may be posted on the board, and the
+/// seat's share is at least the number of the workers.
 pub fn post_all<A: Allowed, R: Threads + Sync, G: Gate>(
     rt: &R,
     board: &Board<A>,
@@ -163,8 +166,9 @@ pub fn post_all<A: Allowed, R: Threads + Sync, G: Gate>(
     fork(rt, board, seat, list, 0, workers, workers, threads, gate)
 }
 
-/// The sheet of all facts that receptions show, joined by 1 to 64 workers: worker w takes those whose index leaves w when divided by
-/// their number. Each enters the gate once, first thing. With one worker nothing is forked and no board is made. The error is want of memory.
+/// The sheet of all facts that receptions show, joined by 1 to 64 workers: worker w takes those whose index leaves w
+/// when divided by their number. Each enters the gate once, first thing. With one worker nothing is forked and no board
+/// is made. The error is want of memory.
 pub fn pool<R: Threads + Sync, G: Gate>(
     rt: &R,
     alloc: Global,

@@ -14,7 +14,7 @@ pub struct Posts {
 }
 
 impl Posts {
-    /// Of boards at which nobody looks.
+    /// The posts on boards at which nobody looks.
     pub(crate) fn none(alloc: Global) -> Posts {
         Posts {
             counts: Vec::new(alloc),
@@ -23,7 +23,7 @@ impl Posts {
         }
     }
 
-    /// Of the boards of these groups, whose numbers are those of the sheets that were known.
+    /// The posts on the boards of these groups, whose numbers are those of the sheets that were known.
     pub(crate) fn of(
         alloc: Global,
         known: &[Sheet],

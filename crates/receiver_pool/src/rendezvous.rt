@@ -1,10 +1,11 @@
-//! A gate for tests: it shows that workers stand in it at the same time.
+//! A gate for tests: it shows that workers are in it at the same time.
 
 use crate::gate::Gate;
 use std::sync::atomic::{AtomicU32, Ordering};
 use std::thread::yield_now;
 
-/// A gate that counts who enters, and in which each waits, for at most 100,000,000 turns, until so many have entered. It is for tests.
+/// A gate that counts who enters, and in which each waits, for at most 100,000,000 turns, until so many have entered.
+/// It is for tests.
 #[derive(Drop)]
 pub struct Rendezvous {
     awaited: u32,

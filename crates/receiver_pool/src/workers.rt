@@ -37,7 +37,7 @@ pub struct Alone {
 }
 
 impl Alone {
-    /// Of so many workers. One enters the gate here; several enter it in each batch.
+    /// So many workers. One enters the gate here; several enter it in each batch.
     pub fn of<G: Gate>(workers: u32, gate: &G) -> Alone {
         let entered = if workers == 1 {
             Some(enter(gate, 0, 1))
@@ -59,7 +59,8 @@ impl Alone {
     }
 }
 
-/// Those who join receptions: one worker, who joins each at once, or several, who read batches by this function, as `pool_groups` does.
+/// Those who join receptions: one worker, who joins each at once, or several, who read batches by this function, as
+/// `pool_groups` does.
 #[derive(Drop)]
 pub struct Workers<J> {
     alone: Alone,

@@ -22,6 +22,7 @@ AreSentenceLines [] (text ∷ lines) = ⊥
 AreSentenceLines (one ∷ all) [] = ⊥
 AreSentenceLines (one ∷ all) (text ∷ lines) = IsSentenceLine one text × AreSentenceLines all lines
 
+-- a test of verdicts: whether a sentence is accepted
 abbrev pub is_accepted : Verdict → Bool
 is_accepted Accepted = true
 is_accepted (Refused refusal) = false
@@ -36,12 +37,12 @@ abbrev pub line_text : SentenceLine → List ℕ
 line_text (Said says) = call_sentences says
 line_text (Sentence bytes) = verdict_text (verdict_of bytes.now) ++ line_feed ∷ []
 
--- a line is no sentence that is refused
+-- a line isn't a refused sentence
 abbrev pub is_well : SentenceLine → Bool
 is_well (Said says) = true
 is_well (Sentence bytes) = is_accepted (verdict_of bytes.now)
 
--- what these lines give, one behind the other
+-- what these lines give, one after the other
 pub record Gives (lines : Lines) (text : List ℕ) : Type 0 where
   pub said : List SentenceLine
   pub are_lines : AreSentenceLines said lines
@@ -54,7 +55,7 @@ pub record EndsSo (lines : Lines) (text : List ℕ) (status : ℕ) : Type 0 wher
   pub text_is : text ≡ flat_map line_text said
   pub status_is : status ≡ (if list_all is_well said then 0 else 1)
 
--- each line is told of as soon as it is read
+-- what is written of each line is given as soon as the line is read
 abbrev pub sentences_meaning : Meaning
 sentences_meaning = record {
   IsIllFormed = λ earlier text n. IsColumn IsSentenceLine text n;

@@ -1,3 +1,4 @@
+//! The command `sentences`.
 ghost use Rattle.std.specs.Prelude.{◌≡◌, ◌||◌, ◌++◌, ◌∷◌, not, [], OnOk};
 ghost use Rattle.line_grammar.specs.Bytes.{line_feed};
 ghost use Rattle.dsc_sentences.specs.Verdicts.{verdict_of, verdict_text};
@@ -26,7 +27,7 @@ fn is_accepted(verdict: &Verdict) -> bool
     }
 }
 
-/// Appends the sentences of what a line of calls says: those of a call and of the expansion behind it.
+/// Appends the sentences of what a line of calls says: those of a call and of the expansion after it.
 fn append_sentences(out: &mut Vec<u8>, says: &CallLine) -> Result<(), AllocError>
     ensures { OnOk result (out.new.items ≡ out.old.items ++ call_sentences says.now) }
 {

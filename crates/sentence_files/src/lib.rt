@@ -1,4 +1,5 @@
-//! Files of calls and sentences: the command `sentences`, which writes the sentences of calls and verdicts on sentences.
+//! Files of calls and sentences: the command `sentences`, which writes the sentences of calls and verdicts on
+//! sentences.
 #![tactic(auto)]
 
 mod command;

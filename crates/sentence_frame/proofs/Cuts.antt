@@ -35,7 +35,7 @@ onto_behind b bytes (part ∷ parts) e =
     let tail : part ++ behind_commas parts ≡ bytes = cc in
     ap (λ (l : List ℕ). 44 ∷ (b ∷ l)) tail
 
--- what is cut at its commas, each part behind a comma again
+-- what is cut at its commas, each part after a comma again
 pub cut_behind : (bytes : List ℕ) → behind_commas (slice_split is_comma bytes) ≡ 44 ∷ bytes
 cut_behind [] = refl
 cut_behind (b ∷ bytes) =

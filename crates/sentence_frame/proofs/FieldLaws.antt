@@ -214,7 +214,7 @@ maybe_kind s text value Fits k none = record {
 pub one_value : {V : Type 0} (s : Shape) (text : V → List ℕ) (value : List ℕ → V) (Fits : V → Type 0) → IsKind s text value Fits → (v w : V) → Fits v → Fits w → text v ≡ text w → v ≡ w
 one_value s text value Fits k v w hv hw e = sym (k.back v hv) ∙ ap value e ∙ k.back w hw
 
--- the letters of which one stands there: nothing else than this letter is accepted
+-- the letters of which one is there: nothing else than this letter is accepted
 pub letter_text : (letters t : List ℕ) → accepts (shape.letter letters) t ≡ true → (t ≡ get_or t 0 0 ∷ []) × (is_among letters (get_or t 0 0) ≡ true)
 unfolding accepts
 letter_text letters [] h = absurd (false≢true h)

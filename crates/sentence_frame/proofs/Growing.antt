@@ -4,7 +4,7 @@ use Rattle.std.proofs.lemmas.List.{append-nil}
 use Rattle.std.proofs.lemmas.Grind.{flat_map-append}
 use Rattle.sentence_frame.specs.Frames.{behind_commas}
 
--- bytes that are a head and these texts behind commas
+-- bytes that are a head and these texts after commas
 pub record IsGrown (head : List ℕ) (ts : List (List ℕ)) (items : List ℕ) : Type 0 where
   pub is : items ≡ head ++ behind_commas ts
 

@@ -92,7 +92,7 @@ ending_facts bytes h =
       lf = eqb-true (get_or bytes 4 0) 10 p5.1;
     }
 
--- the `*` of an ending stands behind the head and its comma
+-- the `*` of an ending comes after the head and its comma
 pub head_fits : (head bytes : List ℕ) → IsHead head → Begins head bytes → IsEnding (last_five bytes) → length head < length bytes - 5
 head_fits head bytes h b e =
     let n = length bytes - 5 in

@@ -11,7 +11,7 @@ use Rattle.sentence_frame.specs.Shapes.{Shape, accepts, are_digits, is_among, is
 use Rattle.sentence_frame.specs.inside.Fields.{is_plain, are_plain}
 use Rattle.sentence_frame.proofs.Cuts.{is_comma, has_no_comma}
 
--- letters that may stand in fields
+-- letters that fields may have
 abbrev pub has_plain_letters : Shape → Bool
 has_plain_letters (shape.letter letters) = are_plain letters
 has_plain_letters (shape.maybe s) = has_plain_letters s
@@ -64,7 +64,7 @@ plain_text (shape.letter letters) t p h =
 plain_text (shape.maybe s) [] p h = refl
 plain_text (shape.maybe s) (b ∷ t) p h = plain_text s (b ∷ t) p h
 
--- plain texts behind commas are clean, and none has a comma
+-- plain texts after commas are clean, and none has a comma
 plain_clean : (t : List ℕ) → are_plain t ≡ true → list_all is_clean t ≡ true
 plain_clean [] h = refl
 plain_clean (b ∷ t) h =

@@ -1,4 +1,4 @@
--- how fields are read one behind another
+-- how fields are read one after another
 use Rattle.std.proofs.Common.{◌≡◌, ℕ, Bool, true, not, cond, List, [], ◌∷◌, ◌++◌, length, take, drop, refl, ◌∙◌, ap, arith, inl, inr, Result, Ok, Err, MatchResult, zero, suc}
 use Rattle.std.specs.List.{list_all, prefix_len}
 use Rattle.std.proofs.lemmas.Bool.{and_parts, cases_Bool}
@@ -25,13 +25,13 @@ length_text (b ∷ t) rest h e =
     let k = length_text t rest both.1 e in
     rw here (omega (arith, k))
 
--- the first text behind a comma reaches to the next comma
+-- the first text after a comma reaches to the next comma
 pub first_behind : (t : List ℕ) (ts : List (List ℕ)) → has_no_comma t ≡ true → first_of (behind_commas (t ∷ ts)) ≡ t
 unfolding first_of
 first_behind t ts h =
     ap (λ (k : ℕ). take k (t ++ behind_commas ts)) (length_text t (behind_commas ts) h (length_behind ts)) ∙ take-append_seam t (behind_commas ts)
 
--- behind the first text the others follow
+-- after the first text the others follow
 pub rest_behind : (t : List ℕ) (ts : List (List ℕ)) → has_no_comma t ≡ true → rest_of (behind_commas (t ∷ ts)) ≡ behind_commas ts
 unfolding rest_of
 rest_behind t ts h =
@@ -52,7 +52,7 @@ agree_step k s value t more judgement all P h =
       | inr isnt ↦ rw isnt refl
     ]
 
--- the texts that are taken one behind another
+-- the texts that are taken one after another
 abbrev pub firsts : ℕ → List ℕ → List (List ℕ)
 firsts zero fields = []
 firsts (suc n) fields = first_of fields ∷ firsts n (rest_of fields)

@@ -12,7 +12,7 @@ use Rattle.sentence_frame.specs.inside.Fields.{are_plain}
 use Rattle.sentence_frame.proofs.Plain.{has_plain_letters, plain_text}
 use Rattle.sentence_frame.proofs.Sentences.{accepted, judged_ok}
 
--- the most bytes that a shape accepts, and those of fields of these shapes behind commas
+-- the most bytes that a shape accepts, and those of fields of these shapes after commas
 abbrev pub longest : Shape → ℕ
 longest (shape.number width most) = width
 longest (shape.code numbers) = 2

@@ -66,7 +66,7 @@ opened_sound head counts bytes fields h =
     let k = open_ok head counts bytes fields (framed head bytes) h in
     record { framed = k.0; count = k.1 }
 
--- fields in a frame are their texts behind commas
+-- fields in a frame are their texts after commas
 pub record AreCut (head bytes fields : List ℕ) : Type 0 where
   pub whole : bytes ≡ sentence head (texts fields)
   pub cut : fields ≡ behind_commas (texts fields)

@@ -3,7 +3,7 @@ use Rattle.std.specs.Prelude.{ℕ, ◌+◌, ◌/◌, ◌%◌, nat_lt, if◌then�
 use Rattle.std.specs.List.{flat_map, fold}
 use Rattle.line_grammar.specs.Bytes.{line_feed, carriage_return, asterisk, comma, digit_zero}
 
--- each text behind a comma
+-- each text after a comma
 abbrev pub behind_commas : List (List ℕ) → List ℕ
 behind_commas texts = flat_map (λ text. comma ∷ text) texts
 
@@ -19,10 +19,10 @@ hexadecimal n = if nat_lt n 10 then digit_zero + n else 55 + n
 abbrev pub ending : ℕ → List ℕ
 ending sum = asterisk ∷ hexadecimal (sum / 16) ∷ hexadecimal (sum % 16) ∷ carriage_return ∷ line_feed ∷ []
 
--- what stands before the `*`, and the ending with the checksum of what stands behind the `$`
+-- what comes before the `*`, and the ending with the checksum of what comes after the `$`
 abbrev pub closed : List ℕ → List ℕ
 closed body = body ++ ending (checksum (drop 1 body))
 
--- a sentence: its head, as `$CDDSC`, each field behind a comma, and the ending
+-- a sentence: its head, as `$CDDSC`, each field after a comma, and the ending
 unfoldable pub sentence : List ℕ → List (List ℕ) → List ℕ
 sentence head texts = closed (head ++ behind_commas texts)

@@ -6,7 +6,8 @@ use Rattle.sentence_frame.specs.Refusals.{Form, is_head, judged}
 use Rattle.sentence_frame.specs.Shapes.{is_among}
 use Rattle.sentence_frame.specs.inside.Fields.{are_plain}
 
--- texts that a sentence of this form may have: as many as it may have, of clean bytes without commas, each accepted, and not too long in all
+-- texts that a sentence of this form may have: as many as it may have, of clean bytes without commas, each accepted,
+-- and not too long in all
 pub record AreTexts (form : Form) (texts : List (List ℕ)) : Type 0 where
   pub head : is_head form.head ≡ true
   pub some : texts ≢ []

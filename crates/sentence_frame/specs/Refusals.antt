@@ -1,5 +1,5 @@
--- Which bytes are a sentence of accepted fields, and why others are none: the frame of IEC 61162-1; the fields and the order of
--- refusals are this project's profile.
+-- Which bytes are a sentence of accepted fields, and why others are none: the frame of IEC 61162-1; the fields and the
+-- order of refusals are this project's profile.
 use Rattle.std.specs.Prelude.{ℕ, ◌+◌, ◌-◌, ◌*◌, Bool, not, ◌&&◌, ◌||◌, ◌==◌, nat_eq, nat_le, nat_lt, if◌then◌else◌, List, ◌∷◌, length, take, drop, slice_index, Result, Ok, Err}
 use Rattle.std.specs.List.{list_all, starts_with, slice_split}
 use Rattle.line_grammar.specs.Bytes.{digit_zero}
@@ -15,14 +15,15 @@ abbrev pub ◌>>=◌ : {A B : Type 0} → Result A SentenceRefusal → (A → Re
 Ok x >>= f = f x
 Err e >>= f = Err e
 
--- what stands before the last five bytes, and these
+-- what comes before the last five bytes
 abbrev pub body : List ℕ → List ℕ
 body bytes = take (length bytes - 5) bytes
 
+-- the last five bytes
 abbrev pub last_five : List ℕ → List ℕ
 last_five bytes = drop (length bytes - 5) bytes
 
--- what stands behind the first byte and before the last five
+-- what comes after the first byte and before the last five
 abbrev pub inner : List ℕ → List ℕ
 inner bytes = drop 1 (body bytes)
 
@@ -40,22 +41,23 @@ is_ending bytes =
     length bytes == 5 && slice_index bytes 0 == 42 && is_hexadecimal (slice_index bytes 1) && is_hexadecimal (slice_index bytes 2)
     && slice_index bytes 3 == 13 && slice_index bytes 4 == 10
 
--- the value of a hexadecimal digit, and the number that an ending writes
+-- the value of a hexadecimal digit
 abbrev pub hexadecimal_value : ℕ → ℕ
 hexadecimal_value b = if nat_lt b 65 then b - digit_zero else b - 55
 
+-- the checksum that an ending has
 abbrev pub written : List ℕ → ℕ
 written ending = 16 * hexadecimal_value (slice_index ending 1) + hexadecimal_value (slice_index ending 2)
 
--- a test of bytes: whether it may stand between the `$` and the `*`, which is 32 to 126, and neither of the two
+-- a test of bytes: whether it may come between the `$` and the `*`, which is 32 to 126, and neither of the two
 abbrev pub is_clean : ℕ → Bool
 is_clean b = (nat_le 32 b && nat_le b 126) && (not (b == 36) && not (b == 42))
 
--- a test of bytes: whether they end as sentences do, and what stands between the `$` and that `*` is clean
+-- a test of bytes: whether they end as sentences do, and what is between the `$` and that `*` is clean
 abbrev pub ends : List ℕ → Bool
 ends bytes = is_ending (last_five bytes) && list_all is_clean (inner bytes)
 
--- the fields, each behind its comma, of bytes in the frame of sentences with this head
+-- the fields, each after its comma, of bytes in the frame of sentences with this head
 unfoldable pub framed : List ℕ → List ℕ → Result (List ℕ) SentenceRefusal
 framed head bytes =
     if nat_lt 82 (length bytes) then Err (TooLong (length bytes)) else
@@ -64,7 +66,7 @@ framed head bytes =
     if not (checksum (inner bytes) == written (last_five bytes)) then Err (Checksum (checksum (inner bytes)) (written (last_five bytes))) else
     Ok (drop (length head) (body bytes))
 
--- the texts of fields: they are cut at each comma behind the first
+-- the texts of fields: they are cut at each comma after the first
 abbrev pub texts : List ℕ → List (List ℕ)
 texts fields = slice_split (λ b. b == 44) (drop 1 fields)
 

@@ -4,8 +4,8 @@ use Rattle.std.specs.List.{list_all, list_any}
 use Rattle.line_grammar.specs.Bytes.{digit_zero}
 use Rattle.line_grammar.specs.Tokens.{is_digit, value_after}
 
--- so many digits that make a number up to the most; two digits that make one of these numbers; so many digits; at most so many
--- digits; one of these letters; this or nothing
+-- so many digits that make a number up to the most; two digits that make one of these numbers; so many digits; at most
+-- so many digits; one of these letters; this or nothing
 pub data Shape : Type 0 where
   number : ℕ → ℕ → Shape
   code : List ℕ → Shape

@@ -1,3 +1,4 @@
+//! The values of the fields of a sentence.
 ghost use Rattle.std.specs.Prelude.{[], ◌∷◌, not, ◌≡◌, ◌-◌, ◌≤◌, ◌<◌, ◌^◌, IsTrue, IfOk, IfSome, length, map, slice_index};
 ghost use Rattle.std.specs.List.{list_all};
 ghost use Rattle.line_grammar.specs.Tokens.{is_digit};

@@ -1,3 +1,4 @@
+//! Taking a sentence apart: its head, its fields and its checksum.
 ghost use Rattle.std.specs.Prelude.{IfOk, IfErr, Ok, Err, ◌≡◌, ◌≢◌, ◌+◌, ◌-◌, ◌≤◌, ◌<◌, ◌==◌, ◌&&◌, ◌↔◌, IsTrue, true, length, drop};
 ghost use Rattle.std.specs.List.{list_all, count_by};
 ghost use Rattle.sentence_frame.specs.Frames as frame;
@@ -10,8 +11,8 @@ use cursor::Cursor;
 /// The most bytes that a sentence has (IEC 61162-1).
 pub const LONGEST_SENTENCE: usize = 82;
 
-/// The fields of a sentence with this head, each behind its comma, where there are so many as one of these counts; else the first
-/// refusal, up to that of their number.
+/// The fields of a sentence with this head, each after its comma, where there are so many as one of these counts; else
+/// the first refusal, up to that of their number.
 #[tactic(auto, unfolding(crate::specs::Refusals::opened))]
 pub fn fields_of<'a>(
     head: &[u8],
@@ -34,7 +35,7 @@ pub fn fields_of<'a>(
     }
 }
 
-/// How many texts these fields have, each behind its comma.
+/// How many texts these fields have, each after its comma.
 fn text_count(fields: &[u8]) -> usize
     ensures { result ≡ length (refusal.texts fields.now) }
 {
@@ -52,7 +53,7 @@ fn commas(bytes: &[u8]) -> usize
     bytes.iter().filter(|byte| **byte == b',').count()
 }
 
-/// The fields, each behind its comma, of bytes in the frame of sentences with this head.
+/// The fields, each after its comma, of bytes in the frame of sentences with this head.
 #[tactic(auto, unfolding(crate::specs::Refusals::framed))]
 fn framed<'a>(head: &[u8], bytes: &'a [u8]) -> Result<&'a [u8], SentenceRefusal>
     requires { IsTrue (refusal.is_head head.now) }
@@ -77,7 +78,7 @@ fn framed<'a>(head: &[u8], bytes: &'a [u8]) -> Result<&'a [u8], SentenceRefusal>
     }
 }
 
-/// What stands behind the head and before the last five bytes.
+/// What comes after the head and before the last five bytes.
 fn behind<'a>(head: &[u8], bytes: &'a [u8]) -> &'a [u8]
     requires { length head.now < length bytes.now - 5 }
     ensures { result.now ≡ drop (length head.now) (refusal.body bytes.now) }
@@ -86,7 +87,7 @@ fn behind<'a>(head: &[u8], bytes: &'a [u8]) -> &'a [u8]
     &body[head.len()..]
 }
 
-/// What stands before the last five bytes.
+/// What comes before the last five bytes.
 fn body(bytes: &[u8]) -> &[u8]
     ensures { result.now ≡ refusal.body bytes.now }
 {
@@ -100,7 +101,7 @@ fn last_five(bytes: &[u8]) -> &[u8]
     &bytes[bytes.len().saturating_sub(5)..]
 }
 
-/// What stands behind the first byte and before the last five.
+/// What comes after the first byte and before the last five.
 fn inner(bytes: &[u8]) -> &[u8]
     ensures { result.now ≡ refusal.inner bytes.now }
 {
@@ -108,7 +109,7 @@ fn inner(bytes: &[u8]) -> &[u8]
     &body[body.len().min(1)..]
 }
 
-/// Whether bytes end as sentences do, and what stands before is clean.
+/// Whether bytes end as sentences do, and what comes before is clean.
 fn ends(bytes: &[u8]) -> bool
     ensures { result ≡ refusal.ends bytes.now }
 {
@@ -163,14 +164,14 @@ fn hexadecimal_value(byte: u8) -> u8
     }
 }
 
-/// Whether a byte may stand between the `$` and the `*`.
+/// Whether a byte may come between the `$` and the `*`.
 fn is_clean(byte: u8) -> bool
     ensures { result ≡ refusal.is_clean byte }
 {
     (32..=126).contains(&byte) && byte != b'$' && byte != b'*'
 }
 
-/// Whether all bytes may stand between the `$` and the `*`.
+/// Whether all bytes may come between the `$` and the `*`.
 fn are_clean(bytes: &[u8]) -> bool
     ensures { result ≡ list_all refusal.is_clean bytes.now }
 {
@@ -185,7 +186,7 @@ pub fn checksum(bytes: &[u8]) -> u8
     bytes.iter().fold(0, |sum, byte| sum ^ *byte)
 }
 
-/// Takes the text of the next field, which stands behind a comma; nothing where there is none.
+/// Takes the text of the next field, which comes after a comma; nothing where there is none.
 #[tactic(auto, unfolding(crate::specs::inside::Fields::first_of, crate::specs::inside::Fields::rest_of))]
 pub fn next_text<'a>(fields: &mut Cursor<'a>) -> &'a [u8]
     ensures text { result.now ≡ first_of fields.old }
@@ -199,7 +200,7 @@ pub fn next_text<'a>(fields: &mut Cursor<'a>) -> &'a [u8]
     &behind[..length]
 }
 
-/// How many bytes stand before the first comma.
+/// How many bytes come before the first comma.
 fn text_length(bytes: &[u8]) -> usize
     ensures length { result ≡ text_length bytes.now }
     ensures most { result ≤ length bytes.now }

@@ -1,5 +1,5 @@
-//! The frame of sentences (IEC 61162-1): the head, fields behind commas, and the checksum; which texts a field accepts, and why
-//! bytes are no sentence.
+//! The frame of sentences (IEC 61162-1): the head, fields after commas, and the checksum; which texts a field accepts,
+//! and why bytes are no sentence.
 #![tactic(auto)]
 
 mod fields;

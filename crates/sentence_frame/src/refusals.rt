@@ -1,3 +1,5 @@
+//! Why bytes are no sentence.
+
 /// Why bytes are no sentence, in the order in which it is found out (this project's profile).
 #[derive(Clone, Copy, Debug, PartialEq, Eq)]
 pub enum SentenceRefusal {
@@ -5,8 +7,8 @@ pub enum SentenceRefusal {
     TooLong(usize),
     /// They don't begin with the head of the sentence and a comma.
     Start,
-    /// They don't end with `*`, two capital hexadecimal digits, CR and LF, or a byte between the `$` and the `*` is one of these two
-    /// or outside 32 to 126.
+    /// They don't end with `*`, two capital hexadecimal digits, CR and LF, or a byte between the `$` and the `*` is one
+    /// of these two or outside 32 to 126.
     End,
     /// The checksum is another one than the one that is written.
     Checksum { want: u8, got: u8 },

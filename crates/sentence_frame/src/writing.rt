@@ -1,3 +1,4 @@
+//! Writing a sentence: its head, its fields and its checksum.
 ghost use Rattle.std.specs.Prelude.{◌≡◌, ◌+◌, ◌<◌, ◌≤◌, ◌++◌, ◌∷◌, IsTrue, IfSome, length};
 ghost use Rattle.arrayvec.specs.ArrayVec.{array_vec_len};
 ghost use Rattle.line_grammar.specs.Bytes.{comma};
@@ -88,7 +89,7 @@ pub fn append_perhaps_digits_field<const N: usize>(
     }
 }
 
-/// Appends `*`, the checksum of what stands behind the `$`, CR and LF.
+/// Appends `*`, the checksum of what comes after the `$`, CR and LF.
 pub fn close(out: &mut ArrayVec<u8, LONGEST_SENTENCE>)
     requires room { array_vec_len out.old ≤ 77 }
     requires some { 0 < array_vec_len out.old }

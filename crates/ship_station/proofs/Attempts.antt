@@ -43,7 +43,7 @@ given_in_range : (who : Identities) (h : History ShipWhat) → Legal (ship_rules
 given_in_range who [] legal = tt
 given_in_range who (e ∷ h) legal = all_append (delays_given h) (option_to_list (delay_of e.what)) (given_in_range who h legal.1) (delay_in e.what legal.0.event)
 
--- the moment of the last attempt is that of an attempt behind which there is none
+-- the moment of the last attempt is that of an attempt after which there is none
 abbrev told_by : Bool → ℕ → Option ℕ → Option ℕ
 told_by b at other = if is_some (if b then Some at else None) then (if b then Some at else None) else other
 

@@ -51,7 +51,7 @@ used_of_given who (e ∷ h) legal =
     subst (λ (n : ℕ). delays_used (e ∷ h) ≤ n) (sym (length-append (delays_given h) (option_to_list (delay_of e.what))))
     (used_by (delays_used h) (length (delays_given h)) (length (option_to_list (delay_of e.what))) (is_tick e.what && does is_attempt e) few left)
 
--- one delay more stands behind those that are left
+-- one delay more comes after those that are left
 pub delay_put_last : (who : Identities) (h : History ShipWhat) (delay : ℕ) → Legal (ship_rules who) h → drop (delays_used h) (delays_given h ++ delay ∷ []) ≡ delays_left h ++ delay ∷ []
 delay_put_last who h delay legal = drop-append-le (delays_used h) (delays_given h) (delay ∷ []) (used_of_given who h legal)
 

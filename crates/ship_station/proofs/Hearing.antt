@@ -1,4 +1,4 @@
--- what is due at a heard call, by whom it is for
+-- what is due at a heard call, by who it is addressed to
 use Rattle.std.proofs.Common.{◌≡◌, ℕ, ◌==◌, ◌&&◌, not, Bool, true, false, None, is_some, if◌then◌else◌, [], ◌∙◌, ap}
 use Rattle.call_values.specs.declared.calls.Call.{Call}
 use Rattle.call_values.specs.declared.positions.Fix.{Fix}
@@ -14,7 +14,7 @@ use Rattle.ship_station.specs.Past.{kept, open_alert}
 use Rattle.ship_station.specs.ShipRules.{Identities, held, is_for, at_call, due_at, refusal_at}
 use Rattle.ship_station.specs.Stands.{Keeps}
 
--- a ship tells whom a call is for as its history does
+-- a ship judges who a call is for as its history does
 pub is_for_by : (who : Identities) (h : History ShipWhat) (ship : Ship) (c : Call) → Keeps ship who h
     → (not (sender_of c == ship.own) && is_for_ship c ship.own ship.groups ship.position) ≡ is_for who h c
 is_for_by who h ship c keeps =

@@ -58,7 +58,7 @@ delays_after : (e : Entry ShipWhat) (h : History ShipWhat) → delay_of e.what �
 delays_after e h is =
     ap (λ (o : Option ℕ). drop (delays_used (e ∷ h)) (delays_given h ++ option_to_list o)) is ∙ delays_by h (is_tick e.what && does is_attempt e)
 
--- after an event a ship keeps what its history then tells
+-- after an event a ship keeps what its history then says
 pub keeps_after : (who : Identities) (h : History ShipWhat) (e : Entry ShipWhat) (old new : Ship) (ended tried : Bool) → Keeps old who h → IsPlain e.what
     → does is_end e ≡ ended → does is_attempt e ≡ tried → Moves old new e.at (is_tick e.what) ended tried → new.held ≡ held (e ∷ h) → Keeps new who (e ∷ h)
 keeps_after who h e old new ended tried keeps plain ends tries moves holds = record {

@@ -1,4 +1,4 @@
--- a ship that keeps what a history with an accepted event more tells stands for it
+-- a ship that keeps what a history with one more accepted event says stands for that history
 use Rattle.std.proofs.Common.{◌≡◌, ℕ, ◌≤◌, ◌==◌, Bool, false, Some, None, is_some, Result, Ok, List, ◌∷◌, length, if◌then◌else◌, sym, ◌∙◌, ap, subst}
 use Rattle.std.specs.Prelude.{OnOk, OnErr}
 use Rattle.std.proofs.lemmas.Result.{on_err_weaker}
@@ -38,7 +38,8 @@ pub answered : (who : Identities) (h : History ShipWhat) (at : ℕ) (what : Ship
 answered who h at what acts late none due =
     ap (λ (some : List Act). Ok some) (sym due) ∙ sym (answer_accepted (ship_rules who) h at what (refused_on_time (ship_rules who) h at what late ∙ none))
 
--- a ship that is as it was after a refusal, and keeps what is told after an accepted event, goes on as its history does
+-- a ship that is as it was after a refusal, and keeps what its history says after an accepted event, goes on as its
+-- history does
 pub goes : (who : Identities) (h : History ShipWhat) (at : ℕ) (what : ShipWhat) (old new : Ship) (result : Result (Unit {0}) StationRefusal) (acts : List Act)
     → last_moment h ≤ at → IsShipWhat what → Stands old who h → answer_with result acts ≡ refusal_or (refusal_at who h what) (due_at who h at what)
     → OnErr result (new ≡ old)

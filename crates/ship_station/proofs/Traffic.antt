@@ -58,7 +58,7 @@ pub tick_test : (p : Act → Bool) → Misses p → (front : List Act) (at : ℕ
 tick_test p missed front at places =
     list_any-append p front (repeats at 1 places) ∙ ap (λ (b : Bool). list_any p front || b) (none_repeated p missed at 1 places) ∙ or-false (list_any p front)
 
--- a ship tells what is due of its alert at a tick as its history does
+-- what is due of a ship's alert at a tick is what its history says
 pub tick_same : (who : Identities) (h : History ShipWhat) (ship : Ship) (at : ℕ) → Keeps ship who h
     → at_tick ship.own (ship.position, ship.time) ship.alert ship.delays.items ship.attempted_at at
     ≡ at_tick who.own (kept h) (open_alert h) (delays_left h) (last_attempt h) at

@@ -14,8 +14,8 @@ IsTried h (Alert nature comm) alert = alert ≡ record { nature = nature; comm =
 IsTried h Tick alert = open_alert h ≡ Some alert
 IsTried h _ alert = ⊥
 
--- an act at an event behind a history is an attempt of such an alert: the ship's own, with the position and the time that are kept,
--- sent 5 times in a row
+-- an act at an event after a history is an attempt of such an alert: the ship's own, with the position and the time
+-- that are kept, sent 5 times in a row
 pub record IsAttempted (own : ℕ) (h : History ShipWhat) (what : ShipWhat) (sent : Act) : Type 0 where
   pub alert : OwnAlert
   pub tried : IsTried h what alert

@@ -1,4 +1,5 @@
--- Events at a ship: this project's profile; the delays between attempts of an alert, 3.5 to 4.5 minutes, are those of ITU-R M.541.
+-- Events at a ship: this project's profile; the delays between attempts of an alert, 3.5 to 4.5 minutes, are those of
+-- ITU-R M.541.
 use Rattle.std.specs.Prelude.{◌≡◌, ℕ, Bool, Option, Some, None, is_some}
 use Rattle.call_values.specs.declared.calls.Call.TheVariants.{Ack}
 use Rattle.call_values.specs.Clock.{IsHourMinute}
@@ -13,7 +14,7 @@ use Rattle.ship_station.specs.declared.events.ShipWhat.{ShipWhat}
 use Rattle.ship_station.specs.declared.events.ShipWhat.TheVariants.{Position, Delay, Alert, Cancel, Tick, Send, Answer, Heard}
 use Rattle.ship_station.specs.declared.alerts.OwnAlert.{OwnAlert}
 
--- each part of an event is in its range; of calls that are sent and heard nothing is asked
+-- each part of an event is in its range; calls that are sent or heard may be any
 abbrev pub IsShipWhat : ShipWhat → Type 0
 IsShipWhat (Position position time) = IsPosition position × IsHourMinute time
 IsShipWhat (Delay delay) = IsAlertDelay delay

@@ -1,5 +1,5 @@
--- What a ship's history tells: attempts of 5 calls, and the delays between them, are those of ITU-R M.541, distress alert attempts; that an
--- operator lists the delays is this project's profile.
+-- What a ship's history says: attempts of 5 calls, and the delays between them, are those of ITU-R M.541, distress
+-- alert attempts; that an operator lists the delays is this project's profile.
 use Rattle.std.specs.Prelude.{ℕ, ◌==◌, ◌&&◌, Bool, true, false, Option, Some, None, unwrap_or, List, drop, if◌then◌else◌}
 use Rattle.traffic_rules.specs.declared.acts.Act.{Act}
 use Rattle.traffic_rules.specs.declared.acts.Act.TheVariants.{Send, AlertEnded}
@@ -25,11 +25,11 @@ abbrev pub is_tick : ShipWhat → Bool
 is_tick Tick = true
 is_tick _ = false
 
--- the position and the time that the last event which gives some gives, and else none that is known
+-- the last position and time that an event gave; none that is known where no event gave any
 abbrev pub kept : History ShipWhat → Whereabouts
 kept h = unwrap_or (last_told (λ e. whereabouts_of e.what) h) (None, None)
 
--- the alert that the last event which begins one begins, unless the alert ended after it
+-- the last alert that an event began, unless an alert ended after that
 abbrev pub open_alert : History ShipWhat → Option OwnAlert
 open_alert h = last_told (λ e. alert_of e.what) (since (does is_end) h)
 

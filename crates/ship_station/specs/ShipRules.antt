@@ -1,5 +1,5 @@
--- Rules of a ship: the attempts of its alert, and when they are repeated, are those of ITU-R M.541, distress alert attempts; all else is this
--- project's profile.
+-- Rules of a ship: the attempts of its alert, and when they are repeated, are those of ITU-R M.541, distress alert
+-- attempts; all else is this project's profile.
 use Rattle.std.specs.Prelude.{ℕ, ◌==◌, ◌&&◌, Bool, Option, Some, None, is_some, is_none, List, [], ◌∷◌, ◌++◌, length, not, if◌then◌else◌}
 use Rattle.call_values.specs.declared.calls.Call.{Call}
 use Rattle.call_values.specs.declared.calls.Call.TheVariants as call
@@ -47,8 +47,9 @@ is_for who h call = not (sender_of call == who.own) && is_for_ship call who.own 
 abbrev pub held : History ShipWhat → Places
 held = all_held ship_occurs
 
--- a delay is refused where 16 are held; an alert where one is on, or else where no delay is held; a cancel where no alert is on;
--- a tick where an alert is on and no delay is held; an operator's call, an answer and a heard call for the ship by the rules of traffic
+-- a delay is refused where 16 are held; an alert where one is on, or else where no delay is held; a cancel where no
+-- alert is on; a tick where an alert is on and no delay is held; an operator's call, an answer and a heard call for the
+-- ship by the rules of traffic
 abbrev pub refusal_at : Identities → History ShipWhat → ShipWhat → Option StationRefusal
 refusal_at who h (Position position time) = None
 refusal_at who h (Delay delay) = refused_where (length (delays_left h) == 16) Full
@@ -60,20 +61,22 @@ refusal_at who h (Send call) = send_refusal who.own (held h) call
 refusal_at who h (Answer number accepts) = answer_refusal (held h) number
 refusal_at who h (Heard call) = if is_for who h call then heard_refusal (held h) call else None
 
--- at a tick: an attempt, where an alert is on and at least the first delay has passed since the last attempt
+-- at a tick an attempt is due, if an alert is on and at least the first delay has passed since the last attempt
 abbrev pub at_tick : (own : ℕ) → Whereabouts → Option OwnAlert → (delays : List ℕ) → (last at : ℕ) → List Act
 at_tick own place (Some alert) (delay ∷ delays) last at = if has_passed delay last at then attempt own place alert ∷ [] else []
 at_tick own place _ _ last at = []
 
--- at a call for the ship: an alert is told as distress; an acknowledgement that names the ship ends the alert that is on; other calls
--- by the rules of traffic, a position request being answered with what is kept
+-- what is due at a call for the ship: at an alert the operator is informed of distress; an acknowledgement that names
+-- the ship ends the alert that is on; other calls by the rules of traffic, and a position request is answered with what
+-- is kept
 abbrev pub at_call : (own : ℕ) → Whereabouts → (is_on : Bool) → Places → Call → List Act
 at_call own place is_on places (call.Alert casualty) = Distress casualty ∷ []
 at_call own place is_on places (call.Ack from casualty) = if is_on && (casualty.mmsi == own) then AlertEnded ∷ [] else []
 at_call own place is_on places heard = heard_due own (Some place) places heard
 
--- what is due: at an alert its first attempt with what is kept; at a cancel, that the alert ended; at a tick the alert's attempt and
--- then the held calls; at a heard call for the ship as above; an operator's call and an answer by the rules of traffic
+-- what is due: at an alert its first attempt with what is kept; at a cancel, that the alert ended; at a tick the
+-- alert's attempt and then the held calls; at a heard call for the ship what `at_call` gives; at an operator's call and
+-- an answer what the rules of traffic give
 abbrev pub due_at : Identities → History ShipWhat → (at : ℕ) → ShipWhat → List Act
 due_at who h at (Position position time) = []
 due_at who h at (Delay delay) = []

@@ -7,7 +7,7 @@ use Rattle.ship_station.specs.declared.ships.Ship.{Ship}
 use Rattle.ship_station.specs.Past.{kept, open_alert, last_attempt, delays_left}
 use Rattle.ship_station.specs.ShipRules.{Identities, held, ship_rules}
 
--- each part that a ship keeps is what a history tells
+-- each part that a ship keeps is what a history says
 pub record Keeps (ship : Ship) (who : Identities) (h : History ShipWhat) : Type 0 where
   pub own : ship.own ≡ who.own
   pub groups : ship.groups ≡ who.groups
@@ -19,6 +19,6 @@ pub record Keeps (ship : Ship) (who : Identities) (h : History ShipWhat) : Type 
   pub delays : ship.delays.items ≡ delays_left h
   pub held : ship.held ≡ held h
 
--- a ship of these identities stands for a history: it is legal, and the ship keeps what it tells
+-- a ship of these identities stands for a history: it is legal, and the ship keeps what it says
 abbrev pub Stands : Ship → Identities → History ShipWhat → Type 0
 Stands ship who h = Legal (ship_rules who) h × Keeps ship who h

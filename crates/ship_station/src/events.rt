@@ -1,3 +1,4 @@
+//! The events of a ship.
 ghost use Rattle.ship_station.specs.Events.{IsShipWhat};
 
 use call_values::{AlertDelay, Call, Comm, HourMinute, Nature, Position};
@@ -14,7 +15,7 @@ pub struct ShipEvent {
 pub enum ShipWhat {
     /// The ship's position, and the time at which it was there.
     Position(Position, HourMinute),
-    /// One more delay between attempts of a distress alert, behind those that are held.
+    /// One more delay between attempts of a distress alert, after those that are held.
     Delay(AlertDelay),
     /// A distress alert is begun: the nature of distress, and the communication that is to follow.
     Alert(Nature, Comm),

@@ -1,3 +1,4 @@
+//! The groups of ships that a ship belongs to, at most 16.
 ghost use Rattle.std.specs.Prelude.{◌≡◌, ◌≤◌, length};
 
 use call_values::Mmsi;
@@ -21,7 +22,7 @@ impl Model for OwnGroups {
 }
 
 impl OwnGroups {
-    /// These groups. The places behind them hold an identity of no meaning.
+    /// These groups. The places after them hold an identity of no meaning.
     pub(crate) fn new(groups: &[Mmsi], blank: Mmsi) -> OwnGroups
         requires { length groups.now ≤ 16 }
         ensures { result ≡ groups.now }

@@ -1,3 +1,4 @@
+//! A ship: what it keeps, and what it does at each event.
 ghost use Rattle.std.specs.Prelude.{◌≡◌, ◌≤◌, ◌==◌, ◌&&◌, not, [], ◌∷◌, length, drop, is_some, if◌then◌else◌, Ok, OnOk, OnErr};
 ghost use Rattle.std.specs.List.{list_any};
 ghost use Rattle.area_rules.specs.Addressing.{is_for_ship};
@@ -47,8 +48,8 @@ pub struct Ship {
 }
 
 impl Ship {
-    /// A ship with its own identity and those of its groups, at most 16. It knows no position nor time, has no alert on and
-    /// holds no delay, and its last moment is 0.
+    /// A ship with its own identity and those of its groups, at most 16. It knows no position nor time, has no alert on
+    /// and holds no delay, and its last moment is 0.
     pub fn new(own: Mmsi, groups: &[Mmsi]) -> Ship
         requires { length groups.now ≤ 16 }
         ensures { Stands result (record { own = own; groups = groups.now }) [] }
@@ -66,12 +67,12 @@ impl Ship {
         }
     }
 
-    /// Does what is due at an event (the attempts of its distress alert are those of ITU-R M.541; all else is this project's
-    /// profile). The acts are at most 32; they are in a list
-    /// of the caller, which is cleared first and is empty where the event is refused. Refused, in this order: an event before the last accepted one
-    /// (`TimeBack`); a delay where 16 are held (`Full`); an alert where one is on (`AlertActive`) or no delay is held
-    /// (`NeedsDelay`); a cancel where no alert is on (`NoAlert`); a tick where an alert is on and no delay is held (`NeedsDelay`);
-    /// a call that the operator may not send (`NotSendable`); an answer to a number under which no call that was got is held
+    /// Does what is due at an event (the attempts of its distress alert are those of ITU-R M.541; all else is this
+    /// project's profile). The acts are at most 32; they are in a list of the caller, which is cleared first and is
+    /// empty where the event is refused. Refused, in this order: an event before the last accepted one (`TimeBack`); a
+    /// delay where 16 are held (`Full`); an alert where one is on (`AlertActive`) or no delay is held (`NeedsDelay`); a
+    /// cancel where no alert is on (`NoAlert`); a tick where an alert is on and no delay is held (`NeedsDelay`); a call
+    /// that the operator may not send (`NotSendable`); an answer to a number under which no call that was got is held
     /// (`NoSuchCall`); a sent or heard call that must be held where no number is free (`Full`).
     pub fn step_into(&mut self, event: &ShipEvent, acts: &mut Acts) -> Result<(), StationRefusal>
         ensures answers { AnswersByRules ship_rules Stands self.old event.now.at event.now.what (answer_with result acts.new.items) }
@@ -108,6 +109,7 @@ impl Ship {
         Ok(acts)
     }
 
+    /// Keeps a position and its time, for the attempts and answers that follow.
     fn keep_position(&mut self, at: u64, position: Position, time: HourMinute)
         ensures answer { AnswersEvent self.old at (What.Position position time) (Ok []) }
         ensures goes_on { GoesOn self.old at (What.Position position time) self.new }
@@ -117,6 +119,7 @@ impl Ship {
         self.time = time;
     }
 
+    /// Keeps one more delay between attempts; `Full` where there is no room for it.
     fn keep_delay(&mut self, at: u64, delay: AlertDelay) -> Result<(), StationRefusal>
         ensures answer { AnswersEvent self.old at (What.Delay delay) (answer_with result []) }
         ensures goes_on { GoesOn self.old at (What.Delay delay) self.new }
@@ -255,6 +258,7 @@ impl Ship {
         Ok(())
     }
 
+    /// Does what is due at a heard call. A call that isn't for this ship changes the last moment alone.
     fn hear(&mut self, at: u64, call: &Call, acts: &mut Acts) -> Result<(), StationRefusal>
         requires { acts.old.items ≡ [] }
         ensures answer { AnswersEvent self.old at (What.Heard call.now) (answer_with result acts.new.items) }

@@ -8,11 +8,11 @@ use Rattle.slot_evidence.specs.Seen.{IsSeen, symbols_in}
 use Rattle.slot_evidence.specs.Sheet.{IsEnds, seen_at, facts_in}
 use Rattle.slot_evidence.specs.Alike.{IsBetween, AreAlike}
 
--- a symbol of a set stands between itself and itself
+-- a symbol of a set is between itself and itself
 pub itself : (S : Symbols) (v : ℕ) → S v ≡ true → IsBetween S v
 itself S v has = record { low = v; high = v; has_low = has; has_high = has; above = omega arith; below = omega arith }
 
--- what stands between two of a span stands in it
+-- what is between two of a span is in it
 inside_span : (S T : Symbols) (a b u : ℕ) → AreAlike S T → ((w : ℕ) → S w ≡ true → (a ≤ w) × (w ≤ b)) → T u ≡ true → (a ≤ u) × (u ≤ b)
 inside_span S T a b u alike span has =
     let c = alike.back u has in
@@ -51,7 +51,7 @@ kept_alike S T (seen.Differ a b) alike several = record {
   between = λ u has. inside_span S T a b u alike several.between has;
 }
 
--- what stands between two of a set stands between two of a larger one
+-- what is between two of a set is between two of a larger one
 wider_left : (S T : Symbols) (v : ℕ) → IsBetween S v → IsBetween (λ w. S w || T w) v
 wider_left S T v b = record {
   low = b.low;

@@ -14,5 +14,5 @@ pub use Rattle.slot_evidence.proofs.Ends.{seen_by, blank_at}
 pub use Rattle.slot_evidence.proofs.Ends.{kept_shown, fact_small, all_small}
 -- a least symbol below the number past the greatest is in order
 pub use Rattle.slot_evidence.proofs.Edges.{order_some}
--- a symbol stands between itself and itself; sets that have the same symbols are alike, either way round
+-- a symbol is between itself and itself; sets that have the same symbols are alike, either way round
 pub use Rattle.slot_evidence.proofs.Alike.{itself, same_alike, flip_alike}

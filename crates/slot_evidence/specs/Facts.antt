@@ -1,4 +1,5 @@
--- The facts of receptions: ITU-R M.493, section on time diversity. That a group's facts are united is this project's profile.
+-- The facts of receptions: ITU-R M.493, section on time diversity. That a group's facts are united is this project's
+-- profile.
 use Rattle.std.specs.Prelude.{ℕ, Bool, false, ◌&&◌, ◌||◌, ◌==◌, nat_lt, List, Option, Some, None}
 use Rattle.std.specs.List.{list_any}
 use Rattle.ten_unit.specs.declared.character.Element.{Element}
@@ -26,7 +27,8 @@ one_fact place symbol p v = p == place && v == symbol
 abbrev pub union : Facts → Facts → Facts
 union F G p v = F p v || G p v
 
--- what a reception gives at the lead of its origin: of each place below 64 the symbols of its DX slot and of its RX slot
+-- what a reception gives at the lead of its origin: for each place below 64 the symbols of its DX slot and of its RX
+-- slot
 abbrev pub facts_at : List Element → Option ℕ → Facts
 facts_at e None p v = false
 facts_at e (Some lead) p v =

@@ -1,4 +1,5 @@
--- What a sheet says of a place by two numbers, its least symbol and the number after its greatest: this project's profile.
+-- What a sheet says of a place by two numbers, its least symbol and the number after its greatest: this project's
+-- profile.
 use Rattle.std.specs.Prelude.{◌≡◌, ℕ, zero, suc, ◌+◌, ◌<◌, ◌≤◌, ◌==◌, min, max, if◌then◌else◌}
 use Rattle.slot_evidence.specs.declared.places.Seen.{Seen}
 use Rattle.slot_evidence.specs.declared.places.Seen.TheVariants as seen

@@ -1,3 +1,4 @@
+//! What a place showed: nothing, one symbol, or several.
 ghost use Rattle.std.specs.Prelude.{◌≡◌, ◌||◌, ◌<◌, ◌≤◌, MatchOption};
 ghost use Rattle.slot_evidence.specs.TwoNumbers.{AreInOrder, seen_between, span_seen};
 ghost use Rattle.slot_evidence.specs.Facts.{Symbols};

@@ -1,3 +1,4 @@
+//! The sheet of a reception: what its slots show, place by place.
 ghost use Rattle.std.specs.Prelude.{◌≡◌, ℕ, ◌+◌, ◌<◌, ◌≤◌, ◌↔◌, min, max, length, Some, IfSome, IsNone, slice_index};
 ghost use Rattle.phasing.specs.Origin.{lead_of};
 ghost use Rattle.slot_evidence.specs.Facts.{facts_at, facts_of};
@@ -41,11 +42,11 @@ fn pasts_of(shown: &ShownSlot) -> [u8; 64]
     pasts
 }
 
-/// The sheet of what a reception shows at a lead: of each place below 64 what its DX slot and its RX slot show at the origin
-/// `lead - 150` (ITU-R M.493, time diversity), phased or not. The lead is 40 or later.
+/// The sheet of what a reception shows at a lead: of each place below 64 what its DX slot and its RX slot show at the
+/// origin `lead - 150` (ITU-R M.493, time diversity), phased or not. The lead is 40 or later.
 ///
-/// It reads the slots' symbols six slots a step, and then the least and the greatest of each place's two, sixteen places a
-/// step.
+/// It reads the slots' symbols six slots a step, and then the least and the greatest of each place's two, sixteen
+/// places a step.
 pub fn sheet_at<E: Elements>(e: E, lead: u32) -> Sheet
     requires length { length (E.list e) ≤ LONGEST }
     requires begun { 40 ≤ lead }

@@ -1,3 +1,4 @@
+//! Sheets: the ends of a set of facts for 64 places.
 ghost use Rattle.std.specs.Prelude.{◌≡◌, ℕ, ◌||◌, ◌<◌, ◌≤◌, length, replicate, min, max, slice_index, slice_set};
 ghost use Rattle.slot_evidence.specs.Facts.{Facts, Symbols, no_facts, one_fact, union};
 ghost use Rattle.slot_evidence.specs.TwoNumbers.{seen_with};
@@ -8,8 +9,8 @@ ghost use Rattle.slot_evidence.specs.Sheet.{IsEnds, IsMeet, IsSheet, seen_at, fa
 use crate::places::Seen;
 use std::marker::Model;
 
-/// What a set of facts showed of each of 64 places: the least symbol, or 128 for none, and the greatest plus one, or 0 for
-/// none. So two sheets meet by minima and maxima alone. Contracts see it as the list of what it keeps of each.
+/// What a set of facts showed of each of 64 places: the least symbol, or 128 for none, and the greatest plus one, or 0
+/// for none. So two sheets meet by minima and maxima alone. Contracts see it as the list of what it keeps of each.
 #[derive(Clone, Copy, Debug, PartialEq, Eq)]
 pub struct Sheet {
     leasts: [u8; 64],

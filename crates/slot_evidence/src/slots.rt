@@ -6,8 +6,8 @@ ghost use Rattle.phasing.specs.Slot.{slot};
 use phasing::{Elements, LAST_LEAD, LEAD_OF_FIRST, LONGEST};
 use ten_unit::symbol_at;
 
-/// The symbols of slots 12 to 143, 128 for none: in `dx` those of the even ones, in turn, from slot 12 on, which is the DX
-/// slot of place 0; and in `rx` those of the odd ones from slot 13 on, two before the RX slot of place 0.
+/// The symbols of slots 12 to 143, 128 for none. `dx` has those of the even slots from 12 on, the DX slot of place 0;
+/// `rx` has those of the odd slots from 13 on, two before the RX slot of place 0.
 #[derive(Drop)]
 pub(crate) struct ShownSlot {
     pub(crate) dx: [u8; 66],

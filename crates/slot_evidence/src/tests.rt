@@ -1,3 +1,4 @@
+//! Facts of receptions by hand, and the reader compared with the plain one.
 use crate::{Seen, Sheet, plain, read_sheet};
 use dsc_symbols::worked::{ALERT, ALERT_SLOTS};
 use std::alloc::{AllocError, Global};

@@ -22,7 +22,7 @@ use Rattle.slot_join.specs.OneCall.{ShowsNoOther, IsEndPlace, ShowsNoOtherEnd, I
 use Rattle.slot_join.proofs.ShownLists.{push_shown, shown_front, viable_front, front_viable}
 use Rattle.slot_join.proofs.LateEnds.{OneCheckPlace, OneEndPlace, one_front, no_second}
 
--- format specifiers stand twice at the start of calls, and nothing else does
+-- format specifiers come twice at the start of calls, and nothing else does
 abbrev pub FormatsBegin : Type 0
 FormatsBegin = (f : ℕ) → IsFormat f ↔ IsViable (f ∷ f ∷ [])
 
@@ -44,11 +44,11 @@ pub record Laws : Type 0 where
   pub tell : ChecksTell
   pub formats : FormatsBegin
 
--- what stands before the first end of sequence
+-- what comes before the first end of sequence
 abbrev pub before_end : Call → List ℕ
 before_end c = format_of c ∷ (format_of c ∷ fields_of c)
 
--- the symbol that a list has at the place of the call's first end of sequence, and what stands behind it
+-- the symbol that a list has at the place of the call's first end of sequence, and what comes after it
 abbrev pub last_of : Call → List ℕ → ℕ
 last_of c k = get_or k (length (before_end c)) 0
 
@@ -74,7 +74,7 @@ module _ (laws : Laws) (F : Facts) (c : Call) (lawful : IsCall c) (only : ShowsN
   at_end : IsAtEnd (before_end c)
   at_end = record { call = c; lawful = lawful; list = refl }
 
-  -- the first end of sequence stands at one place of the call
+  -- the first end of sequence is at one place of the call
   one_end : (k rest : List ℕ) (v : ℕ) → through_check c ≡ (k ++ v ∷ []) ++ rest → IsAtEnd k → length rest ≡ 1
   one_end k rest v whole end =
       let check : IsAtCheck (k ++ v ∷ []) = laws.ends k v end (viable_front (k ++ v ∷ []) rest (subst IsViable whole (front_viable c lawful))) in
@@ -153,7 +153,7 @@ module _ (laws : Laws) (F : Facts) (c : Call) (lawful : IsCall c) (only : ShowsN
   beyond_long : (k : List ℕ) → IsShown F k → length (before_end c) < length k → length k ≡ length (before_end c) + 1 + length (beyond c k)
   beyond_long k a lt = omega (arith, ap length (split k a lt), length-append (before_end c ++ last_of c k ∷ []) (beyond c k), length_push (before_end c) (last_of c k))
 
-  -- with the right check behind it, the symbol is the call's end of sequence
+  -- with the right check after it, the symbol is the call's end of sequence
   right_end : (d : Call) (v w : ℕ) → up_to_end d ≡ before_end c ++ v ∷ [] → w ≡ check_of (covered d) → F (length (before_end c) + 1) w ≡ true → v ≡ end_of c
   right_end d v w front is has =
       let own : w ≡ check_of (covered c) = only (length (before_end c) + 1) w (omega (arith, long)) has ∙ check_symbol_at in
@@ -209,7 +209,7 @@ module _ (laws : Laws) (F : Facts) (c : Call) (lawful : IsCall c) (only : ShowsN
         answer_is = r.answer_is ∙ ap (λ (d : Call). Reported d r.extra) same;
       })
 
-  -- a list behind which the call's symbol is given goes on
+  -- a list after which the call's symbol is given goes on
   goes_on : (k : List ℕ) (v : ℕ) → IsShown F k → length k ≤ length (before_end c) → Gives F k (length k) v → v ≡ get_or (through_check c) (length k) 0
       → IsShown F (k ++ v ∷ []) × IsViable (k ++ v ∷ [])
   goes_on k v a le gives is =
@@ -314,7 +314,7 @@ module _ (laws : Laws) (F : Facts) (c : Call) (lawful : IsCall c) (only : ShowsN
           absurd (omega (arith, low, high, several.apart))
       behind_end (seen.One v) one is = inr (late_stop v one (end_late v one end_given) is)
 
-    -- the longest list ends behind the check, and a call is shown
+    -- the longest list ends after the check, and a call is shown
     past : length (before_end c) + 1 < length s.list → ⊥
     past lt =
         let k : List ℕ = s.list in

@@ -66,7 +66,7 @@ copy_shows e list lead p inside small intact =
     in_slots (ltb p 64) (ltb v 128) (shows e lead (dx_slot p) v) (shows e lead (rx_slot p) v) (lt-ltb p 64 inside) (lt-ltb v 128 small) either in
     subst (λ (o : Option ℕ). facts_at e o p v ≡ true) (sym intact.origin) here
 
--- the characters of a call's places up to its check, and where they stand
+-- the characters of a call's places up to its check, and where they are
 character : Lists → (c : Call) (tail : List ℕ) (p : ℕ) → IsCall c → p < length (through_check c) → get_or (spell c ++ tail) p 0 < 128
 character lists c tail p lawful below =
     let ends : List ℕ = end_of c ∷ end_of c ∷ [] in
@@ -104,8 +104,8 @@ blank_nowhere lists receptions c tail p lawful below none k d inside = λ lead i
     let no : facts_of_all receptions p (get_or (through_check c) p 0) ≡ false = none (get_or (through_check c) p 0) in
     cc
 
--- where the facts of receptions that end with the transmission showed nothing of the second and the third end of sequence, unless
--- another symbol than the call's, no copy of these came intact
+-- where the facts of receptions that end with the transmission showed nothing of the second and the third end of
+-- sequence, unless another symbol than the call's, no copy of these came intact
 abbrev pub LateAreLost : List (List Element) → Call → List ℕ → Type 0
 LateAreLost receptions c tail = (n : ℕ) → IsEndPlace c n → All (λ reception. EndsWithin reception (spell c ++ tail)) receptions
     → (ShowsNoOtherEnd (facts_of_all receptions) c n → ShowsNone (late_of (facts_of_all receptions) n))

@@ -55,7 +55,7 @@ pub shown_front : (F : Facts) (from : ℕ) (l t : List ℕ) → IsShownFrom F fr
 shown_front F from l t shown k below =
     subst (λ (v : ℕ). ShowsOne (F (from + k)) v) (get_or_append_left l t 0 k below) (shown k (omega (arith, length-append l t)))
 
--- a shown list and the one symbol behind it
+-- a shown list and the one symbol after it
 pub push_from : (F : Facts) (from v : ℕ) (l : List ℕ) → IsShownFrom F from l → ShowsOne (F (from + length l)) v → IsShownFrom F from (l ++ v ∷ [])
 push_from F from v l shown one k below = elim (cases_lt k (length l)) [
   | inl lt ↦ subst (λ (u : ℕ). ShowsOne (F (from + k)) u) (sym (get_or_append_left l (v ∷ []) 0 k lt)) (shown k lt)
@@ -102,7 +102,7 @@ same_extra differ F from e (Broken m) Absent inside x y = absurd (x.some y)
 same_extra differ F from e (Broken m) (Whole v) inside x y = absurd (x.unfinished v y.0 y.1)
 same_extra differ F from e (Broken m) (Broken n) inside x y = ap Broken (same_broken F from m n e x y)
 
--- behind a call the extra is read in one way
+-- after a call the extra is read in one way
 pub extra_with : (F : Facts) (c : Call) (a : Extra) (e : End) → end_symbol e ≡ end_of c → Follows F c a → IsExtra F (length (spell c)) e a
 extra_with F c a e own x = subst (λ (f : End). IsExtra F (length (spell c)) f a) (end_one x.last e (x.own ∙ sym own)) x.is
 
@@ -125,11 +125,12 @@ kept_one S (seen.Differ a b) v h one = absurd (omega (arith, one.1 a h.has_least
 pub none_one : (F : Facts) (sheet : List Seen) (n : ℕ) → IsEnds F sheet → ((v : ℕ) → seen_at sheet n ≡ seen.One v → ⊥) → (v : ℕ) → ShowsOne (F n) v → ⊥
 none_one F sheet n ends never v one = never v (kept_one (F n) (seen_at sheet n) v (seen_there F sheet n (seen_at sheet n) ends refl) one)
 
--- what is read behind a call's whole list follows it
+-- what is read after a call's whole list follows it
 pub followed : (F : Facts) (c : Call) (extra : Extra) (e : End) (from : ℕ) → end_symbol e ≡ end_of c → length (spell c) ≡ from → IsExtra F from e extra → Follows F c extra
 followed F c extra e from own place is = record { last = e; own = own; is = subst (λ (n : ℕ). IsExtra F n e extra) (sym place) is }
 
--- what the code reads: the symbols of the places that showed one, up to the first that didn't, and how far an expansion goes in them
+-- what the code reads: the symbols of the places that showed one, up to the first that didn't, and how far an expansion
+-- goes in them
 module _ (differ : ExpansionsDiffer) (F : Facts) (from : ℕ) (e : End) (list : List ℕ) (shown : IsShownFrom F from list)
     (stops : (v : ℕ) → from + length list < 64 → ShowsOne (F (from + length list)) v → ⊥) where
   pub whole_of : (x : Sets) (rest : List ℕ) → IsExpansion x → list ≡ through_check x e ++ rest → IsExtra F from e (Whole x)
@@ -152,7 +153,7 @@ module _ (differ : ExpansionsDiffer) (F : Facts) (from : ℕ) (e : End) (list : 
     front_shown : IsShownFrom F from front
     front_shown = shown_front F from front rest (subst (λ (l : List ℕ). IsShownFrom F from l) is shown)
 
-    -- behind the front nothing that is shown goes on
+    -- after the front nothing that is shown goes on
     none_longer : (rest' : List ℕ) → rest ≡ rest' → (other : List ℕ) → IsShownFrom F from other → IsViable e other → length front < length other → ⊥
     none_longer [] same other so vo longer =
         let whole : list ≡ front = is ∙ ap (λ (l : List ℕ). front ++ l) same ∙ append-nil front in

@@ -18,7 +18,7 @@ kept_none S (seen.Differ least greatest) h n = let a : S least ≡ true = h.has_
 pub blank_there : (F : Facts) (s : List Seen) (p : ℕ) → IsEnds F s → ShowsNone (F p) → seen_at s p ≡ seen.None
 blank_there F s p ends n = kept_none (F p) (seen_at s p) (seen_there F s p (seen_at s p) ends refl) n
 
--- a format specifier that stands twice is shown
+-- a format specifier that comes twice is shown
 pub format_shown : (F : Facts) (format : ℕ) (walk : List ℕ) → walk ≡ format ∷ format ∷ [] → ShowsOne (head_of F) format → IsShown F walk
 format_shown F format walk e one =
     let two : length walk ≡ 2 = ap length e in

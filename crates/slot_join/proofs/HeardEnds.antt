@@ -1,4 +1,5 @@
--- What receptions that end with the transmission show of its last places, and of the later copies of the end of sequence.
+-- What receptions that end with the transmission show of its last places, and of the later copies of the end of
+-- sequence.
 use Rattle.std.proofs.Common.{◌≡◌, ℕ, ◌+◌, ◌*◌, ◌<◌, ◌≤◌, true, false, ◌&&◌, ◌||◌, ltb, List, [], ◌∷◌, ◌++◌, length, get_or, Option, Some, None, refl, sym, ap, subst, ◌∙◌, inl, inr, ◌⊎◌, arith, length-append, All}
 use Rattle.std.proofs.lemmas.Bool.{cases_lt, ltb-true, and_parts, or_cases, or_left, or_right, or_parts}
 use Rattle.std.proofs.lemmas.List.{get_or_append_left, get_or-append-add, length_push}
@@ -52,7 +53,7 @@ WithinLaw = (list : List ℕ) (e : List Element) (p v : ℕ) → IsHeard e list 
     → facts_of e p v ≡ true → v ≡ get_or list p 0
 
 module _ (law : WithinLaw) (lists : Lists) (receptions : List (List Element)) (c : Call) (tail : List ℕ) (lawful : IsCall c) (n : ℕ) (place : IsEndPlace c n) where
-  -- the second and the third end of sequence stand two and three places behind the first
+  -- the second and the third end of sequence are two and three places after the first
   long : length (spell c) ≡ n + 4
   long = omega (arith, place, length-append (through_check c) (end_of c ∷ end_of c ∷ []), length_push (up_to_end c) (check_of (covered c)))
 

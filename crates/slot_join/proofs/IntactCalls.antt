@@ -45,7 +45,7 @@ WordsApart = (u v : ℕ) → u < 128 → v < 128 → word_of u ≡ word_of v →
 abbrev pub BothSlots : Type 0
 BothSlots = (list : List ℕ) (slot p : ℕ) → IsSlotOf slot p → sent_symbol list slot ≡ get_or list p 0
 
--- one symbol's word stands in a slot
+-- one symbol's word is in a slot
 module _ (equal : WordsEqual) (apart : WordsApart) (e : List Element) (lead : ℕ) where
   one_symbol : (s u v : ℕ) → u < 128 → v < 128 → shows e lead s u ≡ true → shows e lead s v ≡ true → u ≡ v
   unfolding shows
@@ -129,7 +129,7 @@ whole_answer formats F c extra lawful least places follows =
       )));
     }
 
--- the laws of the crates below that this one stands on
+-- the laws of the crates below that this one rests on
 pub record Laws : Type 0 where
   pub equal : WordsEqual
   pub apart : WordsApart
@@ -143,7 +143,7 @@ pub record Laws : Type 0 where
   pub short : ExpansionsAreShort
   pub symbols : ExpansionsAreCharacters
 
--- a call that stands at the front of an intact list is reported
+-- a call at the front of an intact list is reported
 module _ (laws : Laws) (F : Facts) (c : Call) (lawful : IsCall c) (answer : Joined) (is : IsAnswer F answer)
     (places : (p : ℕ) → p + 2 < length (spell c) → ShowsOne (F p) (get_or (spell c) p 0)) where
   least : 4 ≤ length (spell c)

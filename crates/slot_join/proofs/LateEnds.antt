@@ -56,7 +56,7 @@ after_end l v end = after_push l v (omega (arith, three l end))
 pub long_check : (l : List ℕ) → IsAtCheck l → 1 ≤ length l
 long_check l check = omega (arith, ap length check.list)
 
--- behind a late end of sequence that was taken, a check is next
+-- after a late end of sequence that was taken, a check is next
 pub check_next : OneEndPlace → (l new : List ℕ) (v : ℕ) → IsAtEnd l → new ≡ after l v → IsViable new → IsAtCheck new
 check_next law l new v end taken viable =
     let is : new ≡ l ++ v ∷ [] = taken ∙ after_end l v end in
@@ -70,7 +70,7 @@ not_taken one law l v (Done call) new end is not viable =
 not_taken one law l v Outside new end is not viable = is.never viable
 not_taken one law l v (Check want got) new end is not viable = is.never viable
 
--- behind the place of a check no list is open
+-- after the place of a check no list is open
 check_ends : OneCheckPlace → (l new : List ℕ) (v : ℕ) → IsAtCheck l → new ≡ l ++ v ∷ [] → IsOpen new → ⊥
 check_ends law l new v check taken open_ =
     let c : Call = check.call in
@@ -103,7 +103,7 @@ same_late F l n u v one late = one.1 v late.copies.0
 pub prompt_check : OneCheckPlace → (F : Facts) (l : List ℕ) (n v : ℕ) → IsAtCheck l → IsLate F l n v → IsViable (after l v) → ⊥
 prompt_check law F l n v check late viable = no_second law l check late.at_end
 
--- a list with the late end of sequence behind it
+-- a list with the late end of sequence after it
 pub late_shown : (F : Facts) (l : List ℕ) (n v : ℕ) → length l ≡ n → IsShown F l → IsLate F l n v → IsShown F (after l v) × IsShownLate F (after l v)
 late_shown F l n v len shown late =
     let here : IsLate F l (length l) v = subst (λ (k : ℕ). IsLate F l k v) (sym len) late in

@@ -19,7 +19,7 @@ use Rattle.slot_evidence.specs.Facts.{facts_of, facts_at}
 use Rattle.slot_join.specs.Heard.{IsOneWayAt, IsTrulyPhased, IsHeard}
 use Rattle.slot_join.specs.OneCall.{ShowsNoOther}
 
--- the laws of the crates below that this one stands on
+-- the laws of the crates below that this one rests on
 pub record Laws : Type 0 where
   pub equal : (w : List Element) (v : ℕ) → (is_word w v ≡ true) ↔ (w ≡ word_of v)
   pub one_way : (received : List Element) (u v : ℕ) → u < 128 → v < 128 → IsOneWay (word_of v) received → is_word received u ≡ true → u ≡ v

@@ -43,7 +43,7 @@ module _ (law : HeardLaw) (within_law : WithinLaw) (lists : Lists) (formats : Fo
     λ v has. head_is (facts_of_all receptions) c only v has,
   )
 
-  -- before the first end of sequence stand the format specifiers and the fields
+  -- the format specifiers and the fields come before the first end of sequence
   front : (n : ℕ) → IsEndPlace c n → take n (through_check c) ≡ before_end c
   front n place =
       let is : n ≡ length (before_end c) = omega (arith, place, length_push (before_end c) (end_of c)) in

@@ -15,7 +15,7 @@ use Rattle.slot_join.specs.Shown.{head_of, late_of, IsLate, Gives, IsShown, IsSh
 pub only_one : (S : Symbols) (u v : ℕ) → ShowsOne S u → ShowsOne S v → u ≡ v
 only_one S u v a b = b.1 u a.0
 
--- a place gives one symbol, whatever stands before it
+-- a place gives one symbol, whatever comes before it
 one_given : (F : Facts) (a b : List ℕ) (p u v : ℕ) → Gives F a p u → Gives F b p v → u ≡ v
 one_given F a b p u v (inl x) (inl y) = only_one (F p) u v x y
 one_given F a b p u v (inl x) (inr y) = absurd (cc (x.0, y.none u))
@@ -43,7 +43,7 @@ agree F l m a b le =
 pub two : (F : Facts) (l : List ℕ) → IsShown F l → 2 ≤ length l
 two F l a = let e : length l ≡ length (a.format ∷ a.format ∷ a.rest) = ap length a.begins in omega arith
 
--- a shown list goes on with the symbol that the place behind it gives
+-- a shown list goes on with the symbol that the place after it gives
 pub push_shown : (F : Facts) (l : List ℕ) (v : ℕ) → IsShown F l → Gives F l (length l) v → IsShown F (l ++ v ∷ [])
 push_shown F l v a one = record {
   format = a.format;
@@ -82,11 +82,11 @@ shown_front F (x ∷ (y ∷ k)) rest some a =
           (subst (λ (v : ℕ). Gives F (take p (front ++ rest)) p v) (get_or_append_left front rest 0 p below) (a.places p least (omega (arith, below, length-append front rest))));
     }
 
--- the end of sequence stands behind both format specifiers
+-- the end of sequence comes after both format specifiers
 pub three : (l : List ℕ) → IsAtEnd l → 2 ≤ length l
 three l a = omega (arith, ap length a.list, length-append l (end_of a.call ∷ []), length-append (fields_of a.call) (end_of a.call ∷ []))
 
--- behind a list without one, a place that showed a symbol gives none
+-- after a list without one, a place that showed a symbol gives none
 pub prompt_push : (F : Facts) (l : List ℕ) (v w : ℕ) → (IsShownLate F l → ⊥) → F (length l) w ≡ true → IsShownLate F (l ++ v ∷ []) → ⊥
 prompt_push F l v w prompt has late = elim (cases_lt late.place (length l)) [
   | inl lt ↦ prompt (record {
@@ -101,7 +101,7 @@ prompt_push F l v w prompt has late = elim (cases_lt late.place (length l)) [
       absurd (cc)
 ]
 
--- behind a list, its place may give one
+-- after a list, its place may give one
 pub late_push : (F : Facts) (l : List ℕ) (v : ℕ) → IsLate F l (length l) v → IsShownLate F (l ++ v ∷ [])
 late_push F l v late = record {
   place = length l;
@@ -110,7 +110,7 @@ late_push F l v late = record {
       (subst (λ (u : ℕ). IsLate F l (length l) u) (sym (get_or_push l v 0 (length l) refl)) late);
 }
 
--- behind a shown list the next symbol is its next one
+-- after a shown list the next symbol is its next one
 pub after_shown : (F : Facts) (l : List ℕ) (v : ℕ) → IsShown F l → after l v ≡ l ++ v ∷ []
 after_shown F l v a = ap (λ (x : List ℕ). after x v) a.begins ∙ sym (ap (λ (x : List ℕ). x ++ v ∷ []) a.begins)
 
@@ -128,7 +128,7 @@ open_viable l a =
     let whole : IsViable (l ++ a.next ∷ a.rest) = subst IsViable a.list (front_viable a.call a.lawful) in
     viable_front l (a.next ∷ a.rest) whole
 
--- a shown list that no symbol behind it lets go on is the longest
+-- a shown list that no symbol after it lets go on is the longest
 pub longest_from : (F : Facts) (l : List ℕ) → IsShown F l → IsViable l → ((v : ℕ) → Gives F l (length l) v → IsViable (l ++ v ∷ []) → ⊥) → IsLongest F l
 longest_from F l shown viable stops = record {
   shown = shown;

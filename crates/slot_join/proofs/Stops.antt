@@ -32,7 +32,7 @@ unreported differ F l o longest c lawful shown =
     let len : length (t ++ o.next ∷ o.rest) ≡ 0 = ap length none in
     absurd (omega (arith, length-append t (o.next ∷ o.rest)))
 
--- an open list behind which nothing goes on gives the answer
+-- an open list after which nothing goes on gives the answer
 pub stopped : FrontsDiffer → (F : Facts) (l : List ℕ) (here : Seen) (answer : Joined) → IsOpen l → IsShown F l → IsSeen (F (length l)) here
     → ((v : ℕ) → Gives F l (length l) v → IsViable (l ++ v ∷ []) → ⊥) → StopsWith F l here answer → IsStopped F answer
 stopped differ F l here answer o shown seen stops with =
@@ -81,14 +81,14 @@ stops_check differ F l n v want got len o shown prompt one not at want_is got_is
     let answer : Check n want got ≡ Check (length l) (check_of (drop 1 l)) v = cc (sym len, want_is, got_is) in
     stopped differ F l (seen.One v) (Check n want got) o shown here (one_stops F l v shown here not) (inr (inl (prompt, at, answer)))
 
--- a symbol with which no call goes on, behind a late end of sequence
+-- a symbol with which no call goes on, after a late end of sequence
 pub stops_late : FrontsDiffer → (F : Facts) (l : List ℕ) (n v : ℕ) → length l ≡ n → IsOpen l → IsShown F l → IsShownLate F l → ShowsOne (F n) v
     → (IsViable (after l v) → ⊥) → IsStopped F (Missing (n - 1))
 stops_late differ F l n v len o shown late one not =
     let here : ShowsOne (F (length l)) v = subst (λ (k : ℕ). ShowsOne (F k) v) (sym len) one in
     stopped differ F l (seen.One v) (Missing (n - 1)) o shown here (one_stops F l v shown here not) (inl (late, ap (λ (k : ℕ). Missing (k - 1)) (sym len)))
 
--- a shown list and the one symbol behind it that end a call report it
+-- a shown list and the one symbol after it that end a call report it
 pub reports : (F : Facts) (l : List ℕ) (n v : ℕ) (c : Call) (extra : Extra) → length l ≡ n → IsShown F l → ShowsOne (F n) v → IsCall c → after l v ≡ through_check c
     → Follows F c extra → IsReported F (Reported c extra)
 reports F l n v c extra len shown one lawful ends follows =
@@ -102,7 +102,7 @@ goes_on F l n v len shown one =
     let here : ShowsOne (F (length l)) v = subst (λ (k : ℕ). ShowsOne (F k) v) (sym len) one in
     subst (λ (x : List ℕ). IsShown F x) (sym (after_shown F l v shown)) (push_shown F l v shown (inl here))
 
--- what stands at a place of the sheet was seen there
+-- what the sheet has at a place was seen there
 pub seen_there : (F : Facts) (sheet : List Seen) (n : ℕ) (seen : Seen) → IsEnds F sheet → seen ≡ seen_at sheet n → IsSeen (F n) seen
 seen_there F sheet n seen ends is = subst (λ (s : Seen). IsSeen (F n) s) (sym is) (ends.each n)
 
@@ -119,7 +119,7 @@ open_short short l o =
     let most : length (spell o.call) ≤ 32 = (short o.call o.lawful).1 in
     omega arith
 
--- the list of a call whose check stands at place n
+-- the list of a call whose check is at place n
 pub whole_length : (l : List ℕ) (v n : ℕ) (c : Call) → length l ≡ n → 1 ≤ length l → after l v ≡ through_check c → length (spell c) ≡ n + 3
 whole_length l v n c len some ends =
     let whole : length (spell c) ≡ length (through_check c) + 2 = length-append (through_check c) (end_of c ∷ end_of c ∷ []) in

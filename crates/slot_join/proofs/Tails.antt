@@ -1,4 +1,4 @@
--- What is told of what was sent behind a call.
+-- What is told of what was sent after a call.
 use Rattle.std.proofs.Common.{◌≡◌, ℕ, suc, ◌+◌, ◌*◌, ◌<◌, ◌≤◌, true, false, ltb, nat_le, List, [], ◌∷◌, ◌++◌, length, get_or, drop, Option, Some, None, refl, sym, ap, subst, ◌∙◌, inl, inr, append_assoc, length-append, arith, All}
 use Rattle.std.specs.Prelude.{◌↔◌}
 use Rattle.std.specs.List.{list_any}
@@ -90,7 +90,7 @@ blank_list receptions list p inside small none k d within = λ lead intact.
     let no : list_any (λ r. facts_of r p (get_or list p 0)) receptions ≡ false = none (get_or list p 0) in
     cc
 
--- a call and the expansion that was sent behind it
+-- a call and the expansion that was sent after it
 module _ (differ : ExpansionsDiffer) (calls : CallsAreShort) (short : ExpansionsAreShort) (characters : ExpansionsAreCharacters) (F : Facts) (c : Call) (lawful : IsCall c)
     (tail : List ℕ) (x : Sets) (sent : IsExpandedBy c tail x) where
   checked : List ℕ
@@ -148,7 +148,7 @@ module _ (differ : ExpansionsDiffer) (calls : CallsAreShort) (short : Expansions
           subst (λ (v : ℕ). ShowsOne (F (length (spell c) + k)) v) (same_at b.list b.longest.shown k (omega arith) below) (b.longest.shown k (omega arith))))
     ]
 
-    -- and the place behind it is blank
+    -- and the place after it is blank
     broken_blank : (n : ℕ) (b : IsBroken F (length (spell c)) sent.last n) (v : ℕ) → F n v ≡ true → ⊥
     broken_blank n b v has =
         let from : ℕ = length (spell c) in
@@ -191,7 +191,7 @@ module _ (differ : ExpansionsDiffer) (calls : CallsAreShort) (short : Expansions
               (subst (λ (G : Facts). ShowsNone (G n)) all none);
         }
 
--- where nothing was sent behind the call, nothing follows
+-- where nothing was sent after the call, nothing follows
 pub absent_is : (F : Facts) (from : ℕ) (e : End) (extra : Extra) → from < 64 → IsBlankFrom F from → IsExtra F from e extra → extra ≡ Absent
 absent_is F from e Absent inside blank is = refl
 absent_is F from e (Whole y) inside blank is = absurd (shown_some F from (through_check y e) (some_check y e) inside is.1 blank)
@@ -212,7 +212,7 @@ pub record Laws : Type 0 where
   pub short : ExpansionsAreShort
   pub characters : ExpansionsAreCharacters
 
--- what the facts of heard receptions tell of the tail
+-- what the facts of heard receptions say of the tail
 module _ (laws : Laws) (receptions : List (List Element)) (c : Call) (lawful : IsCall c) (tail : List ℕ) where
   pub tells : ((x : Sets) → IsExpandedBy c tail x → (p v : ℕ) → p + 2 < length (spell c ++ tail) → facts_of_all receptions p v ≡ true → v ≡ get_or (spell c ++ tail) p 0)
       → ((e : List Element) (p v : ℕ) → EndsWithin e (spell c) → length (spell c) ≤ p → facts_of e p v ≡ false)
@@ -230,7 +230,7 @@ module _ (laws : Laws) (receptions : List (List Element)) (c : Call) (lawful : I
         (λ p least below v. none_of (λ e. EndsWithin e (spell c)) p v (λ e inside. past e p v inside least) receptions within) follows.is;
   }
 
--- the characters of a call and of the expansion behind it
+-- the characters of a call and of the expansion after it
 pub all_characters : Laws → ((c : Call) → IsCall c → All (λ symbol. symbol < 128) (spell c)) → (c : Call) (tail : List ℕ) (x : Sets) → IsCall c → IsExpandedBy c tail x
     → All (λ symbol. symbol < 128) (spell c ++ tail)
 all_characters laws characters c tail x lawful sent =

@@ -16,7 +16,7 @@ use Rattle.slot_join.specs.declared.joined.Extra.{Extra}
 use Rattle.slot_join.specs.Shown.{head_of, IsShown, IsShownLate, IsLongest}
 use Rattle.slot_join.specs.Extra.{Follows}
 
--- a call is shown up to its error check character, and what follows it is told with it
+-- a call is shown up to its error check character, and the answer has what follows it
 pub record IsReported (F : Facts) (answer : Joined) : Type 0 where
   pub call : Call
   pub extra : Extra
@@ -25,21 +25,22 @@ pub record IsReported (F : Facts) (answer : Joined) : Type 0 where
   pub follows : Follows F call extra
   pub answer_is : answer ≡ Reported call extra
 
--- the answer where no call goes on with the one symbol that the place behind the longest list showed: a late end of sequence,
--- which then stands last, may be noise, and so its place is missing
+-- the answer where no call goes on with the one symbol that the place after the longest list showed: if the list ends
+-- with a late end of sequence, that may be noise, and its place is missing
 abbrev pub StopsAt : Facts → List ℕ → ℕ → Joined → Type 0
 StopsAt F list v answer =
     (IsShownLate F list × (answer ≡ Missing (length list - 1)))
     ⊎ ((IsShownLate F list → ⊥) × IsAtCheck list × (answer ≡ Check (length list) (check_of (drop 1 list)) v))
     ⊎ ((IsShownLate F list → ⊥) × (IsAtCheck list → ⊥) × (answer ≡ Outside (length list) v))
 
--- the answer by what the place behind the longest list showed: nothing, several symbols, or one
+-- the answer by what the place after the longest list showed: nothing, several symbols, or one
 abbrev pub StopsWith : Facts → List ℕ → Seen → Joined → Type 0
 StopsWith F list seen.None answer = answer ≡ Missing (length list)
 StopsWith F list (seen.Differ least greatest) answer = answer ≡ Differ (length list) least greatest
 StopsWith F list (seen.One v) answer = StopsAt F list v answer
 
--- no call is shown up to its error check character, and so the answer tells of the place behind the longest list
+-- no call is shown up to its error check character, and so the answer names the place after the longest list, or that
+-- of the late end of sequence with which this list ends
 pub record IsStopped (F : Facts) (answer : Joined) : Type 0 where
   pub list : List ℕ
   pub unreported : (call : Call) → IsCall call → IsShown F (through_check call) → ⊥

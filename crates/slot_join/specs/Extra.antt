@@ -34,13 +34,14 @@ pub record IsBroken (F : Facts) (from : ℕ) (last : End) (n : ℕ) : Type 0 whe
   pub longest : IsLongestFrom F from last list
   pub place : n ≡ from + length list
 
--- what stands from this place on, read with this end of sequence: nothing, an expansion up to its check, or a broken one
+-- what follows from this place on, read with this end of sequence: nothing, an expansion up to its check, or a broken
+-- one
 abbrev pub IsExtra : Facts → ℕ → End → Extra → Type 0
 IsExtra F from last Absent = IsBlankFrom F from
 IsExtra F from last (Whole x) = IsExpansion x × IsShownFrom F from (through_check x last)
 IsExtra F from last (Broken n) = IsBroken F from last n
 
--- what follows the call: it is read behind the call's whole list, with the call's own end of sequence
+-- what follows the call: it is read after the call's whole list, with the call's own end of sequence
 pub record Follows (F : Facts) (call : Call) (extra : Extra) : Type 0 where
   pub last : End
   pub own : end_symbol last ≡ end_of call

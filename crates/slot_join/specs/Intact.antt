@@ -28,8 +28,8 @@ pub record ArrivesIntact (reception : List Element) (list : List ℕ) : Type 0 w
   pub origin : lead_of reception ≡ Some lead
   pub slots : (slot : ℕ) → slot < length (on_air list) → shows reception lead slot (slice_index (on_air list) slot) ≡ true
 
--- a copy of the list's character at this place came intact: at the lead of the reception's origin the place's DX slot shows
--- the character, or its RX slot, which the transmission has but for the last two places
+-- a copy of the list's character at this place came intact: at the lead of the reception's origin the place's DX slot
+-- shows it, or its RX slot does; the last two places have no RX slot in the transmission
 pub record IsIntactAt (reception : List Element) (list : List ℕ) (lead place : ℕ) : Type 0 where
   pub origin : lead_of reception ≡ Some lead
   pub copy : (shows reception lead (dx_slot place) (slice_index list place) ≡ true)
@@ -47,9 +47,9 @@ CameSomewhere receptions list place = Any (λ reception. (lead : ℕ) × IsIntac
 abbrev pub EndsWithin : List Element → List ℕ → Type 0
 EndsWithin reception list = (lead : ℕ) → lead_of reception ≡ Some lead → length reception + LEAD_OF_FIRST ≤ lead + 10 * length (on_air list)
 
--- the answer names as missing a place of the call, up to its error check character, that no reception showed and no copy of
--- which came intact; where it is that of the first end of sequence, and each reception ends with the transmission, no copy of the
--- second and of the third came intact either
+-- the answer names as missing a place of the call, up to its error check character, that no reception showed and no
+-- copy of which came intact; if this is the place of the first end of sequence, and each reception ends with the
+-- transmission, no copy of the second and of the third came intact either
 pub record NamesLostPlace (receptions : List (List Element)) (call : Call) (tail : List ℕ) (answer : Joined) : Type 0 where
   pub place : ℕ
   pub inside : place < length (through_check call)
@@ -59,7 +59,7 @@ pub record NamesLostPlace (receptions : List (List Element)) (call : Call) (tail
       → CameNowhere receptions (spell call ++ tail) (place + 2) × CameNowhere receptions (spell call ++ tail) (place + 3)
   pub answer_is : answer ≡ Missing place
 
--- what was sent behind the call is this expansion's list, with the call's own end of sequence
+-- what was sent after the call is this expansion's list, with the call's own end of sequence
 pub record IsExpandedBy (call : Call) (tail : List ℕ) (x : Sets) : Type 0 where
   pub last : End
   pub own : end_symbol last ≡ end_of call
@@ -71,14 +71,15 @@ pub record IsLostAt (receptions : List (List Element)) (list : List ℕ) (place 
   pub inside : place < length list
   pub nowhere : CameNowhere receptions list place
 
--- what is told of the tail: where it is an expansion's list, a whole expansion is this one, and a broken place is one no copy of which
--- came intact; where nothing was sent behind the call, and each reception ends with the transmission, nothing follows
+-- what an answer may say of the tail: if the tail is an expansion's list, a whole expansion is this one, and no copy of
+-- a broken place came intact; if nothing was sent after the call, and each reception ends with the transmission,
+-- nothing follows
 pub record TellsTail (receptions : List (List Element)) (call : Call) (tail : List ℕ) (extra : Extra) : Type 0 where
   pub whole : (x y : Sets) → IsExpandedBy call tail x → extra ≡ Whole y → y ≡ x
   pub broken : (x : Sets) (n : ℕ) → IsExpandedBy call tail x → extra ≡ Broken n → IsLostAt receptions (spell call ++ tail) n
   pub absent : tail ≡ [] → All (λ reception. EndsWithin reception (spell call)) receptions → extra ≡ Absent
 
--- the answer reports the call that was sent, and tells of its tail
+-- the answer reports the call that was sent, and says of its tail only what holds
 pub record IsSent (receptions : List (List Element)) (call : Call) (tail : List ℕ) (answer : Joined) : Type 0 where
   pub extra : Extra
   pub tells : TellsTail receptions call tail extra
@@ -88,15 +89,15 @@ pub record IsSent (receptions : List (List Element)) (call : Call) (tail : List 
 abbrev pub IsSentOrLostPlace : List (List Element) → Call → List ℕ → Joined → Type 0
 IsSentOrLostPlace receptions call tail answer = IsSent receptions call tail answer ⊎ NamesLostPlace receptions call tail answer
 
--- the first end of sequence of the call stands at this place, each reception ends with the transmission, and a copy of the second or of
--- the third end of sequence came intact at some receiver
+-- the first end of sequence of the call is at this place, each reception ends with the transmission, and a copy of the
+-- second or of the third end of sequence came intact at some receiver
 pub record EndCameLate (receptions : List (List Element)) (call : Call) (tail : List ℕ) (place : ℕ) : Type 0 where
   pub end_place : IsEndPlace call place
   pub within : All (λ reception. EndsWithin reception (spell call ++ tail)) receptions
   pub copy : CameSomewhere receptions (spell call ++ tail) (place + 2) ⊎ CameSomewhere receptions (spell call ++ tail) (place + 3)
 
--- each place of the call up to its error check character came intact at some receiver, or the first end of sequence came late; of the
--- two places of the format specifier one is enough, except in distress alerts and calls to all ships, which need both
+-- each place of the call up to its error check character came intact at some receiver, or the first end of sequence
+-- came late; distress alerts and calls to all ships need both places of the format specifier, and other calls need one
 pub record ArrivesInParts (receptions : List (List Element)) (call : Call) (tail : List ℕ) : Type 0 where
   pub format : CameSomewhere receptions (spell call ++ tail) 0 ⊎ CameSomewhere receptions (spell call ++ tail) 1
   pub both : needs_both (format_of call) ≡ true → CameSomewhere receptions (spell call ++ tail) 0 × CameSomewhere receptions (spell call ++ tail) 1

@@ -15,16 +15,18 @@ use Rattle.slot_join.specs.Extra.{Follows}
 abbrev pub ShowsNoOther : Facts → List ℕ → Type 0
 ShowsNoOther F list = (p v : ℕ) → p < length list → F p v ≡ true → v ≡ slice_index list p
 
--- the first end of sequence of the call stands at this place
+-- the first end of sequence of the call is at this place
 abbrev pub IsEndPlace : Call → ℕ → Type 0
 IsEndPlace call place = place + 1 ≡ length (up_to_end call)
 
--- the places of the second and the third end of sequence, where the first stands at this place, showed no other symbol than the call's
+-- the places of the second and the third end of sequence, where the first is at this place, showed no other symbol than
+-- the call's
 abbrev pub ShowsNoOtherEnd : Facts → Call → ℕ → Type 0
 ShowsNoOtherEnd F call place = (v : ℕ) → late_of F place v ≡ true → v ≡ end_of call
 
--- the answer names as missing a place of the call, up to its error check character, that showed nothing; where it is that of the
--- first end of sequence, those of the second and the third showed nothing either, or another symbol than the call's
+-- the answer names as missing a place of the call, up to its error check character, that showed nothing; where it is
+-- that of the first end of sequence, those of the second and the third showed nothing either, or another symbol than
+-- the call's
 pub record IsMissing (F : Facts) (call : Call) (answer : Joined) : Type 0 where
   pub place : ℕ
   pub inside : place < length (through_check call)
@@ -42,8 +44,8 @@ pub record IsCallReported (F : Facts) (call : Call) (answer : Joined) : Type 0 w
 abbrev pub IsCallOrMissing : Facts → Call → Joined → Type 0
 IsCallOrMissing F call answer = IsCallReported F call answer ⊎ IsMissing F call answer
 
--- a list's transmission, with errors in one sense alone, may show this symbol at this place: the list's own at the places of
--- which both copies are sent, and any symbol at its last two places and past it
+-- a list's transmission, with errors in one sense alone, may show this symbol at this place: the list's own at the
+-- places of which both copies are sent, and any symbol at its last two places and past it
 pub record MayShow (list : List ℕ) (p v : ℕ) : Type 0 where
   pub place : p < 64
   pub symbol : v < 128

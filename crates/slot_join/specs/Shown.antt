@@ -8,23 +8,23 @@ use Rattle.slot_evidence.specs.Seen.{ShowsNone, ShowsOne}
 abbrev pub head_of : Facts → Symbols
 head_of F v = F 0 v || F 1 v
 
--- the symbols that the places of the second and the third end of sequence showed, where the first stands at place n
+-- the symbols that the places of the second and the third end of sequence showed, where the first is at place n
 abbrev pub late_of : Facts → ℕ → Symbols
 late_of F n v = F (n + 2) v || F (n + 3) v
 
--- the first end of sequence is next behind the front, its place showed nothing, and this is the one symbol that those of the
--- second and the third showed
+-- the first end of sequence is next after the front, its place showed nothing, and this is the one symbol that those of
+-- the second and the third showed
 pub record IsLate (F : Facts) (front : List ℕ) (n v : ℕ) : Type 0 where
   pub at_end : IsAtEnd front
   pub none : ShowsNone (F n)
   pub copies : ShowsOne (late_of F n) v
 
--- behind the front that stands before it, a place gives the one symbol that it showed, or the late end of sequence
+-- after the front before it, a place gives the one symbol that it showed, or the late end of sequence
 abbrev pub Gives : Facts → List ℕ → ℕ → ℕ → Type 0
 Gives F front p v = ShowsOne (F p) v ⊎ IsLate F front p v
 
--- a list of two characters or more is shown: its first two are one format specifier, the only one that these two
--- places showed, and each further place gives the list's character behind what stands before it
+-- a list of two characters or more is shown: its first two are one format specifier, the only one that these two places
+-- showed, and each further place gives the list's character after what comes before it
 pub record IsShown (F : Facts) (list : List ℕ) : Type 0 where
   pub format : ℕ
   pub rest : List ℕ

@@ -1,3 +1,4 @@
+//! What follows a reported call: nothing, an expansion, or a broken one.
 ghost use Rattle.std.specs.Prelude.{◌≡◌, ℕ, ◌+◌, ◌<◌, ◌≤◌, IsTrue, false, length};
 ghost use Rattle.call_values.specs.Calls.{IsCall};
 ghost use Rattle.call_grammar.specs.Spelling.{spell};
@@ -12,8 +13,8 @@ use call_values::Call;
 use expansion::read_checked;
 use slot_evidence::{Seen, Sheet};
 
-/// What stands behind a call of which the places up to the error check character, at this place, were shown: nothing, an
-/// expansion up to its own check, or a broken one. It is read with the call's own end of sequence.
+/// What comes after a call that is shown up to its error check character, at this place: nothing, an expansion up to
+/// its own check, or a broken one. It is read with the call's own end of sequence.
 pub(crate) fn read_extra(sheet: &Sheet, call: &Call, check_place: u8) -> Extra
     requires lawful { IsCall call.now }
     requires place { length (spell call.now) ≡ check_place + 3 }

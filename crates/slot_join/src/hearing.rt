@@ -1,3 +1,4 @@
+//! Laws on receptions of one call: each function here does nothing.
 ghost use Rattle.std.specs.Prelude.{◌++◌, ℕ, List, All};
 ghost use Rattle.ten_unit.specs.declared.character.Element.{Element};
 ghost use Rattle.call_values.specs.declared.calls.Call.{Call};
@@ -13,10 +14,10 @@ use crate::laws::{call_or_missing_place, heard_calls_show_no_other};
 use call_grammar::{formats_begin_calls, fronts_differ, lists_are_characters, lists_are_short};
 use slot_evidence::one_seen;
 
-/// The law that truly phased receptions of one call, wrong in one sense alone in each character, are answered by the
-/// call, or by a place of it no copy of which came intact; and of what was sent behind the call no other expansion is told. The
-/// copies of the first end of sequence are those of the second and the third too, where all receptions end with the transmission.
-/// It does nothing.
+/// The law on truly phased receptions of one call, wrong in one sense alone in each character. Their answer is the
+/// call, with no expansion but the one that was sent after it; or it names a place of the call no copy of which came
+/// intact. Where all receptions end with the transmission, the copies of the second and the third end of sequence count
+/// for the first too. It does nothing.
 pub fn sent_call_is_answered()
     ensures { (receptions : List (List Element)) (call : Call) (tail : List ℕ) (answer : Joined) → IsCall call
         → All (λ reception. IsHeard reception (spell call ++ tail)) receptions
@@ -32,9 +33,9 @@ pub fn sent_call_is_answered()
     expansion::lists_are_characters();
 }
 
-/// The law that such receptions are answered by the call wherever each of its places up to the error check character came
-/// intact in one copy at one of them. Of the end of sequence the second or the third is enough where all of them end with the
-/// transmission.
+/// The law that such receptions are answered by the call if every place up to its error check character came intact at
+/// some receiver. Distress alerts and calls to all ships need both places of the format specifier; other calls need
+/// one. Where all receptions end with the transmission, the second or the third end of sequence is enough.
 pub fn intact_copies_report_the_call()
     ensures { (receptions : List (List Element)) (call : Call) (tail : List ℕ) (answer : Joined) → IsCall call
         → All (λ reception. IsHeard reception (spell call ++ tail)) receptions → ArrivesInParts receptions call tail

@@ -1,3 +1,4 @@
+//! The answer to a group's facts, and what follows a reported call.
 ghost use Rattle.std.specs.Prelude.{◌≡◌};
 ghost use Rattle.slot_join.specs.Answer as answers;
 use call_values::Call;
@@ -6,16 +7,16 @@ use expansion::Expansion;
 /// What follows a reported call on air (this project's profile).
 #[derive(Clone, Copy, Debug, PartialEq, Eq)]
 pub enum Extra {
-    /// No place behind the call showed a symbol.
+    /// No place after the call showed a symbol.
     Absent,
-    /// The places behind the call showed this expansion, up to its error check character.
+    /// The places after the call showed this expansion, up to its error check character.
     Whole(Expansion),
-    /// Places behind the call showed symbols, but no expansion: this is the first place at which none goes on.
+    /// Places after the call showed symbols, but no expansion: this is the first place at which none goes on.
     Broken(u8),
 }
 
-/// The answer to a group's facts. A place is that of a character in the call's list, counted from 0 with
-/// the format specifier standing twice.
+/// The answer to a group's facts. A place is that of a character in the call's list, counted from 0, with the format
+/// specifier at places 0 and 1.
 #[derive(Clone, Copy, Debug, PartialEq, Eq)]
 pub enum Joined {
     /// The one call that the facts show, up to its error check character.

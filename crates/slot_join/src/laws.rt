@@ -41,8 +41,8 @@ pub fn one_answer()
     lists_are_short();
 }
 
-/// The law that the ends that a sheet keeps of facts give the answer that the facts give, whatever other facts are known
-/// beside them.
+/// The law that the ends that a sheet keeps of facts give the answer that the facts give, whatever other facts are
+/// known beside them.
 pub fn ends_give_the_answer()
     ensures { (F G : Facts) (sheet : List Seen) (answer : Joined) → IsEnds F sheet
         → (IsAnswer (union F G) answer ↔ IsAnswer (union (facts_in sheet) G) answer) }
@@ -67,8 +67,8 @@ pub fn alike_facts_have_one_answer()
     ends_are_kept();
 }
 
-/// The law that a call whose slots all arrive intact at the origin is reported: alone, where the reception ends with its transmission,
-/// and with its expansion, where one was sent behind it. No other answer comes.
+/// The law that a call whose slots all arrive intact at the origin is reported: alone, where the reception ends with
+/// its transmission, and with its expansion, where one was sent after it. No other answer comes.
 pub fn intact_call_is_reported()
     ensures alone { (call : Call) (reception : List Element) (answer : Joined) → IsCall call
         → ArrivesIntact reception (spell call)
@@ -90,8 +90,8 @@ pub fn intact_call_is_reported()
     words_tell_symbols_apart();
 }
 
-/// The law that what is sent of a call, behind either dot pattern, has this call as its one answer: alone, and with the expansion that
-/// is sent behind it.
+/// The law that a call's transmission, after either dot pattern, has this call as its one answer: alone, and with the
+/// expansion that is sent after it.
 pub fn transmissions_are_answered()
     ensures alone { (call : Call) (long : Bool) (answer : Joined) → IsCall call
         → IsAnswer (facts_of (sent (on_air (spell call)) long)) answer → answer ≡ Reported call Absent }
@@ -103,8 +103,8 @@ pub fn transmissions_are_answered()
     whole_calls_are_found();
 }
 
-/// The law that a call is found at its origin where its start is intact but for lost elements, however late the reception
-/// begins and whatever follows the call: the origin, which is what `origin` answers, is 150 below the lead.
+/// The law that a call is found at its origin where its start is intact but for lost elements, however late the
+/// reception begins and whatever follows the call: the origin, which is what `origin` answers, is 150 below the lead.
 pub fn late_calls_are_found()
     ensures lead { (call : Call) (tail : List ℕ) (reception : List Element) (long : Bool) (lead : ℕ)
         → IsIntactStart reception (on_air (spell call ++ tail)) long lead → lead_of reception ≡ Some lead }
@@ -115,19 +115,19 @@ pub fn late_calls_are_found()
     late_starts_are_found();
 }
 
-/// The law that a true origin can be named for every reception in which none is found: at one past the reception's end no slot is
-/// inside of it. So where each reception has an origin at which it is one-way, and which is the one that is found or none is
-/// found, each is heard.
+/// The law that a true origin can be named for every reception in which none is found: at one past the reception's end
+/// no slot is inside of it. So where each reception has an origin at which it is one-way, and which is the one that is
+/// found or none is found, each is heard.
 pub fn unphased_receptions_are_heard()
     ensures named { (reception : List Element) (list : List ℕ) → (lead : ℕ) × IsOneWayAt reception list lead }
     ensures heard { (reception : List Element) (list : List ℕ) (lead : ℕ) → IsOneWayAt reception list lead
         → IsTrulyPhased reception lead → IsHeard reception list }
 {}
 
-/// The law that the truly phased receptions of a call that went wrong in one sense alone, character by character, show of
-/// its places up to the error check character no other symbols than the call's; and those of any list's transmission no other
-/// symbols than the list's at the places of which both copies are sent, the last two excepted. Where the reception ends with the
-/// transmission, it shows no other there either, and nothing past them.
+/// The law on truly phased receptions that went wrong in one sense alone, character by character. Those of a call show
+/// no other symbols than the call's at its places up to the error check character. Those of any list's transmission
+/// show no other symbols than the list's, but for its last two places, of which only one copy is sent. A reception that
+/// ends with the transmission shows no other there either, and nothing past them.
 pub fn heard_calls_show_no_other()
     ensures call { (call : Call) (tail : List ℕ) (reception : List Element) → IsCall call
         → IsHeard reception (spell call ++ tail)
@@ -147,9 +147,9 @@ pub fn heard_calls_show_no_other()
     lists_are_characters();
 }
 
-/// The law that where the places of a call, up to its error check character, showed no other symbols than the call's, the answer is the
-/// call, or names as missing a place of it that showed nothing. Its first end of sequence is missing only where those of the second and
-/// the third showed nothing either, or another symbol.
+/// The law that where the places of a call, up to its error check character, showed no other symbols than the call's,
+/// the answer is the call, or names as missing a place of it that showed nothing. Its first end of sequence is missing
+/// only where those of the second and the third showed nothing either, or another symbol.
 pub fn call_or_missing_place()
     ensures { (F : Facts) (call : Call) (answer : Joined) → IsCall call → ShowsNoOther F (through_check call)
         → IsAnswer F answer
@@ -161,8 +161,9 @@ pub fn call_or_missing_place()
     formats_begin_calls();
 }
 
-/// The law of a board on which one call's facts alone may be posted: whatever a look at it shows, the answer is the call, or names as missing a
-/// place of it that showed nothing; and the sheet of every truly phased reception of the call with one-way errors may be posted there.
+/// The law on a board on which one call's facts alone may be posted. Whatever a look at it shows, the answer is the
+/// call, or names as missing a place of it that showed nothing. The sheet of every truly phased reception of the call
+/// with one-way errors may be posted there.
 pub fn looks_report_the_call()
     ensures looked { (facts : List (ℕ × ℕ)) (call : Call) (tail : List ℕ) (sheet : List Seen) (answer : Joined)
         → IsCall call → AreOneCalls facts call tail

@@ -1,3 +1,4 @@
+//! The answer to a sheet, place by place from the format specifier on.
 ghost use Rattle.std.specs.Prelude.{◌≡◌, ◌⊎◌, ◌<◌, ◌↔◌, ℕ, IsTrue, IfSome, IsNone, true, length, [], ◌∷◌};
 ghost use Rattle.call_grammar.specs.Walk.{IsOpen, IsAtEnd, IsAtCheck};
 ghost use Rattle.dsc_symbols.specs.Formats.{IsFormat};
@@ -18,9 +19,9 @@ use call_grammar::{
 use dsc_symbols::formats::{ALL_SHIPS, DISTRESS};
 use slot_evidence::{Seen, Sheet};
 
-/// The answer to every set of facts that has this sheet: it reads the places one after the other, until one
-/// shows no symbol, several, or one with which no call goes on, or until a call has its right error check
-/// character. Only the first end of sequence may be known from its later copies. A call whose whole list was shown is read in one go.
+/// The answer to every set of facts that has this sheet: it reads the places one after the other, until one shows no
+/// symbol, several, or one with which no call goes on, or until a call has its right error check character. Only the
+/// first end of sequence may be known from its later copies. A call whose whole list was shown is read in one go.
 pub fn report(sheet: &Sheet) -> Joined
     ensures { (F : Facts) → IsEnds F sheet.now → IsAnswer F result }
 {
@@ -91,7 +92,7 @@ fn is_blank(sheet: &Sheet, p: u8) -> bool
     matches!(sheet.at(p), Seen::None)
 }
 
-/// What the places of the second and the third end of sequence showed together, where the first stands at place n.
+/// What the places of the second and the third end of sequence showed together, where the first is at place n.
 fn later_ends(sheet: &Sheet, n: u8) -> Seen
     requires { n < 32 }
     ensures together { (F : Facts) → IsEnds F sheet.now → IsSeen (late_of F n) result }
@@ -118,7 +119,7 @@ fn late_end(sheet: &Sheet, walk: &Walk, n: u8) -> Option<u8>
     Some(end)
 }
 
-/// The answer where this place, behind the list that was taken, showed nothing: it is missing, unless the first end of
+/// The answer where this place, after the list that was taken, showed nothing: it is missing, unless the first end of
 /// sequence is wanted there and its later copies show one that goes on.
 fn behind_blank(sheet: &Sheet, mut walk: Walk, n: u8) -> Joined
     requires taken { length walk ≡ n }
@@ -140,8 +141,8 @@ fn behind_blank(sheet: &Sheet, mut walk: Walk, n: u8) -> Joined
     behind_late_end(sheet, walk, n + 1)
 }
 
-/// The answer where a late end of sequence was taken, and this is the place of the error check character. Where that is not the
-/// right one, the late end may be noise, and its place is missing.
+/// The answer where a late end of sequence was taken, and this is the place of the error check character. Where that is
+/// not the right one, the late end may be noise, and its place is missing.
 fn behind_late_end(sheet: &Sheet, mut walk: Walk, n: u8) -> Joined
     requires taken { length walk ≡ n }
     requires open { IsOpen walk }

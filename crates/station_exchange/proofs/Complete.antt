@@ -12,7 +12,7 @@ use Rattle.station_exchange.specs.Output.{text_of, all_accepted}
 use Rattle.station_exchange.specs.Meaning.{IsIllFormed, Exchanges, exchange_meaning}
 use Rattle.station_exchange.proofs.Unique.{OneWorldLine, taken_behind}
 
--- the point behind lines names an identity in its range
+-- the point after lines names an identity in its range
 point_lawful : (said : Said) (lines : Lines) → AreSaid said lines → IsExchangePoint (point_of said)
 point_lawful [] lines are = tt
 point_lawful (None ∷ said) lines are = point_lawful said are.0 are.4

@@ -1,4 +1,4 @@
--- the history of the exchange that lines tell is legal
+-- the history of the exchange by its lines is legal
 use Rattle.std.proofs.Common.{◌≡◌, ℕ, Some, None, [], ◌∷◌, refl, sym, subst}
 use Rattle.traffic_lines.specs.declared.lines.Event.TheVariants.{Does, Comes}
 use Rattle.traffic_lines.specs.declared.worlds.Entry as entries

@@ -16,7 +16,7 @@ use Rattle.station_exchange.specs.Events.{event_of}
 abbrev pub Said : Type 0
 Said = List (Option WorldLine)
 
--- where the next line stands: the ship first, then the coast station, then the base, and then all events
+-- the point of the next line: the ship first, then the coast station, then the base, and then all events
 abbrev pub point_of : Said → ExchangePoint
 point_of [] = point.Ship
 point_of (None ∷ earlier) = point_of earlier
@@ -47,13 +47,13 @@ base_of (line ∷ earlier) = base_of earlier
 abbrev pub parties_of : Said → Parties
 parties_of said = record { ship = record { own = ship_of said; groups = [] }; coast = coast_of said }
 
--- the history of the exchange: the event of each event line, with what it gives behind those before it
+-- the history of the exchange: the event of each event line, with what it gives after those before it
 abbrev pub world_of : Said → WorldHistory
 world_of [] = []
 world_of (Some (Entry entry) ∷ earlier) = world_continued (parties_of earlier) (world_of earlier) (event_of (base_of earlier) entry)
 world_of (line ∷ earlier) = world_of earlier
 
--- the lines say this, each of them at the point behind the lines before it
+-- the lines say this, each of them at the point after the lines before it
 abbrev pub AreSaid : Said → Lines → Type 0
 AreSaid [] lines = lines ≡ []
 AreSaid (line ∷ earlier) lines =

@@ -1,3 +1,4 @@
+//! The command `exchange`.
 ghost use Rattle.std.specs.Prelude.{◌≡◌, ℕ, List, [], ◌∷◌, ◌++◌, ◌≤◌, length, OnOk, IfErr};
 ghost use Rattle.line_engine.specs.Lines.{Lines};
 ghost use Rattle.line_engine.specs.Commands.{KeepsText};
@@ -14,7 +15,7 @@ use line_engine::{Command, Refusal};
 use std::alloc::{AllocError, Global};
 use traffic_rules::Acts;
 
-/// The command that plays a ship and a coast station against each other: each event of the lines is told as soon as it happens.
+/// The command that plays a ship and a coast station against each other: each event is written as soon as it happens.
 #[derive(Drop)]
 pub struct Exchanging {
     alloc: Global,
@@ -24,8 +25,8 @@ pub struct Exchanging {
 }
 
 impl Exchanging {
-    /// The command before its first line. It is made in a frame of its own, so that the copies of it that making it takes are gone
-    /// while it runs.
+    /// The command before its first line. It is made in a frame of its own, so that the copies of it that making it
+    /// takes are gone while it runs.
     #[inline(never)]
     pub fn new(alloc: Global) -> Exchanging
         ensures { StandsFor result [] [] }
@@ -37,7 +38,8 @@ impl Exchanging {
         }
     }
 
-    /// Takes the line that names the ship. Naming has frames of its own, since a stage is large and only three lines lead to another.
+    /// Takes the line that names the ship. Naming has frames of its own, since a stage is large and only three lines
+    /// lead to another.
     #[inline(never)]
     fn name_ship(&mut self, line: &[u8]) -> Result<(), Refusal>
         requires own { IsOwnLine line.now }

@@ -1,3 +1,4 @@
+//! Laws: each function here does nothing, and its contract is a theorem over definitions.
 ghost use Rattle.std.specs.Prelude.{◌≡◌, ◌∷◌, ◌++◌, IsTrue};
 ghost use Rattle.line_engine.specs.Determined.{IsDetermined, HasOutputs};
 ghost use Rattle.line_engine.specs.Lines.{Lines};
@@ -19,7 +20,8 @@ pub fn lines_determine_output()
     one_exchange_line();
 }
 
-/// The law that the history of the exchange that lines tell is legal: the laws of exchanges hold of each file. It does nothing.
+/// The law that the history of the exchange in a file is legal: the laws of exchanges hold of each file. It does
+/// nothing.
 #[tactic(auto, using(crate::proofs::Legal::said_legal))]
 pub fn histories_are_legal()
     ensures { (said : Said) (lines : Lines) → AreSaid said lines → IsLegal (parties_of said) (world_of said) }
@@ -27,9 +29,9 @@ pub fn histories_are_legal()
     exchanges_go_on_legally();
 }
 
-/// The law that in the exchange that lines tell the ship's distress alert ends only at a cancel, or where an acknowledgement comes to it
-/// that the coast station sent, of an alert that this ship had sent, that had come there and whose identity was accepted there. It does
-/// nothing.
+/// The law that in the exchange of a file the ship's distress alert ends only at a cancel, or where an acknowledgement
+/// of the coast station comes to the ship. The acknowledged alert was sent by the ship before, came to the coast
+/// station before, and its identity was accepted there. It does nothing.
 pub fn alerts_end_by_cancel_or_acknowledgement()
     ensures { (said : Said) (lines : Lines) (later earlier : WorldHistory) (ended : WorldEntry) → AreSaid said lines
         → world_of said ≡ later ++ ended ∷ earlier

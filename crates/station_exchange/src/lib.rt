@@ -1,4 +1,5 @@
-//! Exchanges: the command `exchange`, which plays a ship and a coast station against each other over a link, by the lines of a file.
+//! Exchanges: the command `exchange`, which plays a ship and a coast station against each other over a link, by the
+//! lines of a file.
 #![tactic(auto)]
 
 mod command;

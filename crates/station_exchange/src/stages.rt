@@ -30,9 +30,9 @@ pub(crate) struct Events {
 pub(crate) enum Stage {
     /// The ship.
     Ship,
-    /// The coast station, behind this ship.
+    /// The coast station, after this ship.
     Coast { ship: Mmsi },
-    /// The base, behind these ends.
+    /// The base, after these ends.
     Base { ship: Mmsi, coast: Mmsi, band: Band },
     /// An event.
     Events(Events),
@@ -50,7 +50,7 @@ impl Stage {
     }
 }
 
-/// The stage behind the line that names the ship.
+/// The stage after the line that names the ship.
 pub(crate) fn behind_ship(line: &[u8]) -> Result<Stage, Refusal>
     requires { IsOwnLine line.now }
     ensures ok { IfOk result (λ next. LeadsTo stage.Ship line.now next) }
@@ -63,7 +63,7 @@ pub(crate) fn behind_ship(line: &[u8]) -> Result<Stage, Refusal>
     }
 }
 
-/// The stage behind the line that names the coast station, behind that of this ship.
+/// The stage after the line that names the coast station, which comes after that of this ship.
 pub(crate) fn behind_coast(ship: Mmsi, line: &[u8]) -> Result<Stage, Refusal>
     requires { IsOwnLine line.now }
     ensures ok { IfOk result (λ next. LeadsTo (stage.Coast ship) line.now next) }
@@ -76,7 +76,7 @@ pub(crate) fn behind_coast(ship: Mmsi, line: &[u8]) -> Result<Stage, Refusal>
     }
 }
 
-/// The stage behind the line that names the base, behind those of these ends.
+/// The stage after the line that names the base, which comes after those of these ends.
 pub(crate) fn behind_base(
     alloc: Global,
     ship: Mmsi,

@@ -16,8 +16,8 @@ use std::alloc::AllocError;
 use traffic_lines::Entry;
 use traffic_rules::Acts;
 
-/// Does what is due at an event, appends the lines of what it gives, each behind what names its end, and tells whether it was accepted.
-/// One list of acts serves all events. After want of memory what was appended has no meaning.
+/// Does what is due at an event, appends the lines of what it gives, each after what names its end, and answers whether
+/// it was accepted. One list of acts serves all events. After want of memory what was appended has no meaning.
 fn step(
     world: &mut World,
     event: &WorldEvent,

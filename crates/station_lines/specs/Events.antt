@@ -28,13 +28,14 @@ abbrev pub time_of : (base at : ℕ) → Option Fix → Option (ℕ × ℕ)
 time_of base at (Some fix) = Some (hour_of (second_of base at), minute_of (second_of base at))
 time_of base at None = None
 
--- the event at a ship by what it alone does, and by what it does
+-- what a ship alone does by a line, as the ship's event
 abbrev pub own_ship_event : (base at : ℕ) → ShipOwn → ShipWhat
 own_ship_event base at (own_ship.Position place) = ship.Position place (time_of base at place)
 own_ship_event base at (own_ship.Delay delay) = ship.Delay delay
 own_ship_event base at (own_ship.Alert nature comm) = ship.Alert nature comm
 own_ship_event base at own_ship.Cancel = ship.Cancel
 
+-- what a ship does by a line, as the ship's event
 abbrev pub ship_deed : (base at : ℕ) → Deed ShipOwn → ShipWhat
 ship_deed base at (Own what) = own_ship_event base at what
 ship_deed base at Tick = ship.Tick
@@ -49,7 +50,8 @@ coast_deed Tick = coast.Tick
 coast_deed (Send call) = coast.Send call
 coast_deed (Answer number accepts) = coast.Answer number accepts
 
--- the event at a ship that a line gives of itself: a group that it heard is none yet, and the deed of a coast station is none of its own
+-- the event at a ship that a line gives by itself: a heard group gives none yet, and what a coast station alone does
+-- gives none
 abbrev pub ship_event : (base at : ℕ) → EventLine → Option ShipWhat
 ship_event base at (Does (Own (own.Ship what))) = Some (own_ship_event base at what)
 ship_event base at (Does (Own (own.Coast what))) = None

@@ -29,7 +29,7 @@ fn append_act(out: &mut Vec<u8>, at: u32, act: &Act) -> Result<(), AllocError>
     append_line(out, &text)
 }
 
-/// Appends the lines of acts, each behind what names the station: nothing where an output has one station.
+/// Appends the lines of acts, each after what names the station: nothing where an output has one station.
 pub fn append_acts(
     out: &mut Vec<u8>,
     station: &[u8],
@@ -59,7 +59,8 @@ pub fn append_refusal(
     append_line(out, &text)
 }
 
-/// Appends the lines of what a station answers, where these are the acts that it gave, and tells whether it accepted the event.
+/// Appends the lines of what a station answers, where these are the acts that it gave, and answers whether it accepted
+/// the event.
 pub fn append_answer(
     out: &mut Vec<u8>,
     at: u32,

@@ -43,7 +43,8 @@ pub trait OfLines: Station {
     /// What happens by a deed of a line, where moments count from a second of UTC.
     ghost does: { (base at : ℕ) → Deed Self.Own → Self.What };
 
-    /// The event by a deed of a line: `base` is the second of UTC from which moments count, and `at` the moment in milliseconds.
+    /// The event by a deed of a line: `base` is the second of UTC from which moments count, and `at` the moment in
+    /// milliseconds.
     fn deed(base: u64, at: u32, deed: &Deed<Self::Own>) -> Self::What
         requires { base ≤ LAST_BASE }
         ensures { result ≡ does base at deed.now };

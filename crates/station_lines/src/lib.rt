@@ -1,4 +1,5 @@
-//! What lines say to a station, and what a station answers in lines: for each command that leads stations by events of files.
+//! What lines say to a station, and what a station answers in lines: for each command that leads stations by events of
+//! files.
 #![tactic(auto)]
 
 mod answers;

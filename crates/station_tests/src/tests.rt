@@ -1,3 +1,5 @@
+//! Stations, file by file.
+
 mod areas;
 mod coasts;
 mod exchanges;

@@ -1,3 +1,4 @@
+//! What both kinds of station have in common.
 ghost use Rattle.std.specs.Prelude.{◌≡◌, [], OnErr};
 ghost use Rattle.traffic_rules.specs.Histories.{History};
 ghost use Rattle.traffic_rules.specs.Rules.{Rules};
@@ -37,8 +38,8 @@ pub trait Station {
     fn heard(call: Call) -> Self::What
         ensures { result ≡ hears call };
 
-    /// Does what is due at an event, with the acts in a list of the caller, which is cleared first. Where the event is refused, the list
-    /// is empty.
+    /// Does what is due at an event, with the acts in a list of the caller, which is cleared first. Where the event is
+    /// refused, the list is empty.
     fn happen(&mut self, at: u64, what: &Self::What, acts: &mut Acts) -> Result<(), StationRefusal>
         ensures answers { AnswersByRules rules stands self.old at what.now (answer_with result acts.new.items) }
         ensures goes_on { GoesOnByRules rules stands self.old at what.now self.new }

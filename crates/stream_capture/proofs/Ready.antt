@@ -62,7 +62,7 @@ may_take command e text more h short =
       going = h.stands.going;
     }
 
--- behind a front of elements, it may take the rest
+-- after a front of elements, it may take the rest
 pub may_take_rest : (command : Capturing) (e xs : List Element) (i : ℕ) (text : List ℕ) → HasTold command (e ++ take i xs) text → length e + length xs < 2 ^ 31 → i ≤ length xs
     → MayTake command (length xs - i)
 may_take_rest command e xs i text h short inside =

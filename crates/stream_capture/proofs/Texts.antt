@@ -7,7 +7,7 @@ use Rattle.slot_join.specs.Answer.{is_reported}
 use Rattle.dsc_texts.specs.Texts.{answer_line}
 use Rattle.stream_capture.specs.Telling.{AnsweredStart, start_line, told_text, are_reported}
 
--- a start's line behind a text, piece by piece
+-- a start's line after a text, piece by piece
 pub line_appended : (out : List ℕ) (number : ℕ) (origin : ℤ) (answer : Joined) → (((out ++ codes "at ") ++ signed_decimal origin) ++ codes " ") ++ answer_line number answer ≡ out ++ start_line number origin answer
 unfolding start_line
 line_appended out number origin answer = simp append_assoc

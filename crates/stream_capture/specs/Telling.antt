@@ -21,7 +21,7 @@ AreStreamLines [] (text ∷ lines) = ⊥
 AreStreamLines (added ∷ said) [] = ⊥
 AreStreamLines (added ∷ said) (text ∷ lines) = IsStreamLine added text × AreStreamLines said lines
 
--- the stream: what all lines add, one behind another
+-- the stream: what all lines add, one after another
 abbrev pub stream_of : List (List Element) → List Element
 stream_of [] = []
 stream_of (added ∷ said) = added ++ stream_of said
@@ -36,7 +36,7 @@ pub record AreAnswered (e : List Element) (bound : ℕ) (told : List AnsweredSta
   pub leads : map (λ one. one.lead) told ≡ starts_below e bound
   pub answers : AllByRecursion (λ one. IsAnswer (facts_from e one.lead) one.answer) told
 
--- the line of a start: its origin, and directly behind it the answer line of the group with the start's number
+-- the line of a start: its origin, and directly after it the answer line of the group with the start's number
 unfoldable pub start_line : ℕ → (origin : ℤ) → Joined → List ℕ
 start_line number origin answer = codes "at " ++ (signed_decimal origin ++ (codes " " ++ answer_line number answer))
 
@@ -66,7 +66,7 @@ pub record EndsStarts (lines : Lines) (text : List ℕ) (status : ℕ) : Type 0 
   pub text_is : text ≡ told_text 0 told
   pub status_is : status ≡ (if are_reported told then 0 else 1)
 
--- a start is told as soon as it is decided
+-- the line of a start is given as soon as it is decided
 abbrev pub capture_meaning : Meaning
 capture_meaning = record {
   IsIllFormed = λ earlier text n. IsColumn IsStreamLine text n;

@@ -1,3 +1,4 @@
+//! The command `capture`.
 ghost use Rattle.std.specs.Prelude.{◌≡◌, ◌+◌, ◌-◌, ◌<◌, ◌≤◌, ◌^◌, ◌∷◌, ◌++◌, List, ℕ, [], map, length, take, IfOk, OnOk};
 ghost use Rattle.ten_unit.specs.declared.character.Element.{Element as Taken};
 ghost use Rattle.line_engine.specs.Commands.{StandsBelow};
@@ -16,7 +17,7 @@ use long_capture::{Capture, Start, starts_go_on, taking_ends};
 use std::alloc::AllocError;
 use ten_unit::Element;
 
-/// The command that tells of each start of a stream as soon as it is decided.
+/// The command that writes a line of each start of a stream as soon as it is decided.
 #[derive(Drop)]
 pub struct Capturing {
     pub(crate) capture: Capture,
@@ -38,7 +39,7 @@ impl Capturing {
         }
     }
 
-    /// Tells of a start.
+    /// Appends the line of a start.
     // In a frame and a body of its own: nearly all elements begin nothing.
     #[inline(never)]
     fn tell(&mut self, start: &Start, out: &mut Vec<u8>) -> Result<(), AllocError>
@@ -98,7 +99,7 @@ impl Capturing {
         self.take_elements(&elements[..signs.len()], out)
     }
 
-    /// Tells of the starts that the stream's end decides.
+    /// Appends the lines of the starts that the stream's end decides.
     fn take_end(&mut self, out: &mut Vec<u8>) -> Result<(), AllocError>
         requires { self.old.count < 2 ^ 31 }
         ensures { OnOk result ((e : List Taken) (text : List ℕ) → EndsTold self.old e (text ++ out.old.items)

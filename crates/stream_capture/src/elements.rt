@@ -1,10 +1,11 @@
+//! The elements of a line's signs.
 ghost use Rattle.std.specs.Prelude.{◌≡◌, ◌≤◌, length, map, take};
 ghost use Rattle.ten_unit.specs.Signs.{element_of as element_at};
 
 use line_engine::LONGEST_LINE;
 use ten_unit::{Element, element_of};
 
-/// The elements of these signs, and lost ones behind them. The compiler makes many in a step.
+/// The elements of these signs, and lost ones after them. The compiler makes many in a step.
 pub(crate) fn elements_of(signs: &[u8]) -> [Element; LONGEST_LINE]
     requires { length signs.now ≤ LONGEST_LINE }
     ensures long { length result ≡ LONGEST_LINE }

@@ -1,3 +1,4 @@
+//! The line of a start.
 ghost use Rattle.std.specs.Prelude.{◌≡◌, ◌++◌, IfOk};
 ghost use Rattle.slot_join.specs.Answer.{is_reported, IsAnswer};
 ghost use Rattle.slot_evidence.specs.Facts.{Facts};
@@ -12,7 +13,8 @@ use slot_evidence::Sheet;
 use slot_join::report;
 use std::alloc::AllocError;
 
-/// Appends the line of the start with this number, at this origin and with this sheet, and answers whether a call was reported.
+/// Appends the line of the start with this number, at this origin and with this sheet, and answers whether a call was
+/// reported.
 pub(crate) fn append_start(
     out: &mut Vec<u8>,
     number: u32,

@@ -9,7 +9,7 @@ use Rattle.symbol_reader.specs.Checks.{check_of}
 abbrev pub AreCharacters : List ℕ → Type 0
 AreCharacters l = AllByRecursion (λ symbol. symbol < 128) l
 
--- characters behind characters are characters
+-- characters after characters are characters
 pub both : (l m : List ℕ) → AreCharacters l → AreCharacters m → AreCharacters (l ++ m)
 both [] m a b = b
 both (x ∷ l) m a b = (a.0, both l m a.1 b)

@@ -27,13 +27,13 @@ count_all k i r l h e =
     let none : check_of (drop i l) ≡ 0 = ap check_of (drop_all i l h) ∙ check_none in
     sym (xor_zero_r k) ∙ ap (λ a. bit_xor k a) (sym none) ∙ e
 
--- the exclusive or with a symbol tells numbers apart
+-- the exclusive or with a symbol gives different numbers for different ones
 xor_apart : (x a b : ℕ) → bit_xor x a ≡ bit_xor x b → a ≡ b
 xor_apart x a b e =
     let twice : (r : ℕ) → bit_xor x (bit_xor x r) ≡ r = λ r. sym (xor_assoc x x r) ∙ ap (λ y. bit_xor y r) (xor_self x) ∙ xor_zero_l r in
     sym (twice a) ∙ ap (λ y. bit_xor x y) e ∙ twice b
 
--- so checks tell the last symbols of lists apart that are the same before it
+-- so lists that differ in the last symbol alone have different checks
 pub last_by_check : (l : List ℕ) (a b : ℕ) → check_of (l ++ (a ∷ [])) ≡ check_of (l ++ (b ∷ [])) → a ≡ b
 last_by_check [] a b e =
     let one : (x : ℕ) → check_of (x ∷ []) ≡ x = λ x. check_more x [] ∙ ap (λ y. bit_xor x y) check_none ∙ xor_zero_r x in

@@ -1,4 +1,4 @@
--- What follows the first end of sequence can be told while it is read.
+-- What follows the first end of sequence can be recognized while it is read.
 use Rattle.std.proofs.Common.{ℕ, List}
 use Rattle.symbol_reader.specs.declared.letters.Letter.TheVariants.{Exactly}
 use Rattle.symbol_reader.specs.Letters.{Allows}

@@ -1,4 +1,4 @@
--- The laws of languages whose words can be told apart while they are read.
+-- The laws of languages whose words can be distinguished while they are read.
 use Rattle.std.proofs.Common.{◌≡◌, ℕ, Bool, true, false, List, [], ◌∷◌, ◌++◌, refl, sym, ◌∙◌, ap, subst, append_assoc, append-nil}
 use Rattle.symbol_reader.specs.inside.Languages.{One, Only, Then, Choice}
 
@@ -57,7 +57,7 @@ choice_good false first second g h = let good = h refl in record {
   one = λ v u a b r s p q e. good.one v u a b r s (p.no refl) (q.no refl) e;
 }
 
--- a good language, and behind each of its words another
+-- a good language, and after each of its words another
 pub then_good : {U V : Type 0} (first : U → List ℕ → Type 0) (second : U → V → List ℕ → Type 0)
     → Good first → ((u : U) (front : List ℕ) → first u front → Good (second u)) → Good (Then first second)
 then_good first second g h =

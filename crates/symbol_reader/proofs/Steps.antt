@@ -25,7 +25,7 @@ symbol_short letter [] h = record {
 }
 symbol_short letter (x ∷ l) h = absurd (omega arith)
 
--- a symbol that isn't of the set stands where one is wanted
+-- a symbol outside the set, where one of the set is wanted
 pub symbol_outside : (letter : Letter) (l : List ℕ) (x : ℕ) (rest : List ℕ) → l ≡ x ∷ rest → (Allows letter x → ⊥)
     → Reads (One (Allows letter)) l (Err Outside) l
 symbol_outside letter l x rest e h = record {
@@ -249,7 +249,7 @@ joined {word = word} {l = l} p e =
     let m : p.front ≡ p.chosen ∷ [] = p.before.list in
     k ∙ ap (λ a. a ++ p.back) m ∙ ap (λ a. p.chosen ∷ a) e
 
--- values that are spelled by one symbol each, and how such a symbol is told
+-- values that are spelled by one symbol each, and how such a symbol is recognized
 pub record Coded {V : Type 0} (allows : ℕ → Type 0) (lawful : V → Type 0) (code : V → ℕ) : Type 0 where
   pub told : ℕ → V
   pub allowed : (v : V) → lawful v → allows (code v)
@@ -307,6 +307,6 @@ spelt {spelling = spelling} {word = word} p e =
     let m : p.front ≡ spelling p.chosen = p.before.list in
     k ∙ ap (λ a. a ++ p.back) m ∙ ap (λ a. spelling p.chosen ++ a) e
 
--- how much of a list stands in front of what is left of it
+-- how much of a list is before what is left of it
 pub length_left : (m rest : List ℕ) (n : ℕ) → length (m ++ (n ∷ rest)) - length (n ∷ rest) ≡ length m
 length_left m rest n = omega (arith, length-append m (n ∷ rest))

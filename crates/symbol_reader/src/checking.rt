@@ -1,3 +1,4 @@
+//! The error check character (ITU-R M.493, error check character).
 ghost use Rattle.std.specs.Prelude.{◌≡◌};
 ghost use Rattle.symbol_reader.specs.Checks.{check_of};
 

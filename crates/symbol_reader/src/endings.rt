@@ -1,3 +1,4 @@
+//! What comes after the first end of sequence: the check, and the end of sequence twice more.
 ghost use Rattle.symbol_reader.specs.inside.Reading.{Reads};
 ghost use Rattle.symbol_reader.specs.inside.Closings.{Closing};
 

@@ -1,3 +1,4 @@
+//! Letters: the sets of symbols that may be at a place.
 ghost use Rattle.std.specs.Prelude.{◌↔◌, IsTrue};
 ghost use Rattle.symbol_reader.specs.Letters.{Allows};
 
@@ -5,7 +6,7 @@ use dsc_symbols::messages::{NO_INFORMATION, POSITION_FOLLOWS, VHF_CHANNEL};
 use dsc_symbols::sets::{is_category, is_comm, is_end, is_first, is_format, is_nature, is_second};
 use dsc_symbols::telecommands::{SHIP_POSITION, TEST};
 
-/// The symbols that may stand at a place (ITU-R M.493, composition of calls).
+/// The symbols that may be at a place (ITU-R M.493, composition of calls).
 #[derive(Clone, Copy, Debug, PartialEq, Eq)]
 pub enum Letter {
     /// This symbol alone.
@@ -43,7 +44,7 @@ pub enum Letter {
 }
 
 impl Letter {
-    /// Whether the symbol may stand there.
+    /// Whether the symbol may be there.
     pub fn allows(&self, symbol: u8) -> bool
         ensures { IsTrue result ↔ Allows self.now symbol }
     {
@@ -70,6 +71,7 @@ impl Letter {
     }
 }
 
+/// Whether a symbol may begin a frequency or channel field: 0 to 49, 90 for a VHF channel, or 126 for no information.
 fn is_field(symbol: u8) -> bool
     ensures { IsTrue result ↔ Allows Letter.Field symbol }
 {

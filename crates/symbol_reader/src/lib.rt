@@ -1,5 +1,5 @@
-//! What the lists of calls and of expansions have in common: reading place by place, by sets of the symbols that may
-//! stand there; digits two to a character; the error check character; and why a list is refused.
+//! What the lists of calls and of expansions have in common: reading place by place, by sets of the symbols that may be
+//! there; digits two to a character; the error check character; and why a list is refused.
 #![tactic(auto)]
 
 mod checking;

@@ -1,3 +1,4 @@
+//! Numbers as characters of two digits each.
 ghost use Rattle.std.specs.Prelude.{◌≡◌, ◌<◌};
 ghost use Rattle.symbol_reader.specs.Digits as digits;
 

@@ -1,3 +1,4 @@
+//! Reading one symbol by the letter of its place, and why reading stops.
 ghost use Rattle.std.specs.Prelude.{◌≡◌, ◌↔◌, IfOk, IsTrue, []};
 ghost use Rattle.symbol_reader.specs.Letters.{Allows};
 ghost use Rattle.symbol_reader.specs.inside.Languages.{One};
@@ -11,7 +12,7 @@ use cursor::Cursor;
 pub enum Stop {
     /// The list ended inside a word.
     Short,
-    /// The next symbol can't stand there.
+    /// The next symbol can't be there.
     Outside,
 }
 

@@ -35,7 +35,8 @@ halves m n =
     let more : suc n ≡ n + 1 = omega arith in
     ap (λ (k : ℕ). m % 2 ^ k) more ∙ mod-pow-add m n 1
 
--- where bit k of one word and bit k of another say what element k counts, the words' last bits say the number of them all
+-- where bit k of one word and bit k of another say what element k counts, the words' last bits say the number of them
+-- all
 number_bits : (n y lost p : ℕ) (e : ℕ → Element) → ((k : ℕ) → k < n → weight (e (p + k)) ≡ bit_at y k + 1024 * bit_at lost k) → number_of (stretch e n p) ≡ y % 2 ^ n + 1024 * (lost % 2 ^ n)
 unfolding stretch
 number_bits zero y lost p e each = omega arith

@@ -1,4 +1,5 @@
--- The table is right: each row below 128 is the symbol whose word has the row's number, and each symbol is found in its word's row.
+-- The table is right: each row below 128 is the symbol whose word has the row's number, and each symbol is found in its
+-- word's row.
 use Rattle.std.proofs.Common.{◌≡◌, ℕ, zero, suc, ◌+◌, ◌<◌, ◌≤◌, Bool, true, ◌&&◌, ◌||◌, eqb, ltb, ◌==◌, List, [], ◌∷◌, length, slice_index, get_or, refl, ap, sym, ◌∙◌, subst, inl, inr, arith}
 use Rattle.std.proofs.lemmas.Bool.{agree_below, agree_below_at, eqb-true, ltb-true, and_parts, or_cases}
 use Rattle.std.specs.Bool.{Decides}
@@ -53,7 +54,7 @@ found v below =
     let both = and_parts (ltb (number_of (word_of v)) 1024) (eqb (slice_index SYMBOLS (number_of (word_of v))) v) (agree_below_at is_found (λ _. true) 128 v all_found below) in
     (ltb-true _ _ both.0, eqb-true _ _ both.1)
 
--- a word is told by its elements
+-- the elements of a word decide which word it is
 Decides-is_word : (w : List Element) (v : ℕ) → Decides (is_word w v) (w ≡ word_of v)
 unfolding is_word
 Decides-is_word w v = (elements_same w (word_of v), λ e. subst (λ (l : List Element). elements_eq l (word_of v) ≡ true) (sym e) (elements_own (word_of v)))

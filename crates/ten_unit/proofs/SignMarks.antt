@@ -1,4 +1,4 @@
--- marks that tell whether bytes are signs
+-- marks that show whether bytes are signs
 use Rattle.std.proofs.Common.{◌≡◌, ℕ, ◌<◌, ◌^◌, ◌==◌, Bool, true, false, ◌||◌, cond, List, length, slice_index, max, refl, sym, ap, ◌∙◌, arith}
 use Rattle.std.specs.Int.{bit_at}
 use Rattle.std.specs.List.{list_all}

@@ -1,4 +1,5 @@
--- Errors in one sense alone: ITU-R M.493, section on the error-detecting code; the definition is this project's profile.
+-- Errors in one sense alone: ITU-R M.493, section on the error-detecting code; the definition is this project's
+-- profile.
 use Rattle.std.specs.Prelude.{◌≡◌, ◌⊎◌, Bool, false, ◌&&◌, ◌||◌, List, ◌∷◌, length}
 use Rattle.std.specs.List.{list_any}
 use Rattle.ten_unit.specs.declared.character.Element.{Element}
@@ -10,8 +11,8 @@ abbrev pub is_turned : Element → Element → List Element → List Element →
 is_turned one other (s ∷ sent) (r ∷ received) = (element_eq s one && element_eq r other) || is_turned one other sent received
 is_turned _ _ _ _ = false
 
--- ten elements are sent, none of them lost, and ten received; those that are neither lost nor what was sent are wrong in one sense
--- alone: none that was sent as B is received as Y, or none that was sent as Y as B
+-- ten elements are sent, none of them lost, and ten received; each received one is lost, right, or wrong in one sense
+-- alone: no sent B is received as Y, or no sent Y is received as B
 pub record IsOneWay (sent received : List Element) : Type 0 where
   pub ten_sent : length sent ≡ 10
   pub none_lost : list_any (element_eq Lost) sent ≡ false

@@ -3,7 +3,7 @@ use Rattle.std.specs.Prelude.{ℕ, ◌==◌, Bool, ◌||◌, if◌then◌else◌
 use Rattle.ten_unit.specs.declared.character.Element.{Element}
 use Rattle.ten_unit.specs.declared.character.Element.TheVariants.{Y, B, Lost}
 
--- the element of a sign; any other byte tells a lost one
+-- the element of a sign; any other byte is a lost one
 abbrev pub element_of : ℕ → Element
 element_of sign = if sign == 89 then Y else (if sign == 66 then B else Lost)
 

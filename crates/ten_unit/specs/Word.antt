@@ -13,6 +13,7 @@ information v =
     element (v % 2) ∷ element (v / 2 % 2) ∷ element (v / 4 % 2) ∷ element (v / 8 % 2)
     ∷ element (v / 16 % 2) ∷ element (v / 32 % 2) ∷ element (v / 64 % 2) ∷ []
 
+-- the test whether an element is B
 abbrev pub is_b : Element → Bool
 is_b Y = false
 is_b B = true
@@ -30,12 +31,14 @@ number n = element (n / 4 % 2) ∷ element (n / 2 % 2) ∷ element (n % 2) ∷ [
 unfoldable pub word_of : ℕ → List Element
 word_of v = information v ++ number (count_of_b (information v))
 
+-- the test whether two elements are one
 abbrev pub element_eq : Element → Element → Bool
 element_eq Y Y = true
 element_eq B B = true
 element_eq Lost Lost = true
 element_eq _ _ = false
 
+-- the test whether two lists of elements are one
 abbrev pub elements_eq : List Element → List Element → Bool
 elements_eq [] [] = true
 elements_eq (a ∷ rest) (b ∷ others) = element_eq a b && elements_eq rest others

@@ -1,3 +1,4 @@
+//! Elements and words: the ten-unit code that detects errors (ITU-R M.493).
 ghost use Rattle.std.specs.Prelude.{◌≡◌, ◌↔◌, List, ℕ, ◌<◌, ◌≤◌, ◌/◌, ◌%◌, IfSome, Some, true};
 ghost use Rattle.ten_unit.specs.Word.{word_of, element, count_of_b};
 ghost use Rattle.ten_unit.specs.Word as characters;
@@ -123,8 +124,8 @@ fn number(w: &[Element; 10]) -> u32
 /// The symbol of ten received elements. `None` comes exactly where they are no symbol's word: where an
 /// element is lost, or the last three disagree with the number of B among the first seven.
 ///
-/// It adds the elements up to a number and looks into a table by it, with one test for lost ones: ten loads and no branch
-/// on an element.
+/// It adds the elements up to a number and looks into a table by it, with one test for lost ones: ten loads and no
+/// branch on an element.
 pub fn symbol(w: &[Element; 10]) -> Option<u8>
     ensures some { IfSome result (λ v. (v < 128) × (characters.is_word w.now v ≡ true)) }
     ensures only { (v : ℕ) → v < 128 → characters.is_word w.now v ≡ true → result ≡ Some v }

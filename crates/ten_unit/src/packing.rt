@@ -1,3 +1,4 @@
+//! Elements as two words of bits, 64 at a time, and the symbol of ten of them.
 ghost use Rattle.std.specs.Prelude.{◌≡◌, ℕ, ◌+◌, ◌<◌, ◌≤◌, cond, slice_index_or, slice_index, ◌==◌, true, false, IfSome, IsNone};
 ghost use Rattle.std.specs.List.{list_all};
 ghost use Rattle.std.specs.Int.{bit_at};
@@ -11,7 +12,8 @@ use crate::character::Element;
 use crate::table::symbol_of;
 use std::simd::prelude::*;
 
-/// 64 elements in a row as bits, bit 0 for the first one: where the element is Y, and where it is B. A lost one is in neither word.
+/// 64 elements in a row as bits, bit 0 for the first one: where the element is Y, and where it is B. A lost one is in
+/// neither word.
 #[derive(Clone, Copy, Debug, PartialEq, Eq)]
 pub struct Planes {
     pub y: u64,
@@ -50,8 +52,8 @@ pub fn pack_elements(block: &[Element; 64]) -> Planes
     }
 }
 
-/// The elements of 64 signs as bits: `Y`, `B`, and `-` for a lost one (this project's profile). `None` comes where a byte is no sign. Lost
-/// ones are looked for only where there is a sign that is neither `Y` nor `B`.
+/// The elements of 64 signs as bits: `Y`, `B`, and `-` for a lost one (this project's profile). `None` comes where a
+/// byte is no sign. Lost ones are looked for only where there is a sign that is neither `Y` nor `B`.
 pub fn pack_signs(block: &[u8; 64]) -> Option<Planes>
     ensures signs { IfSome result (λ _. list_all is_sign block.now ≡ true) }
     ensures planes { IfSome result (λ planes. (base : ℕ) (e : ℕ → Element)
@@ -69,8 +71,8 @@ pub fn pack_signs(block: &[u8; 64]) -> Option<Planes>
     None
 }
 
-/// The symbol whose word the ten elements from a place on are, and 128 where they are no symbol's word (ITU-R M.493, the
-/// ten-unit code). The place counts from the first of the 64 elements. It looks into a table by the ten bits.
+/// The symbol whose word the ten elements from a place on are, and 128 where they are no symbol's word (ITU-R M.493,
+/// the ten-unit code). The place counts from the first of the 64 elements. It looks into a table by the ten bits.
 pub fn symbol_at(planes: &Planes, first: u32) -> u8
     requires { first + 10 ≤ 64 }
     ensures { (base : ℕ) (e : ℕ → Element) → IsPlanes planes.now.y planes.now.b base e

@@ -5,6 +5,7 @@ ghost use Rattle.ten_unit.specs.inside.Carried.{ones, value_of};
 
 use crate::{Element, is_word};
 
+/// 1 for `Y`; 0 for `B` and for a lost element.
 fn one(element: Element) -> u8
     ensures value { result ≡ ones element }
     ensures most { result ≤ 1 }

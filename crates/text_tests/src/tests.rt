@@ -1,3 +1,5 @@
+//! Texts, file by file.
+
 mod acts;
 mod books;
 mod calls;

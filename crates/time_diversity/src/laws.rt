@@ -1,3 +1,4 @@
+//! Laws: each function here does nothing, and its contract is a theorem over definitions.
 ghost use Rattle.std.specs.Prelude.{◌≡◌, ◌≢◌, ℕ, ◌-◌, List, slice_index};
 ghost use Rattle.time_diversity.specs.Slots.{dx_slot, rx_slot, IsSlotOf};
 ghost use Rattle.time_diversity.specs.OnAir.{sent_symbol};

@@ -1,3 +1,4 @@
+//! The symbols of the slots of a list, as they are sent.
 ghost use Rattle.std.specs.Prelude.{◌≡◌, ◌+◌, ◌*◌, ◌<◌, ◌≤◌, All, length};
 ghost use Rattle.time_diversity.specs.OnAir as diversity;
 

@@ -1,3 +1,4 @@
+//! The two slots of a place, and the place of a slot.
 ghost use Rattle.std.specs.Prelude.{◌≡◌, ◌↔◌, ℕ, ◌<◌, Some, IfSome, IsNone};
 ghost use Rattle.time_diversity.specs.Slots as diversity;
 ghost use Rattle.time_diversity.specs.Slots.{IsSlotOf, IsNoPlace};

@@ -1,3 +1,4 @@
+//! Slots of an alert, and places of slots.
 use super::*;
 use dsc_symbols::worked::{ALERT, ALERT_SLOTS};
 

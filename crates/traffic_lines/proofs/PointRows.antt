@@ -32,7 +32,7 @@ use Rattle.traffic_lines.specs.Worlds.{other_identity, entry, entry_parts, IsEnt
 use Rattle.traffic_lines.proofs.LineSections.{identity_section, stations_section, base_section, group_section, ship_event_section, coast_event_section, ship_lines_section, lines_section, entry_section, world_section}
 use Rattle.traffic_lines.proofs.OtherIdentities.{other_rows}
 
--- ---- the rows, which tell their values apart
+-- ---- the rows, which distinguish their values
 pub identity_rows : WholeRows ship IsMmsi group_parts
 unfolding fits
 identity_rows = record { section = identity_section; sound = refl; plain = refl; all = refl }
@@ -127,7 +127,7 @@ coast_among = record {
   back = elim [ Ship m ↦ λ bytes h. absurd h.0 | Coast m b ↦ λ bytes h. absurd h.0 | Base s ↦ λ bytes h. absurd h.0 | Group m ↦ λ bytes h. absurd h.0 | Event at what ↦ λ bytes h. coast_back at what bytes h.0 h.1 ];
 }
 
--- where groups may stand
+-- where groups may come
 groups_to : (held : ℕ) → held < 16 → (w : ShipLine) (bytes : List ℕ) → IsWritten ship_lines IsShipLine ship_lines_parts w bytes → IsTrafficLine (point.Groups held) (line_of_ship w) bytes
 groups_to held few (body.Group m) bytes h = (few, h)
 groups_to held few (body.Event at what) bytes h = ship_to at what bytes h

@@ -1,4 +1,5 @@
--- The lines of traffic files but for empty lines, comments, receptions and evidence, a row for each: this project's profile.
+-- The lines of traffic files but for empty lines, comments, receptions and evidence, a row for each: this project's
+-- profile.
 use Rattle.std.specs.Prelude.{◌≡◌, ℕ, ◌<◌, ◌≤◌, ◌^◌, true, List, Option, Some, None, codes, decimal}
 use Rattle.call_values.specs.declared.bounds.TheConstants.{LAST_BASE}
 use Rattle.call_values.specs.declared.choices.Band.{Band}
@@ -39,6 +40,7 @@ ship rest = labelled (codes "station ship ") identity rest
 abbrev pub band : Grammar → Grammar
 band rest = either (word (codes " mf") rest) (either (word (codes " hf") rest) (word (codes " vhf") rest))
 
+-- the part that names a band
 abbrev pub band_parts : Band → Parts → Parts
 band_parts Mf rest = nth 0 rest
 band_parts Hf rest = nth 1 rest
@@ -48,16 +50,20 @@ band_parts Vhf rest = last 2 rest
 abbrev pub coast : Token → Grammar → Grammar
 coast party rest = labelled (codes "station coast ") party (band rest)
 
+-- the parts of a coast station's line
 abbrev pub coast_station_parts : ℕ × Band → Parts → Parts
 coast_station_parts says rest = part (digits 9 says.0) (band_parts says.1 rest)
 
+-- the rows of the first line of a traffic file
 abbrev pub stations : Grammar → Grammar
 stations rest = either (ship rest) (coast identity rest)
 
+-- the parts of the first line of a traffic file
 abbrev pub stations_parts : StationLine → Parts → Parts
 stations_parts (station_line.Ship mmsi) rest = nth 0 (part (digits 9 mmsi) rest)
 stations_parts (station_line.Coast mmsi band) rest = last 1 (coast_station_parts (mmsi, band) rest)
 
+-- the first line of a traffic file, its identity in its range
 abbrev pub IsStation : StationLine → Type 0
 IsStation (station_line.Ship mmsi) = IsMmsi mmsi
 IsStation (station_line.Coast mmsi band) = IsMmsi mmsi
@@ -66,9 +72,11 @@ IsStation (station_line.Coast mmsi band) = IsMmsi mmsi
 abbrev pub base : Grammar → Grammar
 base rest = labelled (codes "base ") (free_number 0 LAST_BASE) rest
 
+-- the parts of the base's line
 abbrev pub base_parts : ℕ → Parts → Parts
 base_parts s rest = part (decimal s) rest
 
+-- a base in its range
 abbrev pub IsBase : ℕ → Type 0
 IsBase s = s ≤ LAST_BASE
 
@@ -76,6 +84,7 @@ IsBase s = s ≤ LAST_BASE
 abbrev pub group : Grammar → Grammar
 group rest = labelled (codes "group ") identity rest
 
+-- the parts of a group's line
 abbrev pub group_parts : ℕ → Parts → Parts
 group_parts mmsi rest = part (digits 9 mmsi) rest
 
@@ -85,37 +94,47 @@ group_parts mmsi rest = part (digits 9 mmsi) rest
 abbrev pub at_moment : (Grammar → Grammar) → Grammar → Grammar
 at_moment event rest = field number (word (codes " ") (event rest))
 
+-- the parts of a moment, and of what happens at it
 abbrev pub moment_parts : {E : Type 0} → (E → Parts → Parts) → ℕ × E → Parts → Parts
 moment_parts parts says rest = part (decimal says.0) (parts says.1 rest)
 
+-- a moment in its range, and an event in its ranges
 abbrev pub IsAtMoment : {E : Type 0} → (E → Type 0) → ℕ × E → Type 0
 IsAtMoment lawful says = (says.0 < 2 ^ 32) × lawful says.1
 
--- the event lines of a ship, of a coast station, and of either
+-- the event lines of a ship
 abbrev pub ship_event : Grammar → Grammar
 ship_event rest = at_moment (event ship_rows hearing_rows) rest
 
+-- the event lines of a coast station
 abbrev pub coast_event : Grammar → Grammar
 coast_event rest = at_moment (event coast_rows hearing_rows) rest
 
+-- the row of an event line of either kind of station
 abbrev pub station_event : Grammar → Grammar
 station_event rest = at_moment (event station_rows hearing_rows) rest
 
+-- the parts of an event line of a ship
 abbrev pub ship_event_parts : ℕ × events.Event ShipOwn Hearing → Parts → Parts
 ship_event_parts = moment_parts (event_parts ship_parts hearing_parts)
 
+-- the parts of an event line of a coast station
 abbrev pub coast_event_parts : ℕ × events.Event CoastOwn Hearing → Parts → Parts
 coast_event_parts = moment_parts (event_parts coast_parts hearing_parts)
 
+-- the parts of an event line of either kind of station
 abbrev pub station_event_parts : ℕ × events.Event StationOwn Hearing → Parts → Parts
 station_event_parts = moment_parts (event_parts station_parts hearing_parts)
 
+-- an event line of a ship's file, each part in its range
 abbrev pub IsShipEvent : ℕ × events.Event ShipOwn Hearing → Type 0
 IsShipEvent = IsAtMoment (IsEvent IsShipOwn IsHearing)
 
+-- an event line of a coast station, each part in its range
 abbrev pub IsCoastEvent : ℕ × events.Event CoastOwn Hearing → Type 0
 IsCoastEvent = IsAtMoment (IsEvent IsCoastOwn IsHearing)
 
+-- an event line of a station of either kind, each part in its range
 abbrev pub IsStationEvent : ℕ × events.Event StationOwn Hearing → Type 0
 IsStationEvent = IsAtMoment (IsEvent IsStationOwn IsHearing)
 
@@ -123,19 +142,23 @@ IsStationEvent = IsAtMoment (IsEvent IsStationOwn IsHearing)
 abbrev pub ship_lines : Grammar → Grammar
 ship_lines rest = either (group rest) (ship_event rest)
 
+-- the parts of a line of a ship's file after the base
 abbrev pub ship_lines_parts : ShipLine → Parts → Parts
 ship_lines_parts (body.Group mmsi) rest = nth 0 (group_parts mmsi rest)
 ship_lines_parts (body.Event at what) rest = last 1 (ship_event_parts (at, what) rest)
 
+-- a line of a ship's file after the base, each part in its range
 abbrev pub IsShipLine : ShipLine → Type 0
 IsShipLine (body.Group mmsi) = IsMmsi mmsi
 IsShipLine (body.Event at what) = IsShipEvent (at, what)
 
 -- ---- all lines
 
+-- the rows of all lines of a traffic file
 abbrev pub lines : Grammar → Grammar
 lines rest = either (ship rest) (either (coast identity rest) (either (base rest) (either (group rest) (station_event rest))))
 
+-- the parts of a line of a traffic file
 abbrev pub line_parts : TrafficLine → Parts → Parts
 line_parts (Ship mmsi) rest = nth 0 (part (digits 9 mmsi) rest)
 line_parts (Coast mmsi band) rest = nth 1 (coast_station_parts (mmsi, band) rest)
@@ -163,13 +186,14 @@ IsFirstByte (Base s) b = b ≡ 98
 IsFirstByte (Group mmsi) b = b ≡ 103
 IsFirstByte (Event at what) b = is_digit b ≡ true
 
--- a deed, and an event, with what a kind of station alone does under another name
+-- a deed with what a kind of station alone does under another name
 abbrev pub deed_with : {O P : Type 0} → (O → P) → Deed O → Deed P
 deed_with name (Own what) = Own (name what)
 deed_with name Tick = Tick
 deed_with name (Answer k accepts) = Answer k accepts
 deed_with name (Send call) = Send call
 
+-- an event with what a kind of station alone does under another name
 abbrev pub event_with : {O P C : Type 0} → (O → P) → events.Event O C → events.Event P C
 event_with name (Comes what) = Comes what
 event_with name (Does deed) = Does (deed_with name deed)
@@ -184,8 +208,8 @@ abbrev pub IsOfCoast : events.Event StationOwn Hearing → Type 0
 IsOfCoast (Does (Own (own.Ship what))) = ⊥
 IsOfCoast _ = Unit {0}
 
--- which lines may stand at a point: groups of a ship up to the sixteenth, and events of the station that the file names, none in
--- front of the base
+-- which lines may come at a point: groups of a ship up to the sixteenth, and events of the station that the file names,
+-- none before the base
 abbrev pub MayStand : Point → TrafficLine → Type 0
 MayStand point.Station (Ship mmsi) = Unit {0}
 MayStand point.Station (Coast mmsi band) = Unit {0}
@@ -202,11 +226,12 @@ IsTrafficLine point line text = MayStand point line × IsLineText line text
 
 -- ---- what is read at a point, among all lines
 
+-- the first line of a traffic file, as a line of any point
 abbrev pub line_of_station : StationLine → TrafficLine
 line_of_station (station_line.Ship mmsi) = Ship mmsi
 line_of_station (station_line.Coast mmsi band) = Coast mmsi band
 
--- a line behind the base of a ship's file
+-- a line after the base of a ship's file
 abbrev pub line_of_ship : ShipLine → TrafficLine
 line_of_ship (body.Group mmsi) = Group mmsi
 line_of_ship (body.Event at what) = Event at (event_with own.Ship what)
@@ -215,12 +240,12 @@ line_of_ship (body.Event at what) = Event at (event_with own.Ship what)
 abbrev pub line_of_coast : ℕ × events.Event CoastOwn Hearing → TrafficLine
 line_of_coast says = Event says.0 (event_with own.Coast says.1)
 
--- where a line behind so many groups of a ship stands, and where one behind its events
+-- the point of a line after so many groups of a ship, and after its events
 abbrev pub ship_point : Option ℕ → Point
 ship_point (Some held) = point.Groups held
 ship_point None = point.Ship
 
--- no group may stand after so many groups, nor after an event
+-- no group may come after so many groups, nor after an event
 abbrev pub IsFull : Option ℕ → Type 0
 IsFull (Some held) = 16 ≤ held
 IsFull None = Unit {0}

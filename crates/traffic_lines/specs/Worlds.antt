@@ -23,10 +23,11 @@ use Rattle.traffic_lines.specs.Lines.{ship, coast, coast_station_parts, base, ba
 
 -- ---- a coast station of another identity than the ship
 
--- the other identities below this one, and those above it; of the first and of the last all others
+-- the other identities below this one, or those above it where it is the first
 abbrev pub others_below : ℕ → ℕ × ℕ
 others_below mmsi = if mmsi == 0 then (1, bounds.LAST_IDENTITY) else (0, mmsi - 1)
 
+-- the identities above this one, or those below it where it is the last
 abbrev pub others_above : ℕ → ℕ × ℕ
 others_above mmsi = if mmsi == bounds.LAST_IDENTITY then (0, mmsi - 1) else (mmsi + 1, bounds.LAST_IDENTITY)
 
@@ -38,6 +39,7 @@ others mmsi = others_below mmsi ∷ others_above mmsi ∷ []
 abbrev pub other_identity : ℕ → Token
 other_identity mmsi = shaped (fixed_number 9 (others mmsi))
 
+-- a coast station whose identity isn't the ship's
 abbrev pub IsOtherCoast : (ship : ℕ) → ℕ × Band → Type 0
 IsOtherCoast ship says = (IsMmsi says.0 × (says.0 ≢ ship)) × Unit {0}
 
@@ -51,33 +53,42 @@ at_ship rest = word (codes "s ") (at_moment (event ship_rows get) rest)
 abbrev pub at_coast : Grammar → Grammar
 at_coast rest = word (codes "c ") (at_moment (event coast_rows get) rest)
 
+-- the parts of an event line of the ship in an exchange
 abbrev pub at_ship_parts : ℕ × events.Event ShipOwn ℕ → Parts → Parts
 at_ship_parts = moment_parts (event_parts ship_parts get_parts)
 
+-- the parts of an event line of the coast station in an exchange
 abbrev pub at_coast_parts : ℕ × events.Event CoastOwn ℕ → Parts → Parts
 at_coast_parts = moment_parts (event_parts coast_parts get_parts)
 
+-- the row of an event of an exchange: its end, and what happens there
 abbrev pub entry : Grammar → Grammar
 entry rest = either (at_ship rest) (at_coast rest)
 
+-- the parts of an event line of an exchange
 abbrev pub entry_parts : entries.Entry → Parts → Parts
 entry_parts (AtShip at what) rest = nth 0 (at_ship_parts (at, what) rest)
 entry_parts (AtCoast at what) rest = last 1 (at_coast_parts (at, what) rest)
 
+-- an event of an exchange, each part in its range
 abbrev pub IsEntry : entries.Entry → Type 0
 IsEntry (AtShip at what) = IsAtMoment (IsEvent IsShipOwn IsGet) (at, what)
 IsEntry (AtCoast at what) = IsAtMoment (IsEvent IsCoastOwn IsGet) (at, what)
 
 -- ---- all lines
+
+-- the rows of all lines of a file of an exchange
 abbrev pub world_lines : Grammar → Grammar
 world_lines rest = either (ship rest) (either (coast identity rest) (either (base rest) (entry rest)))
 
+-- the parts of a line of a file of an exchange
 abbrev pub world_parts : WorldLine → Parts → Parts
 world_parts (Ship mmsi) rest = nth 0 (part (digits 9 mmsi) rest)
 world_parts (Coast mmsi band) rest = nth 1 (coast_station_parts (mmsi, band) rest)
 world_parts (Base s) rest = nth 2 (base_parts s rest)
 world_parts (Entry what) rest = last 3 (entry_parts what rest)
 
+-- a line of a file of an exchange, each part in its range
 abbrev pub IsWorld : WorldLine → Type 0
 IsWorld (Ship mmsi) = IsMmsi mmsi
 IsWorld (Coast mmsi band) = IsMmsi mmsi
@@ -88,7 +99,7 @@ IsWorld (Entry what) = IsEntry what
 abbrev pub IsWorldLineText : WorldLine → List ℕ → Type 0
 IsWorldLineText line text = IsWritten world_lines IsWorld world_parts line text
 
--- which lines may stand at a point: the coast station has another identity than the ship
+-- which lines may come at a point: the coast station has another identity than the ship
 abbrev pub MayStandInWorld : ExchangePoint → WorldLine → Type 0
 MayStandInWorld point.Ship (Ship mmsi) = Unit {0}
 MayStandInWorld (point.Coast ship) (Coast mmsi band) = mmsi ≢ ship

@@ -36,6 +36,7 @@ fn perhaps_delay(bytes: &[u8]) -> Result<Option<CoastDelay>, Left>
     further(&no_delay(bytes), &some_delay(bytes))
 }
 
+/// Reads `accept`, the ship's identity and perhaps a delay.
 fn accept(bytes: &[u8]) -> Result<CoastOwn, Left>
     ensures { ReadsRow rows.accept (nth 0) IsCoastOwn coast_parts bytes.now result }
 {
@@ -56,6 +57,7 @@ fn ask_or_tell(bytes: &[u8]) -> Result<bool, Left>
     )
 }
 
+/// Reads `relay`, the ship's identity, the address, and whether an acknowledgement is asked for.
 fn relay(bytes: &[u8]) -> Result<CoastOwn, Left>
     ensures { ReadsRow rows.relay (last 1) IsCoastOwn coast_parts bytes.now result }
 {

@@ -11,6 +11,7 @@ use dsc_texts::{any_call, extra_of};
 use expansion::Expansion;
 use line_grammar::{Left, further};
 
+/// Reads `hear` and the text of a call, perhaps with an expansion.
 fn hear(bytes: &[u8]) -> Result<Hearing, Left>
     ensures { ReadsRow rows.hear (nth 0) IsHearing hearing_parts bytes.now result }
 {
@@ -20,6 +21,7 @@ fn hear(bytes: &[u8]) -> Result<Hearing, Left>
     Ok(Hearing::Hear(call, extra_of(tail)))
 }
 
+/// Reads `heard` and the number of a group.
 fn heard(bytes: &[u8]) -> Result<Hearing, Left>
     ensures { ReadsRow rows.heard (last 1) IsHearing hearing_parts bytes.now result }
 {
@@ -58,6 +60,7 @@ impl Rows for u32 {
     }
 }
 
+/// Reads what only this kind of station does, as a deed.
 fn own<O: Rows>(bytes: &[u8]) -> Result<Deed<O>, Left>
     ensures { ReadsRow O.rows (nth 0) (IsDeed O.lawful) (deed_parts O.parts) bytes.now result }
 {
@@ -67,12 +70,14 @@ fn own<O: Rows>(bytes: &[u8]) -> Result<Deed<O>, Left>
     }
 }
 
+/// Reads `tick`.
 fn tick<O: Rows>(bytes: &[u8]) -> Result<Deed<O>, Left>
     ensures { ReadsRow rows.tick (nth 1) (IsDeed O.lawful) (deed_parts O.parts) bytes.now result }
 {
     spelled(b"tick", Deed::Tick, bytes)
 }
 
+/// Reads `answer` and a held number.
 fn answer<O: Rows>(bytes: &[u8]) -> Result<Deed<O>, Left>
     ensures { ReadsRow rows.answer (nth 2) (IsDeed O.lawful) (deed_parts O.parts) bytes.now result }
 {
@@ -80,6 +85,7 @@ fn answer<O: Rows>(bytes: &[u8]) -> Result<Deed<O>, Left>
     Ok(Deed::Answer(held.number(), true))
 }
 
+/// Reads `decline` and a held number.
 fn decline<O: Rows>(bytes: &[u8]) -> Result<Deed<O>, Left>
     ensures { ReadsRow rows.decline (nth 3) (IsDeed O.lawful) (deed_parts O.parts) bytes.now result }
 {
@@ -87,6 +93,7 @@ fn decline<O: Rows>(bytes: &[u8]) -> Result<Deed<O>, Left>
     Ok(Deed::Answer(held.number(), false))
 }
 
+/// Reads `send` and the text of a call, with nothing after it.
 fn send<O: Rows>(bytes: &[u8]) -> Result<Deed<O>, Left>
     ensures { ReadsRow rows.send (last 4) (IsDeed O.lawful) (deed_parts O.parts) bytes.now result }
 {
@@ -111,6 +118,7 @@ impl<O: Rows> Rows for Deed<O> {
     }
 }
 
+/// Reads a deed of the station's own, as an event.
 fn does<O: Rows, C: Rows>(bytes: &[u8]) -> Result<Event<O, C>, Left>
     ensures { ReadsRow (rows.deeds O.rows) (last 1) (IsEvent O.lawful C.lawful) (event_parts O.parts C.parts) bytes.now
         result }
@@ -121,6 +129,7 @@ fn does<O: Rows, C: Rows>(bytes: &[u8]) -> Result<Event<O, C>, Left>
     }
 }
 
+/// Reads what comes to the station from outside, as an event.
 fn comes<O: Rows, C: Rows>(bytes: &[u8]) -> Result<Event<O, C>, Left>
     ensures { ReadsRow C.rows (nth 0) (IsEvent O.lawful C.lawful) (event_parts O.parts C.parts) bytes.now result }
 {

@@ -1,3 +1,4 @@
+//! Readers of the lines of an exchange.
 ghost use Rattle.line_grammar.specs.Sections.{last, nth};
 ghost use Rattle.line_grammar.specs.Rows.{ReadsRow};
 ghost use Rattle.traffic_lines.specs.Readings.{ReadsInWorld};
@@ -14,16 +15,16 @@ use crate::worlds::Entry;
 use call_values::{Band, Mmsi};
 use line_grammar::{Left, column, further, word};
 
-/// The ship that the first line of a file of an exchange names. An error is the column: the least n, from 1, for which the first n
-/// bytes begin no such line, and the length plus one where the line ends too early.
+/// The ship that the first line of a file of an exchange names. An error is the column: the least n, from 1, for which
+/// the first n bytes begin no such line, and the length plus one where the line ends too early.
 pub fn read_exchange_ship(bytes: &[u8]) -> Result<Mmsi, usize>
     ensures { ReadsInWorld point.Ship (λ mmsi. line.Ship mmsi) bytes.now result }
 {
     whole(bytes)
 }
 
-/// The coast station, another than this ship, that the second line of a file of an exchange names, and its band. An error is the
-/// column, as in `read_exchange_ship`: at the ship's own identity that of its last digit.
+/// The coast station, another than this ship, that the second line of a file of an exchange names, and its band. An
+/// error is the column, as in `read_exchange_ship`: at the ship's own identity that of its last digit.
 pub fn read_exchange_coast(ship: Mmsi, bytes: &[u8]) -> Result<(Mmsi, Band), usize>
     ensures { ReadsInWorld (point.Coast ship) (λ says. line.Coast says.0 says.1) bytes.now result }
 {
@@ -34,8 +35,8 @@ pub fn read_exchange_coast(ship: Mmsi, bytes: &[u8]) -> Result<(Mmsi, Band), usi
     }
 }
 
-/// The second from the beginning of 1970, at most 9,999,999,999, that the third line of a file of an exchange names. An error is
-/// the column, as in `read_exchange_ship`.
+/// The second from the beginning of 1970, at most 9,999,999,999, that the third line of a file of an exchange names. An
+/// error is the column, as in `read_exchange_ship`.
 pub fn read_exchange_base(bytes: &[u8]) -> Result<u64, usize>
     ensures { ReadsInWorld point.Base (λ second. line.Base second) bytes.now result }
 {
@@ -45,6 +46,7 @@ pub fn read_exchange_base(bytes: &[u8]) -> Result<u64, usize>
     }
 }
 
+/// Reads `s` and an event of the ship.
 fn at_ship(bytes: &[u8]) -> Result<Entry, Left>
     ensures { ReadsRow worlds.at_ship (nth 0) IsEntry entry_parts bytes.now result }
 {
@@ -53,6 +55,7 @@ fn at_ship(bytes: &[u8]) -> Result<Entry, Left>
     Ok(Entry::AtShip { at, what })
 }
 
+/// Reads `c` and an event of the coast station.
 fn at_coast(bytes: &[u8]) -> Result<Entry, Left>
     ensures { ReadsRow worlds.at_coast (last 1) IsEntry entry_parts bytes.now result }
 {

@@ -1,4 +1,5 @@
-//! The lines of traffic files: a station, its base and groups, and events at their moments. And those of files of exchanges.
+//! The lines of traffic files: a station, its base and groups, and events at their moments. And those of files of
+//! exchanges.
 #![tactic(auto)]
 
 mod coasts;

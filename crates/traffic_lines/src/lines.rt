@@ -1,7 +1,8 @@
+//! What the lines of traffic files say.
 use call_values::{AlertDelay, Band, Call, CoastDelay, Comm, Mmsi, Nature, Position, To};
 use slot_join::Extra;
 
-/// Where a line stands in a traffic file, not counting empty lines and comments: this decides which lines are well formed.
+/// Where a line is in a traffic file, not counting empty lines and comments: this decides which lines are well formed.
 #[derive(Clone, Copy, Debug, PartialEq, Eq)]
 pub enum Point {
     /// The first line, which names the station.
@@ -25,7 +26,8 @@ pub enum Deed<O> {
     Tick,
     /// This call is to be sent.
     Send(Call),
-    /// The call that is held under this number, 1 to 16, is answered where the flag is true, and declined where it is false.
+    /// The call that is held under this number, 1 to 16, is answered where the flag is true, and declined where it is
+    /// false.
     Answer(u8, bool),
 }
 
@@ -72,7 +74,7 @@ pub enum StationOwn {
 /// What a station of a traffic file hears.
 #[derive(Clone, Copy, Debug, PartialEq, Eq)]
 pub enum Hearing {
-    /// This call. The expansion that may stand after it says nothing to a station.
+    /// This call. The expansion that may come after it says nothing to a station.
     Hear(Call, Extra),
     /// What the receivers of this group heard is joined.
     Heard(u32),

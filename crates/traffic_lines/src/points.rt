@@ -29,6 +29,7 @@ impl Rows for Mmsi {
     }
 }
 
+/// Reads `station ship` and the ship's identity.
 fn ship(bytes: &[u8]) -> Result<StationLine, Left>
     ensures { ReadsRow rows.ship (nth 0) IsStation stations_parts bytes.now result }
 {
@@ -51,6 +52,7 @@ impl Rows for Band {
     }
 }
 
+/// Reads `station coast`, the coast station's identity and its band.
 fn coast(bytes: &[u8]) -> Result<StationLine, Left>
     ensures { ReadsRow (rows.coast identity) (last 1) IsStation stations_parts bytes.now result }
 {
@@ -103,6 +105,7 @@ impl<E: Rows> Rows for (u32, E) {
     }
 }
 
+/// Reads `group` and the identity of a group of ships.
 fn group(bytes: &[u8]) -> Result<ShipLine, Left>
     ensures { ReadsRow rows.group (nth 0) IsShipLine ship_lines_parts bytes.now result }
 {
@@ -111,6 +114,7 @@ fn group(bytes: &[u8]) -> Result<ShipLine, Left>
     Ok(ShipLine::Group(mmsi))
 }
 
+/// Reads the moment of an event, and what happens at the ship.
 fn event(bytes: &[u8]) -> Result<ShipLine, Left>
     ensures { ReadsRow rows.ship_event (last 1) IsShipLine ship_lines_parts bytes.now result }
 {

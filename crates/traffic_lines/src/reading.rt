@@ -1,3 +1,4 @@
+//! Readers of the lines of a traffic file, by the point of each.
 ghost use Rattle.std.specs.Prelude.{◌<◌, Some};
 ghost use Rattle.traffic_lines.specs.Lines.{IsFull, line_of_coast, line_of_ship, line_of_station, ship_point};
 ghost use Rattle.traffic_lines.specs.Readings.{ReadsAt};
@@ -11,16 +12,16 @@ use crate::values::Second;
 /// How many groups a ship belongs to at most.
 const MOST_SHIP_GROUPS: u8 = 16;
 
-/// The station that the first line of a traffic file names. An error is the column: the least n, from 1, for which the first n bytes
-/// begin no such line, and the length plus one where the line ends too early.
+/// The station that the first line of a traffic file names. An error is the column: the least n, from 1, for which the
+/// first n bytes begin no such line, and the length plus one where the line ends too early.
 pub fn read_station(bytes: &[u8]) -> Result<StationLine, usize>
     ensures { ReadsAt Station line_of_station bytes.now result }
 {
     whole(bytes)
 }
 
-/// The second from the beginning of 1970, at most 9,999,999,999, that the second line of a traffic file names. An error is the
-/// column, as in `read_station`.
+/// The second from the beginning of 1970, at most 9,999,999,999, that the second line of a traffic file names. An error
+/// is the column, as in `read_station`.
 pub fn read_base(bytes: &[u8]) -> Result<u64, usize>
     ensures { ReadsAt Base (λ second. line.Base second) bytes.now result }
 {
@@ -30,7 +31,7 @@ pub fn read_base(bytes: &[u8]) -> Result<u64, usize>
     }
 }
 
-/// Reads an event of a ship, where no group may stand.
+/// Reads an event of a ship, where no group may come.
 fn read_ship_event(groups: Option<u8>, bytes: &[u8]) -> Result<ShipLine, usize>
     requires { IsFull groups }
     ensures { ReadsAt (ship_point groups) line_of_ship bytes.now result }
@@ -49,8 +50,8 @@ fn read_group_or_event(held: u8, bytes: &[u8]) -> Result<ShipLine, usize>
     whole(bytes)
 }
 
-/// What a line says after the base of a ship's file: after so many groups, at most 16, or after the first line that is none. An
-/// error is the column, as in `read_station`.
+/// What a line says after the base of a ship's file: after so many groups, at most 16, or after the first line that is
+/// none. An error is the column, as in `read_station`.
 pub fn read_ship_line(groups: Option<u8>, bytes: &[u8]) -> Result<ShipLine, usize>
     ensures { ReadsAt (ship_point groups) line_of_ship bytes.now result }
 {
@@ -60,8 +61,8 @@ pub fn read_ship_line(groups: Option<u8>, bytes: &[u8]) -> Result<ShipLine, usiz
     }
 }
 
-/// What a line says after the base of a coast station's file, and the milliseconds after the base. An error is the column, as in
-/// `read_station`.
+/// What a line says after the base of a coast station's file, and the milliseconds after the base. An error is the
+/// column, as in `read_station`.
 pub fn read_coast_line(bytes: &[u8]) -> Result<(u32, Event<CoastOwn, Hearing>), usize>
     ensures { ReadsAt Coast line_of_coast bytes.now result }
 {

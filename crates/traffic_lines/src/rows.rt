@@ -9,7 +9,7 @@ use cursor::Cursor;
 use dsc_texts::{Token, end, field};
 use line_grammar::{Left, column};
 
-/// A value that stands to the end of a line, by rows of a grammar.
+/// A value that goes to the end of a line, by rows of a grammar.
 pub(crate) trait Rows: Copy {
     /// The rows.
     ghost rows: { Grammar → Grammar };

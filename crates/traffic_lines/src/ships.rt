@@ -12,6 +12,7 @@ use cursor::Cursor;
 use dsc_texts::field;
 use line_grammar::{Left, further};
 
+/// Reads `position` and the ten digits of a position.
 fn position(bytes: &[u8]) -> Result<ShipOwn, Left>
     ensures { ReadsRow rows.position (nth 0) IsShipOwn ship_parts bytes.now result }
 {
@@ -20,6 +21,7 @@ fn position(bytes: &[u8]) -> Result<ShipOwn, Left>
     Ok(ShipOwn::Position(position))
 }
 
+/// Reads `delay` and its milliseconds.
 fn delay(bytes: &[u8]) -> Result<ShipOwn, Left>
     ensures { ReadsRow rows.delay (nth 1) IsShipOwn ship_parts bytes.now result }
 {
@@ -28,6 +30,7 @@ fn delay(bytes: &[u8]) -> Result<ShipOwn, Left>
     Ok(ShipOwn::Delay(wait.delay))
 }
 
+/// Reads `alert`, the nature of distress and the subsequent communications.
 fn alert(bytes: &[u8]) -> Result<ShipOwn, Left>
     ensures { ReadsRow rows.alert (nth 2) IsShipOwn ship_parts bytes.now result }
 {
@@ -39,6 +42,7 @@ fn alert(bytes: &[u8]) -> Result<ShipOwn, Left>
     Ok(ShipOwn::Alert(nature, comm))
 }
 
+/// Reads `cancel`.
 fn cancel(bytes: &[u8]) -> Result<ShipOwn, Left>
     ensures { ReadsRow rows.cancel (last 3) IsShipOwn ship_parts bytes.now result }
 {

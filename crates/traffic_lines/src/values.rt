@@ -1,4 +1,4 @@
-//! Numbers that stand in traffic lines alone, as tokens.
+//! Numbers that traffic lines alone have, as tokens.
 ghost use Rattle.std.specs.Prelude.{◌≡◌, ◌≤◌, ◌<◌, ◌^◌, ℕ, decimal, Ok, Err, IfOk, IfErr};
 ghost use Rattle.call_values.specs.declared.bounds.TheConstants as bounds;
 ghost use Rattle.line_grammar.specs.Tokens as tokens;

@@ -2,7 +2,8 @@
 use crate::lines::{CoastOwn, Event, ShipOwn};
 use call_values::{Band, Mmsi};
 
-/// Where a line stands in a file of an exchange, not counting empty lines and comments: this decides which lines are well formed.
+/// Where a line is in a file of an exchange, not counting empty lines and comments: this decides which lines are well
+/// formed.
 #[derive(Clone, Copy, Debug, PartialEq, Eq)]
 pub enum ExchangePoint {
     /// The first line, which names the ship.
@@ -15,8 +16,8 @@ pub enum ExchangePoint {
     Events,
 }
 
-/// What an event line of an exchange says: at which end it happens, so many milliseconds after the base. What comes to an end is the
-/// call that the other end sent under this number, from 0.
+/// What an event line of an exchange says: at which end it happens, so many milliseconds after the base. What comes to
+/// an end is the call that the other end sent under this number, from 0.
 #[derive(Clone, Copy, Debug, PartialEq, Eq)]
 pub enum Entry {
     /// At the ship.

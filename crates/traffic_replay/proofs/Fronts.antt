@@ -19,7 +19,7 @@ use Rattle.traffic_replay.specs.Happenings.{Taking, taking_ship, taking_coast, H
 use Rattle.traffic_replay.specs.Output.{history_of, text_of, all_accepted, written_behind}
 use Rattle.traffic_replay.specs.Meaning.{Tells, StationTells}
 
--- events come behind the groups alone
+-- events come after the groups alone
 abbrev IsBeforeEvents : Point → Type 0
 IsBeforeEvents point.Station = Unit {0}
 IsBeforeEvents point.Base = Unit {0}
@@ -80,7 +80,7 @@ without_joined ship l said whole is_well tells =
 without_joined (coast band) l said whole is_well tells =
     record { happened = tells.happened; are_happenings = tells.are_happenings; text_is = tells.text_is; well_is = tells.well_is }
 
--- the text of an event stands behind that of the lines before it
+-- the text of an event comes after that of the lines before it
 pub record IsLater {What : Type 0} (rules : Rules What) (taking : Taking What) (said : Said) (whole : List ℕ) : Type 0 where
   pub text : List ℕ
   pub is_well : Bool

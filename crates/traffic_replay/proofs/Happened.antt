@@ -45,7 +45,7 @@ coast_deeds base at (Answer number accepts) = refl
 pub coast_takes : (base : ℕ) → Takes taking_coast own.Coast (λ at. coast_deed) at_coast.Heard base
 coast_takes base = record { deeds = coast_deeds base; calls = λ at call extra. refl; heard = refl }
 
--- what a step tells where it ends well
+-- what a step says where it ends well
 pub tell : {E : Type 0} {S L : Type 0} {A B : Bool → Type 0} (r : Result Bool E) → ((b : Bool) → S → L → A b → B b) → OnOk r S → OnOk r L → IfOk r A → IfOk r B
 tell (Ok b) f s l a = f b s l a
 tell (Err e) f s l a = tt

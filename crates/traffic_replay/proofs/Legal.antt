@@ -1,4 +1,4 @@
--- the history that a traffic file tells is legal
+-- the history that a traffic file says is legal
 use Rattle.std.proofs.Common.{◌≡◌, ℕ, Some, Result, Ok, Err, List, [], ◌∷◌, refl, sym, ◌∙◌, subst}
 use Rattle.call_values.specs.declared.calls.Call.{Call}
 use Rattle.line_engine.specs.Lines.{Lines}

@@ -52,9 +52,9 @@ since_small : (k : ℕ) (said : Said) (lines : Lines) → AreSaid said lines →
 unfolding facts_since_heard
 since_small k said lines are p v = group_small (of_receivers (since_heard k said)) k p v (some_since k said lines are)
 
--- ---- the point behind lines is one of their kind of station
+-- ---- the point after lines is one of their kind of station
 
--- the kind of the station behind whose lines a point is
+-- a point after lines of this kind of station
 abbrev IsPointOf : Point → Kind → Type 0
 IsPointOf (point.Groups held) kind = kind ≡ ship
 IsPointOf point.Ship kind = kind ≡ ship

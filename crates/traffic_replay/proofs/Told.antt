@@ -58,7 +58,7 @@ silent (stage.Ship base s) l said text is_well keeps =
 silent (stage.Coast s) l said text is_well keeps =
     (keeps.0, keeps.1, carry (coast_rules (station_of keeps.0 said)) taking_coast (CoastStands s (station_of keeps.0 said)) l said text is_well keeps.2)
 
--- a ship begins behind its groups
+-- a ship begins after its groups
 pub ship_begins : (g : Groups) (s : Ship) (said : Said) (text : List ℕ) (is_well : Bool) → ShipStands s (identities_in g) [] → KeepsStation (stage.Groups g) said text is_well
     → KeepsStation (stage.Ship g.base s) said text is_well
 ship_begins g s said text is_well stands keeps = (
@@ -99,7 +99,7 @@ keeps_shown old new l said text keeps well begins body point heard few =
       station = subst (λ (w : Bool). KeepsStation new.stage (joined l ∷ said) text w) (sym well) there.2;
     }
 
--- a text is appended behind what was there
+-- a text is appended after what was there
 behind : (text out new lines all : List ℕ) → new ≡ out ++ lines → text ++ out ≡ all → text ++ new ≡ all ++ lines
 behind text out new lines all h k = ap (λ (l : List ℕ). text ++ l) h ∙ sym (append_assoc text out lines) ∙ ap (λ (l : List ℕ). l ++ lines) k
 

@@ -26,18 +26,20 @@ heard_as heard group (Differ n least greatest) = Err (record { group = group; an
 heard_as heard group (Outside n symbol) = Err (record { group = group; answer = Outside n symbol })
 heard_as heard group (Check n want got) = Err (record { group = group; answer = Check n want got })
 
--- how a kind of station takes event lines: the events that they give of themselves, and a call that is heard
+-- how a kind of station takes event lines: the events that they give by themselves, and a call that is heard
 pub record Taking (What : Type 0) : Type 0 where
   pub event : (base at : ℕ) → EventLine → Option What
   pub heard : Call → What
 
+-- how a ship takes the events of lines and heard calls
 abbrev pub taking_ship : Taking ShipWhat
 taking_ship = record { event = ship_event; heard = ship.Heard }
 
+-- how a coast station takes the events of lines and heard calls
 abbrev pub taking_coast : Taking CoastWhat
 taking_coast = record { event = coast_event; heard = coast.Heard }
 
--- what comes of an event line behind these lines: an event at the station, or a group that isn't reported
+-- what an event line gives after these lines: an event at the station, or a group that isn't reported
 abbrev pub ComesOf : {What : Type 0} → Taking What → Said → (at : ℕ) → EventLine → Result What Unreported → Type 0
 ComesOf taking earlier at (Comes (Heard group)) outcome =
     (answer : Joined) × IsAnswer (facts_since_heard group earlier) answer × (outcome ≡ heard_as taking.heard group answer)
@@ -48,7 +50,7 @@ pub record Happening (What : Type 0) : Type 0 where
   pub at : ℕ
   pub outcome : Result What Unreported
 
--- of each event line what came of it, the newest first
+-- what came of each event line, the newest first
 abbrev pub AreHappenings : {What : Type 0} → Taking What → Said → List (Happening What) → Type 0
 AreHappenings taking [] happened = happened ≡ []
 AreHappenings taking (traffic (Event at what) ∷ earlier) [] = ⊥

@@ -22,7 +22,7 @@ abbrev pub hears : ℕ → PointLine → Bool
 hears k (traffic (Event at (Comes (Heard group)))) = group == k
 hears k _ = false
 
--- the lines behind the last one that heard this group
+-- the lines after the last one that heard this group
 abbrev pub since_heard : ℕ → Said → Said
 since_heard k [] = []
 since_heard k (line ∷ earlier) = if hears k line then [] else line ∷ since_heard k earlier
@@ -31,7 +31,8 @@ since_heard k (line ∷ earlier) = if hears k line then [] else line ∷ since_h
 unfoldable pub facts_since_heard : ℕ → Said → Facts
 facts_since_heard k said = group_facts (of_receivers (since_heard k said)) k
 
--- behind these lines this one brings a group too many; groups count from the beginning of the file, and a heard one counts on
+-- after these lines this one brings a group too many; groups count from the beginning of the file, and a heard one
+-- counts on
 pub record IsOverfull (earlier : Lines) (text : List ℕ) : Type 0 where
   pub said : Said
   pub are_said : AreSaid said earlier

@@ -12,13 +12,14 @@ use Rattle.traffic_replay.specs.HeardGroups.{IsOverfull}
 use Rattle.traffic_replay.specs.Happenings.{Taking, taking_ship, taking_coast, Happening, AreHappenings}
 use Rattle.traffic_replay.specs.Output.{text_of, all_accepted}
 
--- behind these lines this one is no line of the point at which it stands, and this is its column there
+-- after these lines this one is no line of its point, and this is its column there
 pub record IsIllFormed (earlier : Lines) (text : List ℕ) (column : ℕ) : Type 0 where
   pub said : Said
   pub are_said : AreSaid said earlier
   pub is_column : IsColumn (IsPointLine (point_of said)) text column
 
--- what was said gives this text by the rules of a station; all is well where no event was refused and each heard group was reported
+-- what was said gives this text by the rules of a station; all is well where no event was refused and each heard group
+-- was reported
 pub record Tells {What : Type 0} (rules : Rules What) (taking : Taking What) (said : Said) (text : List ℕ) (is_well : Bool) : Type 0 where
   pub happened : List (Happening What)
   pub are_happenings : AreHappenings taking said happened
@@ -36,7 +37,7 @@ pub record Replays (lines : Lines) (text : List ℕ) (is_well : Bool) : Type 0 w
   pub are_said : AreSaid said lines
   pub tells : StationTells (kind_of said) said text is_well
 
--- each event is told as soon as its line is read; the status is 0 where all is well, and else 1
+-- each event's lines are given as soon as its own line is read; the status is 0 where all is well, and else 1
 abbrev pub replay_meaning : Meaning
 replay_meaning = record {
   IsIllFormed = IsIllFormed;

@@ -9,22 +9,23 @@ use Rattle.dsc_texts.specs.Texts.{answer_text}
 use Rattle.traffic_replay.specs.declared.outcomes.Unreported.{Unreported}
 use Rattle.traffic_replay.specs.Happenings.{Happening}
 
--- the line of a group that isn't reported: the moment stands in front of its answer
+-- the line of a group that isn't reported: the moment comes before its answer
 unfoldable pub unreported_line : (at : ℕ) → Unreported → List ℕ
 unreported_line at unreported = at_moment at (answer_text unreported.group unreported.answer ++ line_feed ∷ [])
 
 module _ {What : Type 0} (rules : Rules What) where
-  -- the history behind what happens: an event is put last unless it is refused, and a group that isn't reported is no event
+  -- the history after what happens: an event is put last unless it is refused, and a group that isn't reported is no
+  -- event
   abbrev pub history_behind : History What → (at : ℕ) → Result What Unreported → History What
   history_behind h at (Ok what) = continued rules h at what
   history_behind h at (Err unreported) = h
 
-  -- what is written of what happens behind a history
+  -- what is written of what happens after a history
   abbrev pub written_behind : History What → (at : ℕ) → Result What Unreported → List ℕ
   written_behind h at (Ok what) = answer_lines at (answer_to rules h at what)
   written_behind h at (Err unreported) = unreported_line at unreported
 
-  -- the station accepts what happens behind a history
+  -- the station accepts what happens after a history
   abbrev pub is_accepted_behind : History What → (at : ℕ) → Result What Unreported → Bool
   is_accepted_behind h at (Ok what) = is_ok (answer_to rules h at what)
   is_accepted_behind h at (Err unreported) = false
@@ -34,7 +35,7 @@ module _ {What : Type 0} (rules : Rules What) where
   history_of [] = []
   history_of (h ∷ earlier) = history_behind (history_of earlier) h.at h.outcome
 
-  -- the text of all that happened: of each happening what is written of it behind the history so far
+  -- the text of all that happened: what is written of each happening after the history so far
   abbrev pub text_of : List (Happening What) → List ℕ
   text_of [] = []
   text_of (h ∷ earlier) = text_of earlier ++ written_behind (history_of earlier) h.at h.outcome

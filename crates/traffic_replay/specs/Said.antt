@@ -53,18 +53,18 @@ identities_of said = record { own = own_of said; groups = groups_of said }
 abbrev pub station_of : Band → Said → Station
 station_of band said = record { own = own_of said; band = band }
 
--- where the line behind the base stands: a ship's groups come next
+-- the point of the line after the base: a ship's groups come next
 abbrev pub behind_base : Kind → Point
 behind_base ship = point.Groups 0
 behind_base (coast band) = point.Coast
 
--- where a line behind one of events or receivers stands
+-- the point of a line after one of events or receivers
 abbrev pub among_events : Kind → Point
 among_events ship = point.Ship
 among_events (coast band) = point.Coast
 
--- where the next line stands: the station first, then the base, then a ship's groups, and then all others; empty lines and comments
--- stand anywhere
+-- the point of the next line: the station first, then the base, then a ship's groups, and then all others; empty lines
+-- and comments may come anywhere
 abbrev pub point_of : Said → Point
 point_of [] = point.Station
 point_of (joined nothing ∷ earlier) = point_of earlier
@@ -76,7 +76,7 @@ point_of (traffic (Base second) ∷ earlier) = behind_base (kind_of earlier)
 point_of (traffic (Group mmsi) ∷ earlier) = point.Groups (length (groups_of earlier) + 1)
 point_of (traffic (Event at what) ∷ earlier) = among_events (kind_of earlier)
 
--- the lines say this, each of them at the point behind the lines before it
+-- the lines say this, each of them at the point after the lines before it
 abbrev pub AreSaid : Said → Lines → Type 0
 AreSaid [] lines = lines ≡ []
 AreSaid (line ∷ earlier) lines = (before : Lines) × (text : List ℕ) × (lines ≡ before ++ text ∷ []) × IsPointLine (point_of earlier) line text × AreSaid earlier before

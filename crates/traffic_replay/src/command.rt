@@ -1,3 +1,4 @@
+//! The command `replay`.
 ghost use Rattle.std.specs.Prelude.{◌≡◌, ◌⊎◌, ◌∷◌, ◌≤◌, ℕ, List, [], length, OnOk, IfErr};
 ghost use Rattle.line_engine.specs.Commands.{KeepsText};
 ghost use Rattle.dsc_lines.specs.PointLine.{joined, IsBody};
@@ -28,8 +29,8 @@ use traffic_lines::{
 };
 use traffic_rules::Acts;
 
-/// What a replay of a traffic file has come to: the station that its lines name went through the events that they gave it, and wrote
-/// what it did at each.
+/// What a replay of a traffic file has come to: the station that its lines name went through the events that they gave
+/// it, and wrote what it did at each.
 #[derive(Drop)]
 pub struct Replay {
     alloc: Global,
@@ -156,7 +157,7 @@ impl Replay {
         }
     }
 
-    /// Takes the line of the base, behind that of this station.
+    /// Takes the line of the base, after that of this station.
     fn take_base(&mut self, named: StationLine, line: &[u8]) -> Result<(), Refusal>
         requires stage { self.old.stage ≡ stage.Base named }
         requires own { IsOwnLine (point_at self.old.stage) line.now }
@@ -199,7 +200,7 @@ impl Replay {
         }
     }
 
-    /// Takes a line of the station behind the base.
+    /// Takes a line of the station after the base.
     fn take_body<W: Joiner>(
         &mut self,
         workers: &W,
@@ -270,8 +271,8 @@ pub struct Replaying<W: Joiner> {
 }
 
 impl<W: Joiner> Replaying<W> {
-    /// The command before its first line. It is made in a frame of its own, so that the copies of it that making it takes are gone
-    /// while it runs.
+    /// The command before its first line. It is made in a frame of its own, so that the copies of it that making it
+    /// takes are gone while it runs.
     #[inline(never)]
     pub fn new(alloc: Global, workers: W) -> Replaying<W>
         ensures replay { StandsFor result.replay [] [] }

@@ -15,7 +15,8 @@ use receiver_pool::Joiner;
 use slot_join::{Joined, report};
 use std::alloc::AllocError;
 
-/// The answer to what was shown of a group since it was last heard. The open batch ends first, and the group's facts then begin anew.
+/// The answer to what was shown of a group since it was last heard. The open batch ends first, and the group's facts
+/// then begin anew.
 pub(crate) fn hear<W: Joiner>(
     groups: &mut NamedGroups,
     workers: &W,

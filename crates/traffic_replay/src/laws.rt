@@ -1,3 +1,4 @@
+//! Laws: each function here does nothing, and its contract is a theorem over definitions.
 ghost use Rattle.std.specs.Prelude.{◌≡◌, List, ◌∷◌, ◌++◌, IsTrue};
 ghost use Rattle.call_values.specs.declared.choices.Band.{Band};
 ghost use Rattle.coast_station.specs.CoastRules.{coast_rules};
@@ -27,7 +28,7 @@ pub fn lines_determine_output()
     one_answer();
 }
 
-/// The law that the history which a traffic file tells is legal: the laws of stations hold of each file. It does nothing.
+/// The law that the history of a traffic file is legal: the laws of stations hold of each file. It does nothing.
 pub fn histories_are_legal()
     ensures ship { (said : Said) (lines : Lines) (happened : List (Happening ShipWhat)) → AreSaid said lines
         → AreHappenings taking_ship said happened
@@ -37,8 +38,8 @@ pub fn histories_are_legal()
         → Legal (coast_rules (station_of band said)) (history_of (coast_rules (station_of band said)) happened) }
 {}
 
-/// The law that in the history that a ship's traffic file tells the ship's distress alert ends only at a cancel, or where a distress
-/// acknowledgement that names the ship is heard. It does nothing.
+/// The law that in the history of a ship's traffic file the ship's distress alert ends only at a cancel, or where a
+/// distress acknowledgement that names the ship is heard. It does nothing.
 pub fn alerts_end_by_hand_or_acknowledgement()
     ensures { (said : Said) (lines : Lines) (happened : List (Happening ShipWhat)) (later earlier : History ShipWhat)
         (ended : Entry ShipWhat) → AreSaid said lines → AreHappenings taking_ship said happened

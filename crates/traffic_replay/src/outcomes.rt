@@ -1,3 +1,4 @@
+//! A heard group's call, or the answer that is no call.
 ghost use Rattle.std.specs.Prelude.{◌≡◌};
 ghost use Rattle.traffic_replay.specs.Happenings as happenings;
 

@@ -24,9 +24,9 @@ pub(crate) struct Groups {
 pub(crate) enum Stage {
     /// The station.
     Station,
-    /// The base, behind the line of this station.
+    /// The base, after the line of this station.
     Base(StationLine),
-    /// A group of this ship behind these groups, or what shows that there is no further one.
+    /// A group of this ship after these groups, or what shows that there is no further one.
     Groups(Groups),
     /// An event at this ship, or what receivers showed. Moments count from this second.
     Ship { base: u64, ship: Ship },
@@ -76,7 +76,7 @@ impl Groups {
 }
 
 impl Stage {
-    /// Where the next line stands.
+    /// The point of the next line.
     pub(crate) fn point(&self) -> Point
         requires { IsReadyAt self.now }
         ensures { result ≡ point_at self.now }
@@ -106,7 +106,7 @@ impl Stage {
     }
 }
 
-/// The stage behind the line that names this second as the base, behind that of this station.
+/// The stage after the line that names this second as the base, which comes after that of this station.
 #[inline(never)]
 pub(crate) fn behind_base(alloc: Global, named: StationLine, base: u64) -> Stage
     ensures { IsBehindBase named base result }

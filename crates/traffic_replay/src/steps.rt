@@ -1,3 +1,4 @@
+//! What happens at an event line of a traffic file.
 ghost use Rattle.std.specs.Prelude.{◌≡◌, ◌<◌, ◌≤◌, ◌∷◌, ◌++◌, false, is_ok, length, OnOk, IfOk};
 ghost use Rattle.traffic_rules.specs.Histories.{History};
 ghost use Rattle.traffic_rules.specs.Rules.{answer_to, continued};
@@ -26,7 +27,7 @@ use std::alloc::AllocError;
 use traffic_lines::{Event, Hearing};
 use traffic_rules::Acts;
 
-/// Appends the line of a heard group that isn't reported, and tells that no event was accepted.
+/// Appends the line of a heard group that isn't reported, and answers that no event was accepted.
 #[tactic(auto, unfolding(crate::specs::Output::unreported_line))]
 fn append_unreported(
     out: &mut Vec<u8>,
@@ -43,7 +44,7 @@ fn append_unreported(
     Ok(false)
 }
 
-/// Gives a station an event, appends the lines of what it answers, and tells whether it accepted the event.
+/// Gives a station an event, appends the lines of what it answers, and answers whether it accepted the event.
 fn step<S: Station>(
     station: &mut S,
     at: u32,
@@ -63,8 +64,9 @@ fn step<S: Station>(
     Ok(accepted)
 }
 
-/// Goes through what happens at the event of a line, where moments count from the second `base` (at a coast station from any: nothing that it
-/// does has a time of day): appends what is written of it, and answers whether an event was accepted.
+/// Goes through what happens at the event of a line, where moments count from the second `base` (at a coast station
+/// from any: nothing that it does has a time of day): appends what is written of it, and answers whether an event was
+/// accepted.
 pub(crate) fn happen<S: OfLines, W: Joiner>(
     station: &mut S,
     groups: &mut NamedGroups,

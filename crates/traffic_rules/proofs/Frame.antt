@@ -18,7 +18,8 @@ module _ {What : Type 0} (rules : Rules What) (h : History What) (at : ℕ) (wha
   pub answer_on_time : last_moment h ≤ at → answer_to rules h at what ≡ refusal_or (rules.refusal h what) (rules.due h at what)
   answer_on_time late = ap (λ (r : Option StationRefusal). refusal_or r (rules.due h at what)) (refused_on_time rules h at what late)
 
-  -- what is kept of the history after a refusal, and of the history with the event put last where it is accepted, is kept as the history goes on
+  -- what is kept of the history after a refusal, and of the history with the event put last where it is accepted, is
+  -- kept as the history goes on
   pub goes_on : (Keeps : History What → Type 0) (result : Result (Unit {0}) StationRefusal) (acts : List Act) → last_moment h ≤ at → rules.IsEvent what → Legal rules h
       → answer_with result acts ≡ refusal_or (rules.refusal h what) (rules.due h at what) → OnErr result (Keeps h)
       → (rules.refusal h what ≡ None → OnOk result (Keeps (entry_at rules h at what ∷ h))) → Legal rules (continued rules h at what) × Keeps (continued rules h at what)

@@ -36,7 +36,8 @@ use Rattle.traffic_rules.proofs.HeldLists.{nothing_held}
 abbrev pub one_held : (sends_one holds_one : Bool) → ℕ
 one_held sends_one holds_one = if sends_one && holds_one then 1 else 0
 
--- what is sent at an event is held as it is sent, or it was sent before, at a tick; and what is held as sent may be sent by an operator
+-- what is sent at an event is held as it is sent, or it was sent before, at a tick; and what is held as sent may be
+-- sent by an operator
 pub record Handles (own : ℕ) (p : Call → Bool) (tick : Bool) (acts : List Act) (before after : Places) : Type 0 where
   pub first : times_in p acts ≡ one_held (list_any (sends p) acts) (list_any is_holding acts) + (if tick then times_in p acts else 0)
   pub again : (if tick then times_in p acts else 0) + waiting p after ≤ waiting p before + one_held (list_any (sends p) acts) (list_any is_holding acts)
@@ -249,7 +250,7 @@ module _ {What : Type 0} (occurs : What → Occurrence) (rules : Rules What) (ow
       (sym (if_more (sends_and_holds (asking is_such) e) (times_held (asking is_such) h)))
       (sum_again _ _ _ _ _ (times_held (asking is_such) h) (each e h legal.0).again (sent_again_or_waits h legal.1))
 
-  -- what was sent again in a part of a history, and what waits behind it, waited before it or was held in it
+  -- what was sent again in a part of a history, and what waits after it, waited before it or was held in it
   pub again_in_part : (later earlier : History What) → Legal rules (later ++ earlier)
       → times_sent_again occurs (asking is_such) later + waiting (asking is_such) (all_held occurs (later ++ earlier))
       ≤ waiting (asking is_such) (all_held occurs earlier) + times_held (asking is_such) later

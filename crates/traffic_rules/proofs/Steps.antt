@@ -55,12 +55,12 @@ module _ {What : Type 0} (rules : Rules What) where
   pub legal_continued : (h : History What) (at : ℕ) (what : What) → rules.IsEvent what → Legal rules h → Legal rules (continued rules h at what)
   legal_continued h at what event legal = legal_unless h at what event legal (refused rules h at what) refl
 
-  -- what stands before any entry of a legal history is legal
+  -- what comes before any entry of a legal history is legal
   pub legal_before : (later h : History What) → Legal rules (later ++ h) → Legal rules h
   legal_before [] h legal = legal
   legal_before (e ∷ later) h legal = legal_before later h legal.1
 
--- an answer tells whether the event was refused
+-- an answer says whether the event was refused
 abbrev pub refusal_in : {A : Type 0} → Result A StationRefusal → Option StationRefusal
 refusal_in (Ok acts) = None
 refusal_in (Err refusal) = Some refusal

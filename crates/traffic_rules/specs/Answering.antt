@@ -14,8 +14,9 @@ use Rattle.traffic_rules.specs.declared.refusals.StationRefusal.TheVariants.{NoS
 use Rattle.traffic_rules.specs.Holding.{Places, place_of}
 use Rattle.traffic_rules.specs.HeldTold.{is_sent}
 
--- the answer to a call: to an individual call one back to its sender with the same category and message, with the same telecommands, or
--- with 104 (unable to comply) and 100 (no reason given) where it is declined; to a relay its acknowledgement, and nothing where it is declined
+-- the answer to a call: an individual call gets one back with the same category and message, and with the same
+-- telecommands, or with 104 (unable to comply) and 100 (no reason given) where it is declined; a relay gets its
+-- acknowledgement, or nothing where it is declined
 abbrev pub reply_to : (own : ℕ) → (accepts : Bool) → Call → List Act
 reply_to own true (Individual to category from first second message end) = Send (Individual from category own first second message Reply) 1 ∷ []
 reply_to own false (Individual to category from first second message end) =
@@ -28,6 +29,7 @@ abbrev pub refused_unless_got : (number : ℕ) → Option Holding → Option Sta
 refused_unless_got number None = Some (NoSuchCall number)
 refused_unless_got number (Some x) = if is_sent x.side then Some (NoSuchCall number) else None
 
+-- the refusal to answer a number under which no call is held that was got
 abbrev pub answer_refusal : Places → (number : ℕ) → Option StationRefusal
 answer_refusal places number = refused_unless_got number (place_of places number)
 
@@ -36,5 +38,6 @@ abbrev pub reply_due_to : (own : ℕ) → (accepts : Bool) → Option Holding �
 reply_due_to own accepts None = []
 reply_due_to own accepts (Some x) = reply_to own accepts x.call
 
+-- the acts of answering or declining the call that is held under a number
 abbrev pub answer_due : (own : ℕ) → Places → (number : ℕ) → (accepts : Bool) → List Act
 answer_due own places number accepts = reply_due_to own accepts (place_of places number)

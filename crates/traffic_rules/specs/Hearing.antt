@@ -1,4 +1,5 @@
--- What a station does at a heard call that is for it and is neither a distress alert nor its acknowledgement: this project's profile.
+-- What a station does at a heard call that is for it and is neither a distress alert nor its acknowledgement: this
+-- project's profile.
 use Rattle.std.specs.Prelude.{ℕ, suc, nat_eq, ◌&&◌, not, Bool, true, false, Option, Some, None, List, [], ◌∷◌, ◌++◌, position, if◌then◌else◌}
 use Rattle.std.specs.Option.{option_map}
 use Rattle.std.specs.Cmp.Lexicographic.{pointwise}
@@ -32,6 +33,7 @@ abbrev pub is_equal_got : Call → Option Holding → Bool
 is_equal_got call None = false
 is_equal_got call (Some x) = not (is_sent x.side) && are_equal x.call call
 
+-- a test: whether an equal call was got and is held
 abbrev pub is_got : Places → Call → Bool
 is_got places call = list_any (is_equal_got call) places
 
@@ -41,7 +43,7 @@ is_question (Relay to from casualty ask) = ask
 is_question (Individual to category from first second message Ask) = true
 is_question _ = false
 
--- a relay tells of distress
+-- a relay informs the operator of distress
 abbrev pub distress_told : Call → List Act
 distress_told (Relay to from casualty ask) = Distress casualty ∷ []
 distress_told _ = []
@@ -50,6 +52,8 @@ distress_told _ = []
 abbrev pub must_be_held : Places → Call → Bool
 must_be_held places call = is_question call && not (is_got places call)
 
+-- the acts at a heard question: a relay informs the operator of distress, and the question is held unless an equal one
+-- is
 abbrev pub question_due : Places → Call → List Act
 question_due places call = distress_told call ++ (if is_got places call then [] else held_under_least (first_free places))
 
@@ -67,12 +71,14 @@ abbrev pub answered_or_shown : Option ℕ → List Act
 answered_or_shown (Some number) = Answered number ∷ []
 answered_or_shown None = Shown ∷ []
 
--- a position request is answered with the position and the time that the station keeps; a station that keeps none shows it
+-- a position request is answered with the position and the time that the station keeps; a station that keeps none shows
+-- it
 abbrev pub position_told : (own : ℕ) → Option Whereabouts → (to : ℕ) → Category → List Act
 position_told own None to category = Shown ∷ []
 position_told own (Some place) to category = Send (Service to category own (Position place.0 place.1)) 1 ∷ []
 
--- what is due at once at other calls: a relay tells of distress; a test and a position request are answered; all else is shown
+-- what is due at once at other calls: a relay informs the operator of distress; a test and a position request are
+-- answered; all else is shown
 abbrev pub due_at_once : (own : ℕ) → Option Whereabouts → Call → List Act
 due_at_once own place (Alert casualty) = []
 due_at_once own place (Ack from casualty) = []

@@ -1,4 +1,4 @@
--- What a history tells of held calls: this project's profile.
+-- What a history says of held calls: this project's profile.
 use Rattle.std.specs.Prelude.{ℕ, zero, suc, ◌==◌, ◌&&◌, ◌||◌, Bool, true, false, Option, Some, None, is_some, List, [], ◌∷◌, if◌then◌else◌}
 use Rattle.std.specs.Option.{option_map}
 use Rattle.std.specs.List.{list_any}
@@ -15,7 +15,8 @@ use Rattle.traffic_rules.specs.Moments.{has_passed}
 use Rattle.traffic_rules.specs.declared.waits.TheConstants.{ANSWER_WAIT}
 use Rattle.traffic_rules.specs.Occurrences.{Occurrence, hears, is_tick, is_answer}
 
--- how long a sent call waits for its answer, in milliseconds, before it is sent again, and before it is given up after that
+-- how long a sent call waits for its answer, in milliseconds, before it is sent again, and before it is given up after
+-- that
 abbrev pub answer_wait : ℕ
 answer_wait = ANSWER_WAIT
 

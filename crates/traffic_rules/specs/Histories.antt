@@ -28,12 +28,12 @@ module _ {What : Type 0} where
   abbrev pub NoneIs : (Entry What → Bool) → History What → Type 0
   NoneIs is_such h = list_any is_such h ≡ false
 
-  -- what the last entry that tells of something tells of it
+  -- the last such thing that an entry says
   abbrev pub last_told : {A : Type 0} → (Entry What → Option A) → History What → Option A
   last_told told [] = None
   last_told told (e ∷ h) = if is_some (told e) then told e else last_told told h
 
-  -- all that the entries tell of something, in the order of the events
+  -- all such things that the entries say, in the order of the events
   abbrev pub all_told : {A : Type 0} → (Entry What → Option A) → History What → List A
   all_told told [] = []
   all_told told (e ∷ h) = all_told told h ++ option_to_list (told e)

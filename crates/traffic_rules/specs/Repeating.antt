@@ -1,4 +1,5 @@
--- Sent calls that wait for their answers, 5 minutes before they are sent again and 5 before they are given up: this project's profile.
+-- Sent calls that wait for their answers, 5 minutes before they are sent again and 5 before they are given up: this
+-- project's profile.
 use Rattle.std.specs.Prelude.{ℕ, suc, ◌==◌, ◌&&◌, Bool, Option, Some, None, List, [], ◌∷◌, ◌++◌, if◌then◌else◌}
 use Rattle.traffic_rules.specs.declared.acts.Act.{Act}
 use Rattle.traffic_rules.specs.declared.acts.Act.TheVariants.{Send, GaveUp}
@@ -17,12 +18,12 @@ abbrev pub repeated : (at number : ℕ) → Option Holding → List Act
 repeated at number None = []
 repeated at number (Some x) = if is_overdue at x.side x.at then (if x.times == 1 then Send x.call 1 ∷ [] else GaveUp number ∷ []) else []
 
--- what is held of it then
+-- what is held of a call after a tick
 abbrev pub ticked : (at : ℕ) → Option Holding → Option Holding
 ticked at None = None
 ticked at (Some x) = if is_overdue at x.side x.at then (if x.times == 1 then sent_at at (Some x) else None) else Some x
 
--- what is due at a tick of the calls under the numbers from one on, by rising number
+-- what is due at a tick for the calls under the numbers from one on, by rising number
 abbrev pub repeats : (at number : ℕ) → Places → List Act
 repeats at number [] = []
 repeats at number (held ∷ places) = repeated at number held ++ repeats at (suc number) places

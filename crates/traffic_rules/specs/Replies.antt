@@ -25,8 +25,8 @@ abbrev pub is_position_answer : (station : ℕ) → Call → Bool
 is_position_answer station (Service to category from (Position position time)) = from == station
 is_position_answer station _ = false
 
--- a heard call answers a sent one: an acknowledgement of the same casualty a relay, and the station that an individual call, a test
--- or a position request was for answers it
+-- a heard call answers a sent one: a relay is answered by the acknowledgement of a relay of the same casualty; an
+-- individual call, a test or a position request by the reply of the station that it was sent to
 abbrev pub answers : (sent heard : Call) → Bool
 answers (Relay to from casualty ask) heard = is_relay_ack casualty.mmsi heard
 answers (Individual to category from first second message end) heard = is_individual_reply to heard

@@ -10,9 +10,9 @@ use Rattle.traffic_rules.specs.Histories.{Entry, History, last_moment}
 pub record Rules (What : Type 0) : Type 1 where
   -- the parts of an event are in their ranges
   pub IsEvent : What → Type 0
-  -- why an event is refused behind a history, whatever its moment
+  -- why an event is refused after a history, whatever its moment
   pub refusal : History What → What → Option StationRefusal
-  -- what is due at an event behind a history
+  -- what is due at an event after a history
   pub due : History What → (at : ℕ) → What → List Act
 
 -- the first refusal of two
@@ -36,11 +36,11 @@ listed (Ok acts) = Ok acts.items
 listed (Err refusal) = Err refusal
 
 module _ {What : Type 0} (rules : Rules What) where
-  -- why an event is refused behind a history: its moment is before the last one, or else by the station's rules
+  -- why an event is refused after a history: its moment is before the last one, or else by the station's rules
   abbrev pub refused : History What → (at : ℕ) → What → Option StationRefusal
   refused h at what = first_refusal (time_back (last_moment h) at) (rules.refusal h what)
 
-  -- what a station answers to an event behind a history: the refusal, or else the acts that are due
+  -- what a station answers to an event after a history: the refusal, or else the acts that are due
   abbrev pub answer_to : History What → (at : ℕ) → What → Result (List Act) StationRefusal
   answer_to h at what = refusal_or (refused h at what) (rules.due h at what)
 

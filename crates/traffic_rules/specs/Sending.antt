@@ -20,8 +20,8 @@ asks call = end_of call == ends.ACKNOWLEDGE_RQ
 abbrev pub acknowledges : Call → Bool
 acknowledges call = end_of call == ends.ACKNOWLEDGE_BQ
 
--- forms that a station sends by its own rules alone: distress alerts and their acknowledgements, acknowledgements of relays, and
--- answers to position requests
+-- forms that a station sends by its own rules alone: distress alerts and their acknowledgements, acknowledgements of
+-- relays, and answers to position requests
 abbrev pub is_by_rule : Call → Bool
 is_by_rule (Alert casualty) = true
 is_by_rule (Ack from casualty) = true
@@ -42,10 +42,11 @@ abbrev pub held_under_least : Option ℕ → List Act
 held_under_least (Some number) = Held number ∷ []
 held_under_least None = []
 
--- an operator's call is refused where it may not be sent, or else where it asks for an acknowledgement and no number is free
+-- an operator's call is refused where it may not be sent, or else where it asks for an acknowledgement and no number is
+-- free
 abbrev pub send_refusal : (own : ℕ) → Places → Call → Option StationRefusal
 send_refusal own places call = if is_sendable own call then refused_full (asks call) places else Some NotSendable
 
--- it is sent once, and held where it asks for an acknowledgement
+-- an operator's call is sent once, and held where it asks for an acknowledgement
 abbrev pub send_due : Places → Call → List Act
 send_due places call = Send call 1 ∷ (if asks call then held_under_least (first_free places) else [])

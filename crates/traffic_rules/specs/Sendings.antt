@@ -71,9 +71,9 @@ module _ {What : Type 0} (occurs : What → Occurrence) where
   times_sent_again is_such [] = 0
   times_sent_again is_such (e ∷ h) = (if is_tick (occurs e.what) then times_in is_such e.acts else 0) + times_sent_again is_such h
 
-  -- in each legal history by these rules, of whichever calls that ask for an acknowledgement one picks: each sending is the first one of a
-  -- holding, or at a tick; there are no more of those at ticks than holdings; and what a part of the history sends again, and leaves waiting,
-  -- waited before that part or was held in it
+  -- in each legal history by these rules, of whichever calls that ask for an acknowledgement one picks: each sending is
+  -- the first one of a holding, or at a tick; there are no more of those at ticks than holdings; and what a part of the
+  -- history sends again, and leaves waiting, waited before that part or was held in it
   pub record AreSentAtMostTwice (rules : Rules What) : Type 0 where
     pub first : (h : History What) (is_such : Call → Bool) → Legal rules h
         → times_sent (asking is_such) h ≡ times_held (asking is_such) h + times_sent_again (asking is_such) h

@@ -6,11 +6,12 @@ use Rattle.traffic_rules.specs.Histories.{History}
 use Rattle.traffic_rules.specs.Rules.{Rules, answer_to, continued}
 
 module _ {Station Who What : Type 0} (rules : Who → Rules What) (stands : Station → Who → History What → Type 0) where
-  -- the answer is the one that the rules give after each history for which the station stands
+  -- the answer is the one that the rules give after each history that the station stands for
   abbrev pub AnswersByRules : Station → (at : ℕ) → What → Result (List Act) StationRefusal → Type 0
   AnswersByRules old at what answer = (who : Who) (h : History What) → stands old who h → answer ≡ answer_to (rules who) h at what
 
-  -- the station then stands for each such history with this event and its acts put last, or for the same history if the event is refused
+  -- the station then stands for each such history with this event and its acts put last, or for the same history if the
+  -- event is refused
   abbrev pub GoesOnByRules : Station → (at : ℕ) → What → Station → Type 0
   GoesOnByRules old at what new = (who : Who) (h : History What) → stands old who h → stands new who (continued (rules who) h at what)
 

@@ -13,7 +13,8 @@ use Rattle.traffic_rules.specs.HeldTold.{is_sent}
 use Rattle.traffic_rules.specs.Sending.{is_sendable}
 use Rattle.traffic_rules.specs.Repeating.{repeats}
 
--- a reply of this station: an answer to an individual call, an acknowledgement of a relay, a test reply or a position answer
+-- a reply of this station: an answer to an individual call, an acknowledgement of a relay, a test reply or a position
+-- answer
 abbrev pub is_reply : (own : ℕ) → Call → Bool
 is_reply own (Individual to category from first second message Reply) = from == own
 is_reply own (RelayAck to from casualty) = from == own
@@ -25,15 +26,15 @@ is_reply own _ = false
 abbrev pub is_of_traffic : (own : ℕ) → Call → Bool
 is_of_traffic own call = is_sendable own call || is_reply own call
 
--- an act of traffic, which sends no calls but such ones: it sends one of them once, or it sends none; and it neither ends the station's
--- own alert nor closes a casualty
+-- an act of traffic sends only calls that pass this test, each once; it neither ends the station's own alert nor closes
+-- a casualty
 abbrev pub IsTrafficAct : (Call → Bool) → Act → Type 0
 IsTrafficAct is_such (Send call times) = (is_such call ≡ true) × (times ≡ 1)
 IsTrafficAct is_such AlertEnded = ⊥
 IsTrafficAct is_such (CasualtyClosed mmsi) = ⊥
 IsTrafficAct is_such _ = Unit {0}
 
--- each of these acts is one
+-- each of these acts is an act of traffic
 abbrev pub AreTrafficActs : (Call → Bool) → List Act → Type 0
 AreTrafficActs is_such acts = AllByRecursion (IsTrafficAct is_such) acts
 
@@ -42,7 +43,7 @@ abbrev pub IsSentSuch : (Call → Bool) → Option Holding → Type 0
 IsSentSuch is_such None = Unit {0}
 IsSentSuch is_such (Some x) = is_sent x.side ≡ true → is_such x.call ≡ true
 
--- in each of these places
+-- what is held as sent in each of these places is such a call
 abbrev pub AreSentSuch : (Call → Bool) → Places → Type 0
 AreSentSuch is_such [] = Unit {0}
 AreSentSuch is_such (held ∷ places) = IsSentSuch is_such held × AreSentSuch is_such places

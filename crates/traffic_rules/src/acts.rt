@@ -1,3 +1,4 @@
+//! What a station does at an event.
 ghost use Rattle.std.specs.Prelude.{◌≡◌, ◌<◌, [], ◌∷◌, ◌++◌, length};
 
 use arrayvec::ArrayVec;
@@ -18,7 +19,7 @@ pub enum Act {
     Answered(u8),
     /// It gives up the call that it sent and holds under this number, which is free again.
     GaveUp(u8),
-    /// It tells its operator of a ship in distress.
+    /// It informs its operator of a ship in distress.
     Distress(Casualty),
     /// Its own distress alert is off.
     AlertEnded,

@@ -1,3 +1,4 @@
+//! What is due where an operator answers or declines a held call.
 ghost use Rattle.std.specs.Prelude.{◌≡◌, [], OnOk, OnErr};
 ghost use Rattle.dsc_symbols.specs.declared.notices.TheConstants as TheNotices;
 ghost use Rattle.dsc_symbols.specs.declared.telecommands.TheConstants as TheTelecommands;
@@ -13,9 +14,9 @@ use crate::refusals::StationRefusal;
 use call_values::{Call, End, First, Mmsi, Second, To};
 use dsc_symbols::{notices, telecommands};
 
-/// Answers the call that was got under a number, as the operator accepts or declines it, and frees the number (this project's
-/// profile). The acts go into a list that is empty, and stays so where the answer is refused. Refused where no call that was got is held
-/// under the number (`NoSuchCall`).
+/// Answers the call that was got under a number, as the operator accepts or declines it, and frees the number (this
+/// project's profile). The acts go into a list that is empty, and stays so where the answer is refused. Refused where
+/// no call that was got is held under the number (`NoSuchCall`).
 pub fn answer(
     held: &mut HeldCalls,
     own: Mmsi,

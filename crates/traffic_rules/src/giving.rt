@@ -1,3 +1,4 @@
+//! Giving one act alone.
 ghost use Rattle.std.specs.Prelude.{◌≡◌, [], ◌∷◌};
 
 use crate::acts::{Act, Acts, add_act};

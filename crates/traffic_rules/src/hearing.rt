@@ -1,3 +1,4 @@
+//! What is due at a heard call at a station of either kind.
 ghost use Rattle.std.specs.Prelude.{◌≡◌, ◌<◌, ◌≤◌, ◌∷◌, [], Some, IfSome, IsTrue, OnOk, OnErr, length, position};
 ghost use Rattle.traffic_rules.specs.declared.acts.Act.TheVariants as act;
 ghost use Rattle.call_values.specs.declared.calls.Call.TheVariants as form;
@@ -45,7 +46,8 @@ pub fn hear(
     Ok(())
 }
 
-/// Tells of the distress of a relay, and holds the call under the least free number, unless an equal one is held as got.
+/// Informs the operator of distress, where the call is a relay. Holds the call under the least free number, unless an
+/// equal one is held as got.
 fn hear_question(
     held: &mut HeldCalls,
     call: &Call,
@@ -87,7 +89,7 @@ fn hear_acknowledgement(held: &mut HeldCalls, call: &Call, acts: &mut Acts)
     }
 }
 
-/// A relay tells of distress.
+/// Informs the operator of distress, where the call is a relay.
 fn tell_distress(call: &Call, acts: &mut Acts)
     requires { acts.old.items ≡ [] }
     ensures acts { acts.new.items ≡ hearing.distress_told call.now }
@@ -120,6 +122,7 @@ fn is_got(held: &HeldCalls, call: &Call) -> bool
     held.places().iter().any(|place| is_equal_got(call, place))
 }
 
+/// Whether a place holds an equal call that was got.
 fn is_equal_got(call: &Call, place: &Option<Holding>) -> bool
     ensures { result ≡ hearing.is_equal_got call.now place.now }
 {
@@ -142,6 +145,7 @@ fn answered_number(held: &HeldCalls, call: &Call) -> Option<u8>
     }
 }
 
+/// Whether a place holds a sent call that a heard one answers.
 fn is_answered_by(call: &Call, place: &Option<Holding>) -> bool
     ensures { result ≡ hearing.is_answered_by call.now place.now }
 {
@@ -214,6 +218,7 @@ fn tell_position(
     }
 }
 
+/// The index of the first place that holds a sent call that a heard one answers.
 fn first_answered(places: &[Option<Holding>], call: &Call) -> Option<usize>
     ensures value { result ≡ position (hearing.is_answered_by call.now) places.now }
     ensures range { IfSome result (λ index. index < length places.now) }

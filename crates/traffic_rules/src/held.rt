@@ -1,3 +1,4 @@
+//! Held calls, under their numbers from 1 to 16.
 ghost use Rattle.std.specs.Prelude.{◌≡◌, ◌<◌, ◌≤◌, IfSome, IfNone, is_none, length, position, replicate};
 ghost use Rattle.traffic_rules.specs.Holding as holding;
 
@@ -27,7 +28,7 @@ pub struct Held {
     pub times: u8,
 }
 
-/// What is kept of a held call. Its place tells its number.
+/// What is kept of a held call. Its place is its number less one.
 #[derive(Clone, Copy)]
 pub struct Holding {
     pub call: Call,
@@ -39,6 +40,7 @@ pub struct Holding {
 }
 
 impl Holding {
+    /// This call as it is held under a number.
     fn numbered(&self, number: u8) -> Held
         ensures { Some result ≡ holding.numbered number (Some self.now) }
     {
@@ -79,7 +81,8 @@ impl HeldCalls {
         }
     }
 
-    /// Holds a call under the least free number, and tells it; `None` exactly where 16 are held. A sent call was sent once.
+    /// Holds a call under the least free number, and answers the number; `None` exactly where 16 are held. A sent call
+    /// was sent once.
     pub fn hold(&mut self, call: Call, side: Side, at: u64) -> Option<u8>
         ensures number { result ≡ holding.first_free self.old }
         ensures held { IfSome result (λ number. self.new
@@ -113,7 +116,7 @@ impl HeldCalls {
         }
     }
 
-    /// Takes the call that is held under a number away, and tells it. Where none is, the calls are as they were.
+    /// Takes the call that is held under a number away, and answers it. Where none is, the calls are as they were.
     pub fn release(&mut self, number: u8) -> Option<Held>
         ensures held { result ≡ holding.held_under self.old number }
         ensures free { self.new ≡ holding.with_place self.old number None }
@@ -160,6 +163,7 @@ impl HeldCalls {
     }
 }
 
+/// The index of the first place that holds no call.
 fn first_empty(places: &[Option<Holding>]) -> Option<usize>
     ensures value { result ≡ position is_none places.now }
     ensures range { IfSome result (λ index. index < length places.now) }

@@ -13,15 +13,16 @@ ghost use Rattle.traffic_rules.specs.TrafficActs.{is_of_traffic, AreTrafficActs,
 
 use crate::held::MOST_HELD;
 
-/// The law that fixes the number of the places in which calls are held: 16. That no more are held is a law of each station.
+/// The law that fixes the number of the places in which calls are held: 16. That no more are held is a law of each
+/// station.
 pub fn sixteen_held_calls()
     ensures { MOST_HELD ≡ 16 }
 {}
 
-/// The law that the rules of traffic send no call but one that an operator of the station may send, or a reply, and each
-/// once: where an operator's call isn't refused, where a call is answered or heard, and where held calls are repeated, if
-/// those that were sent may be sent, as they may in every legal history of a station. Whatever is true of no such call is true of no
-/// call that they send.
+/// The law that the rules of traffic send only sendable calls and replies, each once: where an operator's call isn't
+/// refused, where a call is answered or heard, and where held calls are repeated, if those that are held as sent are
+/// sendable, as they are in every legal history of a station. So they send no call of a kind that has no sendable call
+/// and no reply.
 pub fn traffic_is_sendable_or_a_reply()
     ensures sent { (own : ℕ) (places : Places) (call : Call) → send_refusal own places call ≡ None
         → AreTrafficActs (is_of_traffic own) (send_due places call) }

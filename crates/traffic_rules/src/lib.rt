@@ -1,5 +1,6 @@
-//! What ship and coast stations share: what stations do and why they refuse an event, the calls that they hold, the rules of
-//! their histories; how an operator's calls are sent, held, repeated and answered, and what is done at a heard call.
+//! What ship and coast stations share: what stations do and why they refuse an event, the calls that they hold, the
+//! rules of their histories; how an operator's calls are sent, held, repeated and answered, and what is done at a heard
+//! call.
 #![tactic(auto)]
 
 mod acts;

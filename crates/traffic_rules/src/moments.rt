@@ -1,3 +1,4 @@
+//! Whether a delay has passed since a moment.
 ghost use Rattle.std.specs.Prelude.{◌≡◌};
 ghost use Rattle.traffic_rules.specs.Moments as moments;
 

@@ -1,3 +1,4 @@
+//! Why a station refuses an event.
 ghost use Rattle.std.specs.Prelude.{◌≡◌};
 ghost use Rattle.traffic_rules.specs.Moments as moments;
 
@@ -24,7 +25,7 @@ pub enum StationRefusal {
     TimeBack { last: u64, given: u64 },
 }
 
-/// Why an event at a moment is refused behind the last accepted one: `None` exactly where it isn't before it.
+/// Why an event at a moment is refused after the last accepted one: `None` exactly where it isn't before it.
 pub fn time_back(last: u64, given: u64) -> Option<StationRefusal>
     ensures { result ≡ moments.time_back last given }
 {

@@ -1,11 +1,12 @@
+//! Which heard calls answer a sent one.
 ghost use Rattle.std.specs.Prelude.{◌≡◌};
 ghost use Rattle.traffic_rules.specs.Replies as replies;
 
 use call_values::{Call, End, Kind, Mmsi};
 
-/// Whether a heard call answers a sent one (this project's profile): a relay acknowledgement a relay of the
-/// same casualty; an individual call with an acknowledgement, a test reply or a position answer of the station that an
-/// individual call, a test or a position request was for.
+/// Whether a heard call answers a sent one (this project's profile). A relay is answered by the acknowledgement of a
+/// relay of the same casualty; an individual call, a test or a position request by the reply of the station that it was
+/// sent to.
 pub fn answers(sent: &Call, heard: &Call) -> bool
     ensures { result ≡ replies.answers sent.now heard.now }
 {
@@ -21,6 +22,7 @@ pub fn answers(sent: &Call, heard: &Call) -> bool
     }
 }
 
+/// Whether a heard call acknowledges the relay of this casualty, whoever sent it.
 fn is_relay_ack(casualty: Mmsi, heard: &Call) -> bool
     ensures { result ≡ replies.is_relay_ack casualty heard.now }
 {
@@ -33,6 +35,7 @@ fn is_relay_ack(casualty: Mmsi, heard: &Call) -> bool
     }
 }
 
+/// Whether a heard call is this station's individual call that gives an acknowledgement.
 fn is_individual_reply(station: Mmsi, heard: &Call) -> bool
     ensures { result ≡ replies.is_individual_reply station heard.now }
 {
@@ -45,6 +48,7 @@ fn is_individual_reply(station: Mmsi, heard: &Call) -> bool
     }
 }
 
+/// Whether a heard call is this station's reply to a test.
 fn is_test_reply(station: Mmsi, heard: &Call) -> bool
     ensures { result ≡ replies.is_test_reply station heard.now }
 {
@@ -57,6 +61,7 @@ fn is_test_reply(station: Mmsi, heard: &Call) -> bool
     }
 }
 
+/// Whether a heard call is this station's position answer.
 fn is_position_answer(station: Mmsi, heard: &Call) -> bool
     ensures { result ≡ replies.is_position_answer station heard.now }
 {

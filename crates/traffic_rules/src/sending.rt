@@ -1,3 +1,4 @@
+//! Which calls an operator may send, and what is due where one does.
 ghost use Rattle.std.specs.Prelude.{◌≡◌, [], ◌∷◌, OnOk, OnErr};
 ghost use Rattle.traffic_rules.specs.declared.acts.Act.TheVariants as act;
 ghost use Rattle.traffic_rules.specs.Rules.{refusal_or};
@@ -14,9 +15,9 @@ use call_values::{Call, Kind, Mmsi};
 use dsc_symbols::ends;
 
 /// Sends a call that the operator gives, once, and holds it where it asks for an acknowledgement (this project's
-/// profile). The acts go into a list that is empty, and stays so where the call is refused.
-/// Refused: a call that an operator of this station may not send (`NotSendable`), or else one that must be held where no
-/// number is free (`Full`).
+/// profile). The acts go into a list that is empty, and stays so where the call is refused. Refused: a call that an
+/// operator of this station may not send (`NotSendable`), or else one that must be held where no number is free
+/// (`Full`).
 pub fn send(
     held: &mut HeldCalls,
     own: Mmsi,

@@ -1,3 +1,4 @@
+//! How long a sent call waits for its answer.
 ghost use Rattle.std.specs.Prelude.{◌≡◌};
 
 /// How long a sent call waits for its answer, in milliseconds, before it is sent again, and before it is given up after

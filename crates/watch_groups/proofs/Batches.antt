@@ -27,7 +27,7 @@ last_is a b x y same =
     let long : length a ≡ length b = omega (arith, ap length same, length_push a x, length_push b y) in
     sym (get_or_push a x nothing (length b) long) ∙ ap (λ (l : List JoinLine). slice_index_or l (length b) nothing) same ∙ get_or_push b y nothing (length b) refl
 
--- a batch ends behind no other line than a reception, and only where it is full
+-- a batch ends after no other line than a reception, and only where it is full
 pub no_end_nothing : (said : List JoinLine) → EndsBatch (said ++ nothing ∷ []) → ⊥
 no_end_nothing said ends = two (last_is said ends.earlier nothing (reception ends.group ends.elements) ends.list)
   where
@@ -43,7 +43,7 @@ no_end_evidence said group pairs ends = two (last_is said ends.earlier (evidence
 pub no_end_open : (said : List JoinLine) (group : ℕ) (e : List Element) (heard : ℕ) → IsOpen said heard → heard + 1 < MOST_IN_BATCH → EndsBatch (said ++ reception group e ∷ []) → ⊥
 no_end_open said group e heard open_ few ends = absurd (omega (arith, open_.count, few, ends.full, receptions_push said (reception group e)))
 
--- what is open behind one line more
+-- what is open after one line more
 pub open_nothing : (said : List JoinLine) (heard : ℕ) → IsOpen said heard → IsOpen (said ++ nothing ∷ []) heard
 open_nothing said heard o = record { batches = o.batches; count = omega (arith, o.count, receptions_push said nothing); few = o.few }
 
@@ -56,14 +56,14 @@ open_more said group e heard more o is few = record { batches = o.batches; count
 pub open_anew : (said : List JoinLine) (group : ℕ) (e : List Element) (heard : ℕ) → IsOpen said heard → heard + 1 ≡ MOST_IN_BATCH → IsOpen (said ++ reception group e ∷ []) 0
 open_anew said group e heard o full = record { batches = o.batches + 1; count = omega (arith, o.count, full, receptions_push said (reception group e)); few = omega arith }
 
--- what was told at each batch's end, behind one line more
+-- what was told at each batch's end, after one line more
 module _ (said : List JoinLine) (line : JoinLine) (told more : List ToldCall) (stays : (S : List JoinLine) → TellsReported S told → TellsReported S more) (each : TellsEachBatch said told) where
   earlier : (n : ℕ) → n ≤ length said → EndsBatch (take n (said ++ line ∷ [])) → TellsReported (take n (said ++ line ∷ [])) more
   earlier n le ends =
       let same : take n (said ++ line ∷ []) ≡ take n said = take-append-le n said (line ∷ []) le in
       subst (λ (s : List JoinLine). TellsReported s more) (sym same) (stays (take n said) (each n le (subst EndsBatch same ends)))
 
-  -- no batch ends behind this line, or all are told that are reported there
+  -- no batch ends after this line, or all are told that are reported there
   pub each_more : (EndsBatch (said ++ line ∷ []) → TellsReported (said ++ line ∷ []) more) → TellsEachBatch (said ++ line ∷ []) more
   each_more here n le ends = elim (cases_lt (length said) n) [
     | inr low ↦ earlier n low ends
@@ -72,6 +72,6 @@ module _ (said : List JoinLine) (line : JoinLine) (told more : List ToldCall) (s
         subst (λ (s : List JoinLine). TellsReported s more) (sym whole) (here (subst EndsBatch whole ends))
   ]
 
--- behind no line none ends
+-- after no line none ends
 pub no_end_at_first : (n : ℕ) → n ≤ 0 → EndsBatch (take n []) → ⊥
 no_end_at_first n le ends = absurd (omega (arith, le, ap length ends.list, length_push ends.earlier (reception ends.group ends.elements), length-take-le {A = JoinLine} n [] le))

@@ -1,4 +1,4 @@
--- Calls told one behind another.
+-- Calls told one after another.
 use Rattle.std.proofs.Common.{◌≡◌, ℕ, Bool, true, false, ◌||◌, ◌==◌, List, [], ◌∷◌, ◌++◌, refl, sym, ap, ◌∙◌, append_assoc, append-nil}
 use Rattle.std.proofs.lemmas.Bool.{or_left, or_right, or_from, or_parts, eq-eqb}
 use Rattle.std.proofs.lemmas.Grind.{flat_map-append}

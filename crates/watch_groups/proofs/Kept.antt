@@ -1,4 +1,4 @@
--- What a watch keeps behind one line more.
+-- What a watch keeps after one line more.
 use Rattle.std.proofs.Common.{◌≡◌, ℕ, ◌+◌, ◌<◌, Bool, true, false, ◌||◌, ◌==◌, List, [], ◌∷◌, ◌++◌, refl, sym, subst, ◌∙◌, arith, inl, inr}
 use Rattle.std.proofs.lemmas.Bool.{cases_eq, ne_eqb, or_cases, or_left, or_right, or_parts}
 use Rattle.ten_unit.specs.declared.character.Element.{Element}
@@ -55,7 +55,7 @@ stay : (told : List ToldCall) (S : List JoinLine) → TellsReported S told → T
 stay told S tells = tells
 
 module _ (law : More) (groups new : NamedGroups) (named more : List ℕ) (told : List ToldCall) (heard : ℕ) (said : List JoinLine) (was : Watches groups named told heard said) where
-  -- no batch ends behind the line
+  -- no batch ends after the line
   goes_on : (line : JoinLine) (now : ℕ) → LineNotes told named line more → Keeps new (said ++ line ∷ []) → IsOpen (said ++ line ∷ []) now → (EndsBatch (said ++ line ∷ []) → ⊥) → Watches new more told now (said ++ line ∷ [])
   goes_on line now notes keeps open_ never = record {
     keeps = keeps;
@@ -76,7 +76,7 @@ module _ (law : More) (groups new : NamedGroups) (named more : List ℕ) (told :
   after_reception group e now is few notes keeps =
       goes_on (reception group e) now notes keeps (open_more said group e heard now was.open_batch is few) (no_end_open said group e heard was.open_batch (omega arith))
 
--- behind a look at all groups that were named, all are done
+-- after a look at all groups that were named, all are done
 pub all_done : (said : List JoinLine) (named : List ℕ) (told : List ToldCall) (out : List ℕ) (now : List ToldCall) (after : List ℕ) → AreOthersDone said named told → LooksThrough said named [] told out now after → TellsReported said now
 all_done said named told out now after done looks k call extra answer = by_named (is_among named k) refl
   where
@@ -100,7 +100,7 @@ module _ (law : More) (groups new : NamedGroups) (named more : List ℕ) (told n
         done = record { named_by = λ k is. absurd cc; others = λ k is. all k };
       }
 
--- and where it ends behind no line more
+-- and where it ends after no line more
 pub after_pause : (groups new : NamedGroups) (named : List ℕ) (told now : List ToldCall) (heard : ℕ) (said : List JoinLine) (out after : List ℕ) → Watches groups named told heard said → Keeps new said
     → LooksThrough said named [] told out now after → Watches new [] now heard said
 after_pause groups new named told now heard said out after was keeps looks =
@@ -143,7 +143,7 @@ stands_anew law groups new named more told now heard said line group e out after
     subst (λ (l : JoinLine). Keeps new (said ++ l ∷ []) → LooksThrough (said ++ l ∷ []) more [] told out now after → Watches new [] now 0 (said ++ l ∷ [])) (sym is)
     (after_batch law groups new named more told now heard said out after was group e full notes)
 
--- the groups that were named behind one line more
+-- the groups that were named after one line more
 pub named_more : (said : List JoinLine) (line : JoinLine) (named more : List ℕ) (told : List ToldCall) (group : ℕ) (e : List Element) → line ≡ reception group e → Notes told named (λ k. group == k) more
     → AreOthersDone said named told → (k : ℕ) → is_among more k ≡ true → is_named (said ++ line ∷ []) k ≡ true
 named_more said line named more told group e is notes done =

@@ -10,8 +10,8 @@ use Rattle.join_groups.specs.Output.{IsJoinText}
 use Rattle.watch_groups.specs.declared.telling.ToldCall.{ToldCall}
 use Rattle.watch_groups.specs.Telling.{told_text, AreTold, TellsReported, TellsEachBatch}
 
--- these lines may give this text before their end: calls of groups that they name, none of a group twice, and of each group that is
--- reported at a batch's end
+-- these lines may give this text before their end: calls of groups that they name, at most one a group, and one of each
+-- group that is reported at a batch's end
 pub record GivesTold (lines : Lines) (text : List ℕ) : Type 0 where
   pub said : List JoinLine
   pub are_lines : AreLines said lines
@@ -20,8 +20,8 @@ pub record GivesTold (lines : Lines) (text : List ℕ) : Type 0 where
   pub each_batch : TellsEachBatch said told
   pub text_is : text ≡ told_text told
 
--- an input of these lines may have this text: such calls, one of each group that is reported at the end too, and behind them what
--- join writes, with its status
+-- an input of these lines may have this text: such calls, one of each group that is reported at the end too, and after
+-- them what join writes, with its status
 pub record EndsWatch (lines : Lines) (text : List ℕ) (status : ℕ) : Type 0 where
   pub said : List JoinLine
   pub are_lines : AreLines said lines

@@ -1,4 +1,4 @@
--- The calls that a watch of an input tells: this project's profile.
+-- The calls that a watch of an input writes before the input ends: this project's profile.
 use Rattle.std.specs.Prelude.{◌≡◌, ℕ, ◌+◌, ◌*◌, ◌≤◌, ◌==◌, Bool, true, false, List, [], ◌∷◌, ◌++◌, codes, decimal, length, take}
 use Rattle.std.specs.List.{list_any, flat_map}
 use Rattle.line_grammar.specs.Bytes.{line_feed}
@@ -18,7 +18,7 @@ use Rattle.watch_groups.specs.declared.telling.ToldCall.{ToldCall}
 abbrev pub told_line : ToldCall → List ℕ
 told_line told = codes "told g" ++ decimal told.group ++ codes " " ++ call_text told.call ++ line_feed ∷ []
 
--- the lines of told calls, one behind another
+-- the lines of told calls, one after another
 abbrev pub told_text : List ToldCall → List ℕ
 told_text told = flat_map told_line told
 
@@ -31,7 +31,7 @@ pub record IsToldOf (said : List JoinLine) (told : ToldCall) : Type 0 where
   pub named : is_named said told.group ≡ true
   pub call : IsTold (group_facts said told.group) told.call
 
--- so it is with each call that is told, and no two are of one group
+-- each told call is shown by what its group's lines show, and no two are of one group
 abbrev pub AreTold : List JoinLine → List ToldCall → Type 0
 AreTold said [] = Unit {0}
 AreTold said (one ∷ told) = IsToldOf said one × (is_told told one.group ≡ false) × AreTold said told
@@ -47,7 +47,7 @@ receptions (nothing ∷ said) = receptions said
 receptions (reception group e ∷ said) = 1 + receptions said
 receptions (evidence group pairs ∷ said) = receptions said
 
--- a batch ends behind these lines: the last is a reception, and all receptions fill batches
+-- a batch ends after these lines: the last is a reception, and all receptions fill batches
 pub record EndsBatch (said : List JoinLine) : Type 0 where
   pub earlier : List JoinLine
   pub group : ℕ

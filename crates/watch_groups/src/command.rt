@@ -1,3 +1,4 @@
+//! The command `watch`.
 ghost use Rattle.std.specs.Prelude.{◌≡◌, ◌≢◌, ◌⊎◌, ℕ, ◌+◌, ◌<◌, ◌≤◌, ◌++◌, ◌∷◌, [], true, List, length, IfOk, IfErr, OnOk};
 ghost use Rattle.line_engine.specs.Lines.{Lines};
 ghost use Rattle.line_engine.specs.Commands.{IsTakenBehind, IsRefusedBehind, KeepsText, StandsBelow};
@@ -23,9 +24,10 @@ use line_engine::{Command, Refusal};
 use live_watch::{WatchedJoiner, told_calls};
 use std::alloc::{AllocError, Global};
 
-/// The command that tells a call of each group as soon as a batch ends that reports it, and at the input's end answers as `join` does. A batch
-/// ends at each 256th reception, and where the engine pauses, before it reads on. Workers join its receptions while a watcher looks on. Where
-/// one worker works alone, a reception waits for the batch only if it shows something new of a group of which no call was told.
+/// The command that writes a call of each group as soon as a batch ends that reports it, and at the input's end answers
+/// as `join` does. A batch ends at each 256th reception, and where the engine pauses, before it reads on. Workers join
+/// its receptions while a watcher looks on. Where one worker works alone, a reception waits for the batch only if it
+/// shows something new of a group of which no call was told.
 #[derive(Drop)]
 pub struct WatchGroups<W: WatchedJoiner> {
     alloc: Global,
@@ -86,7 +88,7 @@ impl<W: WatchedJoiner> WatchGroups<W> {
         }
     }
 
-    /// Ends the open batch, and tells the calls of the groups that its lines named.
+    /// Ends the open batch, and writes the calls of the groups that its lines named.
     fn end_batch(&mut self, out: &mut Vec<u8>) -> Result<(), AllocError>
         requires joins { W.can_join self.old.workers }
         requires ready { HoldsSome self.old.groups }
@@ -113,7 +115,7 @@ impl<W: WatchedJoiner> WatchGroups<W> {
         Ok(())
     }
 
-    /// Counts a line behind which the groups are as they are now. A reception may end the batch.
+    /// Counts a line after which the groups are as they are now. A reception may end the batch.
     fn count(&mut self, named: Named, out: &mut Vec<u8>) -> Result<(), AllocError>
         requires joins { W.can_join self.old.workers }
         requires ready { HoldsSome self.old.groups }

@@ -1,4 +1,5 @@
-//! Calls told while an input is still read: the command `watch`, which tells a call of each group as soon as a batch ends that reports it.
+//! Calls told while an input is still read: the command `watch`, which writes a call of each group as soon as a batch
+//! ends that reports it.
 #![tactic(auto)]
 
 mod command;

@@ -33,7 +33,8 @@ pub struct ToldCall {
     pub call: Call,
 }
 
-/// The calls that were told, in the order in which they were, and the set of their groups. Contracts see it as the calls.
+/// The calls that were told, in the order in which they were, and the set of their groups. Contracts see it as the
+/// calls.
 #[derive(Drop)]
 pub(crate) struct ToldCalls {
     calls: Vec<ToldCall>,
@@ -78,7 +79,8 @@ impl ToldCalls {
     }
 }
 
-/// Adds a call to those that were told, and its group to theirs. The error is want of memory, and leaves both as they were.
+/// Adds a call to those that were told, and its group to theirs. The error is want of memory, and leaves both as they
+/// were.
 fn push_call(
     calls: &mut Vec<ToldCall>,
     groups: &mut BTreeSet<u32>,
@@ -136,14 +138,14 @@ fn append_told(told: &ToldCall, out: &mut Vec<u8>) -> Result<(), AllocError>
     Ok(())
 }
 
-/// Of each group, by its number, the sheet that was judged last, if any: it reports no call.
+/// For each group, by its number, the sheet that was judged last, if any: it reports no call.
 #[derive(Drop)]
 pub(crate) struct Judged {
     sheets: Vec<Option<Unreported>>,
 }
 
 impl Judged {
-    /// Of no group.
+    /// Nothing was judged yet.
     pub(crate) fn new(alloc: Global) -> Judged {
         Judged {
             sheets: Vec::new(alloc),
@@ -202,8 +204,8 @@ pub(crate) fn watcher_of(
     Ok(watcher)
 }
 
-/// The call to tell of a group, by its number and its sheet, where none was told: the one that the watcher saw, where the sheet shows it, and
-/// else the one that the sheet reports. A sheet that the watcher judged isn't judged again.
+/// The call to report of a group, by its number and its sheet, where none was told: the one that the watcher saw, where
+/// the sheet shows it, and else the one that the sheet reports. A sheet that the watcher judged isn't judged again.
 fn call_since(
     watcher: &BatchWatcher,
     here: usize,
@@ -243,8 +245,8 @@ fn judge_unseen(
     judge(sheet, None)
 }
 
-/// Tells a call of a group that lines named, where none was told: the one that the watcher saw, where the group's sheet shows it, and else the
-/// one that its facts report. No reception waits.
+/// Writes a call of a group that lines named, where none was told: the one that the watcher saw, where the group's
+/// sheet shows it, and else the one that its facts report. No reception waits.
 fn look_at(
     groups: &NamedGroups,
     watcher: &BatchWatcher,
@@ -278,7 +280,7 @@ fn look_at(
     }
 }
 
-/// Tells the calls of these groups, which lines named, in their order. No reception waits.
+/// Writes the calls of these groups, which lines named, in their order. No reception waits.
 pub(crate) fn look_through(
     groups: &NamedGroups,
     watcher: &BatchWatcher,

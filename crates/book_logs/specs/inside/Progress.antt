@@ -8,7 +8,8 @@ use Rattle.casualty_book.specs.Sentences.{row_of}
 use Rattle.book_logs.specs.declared.command.Logs.{Logs}
 use Rattle.book_logs.specs.Telling.{GivesRow, HasRow, is_refused}
 
--- it was given these lines: its book has the rows that they give, and it knows whether one is a sentence that is refused
+-- it was given these lines: its book has the rows that they give, and it knows whether one is a sentence that is
+-- refused
 pub record HasTaken (command : Logs) (lines : Lines) : Type 0 where
   pub rows_are : (row : BookRow) → Contains command.book row ↔ HasRow lines row
   pub refused_is : command.refused ≡ list_any is_refused lines

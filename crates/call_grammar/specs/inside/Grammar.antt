@@ -1,4 +1,4 @@
--- The grammar of the fields, by the letters that may stand at each place: ITU-R M.493, fields of call sequences.
+-- The grammar of the fields, by the letters that may be at each place: ITU-R M.493, fields of call sequences.
 use Rattle.std.specs.Prelude.{ℕ, ◌+◌, ◌*◌, ◌/◌, ◌%◌, ◌==◌, ◌&&◌, if◌then◌else◌, zero, suc, List, [], ◌∷◌, Option, Some, None}
 use Rattle.dsc_symbols.specs.declared.messages.TheConstants.{NO_INFORMATION, UNKNOWN_POSITION, VHF_CHANNEL}
 use Rattle.symbol_reader.specs.declared.letters.Letter.{Letter}
@@ -37,7 +37,7 @@ Positions = Spelled IsPosition position_symbols
 abbrev pub Times : Option (ℕ × ℕ) → List ℕ → Type 0
 Times = Spelled IsHourMinute time_symbols
 
--- the characters that tell of a casualty
+-- the characters that describe a casualty
 abbrev pub Casualties : Casualty → List ℕ → Type 0
 Casualties = Spelled IsCasualty casualty_symbols
 
@@ -65,7 +65,7 @@ FieldWords = Spelled IsField field_symbols
 abbrev pub Messages : Message → List ℕ → Type 0
 Messages = Spelled IsMessage message_symbols
 
--- the number whose nine digits and a 0 stand in these five characters
+-- the number whose nine digits and a 0 are in these five characters
 abbrev pub identity_of : ℕ → ℕ → ℕ → ℕ → ℕ → ℕ
 identity_of a b c d e = ((a * 100 + b) * 100 + c) * 1000 + d * 10 + e / 10
 
@@ -85,7 +85,7 @@ longitude_ones hundreds = if hundreds % 10 == 1 then UpTo 80 else UpTo 99
 abbrev pub longitude_minutes : ℕ → ℕ → Letter
 longitude_minutes hundreds ones = if (hundreds % 10 == 1) && (ones == 80) then Exactly 0 else UpTo 59
 
--- the place whose ten digits stand in these five characters
+-- the place whose ten digits are in these five characters
 abbrev pub fix_of : ℕ → ℕ → ℕ → ℕ → ℕ → Fix
 fix_of a b c d e =
     record { quadrant = a / 10; lat_deg = a % 10 * 10 + b / 10; lat_min = b % 10 * 10 + c / 10; lon_deg = c % 10 * 100 + d; lon_min = e }
@@ -106,7 +106,7 @@ UnknownRest =
 abbrev pub area_latitude : ℕ → Letter
 area_latitude initial = if initial % 10 == 9 then Digits 0 1 else Digits 9 1
 
--- the area whose ten digits stand in these five characters
+-- the area whose ten digits are in these five characters
 abbrev pub area_of : ℕ → ℕ → ℕ → ℕ → ℕ → Rectangle
 area_of a b c d e = record { quadrant = a / 10; latitude = a % 10 * 10 + b / 10; longitude = b % 10 * 100 + c; south = d; east = e }
 

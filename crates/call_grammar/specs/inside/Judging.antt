@@ -1,4 +1,4 @@
--- What is read of a list on which the format specifier stands once.
+-- What is read of a list that has the format specifier once.
 use Rattle.std.specs.Prelude.{◌≡◌, ℕ, ◌≢◌, ◌⊎◌, Bool, true, false, List, ◌∷◌, ◌++◌}
 use Rattle.symbol_reader.specs.inside.Reading.{Wants, Leaves}
 use Rattle.call_values.specs.declared.calls.Call.{Call}
@@ -15,13 +15,13 @@ pub record IsCovered (l : List ℕ) : Type 0 where
   pub lawful : IsCall call
   pub list : l ≡ covered call
 
--- where the check of this call stands, the list goes on with the right one
+-- where the check of this call comes, the list goes on with the right one
 pub record IsRight (l : List ℕ) (call : Call) : Type 0 where
   pub rest : List ℕ
   pub lawful : IsCall call
   pub list : l ≡ covered call ++ (check_of (covered call) ∷ rest)
 
--- where the check of a call stands, the list goes on with another symbol
+-- where the check of a call comes, the list goes on with another symbol
 pub record IsWrong (l : List ℕ) (want got : ℕ) : Type 0 where
   pub call : Call
   pub rest : List ℕ

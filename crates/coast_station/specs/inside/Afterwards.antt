@@ -38,7 +38,7 @@ open_after who at Tick casualties = not_due at casualties
 open_after who at (Heard heard) casualties = if is_for who.own heard then after_call at heard casualties else casualties
 open_after who at _ casualties = casualties
 
--- the calls that are held after a casualty is told on
+-- the calls that are held after a casualty's alert is relayed
 abbrev pub held_after_relay : (own at : ℕ) → To → (ask : Bool) → Option OpenCasualty → Places → Places
 held_after_relay own at to ask None places = places
 held_after_relay own at to ask (Some x) places = after_sending places (call.Relay to own x.alert ask) at

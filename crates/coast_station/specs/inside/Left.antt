@@ -28,5 +28,6 @@ abbrev pub noted_at : Option OpenCasualty → Casualty → (at : ℕ) → List O
 noted_at None alert at casualties = casualties ++ newly_open alert at ∷ []
 noted_at (Some casualty) alert at casualties = if is_some casualty.delay then casualties else replaced alert.mmsi (newly_open alert at) casualties
 
+-- the open casualties after an alert
 abbrev pub noted : Casualty → (at : ℕ) → List OpenCasualty → List OpenCasualty
 noted alert at casualties = noted_at (find_casualty alert.mmsi casualties) alert at casualties

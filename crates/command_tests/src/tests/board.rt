@@ -1,3 +1,4 @@
+//! Threads on one board, and workers that join receptions.
 ghost use Rattle.std.specs.Prelude.{◌≡◌, ◌≤◌, ◌⊎◌, All, IsTrue, length};
 ghost use Rattle.slot_evidence.specs.Allowed.{OnlyAllowed};
 ghost use Rattle.receiver_pool.specs.Groups.{IsShort};
@@ -89,8 +90,8 @@ fn two_seats_in_two_threads(rt: HostRuntime) -> Result<(), Fail> {
     Ok(())
 }
 
-/// What a look shows that comes after another thread's post: the one thread enters the gate behind its post, the other before its
-/// look, with a seat that posted and saw nothing.
+/// What a look shows that comes after another thread's post: the one thread enters the gate after its post, the other
+/// before its look, with a seat that posted and saw nothing.
 fn looked_behind_a_post<R: Threads + Sync>(
     rt: &R,
     alloc: Global,
@@ -168,7 +169,8 @@ fn reception_with(alloc: Global, lost: &[usize], other: &[usize]) -> Result<Rece
     Ok(Reception::of_elements(alloc, &elements)?)
 }
 
-/// The two receptions of the worked row: one lost its DX slots from 12 on and slot 31, the other all slots from 16 on but slot 26.
+/// The two receptions of the worked row: one lost its DX slots from 12 on and slot 31, the other all slots from 16 on
+/// but slot 26.
 pub(crate) fn two_receptions(alloc: Global) -> Result<Vec<Reception>, AllocError> {
     let mut list = Vec::new(alloc);
     list.push(reception(alloc, &LOST_DX_AND_PLACE_7)?)?;
@@ -239,7 +241,8 @@ pub(crate) fn are_all_short(batch: &[GroupReception]) -> bool
         .all(|heard| heard.reception.count() <= LONGEST as usize)
 }
 
-/// A batch of two groups, whose numbers are 512 apart: group 1 has both receptions, and group 513 the second one, which comes between.
+/// A batch of two groups, whose numbers are 512 apart: group 1 has both receptions, and group 513 the second one, which
+/// comes between.
 pub(crate) fn two_groups(alloc: Global) -> Result<Vec<GroupReception>, AllocError> {
     let mut batch = Vec::new(alloc);
     for group in [1, 513] {

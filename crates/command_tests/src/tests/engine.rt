@@ -1,3 +1,4 @@
+//! The engine with small commands: limits, faults and failing streams.
 ghost use Rattle.std.specs.Prelude.{◌≡◌, ℕ, ◌≤◌, nat_lt, None, [], ◌∷◌, ◌++◌, codes, length, slice_index, if◌then◌else◌};
 ghost use Rattle.line_grammar.specs.Bytes.{line_feed};
 ghost use Rattle.line_engine.specs.Lines.{Lines};
@@ -12,7 +13,7 @@ use std::alloc::{AllocError, Global};
 use std::process::Abort;
 use std::test::Fail;
 
-/// Says each line again. A line that begins with `!` is ill-formed, and behind three lines one that begins with `+` is a
+/// Says each line again. A line that begins with `!` is ill-formed, and after three lines one that begins with `+` is a
 /// group too many.
 #[derive(Drop)]
 struct Echo {
@@ -228,7 +229,7 @@ fn each_failing_call_is_told(rt: HostRuntime) -> Result<(), Fail> {
     Ok(())
 }
 
-/// That lines are said again in whole, and that with these bytes behind them a run ends with this text.
+/// That lines are said again in whole, and that with these bytes after them a run ends with this text.
 fn try_limit(
     rt: &impl Abort,
     alloc: Global,

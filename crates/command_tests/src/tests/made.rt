@@ -1,9 +1,10 @@
+//! Summaries of generated joins.
 use generated_join::*;
 use receiver_pool::Open;
 use std::test::Fail;
 
-// Numbers of groups, and the numbers of groups that are reported and of those that name a missing place. Of seven groups the
-// last one isn't reported.
+// Numbers of groups, and the numbers of groups that are reported and of those that name a missing place. In every seven
+// groups the last one isn't reported.
 const SUMMARIES: [(u16, u16, u16); 6] = [
     (0, 0, 0),
     (1, 1, 0),

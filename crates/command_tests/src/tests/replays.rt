@@ -1,3 +1,4 @@
+//! Replays by their lines and statuses.
 use dsc_lines::{SureSink, SureSource};
 use receiver_pool::Open;
 use std::alloc::{AllocError, Global};

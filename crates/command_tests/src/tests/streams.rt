@@ -1,3 +1,4 @@
+//! Streams of the system and in-memory ones.
 use dsc_streams::{
     ByteSink, ByteSource, Failed, Sink, Source, StdSink, StdSource, SureSink, SureSource, write_all,
 };

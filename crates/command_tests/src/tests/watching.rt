@@ -1,3 +1,4 @@
+//! Watchers beside workers.
 ghost use Rattle.std.specs.Prelude.{◌≡◌, ◌≤◌, All, length};
 ghost use Rattle.slot_evidence.specs.Allowed.{OnlyAllowed};
 ghost use Rattle.evidence_board.specs.Facts.{all_facts};
@@ -55,8 +56,8 @@ fn poll_until_told(
     None
 }
 
-/// Two threads on one board: the poster admits a sheet, and waits until the watcher has told a call. It answers whether it saw that, and
-/// whether the call is the worked alert.
+/// Two threads on one board: the poster admits a sheet, and waits until the watcher has told a call. It answers whether
+/// it saw that, and whether the call is the worked alert.
 fn told_while_posting<R: Threads + Sync>(
     rt: &R,
     alloc: Global,
@@ -162,8 +163,8 @@ fn a_watch_begins_before_its_workers_end(rt: HostRuntime) -> Result<(), Fail> {
     Ok(())
 }
 
-/// What a watch of the boards of groups 1 and 513 shows of group 1; whether its watcher saw the alert there; and whether it saw another call
-/// there, or any of group 513.
+/// What a watch of the boards of groups 1 and 513 shows of group 1; whether its watcher saw the alert there; and
+/// whether it saw another call there, or any of group 513.
 fn watch_two_boards<R: Threads + Sync, G: Gate>(
     rt: &R,
     alloc: Global,
@@ -189,7 +190,7 @@ fn watch_two_boards<R: Threads + Sync, G: Gate>(
     ))
 }
 
-// Of group 513 there is one of the two receptions, which tells no call alone.
+// Group 513 has one of the two receptions, which alone reports no call.
 #[test]
 fn a_watch_of_two_boards_begins_before_its_workers_end(rt: HostRuntime) -> Result<(), Fail> {
     let list = two_receptions(rt.alloc())?;
@@ -245,8 +246,8 @@ impl Gate for LastWorkerWaits {
     }
 }
 
-/// A batch of groups 1 and 513. Of two workers the first reads the two receptions of group 1 that tell the alert together; the second reads
-/// one of group 513, which tells no call alone, and one of group 1 that differs.
+/// A batch of groups 1 and 513. The first of two workers reads the two receptions of group 1 that report the alert
+/// together; the second reads one of group 513, which reports no call alone, and one of group 1 that differs.
 fn batch_that_differs(alloc: Global) -> Result<Vec<GroupReception>, AllocError> {
     let mut batch = Vec::new(alloc);
     let mut both = two_receptions(alloc)?;
@@ -277,8 +278,8 @@ fn batch_that_differs(alloc: Global) -> Result<Vec<GroupReception>, AllocError> 
     Ok(batch)
 }
 
-// The facts of group 1 report no call in the end. Worker 1 stands in the gate while worker 0 posts what reports one: the watcher sees it, in
-// some of so many tries at the least.
+// The facts of group 1 report no call in the end. Worker 1 is in the gate while worker 0 posts what reports one: the
+// watcher sees it, in some of so many tries at the least.
 #[test]
 fn a_call_is_seen_that_facts_report_for_a_while(rt: HostRuntime) -> Result<(), Fail> {
     let batch = batch_that_differs(rt.alloc())?;

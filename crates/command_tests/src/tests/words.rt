@@ -1,3 +1,4 @@
+//! Words of the command line that are a plan, and words that are none.
 use dsc_words::*;
 use std::alloc::{AllocError, Global};
 use std::test::Fail;
@@ -109,7 +110,7 @@ static REFUSED: [&str; 87] = [
     "dsc|join|--workers|1|--workers|1",
     "dsc|join|evidence",
     "dsc|join|--workers=1|1",
-    // Of the commands without workers.
+    // The commands without workers.
     "dsc|encode|--dots|30",
     "dsc|encode|--dots=020",
     "dsc|encode|--dots=0",
@@ -132,7 +133,7 @@ static REFUSED: [&str; 87] = [
     "dsc|exchanges",
     "dsc|book|book",
     "dsc|books",
-    // Of the command with a number.
+    // The command with a number.
     "dsc|make",
     "dsc|make|",
     "dsc|make|0",

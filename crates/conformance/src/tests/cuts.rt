@@ -14,7 +14,7 @@ const LIST: [u8; 18] = [
 // The least origin is 150 elements in front of a reception.
 const IN_FRONT: usize = 150;
 
-// Whether the slot at this lead shows this symbol: its ten elements stand there, all of them.
+// Whether the slot at this lead shows this symbol: its ten elements are there, all of them.
 fn shows(elements: &[u8], lead: usize, slot: usize, symbol: u8) -> bool {
     let start = lead.saturating_add(slot.saturating_mul(10));
     let Some(heard) = elements.get(start..start.saturating_add(10)) else {
@@ -24,8 +24,8 @@ fn shows(elements: &[u8], lead: usize, slot: usize, symbol: u8) -> bool {
     heard.iter().zip(sent).all(|(a, b)| *a == sign(b))
 }
 
-// Whether slots 0 to 15 show enough of the phasing sequence at this lead: two DX and an RX symbol, an RX more than that, or
-// three RX symbols.
+// Whether slots 0 to 15 show enough of the phasing sequence at this lead: two DX and an RX symbol, an RX more than
+// that, or three RX symbols.
 fn is_phased(elements: &[u8], lead: usize) -> bool {
     let (mut dx, mut rx) = (0u8, 0u8);
     for k in 0u8..6 {
@@ -46,8 +46,8 @@ fn slot(first: usize, place: usize) -> usize {
     place.saturating_mul(2).saturating_add(first)
 }
 
-// The answer to a part of the alert, by the definitions: at the least phased origin each place shows what its two slots show,
-// and the first place of the list that shows nothing is missing.
+// The answer to a part of the alert, by the definitions: at the least phased origin each place shows what its two slots
+// show, and the first place of the list that shows nothing is missing.
 fn answer(alloc: Global, heard: &[u8]) -> Result<Vec<u8>, AllocError> {
     let mut elements = vec![in alloc; b'-'; IN_FRONT]?;
     elements.extend_from_slice(heard)?;
@@ -73,7 +73,7 @@ fn a_line_cut_after_each_byte(rt: HostRuntime) -> Result<(), Fail> {
     let alloc = rt.alloc();
     let text = line(alloc, &ALERT_SLOTS, &Row { dots: 0, ..WHOLE })?;
     let (mut cuts, mut reported) = (0u32, 0u32);
-    // Behind `r` and its blank: an element, or all of them.
+    // After `r` and its blank: an element, or all of them.
     for end in 3..text.len() {
         let want = answer(alloc, text.get(2..end).unwrap_or(b""))?;
         let is_whole = want.as_slice() == REPORTED.as_bytes();
@@ -82,7 +82,7 @@ fn a_line_cut_after_each_byte(rt: HostRuntime) -> Result<(), Fail> {
         cuts = cuts.saturating_add(1);
         reported = reported.saturating_add(u32::from(is_whole));
     }
-    // All 520 elements; and the check is known from its DX copy, behind the 470th.
+    // All 520 elements; and the check is known from its DX copy, after the 470th.
     assert_eq!(rt; cuts, 520);
     assert_eq!(rt; reported, 51);
     Ok(())

@@ -1,3 +1,4 @@
+//! Calls that are encoded, and joined again.
 use crate::tests::forms::CALLS;
 use crate::tests::receptions::{Row, WHOLE, compare, joined, line};
 use dsc_symbols::worked::ALERT_SLOTS;
@@ -47,7 +48,7 @@ fn encoded_calls_are_joined(rt: HostRuntime) -> Result<(), Fail> {
     Ok(())
 }
 
-// The line of the worked alert's slots, behind so many dots.
+// The line of the worked alert's slots, after so many dots.
 fn alert_line(alloc: Global, dots: usize) -> Result<Vec<u8>, AllocError> {
     let heard = line(alloc, &ALERT_SLOTS, &Row { dots, ..WHOLE })?;
     let mut text = Vec::from_slice(alloc, b"r g0")?;
@@ -69,7 +70,7 @@ fn the_worked_alert_encoded(rt: HostRuntime) -> Result<(), Fail> {
     Ok(())
 }
 
-// What the lines before the first fault gave stands before its line.
+// What the lines before the first fault gave comes before its line.
 #[test]
 fn faults_among_calls(rt: HostRuntime) -> Result<(), Fail> {
     let alloc = rt.alloc();

@@ -1,3 +1,4 @@
+//! Files of exchanges.
 use crate::tests::receptions::{Run, compare_runs};
 use std::test::Fail;
 
@@ -63,7 +64,7 @@ c 7 refused timeback 8 7
 ",
         1,
     ),
-    // Lines that stand at another point, and nothing behind the fault.
+    // Lines that belong to another point, and nothing after the fault.
     ("station coast 002241022 mf\n", "dsc: line 1 column 9\n", 3),
     (
         "station ship 338040079\nstation coast 338040079 mf\n",

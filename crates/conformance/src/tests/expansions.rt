@@ -1,10 +1,11 @@
+//! Receptions of calls with expansions.
 use crate::tests::receptions::{Row, WHOLE, compare, line};
 use slot_join::{Extra, Joined, Sheet, report};
 use std::alloc::{AllocError, Global};
 use std::test::Fail;
 use time_diversity::on_air;
 
-// The worked alert, and behind it an expansion with an enhanced position alone.
+// The worked alert, and after it an expansion with an enhanced position alone.
 const EXPANDED: [u8; 29] = [
     112, 112, 33, 80, 40, 7, 90, 106, 14, 23, 10, 83, 12, 20, 19, 100, 127, 78, 127, 127, 100, 45,
     89, 44, 94, 127, 29, 127, 127,
@@ -30,7 +31,7 @@ fn expanded_line(alloc: Global, row: &Row) -> Result<Vec<u8>, AllocError> {
 fn whole_expansions(rt: HostRuntime) -> Result<(), Fail> {
     let alloc = rt.alloc();
     let want = format!(in alloc; "{ALERT} exp enh=45894494\n")?;
-    // In whole, only up to the expansion's check, and with another end of sequence behind it.
+    // In whole, only up to the expansion's check, and with another end of sequence after it.
     let other: &[(usize, u8)] = &[(66, 117), (68, 122)];
     for (last, other) in [(70, &[][..]), (65, &[]), (70, other)] {
         let row = Row {

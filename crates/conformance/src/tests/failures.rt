@@ -235,7 +235,8 @@ fn devices_fail_in_sentences(rt: HostRuntime) -> Result<(), Fail> {
     try_failures(&rt, rt.alloc(), "dsc sentences", SENTENCES, 1, false)
 }
 
-// Each kind of line of a stream. It has two starts, the first one before its first element, and lost elements between them.
+// Each kind of line of a stream. It has two starts, the first one before its first element, and lost elements between
+// them.
 const STREAM: &str = "\
 # a stream
 

@@ -1,9 +1,11 @@
+//! Every form of call by its text and its list.
 use call_grammar::{ReadRefusal, read, spell};
 use dsc_texts::{put_call, read_bare_call, read_call};
 use slot_join::Extra;
 use std::test::Fail;
 
-// Calls of every form and to every address: the text, and the numbers of the list that the table of forms gives by hand.
+// Calls of every form and to every address: the text, and the numbers of the list that the table of forms gives by
+// hand.
 pub(crate) const CALLS: [(&str, &str); 26] = [
     (
         "alert from=338040079 nature=106 pos=1423108312 time=2019 then=100",

@@ -91,8 +91,8 @@ fn receptions(alloc: Global, first: &str, count: u32, last: &str) -> Result<Vec<
     Ok(input)
 }
 
-// Words, the number of receptions, and the entries. One worker enters once, before the first line; several enter once in each
-// batch of at most 256 receptions.
+// Words, the number of receptions, and the entries. One worker enters once, before the first line; several enter once
+// in each batch of at most 256 receptions.
 const ROWS: [(&str, u32, Entries); 10] = [
     ("", 0, (1, 0, 1)),
     ("", 2, (1, 0, 1)),
@@ -106,9 +106,9 @@ const ROWS: [(&str, u32, Entries); 10] = [
     (" --workers 64", 300, (128, 126, 0)),
 ];
 
-// Those of a watch: in each batch of receptions all workers enter once, and a watcher beside them; one who works alone has entered before
-// the first line, and has no batch of receptions that show nothing. The source gives eight lines a read, after which a batch ends: 300 lines
-// are 38 batches.
+// Those of a watch: in each batch of receptions all workers enter once, and a watcher beside them; one who works alone
+// has entered before the first line, and has no batch of receptions that show nothing. The source gives eight lines a
+// read, after which a batch ends: 300 lines are 38 batches.
 const WATCHED: [(&str, u32, Entries); 4] = [
     ("dsc watch", 0, (1, 0, 1)),
     ("dsc watch", 2, (1, 0, 1)),
@@ -127,8 +127,8 @@ fn entries_of_a_watch_are_counted(rt: HostRuntime) -> Result<(), Fail> {
     Ok(())
 }
 
-// Where one worker works alone, a reception is a batch of its own if it shows something new of a group of which no call was told. Each line
-// is longer than a read.
+// Where one worker works alone, a reception is a batch of its own if it shows something new of a group of which no call
+// was told. Each line is longer than a read.
 #[test]
 fn receptions_without_news_wait_for_no_batch(rt: HostRuntime) -> Result<(), Fail> {
     let alloc = rt.alloc();

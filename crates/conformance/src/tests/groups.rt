@@ -1,3 +1,4 @@
+//! Inputs of several groups, and evidence.
 use crate::tests::receptions::{
     REPORTED, Run, WHOLE, WITHOUT_DX, compare, compare_runs, joined, line, words_of,
 };
@@ -57,7 +58,8 @@ fn evidence_of_a_reception(rt: HostRuntime) -> Result<(), Fail> {
     compare(&rt, alloc, "dsc evidence", heard, EVIDENCE.as_bytes(), 0)
 }
 
-// Evidence near each receiver and the join at the centre, with a reception that stands beside the other's evidence, in both orders.
+// Evidence near each receiver and the join at the centre, with a reception that is beside the other's evidence, in both
+// orders.
 #[test]
 fn evidence_beside_a_reception(rt: HostRuntime) -> Result<(), Fail> {
     let alloc = rt.alloc();

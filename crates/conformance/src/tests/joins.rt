@@ -1,3 +1,4 @@
+//! Receptions that are joined, faults of lines, and refused words.
 use crate::tests::receptions::{
     Damaged, REPORTED, Row, Run, THREE_DX, WHOLE, compare, compare_receptions, compare_runs, line,
     two_damaged,

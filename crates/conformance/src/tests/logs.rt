@@ -1,3 +1,4 @@
+//! Logs of sentences.
 use crate::tests::receptions::{Run, compare_runs};
 use std::test::Fail;
 
@@ -37,7 +38,7 @@ $GPXXX",
         "casualty 3380400790 alert from=3380400790 nature=- pos=- time=- then=-\n",
         0,
     ),
-    // A relay to an area, and a relay's acknowledgement, in which what isn't known stands before what is.
+    // A relay to an area, and a relay's acknowledgement, in which what isn't known comes before what is.
     (
         "\
 $CDDSC,02,1430840202,12,12,00,1423108312,2019,3380400790,06,S,*27
@@ -51,7 +52,8 @@ casualty 3380400790 relayack from=0022410220 nature=06 pos=1423108312 time=2019 
 ",
         0,
     ),
-    // An acknowledgement that tells no ship in distress, one of the category safety, and a distress call with another telecommand.
+    // An acknowledgement that names no ship in distress, one of the category safety, and a distress call with another
+    // telecommand.
     (
         "\
 $CDDSC,16,0022410220,12,10,00,1423108312,2019,,,S,*2B
@@ -63,7 +65,7 @@ $CDDSC,16,0022410220,12,11,00,1423108312,2019,3380400790,06,S,*2E
     ),
     ("$\n#\n", "", 1),
     ("hello", "dsc: line 1 column 1\n", 3),
-    // Nothing of the book stands in front of a fault.
+    // Nothing of the book comes before a fault.
     (
         "$CDDSC,12,3380400790,12,06,00,1423108312,2019,,,S,*2F\n $\n",
         "dsc: line 2 column 1\n",

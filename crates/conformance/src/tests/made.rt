@@ -1,3 +1,4 @@
+//! Generated joins.
 use crate::tests::receptions::words_of;
 use dsc_cmd::{Source, SureSink, SureSource, run};
 use receiver_pool::Open;

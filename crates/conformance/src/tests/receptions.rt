@@ -12,8 +12,8 @@ use ten_unit::{Element, word};
 pub(crate) const REPORTED: &str =
     "g0 reported alert from=338040079 nature=106 pos=1423108312 time=2019 then=100\n";
 
-// A reception: so many elements of the dot pattern in front, the slots from the first on and before the last, some of them
-// lost and some of them another symbol.
+// A reception: so many elements of the dot pattern in front, the slots from the first on and before the last, some of
+// them lost and some of them another symbol.
 #[derive(Clone, Copy)]
 pub(crate) struct Row {
     pub(crate) dots: usize,
@@ -23,7 +23,7 @@ pub(crate) struct Row {
     pub(crate) other: &'static [(usize, u8)],
 }
 
-// A whole reception behind 20 dots: rows say what differs.
+// A whole reception after 20 dots: rows say what differs.
 pub(crate) const WHOLE: Row = Row {
     dots: 20,
     first: 0,
@@ -85,7 +85,7 @@ pub(crate) fn line(alloc: Global, slots: &[u8], row: &Row) -> Result<Vec<u8>, Al
     Ok(text)
 }
 
-// The traffic file of a ship that receives a whole alert of group 0, with these events behind it.
+// The traffic file of a ship that receives a whole alert of group 0, with these events after it.
 pub(crate) fn heard_at_a_ship(alloc: Global, events: &str) -> Result<Vec<u8>, AllocError> {
     let mut file = Vec::from_slice(alloc, b"station ship 338158137\nbase 0\n")?;
     file.extend_from_slice(&line(alloc, &ALERT_SLOTS, &WHOLE)?)?;
@@ -93,7 +93,7 @@ pub(crate) fn heard_at_a_ship(alloc: Global, events: &str) -> Result<Vec<u8>, Al
     Ok(file)
 }
 
-// The first or the second of two receptions of one alert, neither of which tells it alone.
+// The first or the second of two receptions of one alert, neither of which reports it alone.
 pub(crate) fn damaged(alloc: Global, is_second: bool) -> Result<Vec<u8>, AllocError> {
     let late = Row {
         lost: &LOST_BUT_PLACE_7,

@@ -1,7 +1,8 @@
+//! Replays that hear groups.
 use crate::tests::receptions::{compare, damaged, heard_at_a_ship};
 use std::test::Fail;
 
-// A group's facts are heard once: behind its line they begin anew.
+// A group's facts are heard once: after its line they begin anew.
 #[test]
 fn a_group_heard_twice(rt: HostRuntime) -> Result<(), Fail> {
     let alloc = rt.alloc();
@@ -14,7 +15,8 @@ fn a_group_heard_twice(rt: HostRuntime) -> Result<(), Fail> {
     Ok(())
 }
 
-// Two receptions that tell a call together alone, and so many others between them that both are in one batch of 256, or in two.
+// Two receptions that report a call only together, and so many others between them that both are in one batch of 256,
+// or in two.
 #[test]
 fn a_call_of_two_batches(rt: HostRuntime) -> Result<(), Fail> {
     let alloc = rt.alloc();

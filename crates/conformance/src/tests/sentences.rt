@@ -1,3 +1,4 @@
+//! Files of sentences and calls.
 use crate::tests::encoding::calls_and_answers;
 use crate::tests::receptions::{Run, compare, compare_runs, joined};
 use std::test::Fail;
@@ -63,7 +64,7 @@ fn sentences_of_calls_are_accepted(rt: HostRuntime) -> Result<(), Fail> {
             want.extend_from_slice(b"accepted\n")?;
         }
     }
-    // One sentence for each of 208 calls, and one for each of the 182 expansions behind them.
+    // One sentence for each of 208 calls, and one for each of the 182 expansions after them.
     assert_eq!(rt; want.len(), 390 * 9);
     compare(&rt, alloc, "dsc sentences", sentences, &want, 0)
 }

@@ -1,3 +1,4 @@
+//! Sheets that are joined one by one.
 use slot_evidence::{Seen, Sheet, read_sheet};
 
 #[test]

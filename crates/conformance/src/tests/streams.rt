@@ -1,3 +1,4 @@
+//! Flushes, and sources without end.
 use crate::tests::receptions::words_of;
 use dsc_cmd::{ByteSink, Failed, Source, SureSink, SureSource, run};
 use receiver_pool::Open;

@@ -1,3 +1,4 @@
+//! Streams that are captured.
 use crate::tests::receptions::{Row, WHOLE, compare, compare_runs, line};
 use dsc_symbols::worked::ALERT_SLOTS;
 use std::alloc::{AllocError, Global};
@@ -18,7 +19,7 @@ fn small_streams(rt: HostRuntime) -> Result<(), Fail> {
     compare_runs(&rt, rt.alloc(), "dsc capture", &runs)
 }
 
-// Appends the line of a stream with the elements of the worked alert, behind so many dots.
+// Appends the line of a stream with the elements of the worked alert, after so many dots.
 fn append_alert_element(alloc: Global, text: &mut Vec<u8>, dots: usize) -> Result<(), AllocError> {
     let heard = line(alloc, &ALERT_SLOTS, &Row { dots, ..WHOLE })?;
     text.push(b's')?;
@@ -54,8 +55,8 @@ fn two_alerts_of_a_stream(rt: HostRuntime) -> Result<(), Fail> {
     compare(&rt, alloc, "dsc capture", single, BOTH.as_bytes(), 0)
 }
 
-// The first of three alerts is decided by 1,600 elements from its origin on, and so before a fault behind them. By one less it
-// isn't.
+// The first of three alerts is decided by 1,600 elements from its origin on, and so before a fault after them. By one
+// less it isn't.
 #[test]
 fn starts_before_a_fault(rt: HostRuntime) -> Result<(), Fail> {
     let alloc = rt.alloc();

@@ -1,3 +1,4 @@
+//! Calls that are told while an input is read.
 use crate::tests::receptions::{
     Row, THREE_DX, WHOLE, compare, damaged, line, of_group, two_damaged, words_of,
 };
@@ -32,7 +33,7 @@ fn no_call_is_told_of_three_phasing_symbols(rt: HostRuntime) -> Result<(), Fail>
     compare(&rt, alloc, "dsc watch", input, b"g0 missing 0\n", 1)
 }
 
-// The source gives a byte a read, and fails behind the second reception's line: the call was told by then.
+// The source gives a byte a read, and fails after the second reception's line: the call was told by then.
 #[test]
 fn a_call_is_told_before_the_next_read(rt: HostRuntime) -> Result<(), Fail> {
     let alloc = rt.alloc();
@@ -49,8 +50,8 @@ fn a_call_is_told_before_the_next_read(rt: HostRuntime) -> Result<(), Fail> {
     Ok(())
 }
 
-// Three alerts, each of two receptions, neither of which tells it alone. Their groups are first named in another order than that in which
-// they are reported, and than that of their numbers.
+// Three alerts, each of two receptions, neither of which reports it alone. Their groups are first named in another
+// order than that in which they are reported, and than that of their numbers.
 const NAMED: [(u32, bool); 6] = [
     (5, false),
     (9, true),
@@ -60,7 +61,8 @@ const NAMED: [(u32, bool); 6] = [
     (5, true),
 ];
 
-// In one batch calls are told in the order in which its lines first named their groups; where each line is a batch, as they are reported.
+// In one batch calls are told in the order in which its lines first named their groups; where each line is a batch, as
+// they are reported.
 #[test]
 fn told_calls_come_in_the_order_of_their_groups(rt: HostRuntime) -> Result<(), Fail> {
     let alloc = rt.alloc();
@@ -85,7 +87,8 @@ fn told_calls_come_in_the_order_of_their_groups(rt: HostRuntime) -> Result<(), F
     Ok(())
 }
 
-// A full batch of 256 receptions: the one of a call and both of another, or the second one of the first call, and others.
+// A full batch of 256 receptions: the one of a call and both of another, or the second one of the first call, and
+// others.
 fn full_batch(alloc: Global, is_second: bool) -> Result<Vec<u8>, AllocError> {
     let mut batch = of_group(alloc, 5, &damaged(alloc, is_second)?)?;
     for _ in 0..253 {
@@ -102,7 +105,8 @@ fn full_batch(alloc: Global, is_second: bool) -> Result<Vec<u8>, AllocError> {
     Ok(batch)
 }
 
-// Each full batch tells the call that is whole at its end, and the write behind it may fail. The second call was named first.
+// Each full batch reports the call that is whole at its end, and the write after it may fail. The second call was named
+// first.
 #[test]
 fn two_full_batches_are_told(rt: HostRuntime) -> Result<(), Fail> {
     let alloc = rt.alloc();

@@ -26,8 +26,8 @@ fn written_as_met<R: Threads + Sync + Abort>(
     Ok(sink.bytes().to_vec(alloc)?)
 }
 
-// One worker enters the gate once. The watcher is the third of its run: workers who ended before it began would wait for it
-// in vain.
+// One worker enters the gate once. The watcher is the third of its run: workers who ended before it began would wait
+// for it in vain.
 #[test]
 fn workers_meet_in_the_gate(rt: HostRuntime) -> Result<(), Fail> {
     let alloc = rt.alloc();
@@ -68,7 +68,7 @@ fn full_batches(rt: HostRuntime) -> Result<(), Fail> {
     compare(&rt, alloc, "dsc join --workers 3", input, want, 0)
 }
 
-// The two receptions stand at both sides of the end of a batch.
+// The two receptions are on both sides of the end of a batch.
 #[test]
 fn the_end_of_a_batch_parts_no_group(rt: HostRuntime) -> Result<(), Fail> {
     let alloc = rt.alloc();

@@ -1,4 +1,4 @@
-//! What stands in the sink before each read of the source: the text that the lines so far give. No clause says so.
+//! What is in the sink before each read of the source: the text that the lines so far give. No clause says so.
 
 use crate::tests::receptions::{Row, WHOLE, line, two_damaged, words_of};
 use dsc_cmd::{Failed, Sink, Source, SureSink, SureSource, run};
@@ -102,7 +102,7 @@ const SENTENCE: &str = "$CDDSC,12,3380400790,12,06,00,1423108312,2019,,,S,*2F\r\
 
 const SENT: &str = "0 send 5 alert from=338040079 nature=106 pos=9999999999 time=8888 then=100\n";
 
-// At the read behind the lines in front the sink has what they give, whatever lines come then.
+// At the read after these lines the sink has what they give, whatever lines come then.
 fn is_written_before<R: Threads + Sync>(
     rt: &R,
     alloc: Global,
@@ -117,7 +117,7 @@ fn is_written_before<R: Threads + Sync>(
     Ok(text.starts_with(want) && before == Some(want.len() as u64))
 }
 
-// A comment follows what is read: the read behind the lines in front is made for it.
+// A comment follows what is read: the read after the first lines is made for it.
 #[test]
 fn text_is_written_before_each_read(rt: HostRuntime) -> Result<(), Fail> {
     let alloc = rt.alloc();
@@ -171,7 +171,8 @@ fn text_is_written_before_each_read(rt: HostRuntime) -> Result<(), Fail> {
     Ok(())
 }
 
-// A reception that comes alone is told before the next read, also where others are open: each of these lines ends a batch.
+// A reception that comes alone is told before the next read, also where others are open: each of these lines ends a
+// batch.
 #[test]
 fn each_reception_is_told_before_the_next_read(rt: HostRuntime) -> Result<(), Fail> {
     let alloc = rt.alloc();

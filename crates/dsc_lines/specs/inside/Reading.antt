@@ -25,7 +25,7 @@ body_text e = written (behind_blank signs) (body_parts e)
 abbrev pub pairs_text : List (ℕ × ℕ) → List ℕ
 pairs_text pairs = written (repeated pair (length pairs)) (pairs_parts pairs)
 
--- the rest behind a blank can be told from a group: it stops at once at a g
+-- the rest after a blank differs from a group: it stops at once at a g
 pub record IsBehindBlank (rest : Grammar) : Type 0 where
   pub sound : is_sound rest ≡ true
   pub no_group : (bytes : List ℕ) → read rest (103 ∷ bytes) ≡ Err (suc (length bytes))

@@ -1,4 +1,4 @@
--- How the fields of a DSC sentence are read one behind another.
+-- How the fields of a DSC sentence are read one after another.
 use Rattle.std.specs.Prelude.{◌≡◌, ℕ, MatchResult, Err, not, ◌==◌, if◌then◌else◌, List, slice_index, Result, Ok, codes}
 use Rattle.dsc_symbols.specs.declared.last_digits.TheConstants.{CATEGORIES, FORMATS}
 use Rattle.call_values.specs.declared.choices.End.{End}

@@ -1,4 +1,4 @@
--- How the fields of a DSE sentence are read one behind another.
+-- How the fields of a DSE sentence are read one after another.
 use Rattle.std.specs.Prelude.{◌≡◌, ℕ, ◌+◌, ◌==◌, if◌then◌else◌, List, [], ◌∷◌, slice_index, Option, Some, None, Result, Ok, Err, MatchResult, codes}
 use Rattle.sentence_frame.specs.declared.refusals.SentenceRefusal.{SentenceRefusal}
 use Rattle.sentence_frame.specs.declared.refusals.SentenceRefusal.TheVariants.{Field}

@@ -13,7 +13,7 @@ use Rattle.dsc_texts.specs.CallParts.{set_text, perhaps_parts, expansion_parts}
 abbrev pub IsSet : ℕ → PartKind → Type 0
 IsSet most set = IsThere set × IsUpTo most set
 
--- the part of a set that is there, and of what stands behind it
+-- the part of a set that is there, and of what comes after it
 abbrev pub set_part : ℕ → PartKind → Parts → Parts
 set_part width set rest = part (set_text width set) rest
 
@@ -21,6 +21,7 @@ set_part width set rest = part (set_text width set) rest
 abbrev pub course : PartKind → Parts
 course set = set_part 4 set none
 
+-- the parts of a course that may be left out, to the end
 abbrev pub perhaps_course : PartKind → Parts
 perhaps_course set = perhaps_parts 4 set none
 
@@ -28,6 +29,7 @@ perhaps_course set = perhaps_parts 4 set none
 abbrev pub speed : PartKind × PartKind → Parts
 speed sets = set_part 4 sets.0 (perhaps_course sets.1)
 
+-- the parts of a speed that may be left out, and of what may follow it to the end
 abbrev pub perhaps_speed : PartKind × PartKind → Parts
 perhaps_speed sets = perhaps_parts 4 sets.0 (perhaps_course sets.1)
 
@@ -46,7 +48,7 @@ abbrev pub expansion_or_end : Option Sets → Parts
 expansion_or_end None = first none
 expansion_or_end (Some x) = second (sets x)
 
--- a set behind its label, or nothing where it is left out
+-- a set after its label, or nothing where it is left out
 abbrev pub label_and_set : List ℕ → ℕ → PartKind → List ℕ
 label_and_set label width LeftOut = []
 label_and_set label width set = label ++ set_text width set

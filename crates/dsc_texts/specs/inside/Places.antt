@@ -1,4 +1,4 @@
--- Where a form stands among the others of the grammar of call texts.
+-- The place of a form among the others of the grammar of call texts.
 use Rattle.call_values.specs.declared.calls.Call.{Call}
 use Rattle.call_values.specs.declared.calls.Call.TheVariants.{Alert, Ack, Relay, RelayAck, AllShips, AreaCall, GroupCall, Individual, Service}
 use Rattle.call_values.specs.declared.parts.Kind.TheVariants.{Test, AskPosition, Position}
@@ -20,6 +20,6 @@ place_of (Service to category from (Test reply)) = nth 8
 place_of (Service to category from AskPosition) = nth 9
 place_of (Service to category from (Position position time)) = last 10
 
--- the parts of a call's text among those of the other forms, and of what stands behind it
+-- the parts of a call's text among those of the other forms, and of what comes after it
 abbrev pub call_parts : Call → Parts → Parts
 call_parts call rest = place_of call (parts_of call rest)

@@ -6,10 +6,10 @@ use Rattle.dsc_texts.specs.CallParts.{message_parts, end_parts}
 use Rattle.dsc_texts.specs.declared.forms.Ending.{Ending}
 use Rattle.dsc_texts.specs.inside.Places.{call_parts}
 
--- the parts of a call, and of what stands behind it
+-- the parts of a call, and of what comes after it
 abbrev pub parts_with : {T : Type 0} → (T → Parts) → Call × T → Parts
 parts_with tail (call, behind) = call_parts call (tail behind)
 
--- the parts of what a call to one station ends with, and of what stands behind it
+-- the parts of what a call to one station ends with, and of what comes after it
 abbrev pub ending_with : {T : Type 0} → (T → Parts) → Ending × T → Parts
 ending_with tail (ending, behind) = message_parts ending.message (end_parts (end_symbol ending.end) (tail behind))

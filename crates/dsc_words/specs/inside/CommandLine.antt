@@ -14,11 +14,11 @@ option_rule long = record (new_rule (codes "number")) { long = Some long }
 abbrev pub with_option : Text → Text → Shape
 with_option name long = record (new_shape name) { rules = option_rule long ∷ [] }
 
--- a number that has to stand behind the command's name
+-- a number that has to come after the command's name
 abbrev pub number_rule : Rule
 number_rule = record (new_rule (codes "number")) { required = true }
 
--- a command without options, behind which one number has to stand
+-- a command without options, after which one number has to come
 abbrev pub with_number : Text → Shape
 with_number name = record (new_shape name) { rules = number_rule ∷ [] }
 
@@ -39,7 +39,7 @@ with_first_commands before =
     (with_option (codes "encode") (codes "dots")))
     (new_shape (codes "sentences"))
 
--- a program with the commands behind these, one a line
+-- a program with the commands after these, one a line
 abbrev pub with_last_commands : App → App
 with_last_commands before =
     with_subcommand (with_subcommand (with_subcommand (with_subcommand (with_subcommand (with_subcommand before

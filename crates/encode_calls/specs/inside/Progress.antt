@@ -4,7 +4,7 @@ use Rattle.line_engine.specs.Lines.{Lines}
 use Rattle.dsc_lines.specs.declared.calls.CallLine.{CallLine}
 use Rattle.encode_calls.specs.Encoding.{AreCallLines, calls_of, encoded}
 
--- so many calls stood in these lines, and this is what they give
+-- these lines had so many calls, and this is what they give
 pub record HasEncoded (long : Bool) (count : ℕ) (lines : Lines) (text : List ℕ) : Type 0 where
   pub said : List CallLine
   pub are_lines : AreCallLines said lines

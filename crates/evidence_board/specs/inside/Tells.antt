@@ -1,4 +1,4 @@
--- What a step tells the seat that makes it. This project's own form.
+-- What a seat learns by the step that it makes. This project's own form.
 use Rattle.std.specs.Prelude.{◌≡◌, ◌≢◌, ℕ, suc, ◌+◌, ◌<◌, ◌≤◌, List, length}
 use Rattle.atomic_table.specs.Table.{Me, Step}
 use Rattle.slot_evidence.specs.Allowed.{IsAllowed}

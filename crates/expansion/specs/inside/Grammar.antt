@@ -24,7 +24,7 @@ Symbol letter = One (Allows letter)
 abbrev pub IsFilled : ℕ → PartKind → Type 0
 IsFilled most part = IsThere part × IsUpTo most part
 
--- what stands after the specifier of a set
+-- what comes after the specifier of a set
 abbrev pub told_symbols : (ℕ → List ℕ) → PartKind → List ℕ
 told_symbols digits LeftOut = []
 told_symbols digits NoInformation = NO_INFORMATION ∷ []
@@ -38,21 +38,22 @@ EightDigits = Spelled (IsFilled LAST_ENHANCEMENT) (told_symbols eight_digits)
 abbrev pub FourDigits : ℕ → PartKind → List ℕ → Type 0
 FourDigits most = Spelled (IsFilled (100 * most + 99)) (told_symbols four_digits)
 
--- the number whose eight digits stand in these four characters
+-- the number whose eight digits are in these four characters
 abbrev pub eight_of : ℕ → ℕ → ℕ → ℕ → ℕ
 eight_of a b c d = ((a * 100 + b) * 100 + c) * 100 + d
 
+-- the three sets of an expansion
 abbrev pub sets_of : PartKind → PartKind → PartKind → Sets
 sets_of enhanced speed course = record { enhanced = enhanced; speed = speed; course = course }
 
--- what follows the course's specifier or the end of sequence, where the enhanced position and the speed stand before it
+-- what follows the course's specifier or the end of sequence, after the enhanced position and the speed
 abbrev pub AfterSpeed : ℕ → PartKind → PartKind → ℕ → Sets → List ℕ → Type 0
 AfterSpeed last enhanced speed next =
     Choice (next == COURSE)
     (Then (FourDigits 35) (λ course. Then (Symbol (Exactly last)) (λ _. Only (sets_of enhanced speed course))))
     (Only (sets_of enhanced speed LeftOut))
 
--- what follows a later specifier or the end of sequence, where the enhanced position stands before it
+-- what follows a later specifier or the end of sequence, after the enhanced position
 abbrev pub AfterEnhanced : ℕ → PartKind → ℕ → Sets → List ℕ → Type 0
 AfterEnhanced last enhanced next =
     Choice (next == SPEED)

@@ -16,11 +16,11 @@ use Rattle.join_groups.specs.Groups.{AreLines, is_named, group_facts}
 use Rattle.join_groups.specs.Holds.{Holds}
 use Rattle.join_groups.specs.Meanings.{BringsTooMany}
 
--- of each group that lines named all its facts are held
+-- all facts of each group that lines named are held
 abbrev pub Keeps : NamedGroups → List JoinLine → Type 0
 Keeps groups said = Holds groups (is_named said) (group_facts said)
 
--- why a line isn't taken behind what was said
+-- why a line isn't taken after what was said
 abbrev pub IsRefused : List JoinLine → List ℕ → Refusal → Type 0
 IsRefused said text (Column n) = IsColumn IsLine text n
 IsRefused said text TooManyGroups = (line : JoinLine) × (IsLine line text × BringsTooMany said line)
@@ -38,7 +38,7 @@ pub record StandsFor (groups : NamedGroups) (lines : Lines) (text : List ℕ) : 
 abbrev pub IsShort : Got → Type 0
 IsShort read = (group : ℕ) (e : List Element) → read ≡ got.Reception group e → length e ≤ LONGEST
 
--- what was read of a line is taken behind what was said: it brings no group too many
+-- what was read of a line is taken after what was said: it brings no group too many
 abbrev pub TakesRead : NamedGroups → Got → NamedGroups → Type 0
 TakesRead old read new =
     (said : List JoinLine) (line : JoinLine) → Keeps old said → Says line read

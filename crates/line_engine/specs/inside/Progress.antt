@@ -23,8 +23,8 @@ pub record Fails {Sink : Type 0} (written : Sink → Option (List ℕ)) (faults 
   pub writes : WritesFront (written start) (written sink) text
   pub rises : Rises (faults start) (faults sink)
 
--- the lines of the bytes that were taken, but for those that are left, were given to the command, none has a fault, and the sink
--- has their text but for what is pending
+-- the lines of the bytes that were taken, but for those that are left, were given to the command, none has a fault, and
+-- the sink has their text but for what is pending
 pub record IsOn {Command Sink : Type 0} (meaning : Meaning) (stands_for : Command → Lines → List ℕ → Type 0) (written : Sink → Option (List ℕ)) (faults : Sink → ℕ)
     (start : Sink) (taken left : List ℕ) (count : ℕ) (command : Command) (pending : List ℕ) (sink : Sink) : Type 0 where
   pub lines : Lines
@@ -44,7 +44,7 @@ pub record IsThrough {Command Sink : Type 0} (meaning : Meaning) (stands_for : C
   pub stands : stands_for command (lines_of taken) (text ++ pending)
   pub wrote : HasWritten written faults start sink text
 
--- the line behind these has this fault
+-- the line after these has this fault
 pub record IsNextFault (meaning : Meaning) (all lines : Lines) (fault : Fault) : Type 0 where
   pub line : List ℕ
   pub later : Lines
@@ -114,7 +114,7 @@ StopsOrFails meaning written faults start left taken pending sink halt.Read = St
 StopsOrFails meaning written faults start left taken pending sink halt.Write = StopsInWrite meaning written faults start left taken sink
 StopsOrFails meaning written faults start left taken pending sink halt.Memory = StopsInMemory meaning written faults start left taken sink
 
--- a line behind so many lines, which has so many bytes, passes a limit
+-- a line after so many lines, which has so many bytes, passes a limit
 abbrev pub IsLimitPassed : (count len : ℕ) → Fault → Type 0
 IsLimitPassed count len TooManyLines = MOST_LINES ≤ count
 IsLimitPassed count len TooLong = (count < MOST_LINES) × (LONGEST_LINE < len)

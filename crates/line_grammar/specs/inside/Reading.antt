@@ -6,7 +6,7 @@ use Rattle.line_grammar.specs.Shapes.{Shape, letters, fixed_number, pair, choice
 use Rattle.line_grammar.specs.Tokens.{Token, run, free_number, shaped, is_one_of, is_digit}
 use Rattle.line_grammar.specs.Grammar.{Grammar, finish, anything, word, field, either, Parts, none, part, first, second}
 
--- of two answers the one that is no fault, or the further fault
+-- the answer of two that is no fault, or else the further fault
 abbrev pub further : {A : Type 0} → Result A ℕ → Result A ℕ → Result A ℕ
 further (Ok value) other = Ok value
 further (Err left) (Ok value) = Ok value
@@ -69,11 +69,11 @@ abbrev pub and_letters : List ℕ → Result (List ℕ) ℕ → Result (List ℕ
 and_letters text (Ok back) = Ok (text, back)
 and_letters text (Err left) = Err left
 
--- some number of these ranges has so many digits more behind those of this one
+-- some number of these ranges has so many digits more after those of this one
 unfoldable pub fits : (more : ℕ) → (ranges : List (ℕ × ℕ)) → ℕ → Bool
 fits more ranges n = list_any (λ range. nat_le (range.0 / 10 ^ more) n && nat_le n (range.1 / 10 ^ more)) ranges
 
--- the digits of a number behind those of this one
+-- the digits of a number after those of this one
 unfoldable pub read_numeral : (width : ℕ) → (ranges : List (ℕ × ℕ)) → ℕ → List ℕ → Result (List ℕ × List ℕ) ℕ
 read_numeral zero ranges n bytes = Ok ([], bytes)
 read_numeral (suc more) ranges n [] = Err 0
@@ -81,7 +81,7 @@ read_numeral (suc more) ranges n (b ∷ bytes) =
     let next = 10 * n + (b - digit_zero) in
     if is_digit b && fits more ranges next then behind (b ∷ []) (read_numeral more ranges next bytes) else Err (suc (length bytes))
 
--- the second of two shapes, behind the first
+-- the second of two shapes, after the first
 abbrev pub and_shape : Result (List ℕ × List ℕ) ℕ → (List ℕ → Result (List ℕ × List ℕ) ℕ) → Result (List ℕ × List ℕ) ℕ
 and_shape (Ok (front, back)) right = behind front (right back)
 and_shape (Err left) right = Err left
@@ -101,7 +101,7 @@ read_token (run signs) bytes =
 read_token (free_number least most) bytes = read_number least most bytes
 read_token (shaped shape) bytes = read_shape shape bytes
 
--- the rest of a line behind a word
+-- the rest of a line after a word
 abbrev pub and_then : Result (List ℕ) ℕ → (List ℕ → Result Parts ℕ) → Result Parts ℕ
 and_then (Ok back) rest = rest back
 and_then (Err left) rest = Err left
@@ -111,7 +111,7 @@ abbrev pub named : (Parts → Parts) → Result Parts ℕ → Result Parts ℕ
 named name (Ok parts) = Ok (name parts)
 named name (Err left) = Err left
 
--- the rest of a line behind a token
+-- the rest of a line after a token
 abbrev pub and_part : Result (List ℕ × List ℕ) ℕ → (List ℕ → Result Parts ℕ) → Result Parts ℕ
 and_part (Ok (front, back)) rest = named (part front) (rest back)
 and_part (Err left) rest = Err left

@@ -116,7 +116,7 @@ may_follow token (word (c ∷ text) rest) = not (may_have token c)
 may_follow token (field other rest) = false
 may_follow token (either left right) = may_follow token left && may_follow token right
 
--- each token can be told from what follows it
+-- each token can be distinguished from what follows it
 abbrev pub is_sound : Grammar → Bool
 is_sound finish = true
 is_sound anything = true
@@ -133,7 +133,7 @@ cut c (word (d ∷ text) rest) = if c == d then word text rest ∷ [] else []
 cut c (field token rest) = if may_have token c then anything ∷ [] else []
 cut c (either left right) = cut c left ++ cut c right
 
--- the same behind several bytes, for several grammars
+-- the same after several bytes, for several grammars
 abbrev pub cut_all : List ℕ → List Grammar → List Grammar
 cut_all [] grammars = grammars
 cut_all (c ∷ text) grammars = cut_all text (flat_map (cut c) grammars)

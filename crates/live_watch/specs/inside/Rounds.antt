@@ -13,6 +13,7 @@ use Rattle.live_watch.specs.Batches.{Sight, IsSeenWith, IsReportWith, known_of}
 abbrev pub sight_of : WatchedGroup → Sight
 sight_of one = record { group = one.group; seen = one.call }
 
+-- what a watcher saw of each group
 abbrev pub sights_of : List WatchedGroup → List Sight
 sights_of watched = map sight_of watched
 
@@ -20,6 +21,7 @@ sights_of watched = map sight_of watched
 abbrev pub nothing_watched : WatchedGroup
 nothing_watched = record { group = 0; call = None; board = None; is_looked = false; posts = 0; unreported = None }
 
+-- the watched group with this index
 abbrev pub watched_at : List WatchedGroup → ℕ → WatchedGroup
 watched_at watched i = slice_index_or watched i nothing_watched
 
@@ -28,7 +30,7 @@ abbrev pub IsBoardOf : (groups : List ℕ) → (group : ℕ) → Option ℕ → 
 IsBoardOf groups group None = Contains groups group → ⊥
 IsBoardOf groups group (Some k) = (k < length groups) × (slice_index groups k ≡ group)
 
--- behind a look by which the seat of its board has this view: of the group no call was seen before
+-- after a look by which the seat of its board has this view: no call of the group was seen before
 pub record LooksAt (known : List (List Seen)) (view : View) (before after : WatchedGroup) : Type 0 where
   pub group : after.group ≡ before.group
   pub board : after.board ≡ before.board
@@ -50,6 +52,7 @@ pub record Stays (watched : List WatchedGroup) (seats : List Held) (watched_afte
   pub watched_same : watched_after ≡ watched
   pub seats_same : seats_after ≡ seats
 
+-- one look, or nothing changed
 abbrev pub IsStep : (known : List (List Seen)) → (index : ℕ) → (watched : List WatchedGroup) → (seats : List Held) → (watched_after : List WatchedGroup) → (seats_after : List Held) → Type 0
 IsStep known index watched seats watched_after seats_after = HasLooked known index watched seats watched_after seats_after ⊎ Stays watched seats watched_after seats_after
 
@@ -69,15 +72,16 @@ AreOnBoards n watched = (i k : ℕ) → (watched_at watched i).board ≡ Some k 
 abbrev pub IsDone : WatchedGroup → Type 0
 IsDone one = ((call : Call) × (one.call ≡ Some call)) ⊎ (one.board ≡ None) ⊎ (one.is_looked ≡ true)
 
--- this group stands at this place, or nowhere
+-- this group is at this place, or nowhere
 abbrev pub IsPlaceOf : List WatchedGroup → ℕ → ℕ → Type 0
 IsPlaceOf watched place group = (place < length watched) × ((watched_at watched place).group ≡ group)
 
+-- this group isn't among those that are watched
 abbrev pub IsNoneOf : List WatchedGroup → ℕ → Type 0
 IsNoneOf watched group = (i : ℕ) → i < length watched → (watched_at watched i).group ≡ group → ⊥
 
--- a round of looks: each group keeps its number and has its board; no call is forgotten; each that was seen was seen on its group's board;
--- and where somebody looked for a group of which none was seen, what the seat knows reports none
+-- a round of looks: each group keeps its number and has its board; no call is forgotten; each call was seen on its
+-- group's board; and if somebody looked for a group and saw no call of it, what the seat knows reports none
 pub record IsRound (known : List (List Seen)) (groups : List ℕ) (begun : List WatchedGroup) (watched : List WatchedGroup) (seats : List Held) : Type 0 where
   pub count : length watched ≡ length begun
   pub group : (i : ℕ) → i < length begun → (watched_at watched i).group ≡ (watched_at begun i).group

@@ -1,4 +1,5 @@
--- How a capture holds a stream: its last 1,600 elements, and how many leads behind the decided ones are known not to be phased. This project's own form.
+-- How a capture holds a stream: its last 1,600 elements, and how many leads after the decided ones are known not to be
+-- phased. This project's own form.
 use Rattle.std.specs.Prelude.{◌≡◌, ℕ, ◌+◌, ◌<◌, false, List, length, slice_index_or, Option, Some, None}
 use Rattle.ten_unit.specs.declared.character.Element.{Element}
 use Rattle.ten_unit.specs.declared.character.Element.TheVariants.{Lost}
@@ -18,7 +19,7 @@ pub record IsWindow (window : List Element) (e : List Element) (place : ℕ) : T
 abbrev pub IsQuietFor : List Element → ℕ → ℕ → Type 0
 IsQuietFor e lead count = (k : ℕ) → k < count → is_phased e (lead + k) ≡ false
 
--- a look at a lead answers its start, or that it is none, and how many leads behind it are not phased
+-- a look at a lead answers its start, or that it is none, and how many leads after it are not phased
 abbrev pub Looks : List Element → ℕ → Option Start → ℕ → Type 0
 Looks e lead None quiet = IsQuietFor e lead (quiet + 1)
 Looks e lead (Some start) quiet = IsStart e lead start × IsQuietFor e (lead + 1) quiet

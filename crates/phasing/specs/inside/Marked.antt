@@ -1,4 +1,5 @@
--- What words of 64 bits say of 64 leads at once, a bit a lead: which phasing symbols begin at a place, and how many are right. This project's own form.
+-- What words of 64 bits say of 64 leads at once, a bit a lead: which phasing symbols begin at a place, and how many are
+-- right. This project's own form.
 use Rattle.std.specs.Prelude.{◌≡◌, ℕ, ◌+◌, ◌-◌, ◌<◌, ◌≤◌, true, false, nat_le, List, [], ◌∷◌, length, map, slice_index}
 use Rattle.dsc_symbols.specs.declared.phasing.TheConstants.{DX, RX_7, RX_6, RX_5, RX_4, RX_3, RX_2, RX_1, RX_0}
 use Rattle.ten_unit.specs.declared.character.Element.{Element}

@@ -1,4 +1,5 @@
--- Places of a reception, for tests of many of them at once: element 0 stands at place 150, and slot s of lead q begins at place q + 10 s. This project's own form.
+-- Places of a reception, for tests of many of them at once: element 0 is at place 150, and slot s of lead q begins at
+-- place q + 10 s. This project's own form.
 use Rattle.std.specs.Prelude.{ℕ, ◌+◌, ◌-◌, Bool, true, ◌&&◌, nat_le, if◌then◌else◌, List, [], ◌∷◌, slice_index_or}
 use Rattle.ten_unit.specs.declared.character.Element.{Element}
 use Rattle.ten_unit.specs.declared.character.Element.TheVariants.{Lost}

@@ -19,19 +19,19 @@ IsBelow n group = group < n
 abbrev pub is_listed : List ℕ → ℕ → Bool
 is_listed groups group = list_any (λ known. known == group) groups
 
--- these groups, and this one behind them where it is none of them
+-- these groups, with this one put last if it is none of them
 abbrev pub with_group : List ℕ → ℕ → List ℕ
 with_group groups group = if is_listed groups group then groups else groups ++ group ∷ []
 
--- no group stands at two places
+-- no group is at two places
 abbrev pub AreApart : List ℕ → Type 0
 AreApart groups = (i j : ℕ) → i < length groups → j < length groups → slice_index groups i ≡ slice_index groups j → i ≡ j
 
--- of each of these groups it is remembered that some group with its remainder stands in the list
+-- if a group is listed, some place is remembered for its remainder
 abbrev pub AreRemembered : List ℕ → List ℕ → Type 0
 AreRemembered groups remembered = (i : ℕ) → i < length groups → slice_index remembered (slice_index groups i % REMEMBERED) ≢ NOWHERE
 
--- each of the first n receptions has a place, where its group stands, and no group stands there that the batch doesn't name
+-- each of the first n receptions has the place of its group, and only groups that the batch names have places
 pub record AreNumbered (batch : List GroupReception) (n : ℕ) (groups places : List ℕ) : Type 0 where
   pub count : length places ≡ n
   pub inside : (i : ℕ) → i < n → slice_index places i < length groups
@@ -40,7 +40,7 @@ pub record AreNumbered (batch : List GroupReception) (n : ℕ) (groups places : 
   pub named : groups ≡ groups_of (take n batch)
   pub apart : AreApart groups
 
--- a group stands at a place, where those known before stay, and it alone may have come
+-- the group is at this place; the groups known before keep their places, and no other is new
 pub record IsPlaced (group place : ℕ) (old new : List ℕ) : Type 0 where
   pub inside : place < length new
   pub here : slice_index new place ≡ group

@@ -21,6 +21,7 @@ nth list index = facts_of (slice_index_or list index [])
 abbrev pub part : (ℕ → Bool) → List (List Element) → ℕ → Facts
 part takes list = taken takes (nth list)
 
+-- what stands for a reception where there is none
 abbrev pub nobody : GroupReception
 nobody = record { group = 0; reception = [] }
 

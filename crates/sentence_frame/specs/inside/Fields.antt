@@ -1,4 +1,4 @@
--- How fields are read one behind another.
+-- How fields are read one after another.
 use Rattle.std.specs.Prelude.{ℕ, Bool, not, ◌&&◌, ◌==◌, if◌then◌else◌, List, take, drop, Option, Some, None, Result, Ok, Err}
 use Rattle.std.specs.List.{prefix_len, list_all}
 use Rattle.sentence_frame.specs.Refusals.{is_clean}
@@ -6,14 +6,15 @@ use Rattle.sentence_frame.specs.declared.refusals.SentenceRefusal.{SentenceRefus
 use Rattle.sentence_frame.specs.declared.refusals.SentenceRefusal.TheVariants.{Field}
 use Rattle.sentence_frame.specs.Shapes.{Shape, accepts, is_nothing}
 
--- how many bytes stand before the first comma
+-- how many bytes come before the first comma
 abbrev pub text_length : List ℕ → ℕ
 text_length bytes = prefix_len (λ b. not (b == 44)) bytes
 
--- the first text of fields that each stand behind a comma, and what follows it
+-- the first text of fields that each come after a comma
 unfoldable pub first_of : List ℕ → List ℕ
 first_of fields = take (text_length (drop 1 fields)) (drop 1 fields)
 
+-- what follows the first text of such fields
 unfoldable pub rest_of : List ℕ → List ℕ
 rest_of fields = drop (text_length (drop 1 fields)) (drop 1 fields)
 
@@ -25,10 +26,11 @@ field k shape value text = if accepts shape text then Ok (value text) else Err (
 abbrev pub perhaps : {A : Type 0} → (List ℕ → A) → List ℕ → Option A
 perhaps value text = if is_nothing text then None else Some (value text)
 
--- a test of bytes: whether it may stand in a field's text
+-- a test of bytes: whether a field's text may have it
 abbrev pub is_plain : ℕ → Bool
 is_plain b = is_clean b && not (b == 44)
 
+-- a test of bytes: whether a field's text may have them all
 abbrev pub are_plain : List ℕ → Bool
 are_plain text = list_all is_plain text
 

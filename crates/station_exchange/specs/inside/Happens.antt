@@ -1,4 +1,4 @@
--- What comes of an event line behind a history.
+-- What an event line gives after a history.
 use Rattle.std.specs.Prelude.{◌≡◌, ℕ, Bool, List, ◌++◌}
 use Rattle.exchange.specs.declared.events.WorldEvent.{WorldEvent}
 use Rattle.exchange.specs.AlertEnds.{is_accepted}
@@ -7,7 +7,8 @@ use Rattle.exchange.specs.WorldRules.{Parties, answer_behind, world_continued}
 use Rattle.exchange.specs.StandsFor.{WorldParts, Stands}
 use Rattle.station_exchange.specs.Output.{entry_lines}
 
--- behind this history an event happened: the exchange stands for the history behind it, its lines are written, and it was accepted or not
+-- after this history an event happened: the exchange stands for the history after it, its lines are written, and it was
+-- accepted or not
 pub record Happens (who : Parties) (w : WorldHistory) (event : WorldEvent) (parts : WorldParts) (before after : List ℕ) (accepted : Bool) : Type 0 where
   pub stands : Stands parts who (world_continued who w event)
   pub lines : after ≡ before ++ entry_lines (record { event = event; gave = answer_behind who (ends_of w) event })

@@ -17,7 +17,7 @@ use Rattle.station_exchange.specs.declared.stages.Stage.TheVariants as at
 use Rattle.station_exchange.specs.Said.{Said, point_of, ship_of, base_of, parties_of, world_of, AreSaid}
 use Rattle.station_exchange.specs.Output.{text_of, all_accepted}
 
--- where the next line stands, by the stage
+-- the point of the next line, by the stage
 abbrev pub point_at : Stage → ExchangePoint
 point_at at.Ship = point.Ship
 point_at (at.Coast ship) = point.Coast ship
@@ -34,7 +34,7 @@ abbrev pub is_well_at : Stage → Bool
 is_well_at (at.Events events) = events.is_well
 is_well_at _ = true
 
--- what a stage keeps of the ends, the base and the history; events come behind the base alone
+-- what a stage keeps of the ends, the base and the history; events come after the base alone
 abbrev pub KeepsEnds : Stage → Said → Type 0
 KeepsEnds at.Ship said = world_of said ≡ []
 KeepsEnds (at.Coast ship) said = (ship_of said ≡ ship) × (world_of said ≡ [])
@@ -60,13 +60,13 @@ pub record StandsFor (command : Exchanging) (lines : Lines) (text : List ℕ) : 
   pub are_said : AreSaid said lines
   pub keeps : Keeps command.stage said text
 
--- behind what was said this line says something more, and the stage keeps it
+-- after what was said this line says something more, and the stage keeps it
 pub record Takes (stage : Stage) (said : Said) (line : List ℕ) (text : List ℕ) : Type 0 where
   pub says : Option WorldLine
   pub is_line : IsWorldFileLine (point_of said) says line
   pub keeps : Keeps stage (says ∷ said) text
 
--- behind what was said this line is refused for this reason
+-- after what was said this line is refused for this reason
 abbrev pub Refuses : Said → (line : List ℕ) → Refusal → Type 0
 Refuses said line (refusal.Column n) = IsColumn (IsWorldFileLine (point_of said)) line n
 Refuses said line refusal.TooManyGroups = ⊥

@@ -1,3 +1,4 @@
+//! Positions in areas, and who calls are addressed to.
 use crate::tests::worked::{mmsi, unplaced};
 use area_rules::*;
 use call_values::{Area, Call, Fix, Position, To};

@@ -1,3 +1,4 @@
+//! Rows of events at a coast station.
 use crate::tests::worked::{
     Station, and, casualty, follow, mmsi, nothing, sent, service, unplaced,
 };

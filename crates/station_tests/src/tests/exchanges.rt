@@ -1,5 +1,5 @@
-//! Exchanges of a ship and a coast station, compared with a plain program that keeps the accepted events of both ends, and goes through
-//! them from the beginning for each answer.
+//! Exchanges of a ship and a coast station, compared with a plain program that keeps the accepted events of both ends,
+//! and goes through them from the beginning for each answer.
 ghost use Rattle.std.specs.Prelude.{IsTrue};
 ghost use Rattle.exchange.specs.WorldRules.{IsOwnOfShip, IsOwnOfCoast, IsFromOutside};
 
@@ -199,7 +199,7 @@ impl Ends {
         Ok(Told::Acts(acts))
     }
 
-    /// What an event of an exchange is at its end; or what is told of a number that no sent call has.
+    /// What an event of an exchange is at its end; or what is given for a number that no sent call has.
     fn event(&self, event: &WorldEvent) -> Result<AtEnd, Told> {
         match *event {
             WorldEvent::Ship(event) => Ok(AtEnd::Ship(event)),
@@ -223,7 +223,7 @@ fn call_of(sent: &[Call], number: u32) -> Result<Call, Told> {
     }
 }
 
-/// What the event gives behind those that were accepted; it joins them where it is accepted.
+/// What the event gives after those that were accepted; it joins them where it is accepted.
 fn plain_step(alloc: Global, accepted: &mut Vec<AtEnd>, event: &WorldEvent) -> Result<Told, Fail> {
     let mut ends = Ends::after(alloc, accepted)?;
     let event = match ends.event(event) {

@@ -1,3 +1,4 @@
+//! Rows of events at a ship.
 use crate::tests::worked::{
     Station, and, casualty, follow, mmsi, nothing, proposal, sent, service, unplaced,
 };

@@ -1,3 +1,4 @@
+//! Rows of the rules that both kinds of station have.
 use crate::tests::worked::{
     Station, and, follow, individual, mmsi, nothing, sent, service, unplaced,
 };

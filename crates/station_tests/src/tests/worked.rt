@@ -20,8 +20,8 @@ pub(crate) trait Station {
     fn go(&mut self, at: u64, what: Self::What, acts: &mut Acts) -> Result<(), StationRefusal>;
 }
 
-/// A station goes through events in order, and does at each what its row says. One list takes the acts of all, and is empty
-/// behind a refused one.
+/// A station goes through events in order, and does at each what its row says. One list takes the acts of all, and is
+/// empty after a refused one.
 pub(crate) fn follow<S: Station>(
     rt: &impl Abort,
     station: &mut S,
@@ -64,7 +64,7 @@ pub(crate) fn unplaced(number: u32) -> Result<Casualty, Fail> {
     })
 }
 
-/// A test, or a position that is asked for or told.
+/// A test, or a position that is asked for or given.
 pub(crate) fn service(to: u32, from: u32, kind: Kind) -> Result<Call, Fail> {
     Ok(Call::Service {
         to: mmsi(to)?,
@@ -101,7 +101,7 @@ pub(crate) fn nothing() -> Acts {
     ArrayVec::new()
 }
 
-/// These acts, and one more behind them where there is room.
+/// These acts, and one more after them where there is room.
 pub(crate) fn and(mut acts: Acts, act: Act) -> Acts {
     if acts.len() < 32 {
         add_act(&mut acts, act);

@@ -27,7 +27,7 @@ pub record Ends {V : Type 0} (language : V → List ℕ → Type 0) (old new : L
   pub wants : Wants language old
   pub none_left : new ≡ []
 
--- reading went as far as words go, and stands before the first symbol with which none goes on
+-- reading went as far as words go, and stopped before the first symbol with which none goes on
 pub record Leaves {V : Type 0} (language : V → List ℕ → Type 0) (old new : List ℕ) : Type 0 where
   pub front : List ℕ
   pub next : ℕ

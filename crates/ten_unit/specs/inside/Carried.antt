@@ -1,4 +1,4 @@
--- The number that received information elements carry, whether or not they stand in a word.
+-- The number that received information elements carry, whether or not they are a word.
 use Rattle.std.specs.Prelude.{ℕ, ◌+◌, ◌*◌, List, ◌∷◌}
 use Rattle.ten_unit.specs.declared.character.Element.{Element}
 use Rattle.ten_unit.specs.declared.character.Element.TheVariants.{Y, B, Lost}

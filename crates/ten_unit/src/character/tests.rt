@@ -1,3 +1,4 @@
+//! Words by hand, and every ten elements.
 use super::*;
 use crate::plain;
 

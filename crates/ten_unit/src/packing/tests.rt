@@ -1,3 +1,4 @@
+//! The symbols of 64 elements at once.
 use super::*;
 use crate::plain;
 

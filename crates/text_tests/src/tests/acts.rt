@@ -1,3 +1,4 @@
+//! Lines of acts and refusals.
 use crate::tests::calls::call_of;
 use act_texts::*;
 use arrayvec::ArrayVec;
@@ -21,7 +22,7 @@ fn send(times: u8, text: &str) -> Result<Act, Fail> {
     Ok(Act::Send { call, times })
 }
 
-/// The ship that this alert tells of.
+/// The ship that this alert is about.
 fn distress(alert: &str) -> Result<Act, Fail> {
     match call_of(alert)? {
         Call::Alert(casualty) => Ok(Act::Distress(casualty)),

@@ -1,3 +1,4 @@
+//! Rows of books, and their order.
 use casualty_book::{Book, BookKind, put_row};
 use dsc_sentences::read;
 use std::test::Fail;
@@ -9,7 +10,7 @@ const ACKNOWLEDGEMENT: &[u8] =
 
 const TEST: &[u8] = b"$CDDSC,20,3381581370,00,18,26,,,,,R,*23\r\n";
 
-// A row stands once in a book, however often it is noted and merged.
+// A row is in a book once, however often it is noted and merged.
 #[test]
 fn rows_stand_once(rt: HostRuntime) -> Result<(), Fail> {
     let mut book = Book::new(rt.alloc());
@@ -22,7 +23,7 @@ fn rows_stand_once(rt: HostRuntime) -> Result<(), Fail> {
     Ok(())
 }
 
-// An acknowledgement stands behind the alert that it came before, and a test call has no row.
+// An acknowledgement comes after the alert that it came before, and a test call has no row.
 #[test]
 fn rows_stand_in_order(rt: HostRuntime) -> Result<(), Fail> {
     let mut book = Book::new(rt.alloc());

@@ -1,3 +1,4 @@
+//! Texts of calls and expansions, and their columns.
 use call_values::Call;
 use dsc_texts::*;
 use expansion::{Expansion, Part, PartKind};

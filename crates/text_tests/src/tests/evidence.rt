@@ -1,3 +1,4 @@
+//! Lines of evidence.
 use dsc_lines::{put_evidence, put_evidence_line};
 use slot_evidence::Sheet;
 

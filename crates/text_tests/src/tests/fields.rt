@@ -1,8 +1,9 @@
+//! Fields of call texts at the ends of their ranges, and their faults.
 use dsc_texts::read_bare_call;
 use std::alloc::{AllocError, Global};
 use std::test::Fail;
 
-// What stands in front of a field; texts with which no such field begins, and how many of their bytes are left at the fault.
+// What comes before a field; texts with which no such field begins, and how many of their bytes are left at the fault.
 const FAULTS: [(&str, &[(&str, usize)]); 14] = [
     (
         "alert from=338040079 nature=",
@@ -85,7 +86,7 @@ const CALLS: [&str; 8] = [
     "test to=002241022 cat=108 from=338040079 end=122",
 ];
 
-/// A text behind what stands in front of it.
+/// A text after what comes before it.
 fn behind(alloc: Global, front: &str, field: &str) -> Result<Vec<u8>, AllocError> {
     let mut text = Vec::new(alloc);
     text.extend_from_slice(front.as_bytes())?;

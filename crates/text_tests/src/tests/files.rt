@@ -1,3 +1,4 @@
+//! Lines of receptions, streams, logs and traffic files, and their columns.
 use call_values::Band;
 use dsc_files::{EventLine, FileKind, Line, line_of};
 use dsc_lines::LineFault;

@@ -1,3 +1,4 @@
+//! Numbers in lines, and their faults.
 use line_grammar::{fixed_number, free_number};
 
 // Ranges, bytes, and what is read of them: the number and how many bytes follow it, or how many are left at the fault.

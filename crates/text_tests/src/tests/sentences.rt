@@ -1,3 +1,4 @@
+//! Sentences of calls and expansions, and verdicts.
 use call_values::{Call, End, Mmsi};
 use dsc_sentences::*;
 use dsc_texts::read_bare_call;
@@ -181,7 +182,7 @@ fn fields_of_an_acknowledgement(rt: HostRuntime) -> Result<(), Fail> {
     Ok(())
 }
 
-/// Lines and what they are told, worked by hand.
+/// Lines and the verdicts on them, worked by hand.
 const VERDICTS: [&str; 40] = [
     "$CDDSE,1,1,A,3380400790,00,45894494*1B : accepted",
     "$CDDSC,12,3380400790,12,06,00,1423108312,2019,,,S,*2F\r : accepted",

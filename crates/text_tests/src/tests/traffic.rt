@@ -1,3 +1,4 @@
+//! Lines of traffic files, and their columns.
 use crate::tests::calls::call_of;
 use call_values::worked::FIX;
 use call_values::{AlertDelay, Area, Band, CoastDelay, Comm, Mmsi, Nature, Position, To};
@@ -74,7 +75,7 @@ const COLUMNS: [(Point, &[(&str, usize)]); 8] = [
     ),
 ];
 
-// What isn't an event of a ship behind the moment 5, and the column of the line.
+// What isn't an event of a ship after the moment 5, and the column of the line.
 const SHIP_EVENTS: [(&str, usize); 32] = [
     ("5 a", 4),
     ("5 cancel\r", 9),
@@ -110,7 +111,7 @@ const SHIP_EVENTS: [(&str, usize); 32] = [
     ("5 position 999999999", 21),
 ];
 
-// What isn't an event of a coast station behind the moment 5, and the column of the line.
+// What isn't an event of a coast station after the moment 5, and the column of the line.
 const COAST_EVENTS: [(&str, usize); 38] = [
     ("5 position 1423108312", 3),
     ("5 delay 210000", 5),
@@ -152,7 +153,7 @@ const COAST_EVENTS: [(&str, usize); 38] = [
     ("5 relayack to=all", 8),
 ];
 
-// What is no event of either behind the moment 5, and the column of the line.
+// What is no event of either after the moment 5, and the column of the line.
 const OTHER_EVENTS: [(&str, usize); 41] = [
     ("5 Tick", 3),
     ("5 tic", 6),
@@ -200,7 +201,7 @@ const OTHER_EVENTS: [(&str, usize); 41] = [
     ("5 heard g4294967296", 19),
 ];
 
-// Lines of files of stations, and the points at which they stand there.
+// Lines of files of stations, and the points at which they come there.
 const LINES: [(Point, &str); 19] = [
     (Point::Station, "station ship 338040079"),
     (Point::Base, "base 1714594740"),
@@ -325,7 +326,7 @@ fn event_at(point: Point, text: &[u8]) -> Option<(u32, EventLine)> {
     }
 }
 
-/// Whether this event of a ship is read of its line, wherever events of ships stand.
+/// Whether this event of a ship is read of its line, wherever events of ships may come.
 fn is_read(text: &[u8], at: u32, what: &EventLine) -> bool {
     let line = Some((at, *what));
     event_at(Point::Ship, text) == line && event_at(Point::Groups { held: 16 }, text) == line

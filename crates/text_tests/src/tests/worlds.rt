@@ -1,3 +1,4 @@
+//! Lines of exchanges, and their columns.
 use call_values::{CoastDelay, Mmsi};
 use dsc_files::{EventLine, ExchangeLine, FileKind, Line, line_of, read_world, world_line};
 use std::test::Fail;

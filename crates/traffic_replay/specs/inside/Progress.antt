@@ -45,7 +45,7 @@ use Rattle.traffic_replay.specs.inside.Kept.{KeepsGroups}
 abbrev pub identities_in : Groups → Identities
 identities_in g = record { own = g.own; groups = g.named.items }
 
--- where the next line stands, by the stage
+-- the point of the next line, by the stage
 abbrev pub point_at : Stage → Point
 point_at stage.Station = point.Station
 point_at (stage.Base station) = point.Base
@@ -68,7 +68,8 @@ pub record TellsSoFar {What : Type 0} (rules : Rules What) (taking : Taking What
   pub tells : Tells rules taking said text is_well
   pub stands : IsAt (history_of rules tells.happened)
 
--- what a stage keeps of what was said and told: a station's events come behind the base, and behind a ship's groups, alone
+-- what a stage keeps of what was said and told: a station's events come after the base, and after a ship's groups,
+-- alone
 abbrev pub KeepsStation : Stage → Said → (text : List ℕ) → (is_well : Bool) → Type 0
 KeepsStation stage.Station said text is_well = (groups_of said ≡ []) × IsQuiet said text is_well
 KeepsStation (stage.Base (named.Ship own)) said text is_well =
@@ -95,12 +96,12 @@ pub record StandsFor (replay : Replay) (lines : Lines) (text : List ℕ) : Type 
   pub are_said : AreSaid said lines
   pub keeps : Keeps replay said text
 
--- from one stage to events: a ship begins behind its groups
+-- from one stage to events: a ship begins after its groups
 abbrev pub GoesOn : Stage → Stage → Type 0
 GoesOn (stage.Groups g) to = (s : Ship) × (to ≡ stage.Ship g.base s) × ShipStands s (identities_in g) []
 GoesOn from to = to ≡ from
 
--- the stage behind the base of a station that was named
+-- the stage after the base of a station that was named
 abbrev pub IsBehindBase : StationLine → (base : ℕ) → Stage → Type 0
 IsBehindBase (named.Ship own) base to = (g : Groups) × (to ≡ stage.Groups g) × (identities_in g ≡ record { own = own; groups = [] }) × (g.base ≡ base)
 IsBehindBase (named.Coast own band) base to = (s : Coast) × (to ≡ stage.Coast s) × CoastStands s (record { own = own; band = band }) []
@@ -118,7 +119,7 @@ pub record IsReady (replay : Replay) : Type 0 where
 abbrev pub IsShort : Got → Type 0
 IsShort read = (group : ℕ) (e : List Element) → read ≡ got.Reception group e → length e ≤ LONGEST
 
--- what was read of a line may stand at this point
+-- what was read of a line may come at this point
 abbrev pub MayBeRead : Point → Got → Type 0
 MayBeRead at got.Nothing = Unit {0}
 MayBeRead at (got.Reception group e) = IsBody at
@@ -130,20 +131,20 @@ pub record IsShown (line : JoinLine) (group : ℕ) (G : Facts) : Type 0 where
   pub facts : facts_of_line group line ≡ G
   pub point : (earlier : Said) → point_of (joined line ∷ earlier) ≡ among_events (kind_of earlier)
 
--- behind what was said this brings a group too many
+-- after what was said this brings a group too many
 pub record BringsGroup (said : Said) (says : PointLine) : Type 0 where
   pub line : JoinLine
   pub is_joined : says ≡ joined line
   pub brings : BringsTooMany (of_receivers said) line
 
--- behind what was said this line says something more, which brings no group too many, and the replay keeps it
+-- after what was said this line says something more, which brings no group too many, and the replay keeps it
 pub record Takes (replay : Replay) (said : Said) (line : List ℕ) (text : List ℕ) : Type 0 where
   pub says : PointLine
   pub is_line : IsPointLine (point_of said) says line
   pub few : BringsGroup said says → ⊥
   pub keeps : Keeps replay (says ∷ said) text
 
--- behind what was said this line is refused for this reason
+-- after what was said this line is refused for this reason
 abbrev pub Refuses : Said → (line : List ℕ) → Refusal → Type 0
 Refuses said line (refusal.Column n) = IsColumn (IsPointLine (point_of said)) line n
 Refuses said line refusal.TooManyGroups = (says : PointLine) × (IsPointLine (point_of said) says line × BringsGroup said says)

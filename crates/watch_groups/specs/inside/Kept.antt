@@ -17,7 +17,7 @@ use Rattle.watch_groups.specs.Telling.{told_text, is_told, AreTold, receptions, 
 abbrev pub IsDone : List JoinLine → List ToldCall → ℕ → Type 0
 IsDone said told k = (call : Call) (extra : Extra) → IsAnswer (group_facts said k) (Reported call extra) → is_told told k ≡ true
 
--- so many receptions stand behind the last batch's end
+-- so many receptions come after the last batch's end
 pub record IsOpen (said : List JoinLine) (heard : ℕ) : Type 0 where
   pub batches : ℕ
   pub count : receptions said ≡ MOST_IN_BATCH * batches + heard
@@ -48,7 +48,7 @@ pub record StandsFor (groups : NamedGroups) (named : List ℕ) (told : List Told
   pub watches : Watches groups named told heard said
   pub text_is : text ≡ told_text told
 
--- calls were told behind others: what was told stays
+-- calls were told after others: what was told stays
 pub record TellsMore (said : List JoinLine) (told : List ToldCall) (out : List ℕ) (more : List ToldCall) (after : List ℕ) : Type 0 where
   pub stays : (k : ℕ) → is_told told k ≡ true → is_told more k ≡ true
   pub are_told : AreTold said told → AreTold said more

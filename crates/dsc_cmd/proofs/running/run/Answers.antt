@@ -37,7 +37,7 @@ returns-in-Err-Refused-clause-run g c = inr (inl (
 pub returns-in-Err-Memory-clause-run : goal.returns-in-Err-Memory-clause-run
 returns-in-Err-Memory-clause-run g c = inr (inr (record { status_is = c.new.ensures; unread = refl; unwritten = refl }))
 
--- ---- of a group whose receptions heard one call join tells this call, or a lost place of it
+-- ---- where the receptions of a group heard one call, join reports this call, or names a lost place of it
 
 pub returns-in-Ok-clause-sent : goal.returns-in-Ok-clause-sent
 returns-in-Ok-clause-sent g c = λ n planned.
@@ -58,7 +58,7 @@ returns-in-Err-Refused-clause-sent g c = λ n planned.
 pub returns-in-Err-Memory-clause-sent : goal.returns-in-Err-Memory-clause-sent
 returns-in-Err-Memory-clause-sent g c = λ n planned. inr (record { status_is = c.new.ensures; unread = refl; unwritten = refl })
 
--- ---- of a watch no other call is told than the one that was sent
+-- ---- a watch tells no call but the one that was sent
 
 pub returns-in-Ok-clause-told_sent : goal.returns-in-Ok-clause-told_sent
 returns-in-Ok-clause-told_sent g c = λ n planned.
@@ -87,7 +87,7 @@ returns-in-Err-Refused-clause-told_sent g c = λ n planned.
 pub returns-in-Err-Memory-clause-told_sent : goal.returns-in-Err-Memory-clause-told_sent
 returns-in-Err-Memory-clause-told_sent g c = λ n planned. inr (record { status_is = c.new.ensures; unread = refl; unwritten = refl })
 
--- ---- the starts of a capture tell the calls that were received at them
+-- ---- what the starts of a capture say of the calls that were received at them
 
 pub returns-in-Ok-clause-starts : goal.returns-in-Ok-clause-starts
 returns-in-Ok-clause-starts g c = λ planned.
@@ -101,7 +101,7 @@ returns-in-Err-Refused-clause-starts g c = λ planned.
 pub returns-in-Err-Memory-clause-starts : goal.returns-in-Err-Memory-clause-starts
 returns-in-Err-Memory-clause-starts g c = λ planned. inr (record { status_is = c.new.ensures; unread = refl; unwritten = refl })
 
--- ---- the histories that the lines of a replay and of an exchange tell are legal
+-- ---- the histories of the lines of a replay and of an exchange are legal
 
 pub returns-in-Ok-clause-legal_replay : goal.returns-in-Ok-clause-legal_replay
 returns-in-Ok-clause-legal_replay g c = λ n planned.

@@ -26,7 +26,7 @@ all_back front back all k d below =
     let same : n + k - n ≡ k = omega arith in
     subst (λ (v : ℕ). v < 128) (is ∙ ap (λ (i : ℕ). get_or back i d) same) (all (n + k) d (omega (arith, below, length-append front back)))
 
--- what begins with some bytes begins with them with more behind it
+-- what begins with some bytes begins with them with more after it
 begins_on : (old now more front : List ℕ) → now ≡ old ++ more → BeginsWith old front → BeginsWith now front
 begins_on old now more front is begins =
     (begins.0 ++ more, is ∙ ap (λ (l : List ℕ). l ++ more) begins.1 ∙ append_assoc front begins.0 more)

@@ -7,7 +7,7 @@ use Rattle.dsc_lines.specs.JoinLine.{sign_of}
 use Rattle.line_engine.specs.Determined.{BeginsWith}
 use Rattle.encode_calls.proofs.signs.append_signs.Given as goal
 
--- with the signs of the symbols that are left, all signs are there, behind what stood before
+-- with the signs of the symbols that are left, all signs are there, after what was there before
 abbrev pub invariant-loop-symbols : goal.invariant-loop-symbols
 invariant-loop-symbols l =
     goal.iterator-loop-symbols.can_next l.symbols-iterator

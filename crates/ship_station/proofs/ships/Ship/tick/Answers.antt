@@ -21,7 +21,7 @@ use Rattle.ship_station.proofs.Endings.{tick_end}
 use Rattle.ship_station.proofs.Traffic.{attempts_missed, ends_missed, tick_quiet, tick_same, tick_test}
 use Rattle.ship_station.proofs.ships.Ship.tick.Goals as goal
 
--- a ship tells that it lacks a delay as its history does
+-- a ship says that it lacks a delay as its history does
 delay_held : (who : Identities) (h : History ShipWhat) (ship : Ship) → Keeps ship who h → (is_some ship.alert && (length ship.delays.items == 0)) ≡ false
     → refusal_at who h Tick ≡ None
 delay_held who h ship keeps some =
