@@ -3,7 +3,7 @@ ghost use Rattle.std.specs.Prelude.{◌≡◌};
 
 use arrayvec::ArrayVec;
 use std::alloc::AllocError;
-use text_pieces::append;
+use line_grammar::append;
 
 /// What a row is about, in the order of rows (ITU-R M.493, distress calls).
 #[derive(Clone, Copy, Debug, PartialEq, Eq, PartialOrd, Ord)]

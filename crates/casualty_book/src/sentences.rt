@@ -8,7 +8,7 @@ use arrayvec::ArrayVec;
 use call_values::End;
 use dsc_sentences::{DscFields, DscSentence};
 use dsc_symbols::last_digits::{ALERT, DISTRESS, DISTRESS_ACKNOWLEDGEMENT, DISTRESS_RELAY};
-use text_pieces::append;
+use line_grammar::append;
 
 /// The row of a sentence: that of an alert, or of an acknowledgement, a relay or a relay's acknowledgement that names
 /// the ship in distress. None for every other sentence.

@@ -11,7 +11,7 @@ use Rattle.sentence_files.specs.Telling.{sentences_meaning}
 use Rattle.traffic_replay.specs.Meaning.{replay_meaning}
 use Rattle.stream_capture.specs.Telling.{capture_meaning}
 use Rattle.station_exchange.specs.Meaning.{exchange_meaning}
-use Rattle.book_logs.specs.Telling.{book_meaning}
+use Rattle.sentence_files.specs.Booking.{book_meaning}
 use Rattle.generated_join.specs.Summary.{IsMade}
 use Rattle.dsc_cmd.specs.Plans.{made_meaning, meaning_of, HasOneOutput}
 

@@ -8,7 +8,7 @@ use Rattle.join_groups.specs.Output.{TellsAnswer, TellsEvidence}
 use Rattle.traffic_replay.specs.Meaning.{replay_meaning}
 use Rattle.stream_capture.specs.Telling.{capture_meaning}
 use Rattle.generated_join.specs.Summary.{IsMade}
-use Rattle.book_logs.specs.Telling.{book_meaning}
+use Rattle.sentence_files.specs.Booking.{book_meaning}
 use Rattle.dsc_words.specs.declared.plans.Plan.{Plan}
 use Rattle.dsc_words.specs.declared.plans.Plan.TheVariants.{Join, Evidence, Encode, Sentences, Replay, Make, Capture, Watch, Exchange, Book}
 use Rattle.dsc_words.specs.Words.{IsInRange}

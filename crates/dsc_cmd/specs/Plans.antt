@@ -19,7 +19,7 @@ use Rattle.generated_join.specs.Summary.{IsMade}
 use Rattle.stream_capture.specs.Telling.{capture_meaning}
 use Rattle.watch_groups.specs.Meaning.{watch_meaning}
 use Rattle.station_exchange.specs.Meaning.{exchange_meaning}
-use Rattle.book_logs.specs.Telling.{book_meaning}
+use Rattle.sentence_files.specs.Booking.{book_meaning}
 
 -- what `make n` writes at the end, whatever the lines: the summary of the join of n generated groups
 abbrev pub made_meaning : ℕ → Meaning

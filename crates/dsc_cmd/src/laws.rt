@@ -52,7 +52,7 @@ pub fn inputs_have_one_output()
     traffic_replay::lines_determine_output();
     stream_capture::lines_determine_output();
     station_exchange::lines_determine_output();
-    book_logs::lines_determine_output();
+    sentence_files::logs_determine_output();
     made_text_is_one();
 }
 
@@ -88,6 +88,6 @@ pub fn no_output_is_lacking()
     join_groups::no_output_is_lacking();
     traffic_replay::no_output_is_lacking();
     stream_capture::no_output_is_lacking();
-    book_logs::no_output_is_lacking();
+    sentence_files::no_output_is_lacking();
     made_text_is_there();
 }

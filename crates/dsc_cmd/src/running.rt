@@ -17,7 +17,7 @@ ghost use Rattle.dsc_cmd.specs.LegalReplays.{legal_replay};
 
 use crate::laws::inputs_have_one_output;
 use crate::making::make;
-use book_logs::Logs;
+use sentence_files::Logs;
 use dsc_streams::{Failed, Sink, Source, Status, write_all};
 use dsc_words::{Plan, PlanError, one_plan, plan_of};
 use encode_calls::{Encode, LongDots, ShortDots};

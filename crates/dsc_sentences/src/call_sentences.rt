@@ -9,7 +9,7 @@ use crate::printing::print;
 use arrayvec::ArrayVec;
 use call_values::Call;
 use expansion::Expansion;
-use text_pieces::append;
+use line_grammar::append;
 
 /// The DSC sentence of a call, and after it the DSE sentence of the expansion that follows the call, where one does.
 /// Each ends with CR and LF.

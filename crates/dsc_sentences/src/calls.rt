@@ -16,7 +16,7 @@ use call_values::bounds::{HF_CHANNELS, TENS, VHF_CHANNELS};
 use call_values::{Body, Call, Field, FieldKind, HourMinute, Kind, Message, Mmsi, Position, To};
 use dsc_symbols::messages::NO_INFORMATION;
 use dsc_symbols::{categories, formats, telecommands};
-use text_pieces::append;
+use line_grammar::append;
 
 /// The DSC sentence of a call; an expansion follows it where the argument says so.
 #[tactic(auto, unfolding(crate::specs::Calls::of_call))]

@@ -10,7 +10,7 @@ use crate::dse_reading::read_dse;
 use crate::reading::fields_read;
 use arrayvec::ArrayVec;
 use sentence_frame::{LONGEST_SENTENCE, SentenceRefusal};
-use text_pieces::append;
+use line_grammar::append;
 
 /// The DSC sentence of a line that has no LF: one CR at its end is dropped, and CR LF are added. A line that begins
 /// with `$CDDSE` is read as a DSE sentence, and where it is accepted the answer is None. A refused line gives its first

@@ -8,7 +8,7 @@ ghost use Rattle.sentence_frame.specs.declared.refusals.SentenceRefusal.TheVaria
 use crate::hearing::sentence_on;
 use arrayvec::ArrayVec;
 use sentence_frame::{SentenceRefusal, hexadecimal};
-use text_pieces::{append, append_number};
+use line_grammar::{append, append_number};
 
 /// The verdict on a sentence.
 #[derive(Clone, Copy, Debug, PartialEq, Eq)]

@@ -16,7 +16,7 @@ use call_grammar::end_of;
 use call_values::{Call, Casualty, Category, Kind, Mmsi};
 use dsc_symbols::ends::{ACKNOWLEDGE_BQ, ACKNOWLEDGE_RQ};
 use slot_join::Extra;
-use text_pieces::{append, append_digits};
+use line_grammar::{append, append_digits};
 
 /// The text of a call and of what follows it on air.
 pub fn put_call(call: &Call, extra: &Extra) -> ArrayVec<u8, 256>

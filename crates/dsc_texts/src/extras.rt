@@ -8,7 +8,7 @@ ghost use Rattle.dsc_texts.specs.inside.Expansions.{label_and_set};
 use arrayvec::ArrayVec;
 use expansion::{Expansion, Part, PartKind};
 use slot_join::Extra;
-use text_pieces::{append, append_digits, append_number};
+use line_grammar::{append, append_digits, append_number};
 
 /// Appends what comes after a call, which takes at most 40 bytes.
 pub fn append_extra<const N: usize>(out: &mut ArrayVec<u8, N>, extra: &Extra)

@@ -13,7 +13,7 @@ use call_values::{
     Area, Casualty, Category, Field, FieldKind, First, Fix, HourMinute, Message, Mmsi, Position,
     Second, To,
 };
-use text_pieces::{append, append_digits};
+use line_grammar::{append, append_digits};
 
 /// Appends a position's ten digits, nines where it isn't known.
 pub fn append_position<const N: usize>(out: &mut ArrayVec<u8, N>, position: &Position)

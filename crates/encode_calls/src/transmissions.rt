@@ -8,7 +8,7 @@ use arrayvec::ArrayVec;
 use call_grammar::{own_end, spell};
 use call_values::Call;
 use expansion::{Expansion, spell_sets};
-use text_pieces::append;
+use line_grammar::append;
 use time_diversity::on_air;
 
 /// The symbols of a call, and of the expansion after it, if one is there.

@@ -11,7 +11,7 @@ use crate::hearing::RECEPTIONS;
 use arrayvec::ArrayVec;
 use slot_join::is_reported;
 use slot_join::Joined;
-use text_pieces::{append, append_number};
+use line_grammar::{append, append_number};
 
 /// The numbers of a joined input: its groups and receptions, the groups of which a call was reported, and those of
 /// which the answer names a missing place.

@@ -6,7 +6,7 @@ ghost use Rattle.line_engine.specs.Faults as faults;
 
 use arrayvec::ArrayVec;
 use dsc_streams::Status;
-use text_pieces::{append, append_number};
+use line_grammar::{append, append_number};
 
 /// What is wrong with a line of an input.
 #[derive(Clone, Copy, Debug, PartialEq, Eq)]

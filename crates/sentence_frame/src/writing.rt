@@ -8,7 +8,7 @@ ghost use Rattle.sentence_frame.specs.Texts.{AreDigits, digits, digit_text, perh
 
 use crate::frames::{LONGEST_SENTENCE, checksum};
 use arrayvec::ArrayVec;
-use text_pieces::{append, append_digits};
+use line_grammar::{append, append_digits};
 
 /// A sentence that begins with this head.
 pub fn begin_sentence(head: &[u8]) -> ArrayVec<u8, LONGEST_SENTENCE>

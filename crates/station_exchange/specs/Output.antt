@@ -3,7 +3,7 @@ use Rattle.std.specs.Prelude.{ℕ, Bool, true, ◌&&◌, List, [], ◌∷◌, �
 use Rattle.std.specs.List.{flat_map}
 use Rattle.line_grammar.specs.Bytes.{line_feed}
 use Rattle.traffic_rules.specs.declared.acts.Act.{Act}
-use Rattle.act_texts.specs.Moments.{at_moment}
+use Rattle.station_lines.specs.Moments.{at_moment}
 use Rattle.station_lines.specs.Answers.{act_line, refusal_line}
 use Rattle.exchange.specs.declared.events.WorldEvent.{WorldEvent}
 use Rattle.exchange.specs.declared.events.WorldEvent.TheVariants as world

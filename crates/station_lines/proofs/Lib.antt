@@ -1,3 +1,4 @@
 pub mod PublicLaws
 mod Files
 mod Lawful
+mod Days

@@ -4,8 +4,8 @@ use Rattle.std.specs.List.{flat_map}
 use Rattle.line_grammar.specs.Bytes.{line_feed}
 use Rattle.traffic_rules.specs.declared.acts.Act.{Act}
 use Rattle.traffic_rules.specs.declared.refusals.StationRefusal.{StationRefusal}
-use Rattle.act_texts.specs.ActTexts.{act_text}
-use Rattle.act_texts.specs.RefusalTexts.{refusal_text}
+use Rattle.station_lines.specs.ActTexts.{act_text}
+use Rattle.station_lines.specs.RefusalTexts.{refusal_text}
 
 -- the line of an act
 unfoldable pub act_line : (at : ℕ) → Act → List ℕ

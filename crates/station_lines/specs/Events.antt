@@ -1,7 +1,7 @@
 -- The events that lines give of themselves: this project's profile.
 use Rattle.std.specs.Prelude.{ℕ, Option, Some, None}
 use Rattle.call_values.specs.declared.positions.Fix.{Fix}
-use Rattle.civil_time.specs.CivilTime.{second_of, hour_of, minute_of}
+use Rattle.station_lines.specs.CivilTime.{second_of, hour_of, minute_of}
 use Rattle.traffic_lines.specs.declared.lines.ShipOwn.{ShipOwn}
 use Rattle.traffic_lines.specs.declared.lines.ShipOwn.TheVariants as own_ship
 use Rattle.traffic_lines.specs.declared.lines.CoastOwn.{CoastOwn}

@@ -5,7 +5,7 @@ ghost use Rattle.line_grammar.specs.Bytes.{line_feed};
 ghost use Rattle.traffic_rules.specs.Giving.{answer_with};
 ghost use Rattle.station_lines.specs.Answers.{act_line, refusal_line, answer_lines};
 
-use act_texts::{append_act_text, append_refusal_text};
+use crate::{append_act_text, append_refusal_text};
 use arrayvec::ArrayVec;
 use std::alloc::AllocError;
 use traffic_rules::{Act, StationRefusal};

@@ -5,7 +5,7 @@ ghost use Rattle.station_lines.specs.Events as events;
 
 use call_values::bounds::LAST_BASE;
 use call_values::{HourMinute, Position};
-use civil_time::civil_minute;
+use crate::civil_minute;
 use coast_station::{Coast, CoastWhat};
 use ship_station::{Ship, ShipWhat};
 use stations::Station;

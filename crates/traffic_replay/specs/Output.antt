@@ -3,7 +3,7 @@ use Rattle.std.specs.Prelude.{ℕ, Bool, true, false, ◌&&◌, is_ok, Result, O
 use Rattle.line_grammar.specs.Bytes.{line_feed}
 use Rattle.traffic_rules.specs.Histories.{History}
 use Rattle.traffic_rules.specs.Rules.{Rules, answer_to, continued}
-use Rattle.act_texts.specs.Moments.{at_moment}
+use Rattle.station_lines.specs.Moments.{at_moment}
 use Rattle.station_lines.specs.Answers.{answer_lines}
 use Rattle.dsc_texts.specs.Texts.{answer_text}
 use Rattle.traffic_replay.specs.declared.outcomes.Unreported.{Unreported}

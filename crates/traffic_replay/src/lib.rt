@@ -9,7 +9,7 @@ mod replaying;
 mod stages;
 mod steps;
 
-pub use civil_time::civil_minute;
+pub use station_lines::civil_minute;
 pub use command::Replay;
 pub use laws::{
     alerts_end_by_hand_or_acknowledgement, histories_are_legal, lines_determine_output,

@@ -24,7 +24,7 @@ use slot_evidence::{Sheet, sheet_has_facts};
 use std::alloc::{AllocError, Global};
 use std::collections::BTreeSet;
 use std::marker::Model;
-use text_pieces::{append, append_number};
+use line_grammar::{append, append_number};
 
 /// A call that was told, and its group.
 #[derive(Clone, Copy, Debug, PartialEq, Eq)]

@@ -1,6 +1,6 @@
 //! Lines of acts and refusals.
 use crate::tests::calls::call_of;
-use act_texts::*;
+use station_lines::*;
 use arrayvec::ArrayVec;
 use call_values::{Call, Mmsi};
 use std::test::Fail;

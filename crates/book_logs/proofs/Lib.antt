@@ -1,4 +1,0 @@
-mod Taken
-mod Heard
-mod Determined
-mod NotLacking

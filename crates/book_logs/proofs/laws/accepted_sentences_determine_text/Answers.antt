@@ -1,5 +1,0 @@
-use Rattle.book_logs.proofs.Determined.{one_text}
-use Rattle.book_logs.proofs.laws.accepted_sentences_determine_text.Goals as goal
-
-pub returns : goal.returns
-returns c = one_text c.books_with_the_same_rows_are_one_list.ensures.list
