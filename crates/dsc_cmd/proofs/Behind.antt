@@ -11,8 +11,8 @@ use Rattle.slot_evidence.specs.Facts.{Facts, Symbols, facts_of, facts_of_all}
 use Rattle.slot_evidence.specs.Sheet.{IsEnds, facts_in}
 use Rattle.slot_evidence.specs.Alike.{AreAlike}
 use Rattle.slot_evidence.proofs.PublicLaws.{same_alike, flip_alike}
-use Rattle.dsc_lines.specs.JoinLine.{JoinLine, nothing, reception, evidence}
-use Rattle.dsc_lines.specs.Lines.{facts_of_pairs}
+use Rattle.input_lines.specs.JoinLine.{JoinLine, nothing, reception, evidence}
+use Rattle.input_lines.specs.Lines.{facts_of_pairs}
 use Rattle.join_groups.specs.Groups.{facts_of_line, group_facts}
 use Rattle.dsc_cmd.specs.Heard.{StandsForThem, AreBehindLine, AreBehind}
 

@@ -21,12 +21,12 @@ use Rattle.slot_join.specs.Intact.{IsExpandedBy}
 use Rattle.expansion.specs.declared.values.Sets.{Sets}
 use Rattle.expansion.specs.Expansions.{IsExpansion}
 use Rattle.slot_evidence.proofs.PublicLaws.{itself}
-use Rattle.dsc_lines.specs.CallLine.{extra_of}
-use Rattle.dsc_lines.specs.JoinLine.{JoinLine, nothing, reception, evidence, text_of_reception}
-use Rattle.dsc_lines.specs.Lines.{facts_of_pairs}
+use Rattle.input_lines.specs.CallLine.{extra_of}
+use Rattle.input_lines.specs.JoinLine.{JoinLine, nothing, reception, evidence, text_of_reception}
+use Rattle.input_lines.specs.Lines.{facts_of_pairs}
 use Rattle.join_groups.specs.Groups.{names, is_named, facts_of_line, group_facts}
 use Rattle.join_groups.specs.Output.{TellsAnswer, IsJoinText}
-use Rattle.dsc_texts.specs.Texts.{answer_line}
+use Rattle.call_texts.specs.Texts.{answer_line}
 use Rattle.encode_calls.specs.Transmissions.{tail_of, transmitted}
 use Rattle.encode_calls.specs.Encoding.{encoded_line}
 use Rattle.dsc_cmd.specs.Encoded.{IsHeardWhole, IsOfEncoded, TellsCall}

@@ -1,6 +1,6 @@
 -- a run that was broken off wrote a front of the output
 use Rattle.std.proofs.Common.{◌≡◌, ℕ, List, [], ◌++◌, Option, inl, inr, refl, ap, ◌∙◌, append_assoc}
-use Rattle.dsc_streams.proofs.PublicLaws.{Loses-none, Gains-none}
+use Rattle.byte_streams.proofs.PublicLaws.{Loses-none, Gains-none}
 use Rattle.line_engine.specs.Lines.{lines_of}
 use Rattle.line_engine.specs.Meaning.{Meaning}
 use Rattle.line_engine.specs.Output.{IsSoFar}

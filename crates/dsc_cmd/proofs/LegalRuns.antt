@@ -1,7 +1,7 @@
 -- However a replay or an exchange ends, the histories of its lines are legal.
 use Rattle.std.proofs.Common.{ℕ, Bool, List}
-use Rattle.dsc_streams.specs.declared.streams.Source
-use Rattle.dsc_streams.specs.declared.streams.Sink
+use Rattle.byte_streams.specs.declared.streams.Source
+use Rattle.byte_streams.specs.declared.streams.Sink
 use Rattle.call_values.specs.declared.choices.Band.{Band}
 use Rattle.line_engine.specs.Lines.{Lines}
 use Rattle.line_engine.specs.Runs.{IsRun}

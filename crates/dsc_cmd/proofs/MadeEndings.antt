@@ -1,15 +1,15 @@
 -- What `make` writes is what an empty input ends with.
 use Rattle.std.proofs.Common.{◌≡◌, ◌≢◌, ◌⊎◌, inl, inr, ℕ, Bool, List, [], Option, Some, refl, sym, ap, subst, arith}
-use Rattle.dsc_streams.specs.declared.streams.Source
-use Rattle.dsc_streams.specs.declared.streams.Sink
-use Rattle.dsc_streams.specs.Streams.{Rises, SeenBefore}
-use Rattle.dsc_streams.proofs.PublicLaws.{Gains-none}
+use Rattle.byte_streams.specs.declared.streams.Source
+use Rattle.byte_streams.specs.declared.streams.Sink
+use Rattle.byte_streams.specs.Streams.{Rises, SeenBefore}
+use Rattle.byte_streams.proofs.PublicLaws.{Gains-none}
 use Rattle.line_engine.specs.Lines.{lines_of}
 use Rattle.line_engine.specs.Output.{IsWhole, Asks}
 use Rattle.line_engine.specs.Endings.{IsFinished, IsOfFault, IsBrokenOff, IsRest, TellsWhole, CutsOff, TellsFront}
 use Rattle.line_engine.specs.Runs.{IsRun}
 use Rattle.line_engine.proofs.PublicLaws.{none_yet}
-use Rattle.dsc_words.specs.declared.plans.Plan.TheVariants.{Join, Evidence, Encode, Sentences, Replay, Make, Capture, Watch, Exchange, Book}
+use Rattle.command_line.specs.declared.plans.Plan.TheVariants.{Join, Evidence, Encode, Sentences, Replay, Make, Capture, Watch, Exchange, Book}
 use Rattle.generated_join.specs.Summary.{IsMade}
 use Rattle.dsc_cmd.specs.Plans.{made_meaning, source_of, WritesSummary, CutsOffSummary}
 

@@ -1,9 +1,9 @@
 -- The promise of a run, at the plan that was run.
 use Rattle.std.proofs.Common.{◌≡◌, ℕ, sym, subst}
-use Rattle.dsc_streams.specs.declared.streams.Source
-use Rattle.dsc_streams.specs.declared.streams.Sink
+use Rattle.byte_streams.specs.declared.streams.Source
+use Rattle.byte_streams.specs.declared.streams.Sink
 use Rattle.line_engine.specs.Runs.{IsRun}
-use Rattle.dsc_words.specs.declared.plans.Plan.{Plan}
+use Rattle.command_line.specs.declared.plans.Plan.{Plan}
 use Rattle.dsc_cmd.specs.Plans.{meaning_of, source_of}
 
 -- what a run says of the meaning of a plan's command

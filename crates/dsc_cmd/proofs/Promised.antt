@@ -1,12 +1,12 @@
 -- What a run of words says at its plan, and by its status.
 use Rattle.std.proofs.Common.{◌≡◌, ◌≢◌, ℕ, ◌≤◌, List, inl, inr, arith, ap, subst}
 use Rattle.std.specs.Prelude.{◌⊎◌}
-use Rattle.dsc_streams.specs.declared.streams.Source
-use Rattle.dsc_streams.specs.declared.streams.Sink
-use Rattle.dsc_streams.specs.Streams.{Rises}
+use Rattle.byte_streams.specs.declared.streams.Source
+use Rattle.byte_streams.specs.declared.streams.Sink
+use Rattle.byte_streams.specs.Streams.{Rises}
 use Rattle.line_engine.specs.Endings.{IsFinished, IsOfFault, IsBrokenOff, Writes, TellsWhole, TellsFault, TellsSoFar}
-use Rattle.dsc_words.specs.declared.plans.Plan.{Plan}
-use Rattle.dsc_words.specs.Words.{IsPlan}
+use Rattle.command_line.specs.declared.plans.Plan.{Plan}
+use Rattle.command_line.specs.Words.{IsPlan}
 use Rattle.dsc_cmd.specs.Plans.{meaning_of, input_of, words_refused, IsQuietPlan, IsUnplanned, CutsOffWords, CutsOffPlan, TellsPlanFront}
 use Rattle.dsc_cmd.specs.Promises.{IsUnbegun, KeepsWords}
 use Rattle.dsc_cmd.proofs.PlanRuns.{RunsPlan}

@@ -13,10 +13,10 @@ use Rattle.slot_join.specs.declared.joined.Joined.{Joined}
 use Rattle.slot_join.specs.Answer.{IsAnswer}
 use Rattle.slot_join.specs.Heard.{IsHeard}
 use Rattle.slot_join.specs.Intact.{IsSent, IsSentOrLostPlace, ArrivesInParts}
-use Rattle.dsc_lines.specs.JoinLine.{JoinLine}
+use Rattle.input_lines.specs.JoinLine.{JoinLine}
 use Rattle.join_groups.specs.Groups.{is_among, group_facts}
 use Rattle.join_groups.specs.Output.{GroupLine, TellsAnswer, IsJoinText}
-use Rattle.dsc_texts.specs.Texts.{answer_line}
+use Rattle.call_texts.specs.Texts.{answer_line}
 use Rattle.dsc_cmd.specs.Heard.{IsOfCall}
 use Rattle.dsc_cmd.specs.Sent.{TellsSent}
 use Rattle.dsc_cmd.proofs.Behind as behind

@@ -1,7 +1,7 @@
 -- However a join ends, what it says of the calls that were sent.
 use Rattle.std.proofs.Common.{ℕ, List, Option, inl, inr}
-use Rattle.dsc_streams.specs.declared.streams.Source
-use Rattle.dsc_streams.specs.declared.streams.Sink
+use Rattle.byte_streams.specs.declared.streams.Source
+use Rattle.byte_streams.specs.declared.streams.Sink
 use Rattle.line_engine.specs.Runs.{IsRun}
 use Rattle.line_engine.specs.Endings.{IsFinished, TellsWhole}
 use Rattle.line_engine.proofs.PublicLaws.{runs_over}

@@ -1,7 +1,7 @@
 -- However a watch ends, what it says of the calls that were sent.
 use Rattle.std.proofs.Common.{ℕ, List}
-use Rattle.dsc_streams.specs.declared.streams.Source
-use Rattle.dsc_streams.specs.declared.streams.Sink
+use Rattle.byte_streams.specs.declared.streams.Source
+use Rattle.byte_streams.specs.declared.streams.Sink
 use Rattle.line_engine.specs.Lines.{Lines}
 use Rattle.line_engine.specs.Runs.{IsRun}
 use Rattle.watch_groups.specs.Meaning.{watch_meaning, GivesTold, EndsWatch}

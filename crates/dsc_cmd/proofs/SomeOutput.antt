@@ -9,9 +9,9 @@ use Rattle.traffic_replay.specs.Meaning.{replay_meaning}
 use Rattle.stream_capture.specs.Telling.{capture_meaning}
 use Rattle.generated_join.specs.Summary.{IsMade}
 use Rattle.sentence_files.specs.Booking.{book_meaning}
-use Rattle.dsc_words.specs.declared.plans.Plan.{Plan}
-use Rattle.dsc_words.specs.declared.plans.Plan.TheVariants.{Join, Evidence, Encode, Sentences, Replay, Make, Capture, Watch, Exchange, Book}
-use Rattle.dsc_words.specs.Words.{IsInRange}
+use Rattle.command_line.specs.declared.plans.Plan.{Plan}
+use Rattle.command_line.specs.declared.plans.Plan.TheVariants.{Join, Evidence, Encode, Sentences, Replay, Make, Capture, Watch, Exchange, Book}
+use Rattle.command_line.specs.Words.{IsInRange}
 use Rattle.encode_calls.specs.Encoding.{encode_meaning}
 use Rattle.sentence_files.specs.Telling.{sentences_meaning}
 use Rattle.station_exchange.specs.Meaning.{exchange_meaning}

@@ -1,8 +1,8 @@
 -- However a capture ends, what its starts say of the calls that were received at them.
 use Rattle.std.proofs.Common.{ℕ, List, [], ◌∷◌, ◌++◌}
 use Rattle.std.specs.List.{AllByRecursion}
-use Rattle.dsc_streams.specs.declared.streams.Source
-use Rattle.dsc_streams.specs.declared.streams.Sink
+use Rattle.byte_streams.specs.declared.streams.Source
+use Rattle.byte_streams.specs.declared.streams.Sink
 use Rattle.ten_unit.specs.declared.character.Element.{Element}
 use Rattle.call_values.specs.declared.calls.Call.{Call}
 use Rattle.call_values.specs.Calls.{IsCall}

@@ -11,7 +11,7 @@ use Rattle.slot_evidence.specs.Alike.{AreAlike}
 use Rattle.slot_join.specs.Heard.{IsHeard}
 use Rattle.slot_join.specs.OneCall.{ShowsNoOther}
 use Rattle.live_watch.specs.Told.{IsTold}
-use Rattle.dsc_lines.specs.JoinLine.{JoinLine}
+use Rattle.input_lines.specs.JoinLine.{JoinLine}
 use Rattle.join_groups.specs.Groups.{group_facts}
 use Rattle.watch_groups.specs.declared.telling.ToldCall.{ToldCall}
 use Rattle.watch_groups.specs.Telling.{AreTold}

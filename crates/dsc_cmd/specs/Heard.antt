@@ -9,8 +9,8 @@ use Rattle.slot_evidence.specs.declared.places.Seen.{Seen}
 use Rattle.slot_evidence.specs.Facts.{facts_of_all}
 use Rattle.slot_evidence.specs.Sheet.{IsEnds, facts_in}
 use Rattle.slot_join.specs.Heard.{IsHeard}
-use Rattle.dsc_lines.specs.JoinLine.{JoinLine, nothing, reception, evidence}
-use Rattle.dsc_lines.specs.Lines.{facts_of_pairs}
+use Rattle.input_lines.specs.JoinLine.{JoinLine, nothing, reception, evidence}
+use Rattle.input_lines.specs.Lines.{facts_of_pairs}
 use Rattle.join_groups.specs.Groups.{is_named}
 
 -- evidence stands for these receptions: its pairs are the ends of their facts

@@ -1,15 +1,15 @@
 -- What a run of each command promises: this project's profile.
 use Rattle.std.specs.Prelude.{◌≡◌, ℕ, List, [], ◌++◌, Option, Some, codes}
-use Rattle.dsc_streams.specs.declared.streams.Source
-use Rattle.dsc_streams.specs.Streams.{Loses, Gains}
+use Rattle.byte_streams.specs.declared.streams.Source
+use Rattle.byte_streams.specs.Streams.{Loses, Gains}
 use Rattle.line_engine.specs.Lines.{lines_of}
 use Rattle.line_engine.specs.Meaning.{Meaning, IsQuiet}
 use Rattle.line_engine.specs.Output.{IsOutput}
 use Rattle.line_engine.specs.Determined.{BeginsWith}
 use Rattle.line_engine.specs.Endings.{IsRest, Writes, WritesFront, CutsOff, TellsFront}
-use Rattle.dsc_words.specs.declared.plans.Plan.{Plan}
-use Rattle.dsc_words.specs.declared.plans.Plan.TheVariants.{Join, Evidence, Encode, Sentences, Replay, Make, Capture, Watch, Exchange, Book}
-use Rattle.dsc_words.specs.Words.{IsPlan}
+use Rattle.command_line.specs.declared.plans.Plan.{Plan}
+use Rattle.command_line.specs.declared.plans.Plan.TheVariants.{Join, Evidence, Encode, Sentences, Replay, Make, Capture, Watch, Exchange, Book}
+use Rattle.command_line.specs.Words.{IsPlan}
 use Rattle.join_groups.specs.Output.{TellsAnswer, TellsEvidence}
 use Rattle.join_groups.specs.Meanings.{groups_meaning}
 use Rattle.encode_calls.specs.Encoding.{encode_meaning}

@@ -1,13 +1,13 @@
 -- What a run of words promises: this project's profile.
 use Rattle.std.specs.Prelude.{◌≡◌, ℕ, ◌⊎◌, List, map, String, string_bytes}
-use Rattle.dsc_streams.specs.declared.streams.Source
-use Rattle.dsc_streams.specs.declared.streams.Sink
-use Rattle.dsc_streams.specs.Streams.{Rises, SeenBefore}
+use Rattle.byte_streams.specs.declared.streams.Source
+use Rattle.byte_streams.specs.declared.streams.Sink
+use Rattle.byte_streams.specs.Streams.{Rises, SeenBefore}
 use Rattle.line_engine.specs.Meaning.{Meaning}
 use Rattle.line_engine.specs.Endings.{Writes, WritesFront}
 use Rattle.line_engine.specs.Runs.{IsRun}
-use Rattle.dsc_words.specs.declared.plans.Plan.{Plan}
-use Rattle.dsc_words.specs.Words.{IsPlan}
+use Rattle.command_line.specs.declared.plans.Plan.{Plan}
+use Rattle.command_line.specs.Words.{IsPlan}
 use Rattle.dsc_cmd.specs.Plans.{meaning_of, source_of, words_refused, IsUnplanned}
 
 -- the bytes of each word of the command line

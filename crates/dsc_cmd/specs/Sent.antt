@@ -5,15 +5,15 @@ use Rattle.ten_unit.specs.declared.character.Element.{Element}
 use Rattle.call_values.specs.declared.calls.Call.{Call}
 use Rattle.slot_join.specs.declared.joined.Joined.{Joined}
 use Rattle.slot_join.specs.Intact.{IsSent, IsSentOrLostPlace, ArrivesInParts}
-use Rattle.dsc_streams.specs.Streams.{Loses, IsEnded}
+use Rattle.byte_streams.specs.Streams.{Loses, IsEnded}
 use Rattle.line_engine.specs.Lines.{Lines, lines_of}
 use Rattle.line_engine.specs.Meaning.{Meaning}
 use Rattle.line_engine.specs.Endings.{Writes}
-use Rattle.dsc_lines.specs.JoinLine.{JoinLine}
+use Rattle.input_lines.specs.JoinLine.{JoinLine}
 use Rattle.join_groups.specs.Groups.{AreLines}
 use Rattle.join_groups.specs.Output.{GroupLine, TellsAnswer, IsJoinText}
 use Rattle.slot_join.specs.Answer.{is_reported}
-use Rattle.dsc_texts.specs.Texts.{answer_line}
+use Rattle.call_texts.specs.Texts.{answer_line}
 use Rattle.join_groups.specs.Meanings.{EndsTelling, groups_meaning}
 use Rattle.dsc_cmd.specs.Heard.{IsOfCall}
 

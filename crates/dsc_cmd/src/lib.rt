@@ -6,11 +6,11 @@ mod making;
 mod promises;
 mod running;
 
-pub use dsc_streams::{
+pub use byte_streams::{
     ByteSink, ByteSource, Failed, NoMemory, Sink, Source, Status, StdSink, StdSource, SureSink,
     SureSource,
 };
-pub use dsc_words::Plan;
+pub use command_line::Plan;
 pub use laws::{
     encoded_calls_are_reported, facts_determine_outputs, inputs_have_an_output,
     inputs_have_one_output, no_output_is_lacking,

@@ -1,8 +1,8 @@
 //! Running the command `make`.
 ghost use Rattle.std.specs.Prelude.{◌≡◌, ◌≢◌, ◌⊎◌, ◌≤◌, List, if◌then◌else◌};
 ghost use Rattle.std.specs.List.{list_all};
-ghost use Rattle.dsc_streams.specs.Streams.{Rises, SeenBefore};
-ghost use Rattle.dsc_lines.specs.JoinLine.{JoinLine};
+ghost use Rattle.byte_streams.specs.Streams.{Rises, SeenBefore};
+ghost use Rattle.input_lines.specs.JoinLine.{JoinLine};
 ghost use Rattle.line_engine.specs.Endings.{IsFinished};
 ghost use Rattle.slot_join.specs.Answer.{is_reported};
 ghost use Rattle.generated_join.specs.Generator.{generated};
@@ -10,7 +10,7 @@ ghost use Rattle.generated_join.specs.Summary.{IsSummary};
 ghost use Rattle.dsc_cmd.specs.Plans.{WritesSummary, CutsOffSummary};
 
 use crate::running::write_flushed;
-use dsc_streams::{Failed, Sink, Status};
+use byte_streams::{Failed, Sink, Status};
 use generated_join::{Summary, summary_of};
 use receiver_pool::Gate;
 use std::alloc::{AllocError, Global};

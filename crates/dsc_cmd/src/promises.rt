@@ -1,15 +1,15 @@
 //! What a run of words says, status by status. The function here does nothing, and its contract is a theorem.
 ghost use Rattle.std.specs.Prelude.{◌≡◌, ◌⊎◌, ◌≤◌, ◌≢◌};
-ghost use Rattle.dsc_streams.specs.Streams.{Rises};
+ghost use Rattle.byte_streams.specs.Streams.{Rises};
 ghost use Rattle.line_engine.specs.Endings.{IsFinished, IsOfFault, IsBrokenOff, Writes, TellsWhole, TellsFault, TellsSoFar};
-ghost use Rattle.dsc_words.specs.Words.{IsPlan};
-ghost use Rattle.dsc_words.specs.declared.plans.Plan.{Plan as Planned};
+ghost use Rattle.command_line.specs.Words.{IsPlan};
+ghost use Rattle.command_line.specs.declared.plans.Plan.{Plan as Planned};
 ghost use Rattle.dsc_cmd.specs.Plans.{meaning_of, input_of, words_refused, IsQuietPlan, IsUnplanned, CutsOffWords, CutsOffPlan, TellsPlanFront};
 ghost use Rattle.dsc_cmd.specs.Promises.{spoken, KeepsWords, Runs};
 ghost use Rattle.dsc_cmd.specs.Sent.{ReportsSent, sent_join};
 
-use dsc_streams::{Sink, Source, Status};
-use dsc_words::one_plan;
+use byte_streams::{Sink, Source, Status};
+use command_line::one_plan;
 
 /// The law that a run of words, as `run` promises it, says this by its status: which words give it, what was read and
 /// written, and whether a stream failed. `from` and `rest` are the source before the run and after it, `before` and

@@ -1,11 +1,11 @@
 //! Running the command that words name.
 ghost use Rattle.std.specs.Prelude.{◌≡◌, ◌⊎◌, ℕ, [], OnOk, OnErr};
-ghost use Rattle.dsc_streams.specs.Streams.{Rises, SeenBefore};
+ghost use Rattle.byte_streams.specs.Streams.{Rises, SeenBefore};
 ghost use Rattle.line_engine.specs.Endings.{IsFinished, IsBrokenOff, Writes, WritesFront, TakesAtMost};
 ghost use Rattle.line_engine.specs.Runs.{IsRun};
-ghost use Rattle.dsc_words.specs.Words.{IsInRange, IsPlan};
-ghost use Rattle.dsc_words.specs.declared.plans.Plan.TheVariants.{Join as joins, Replay as replays, Make as makes, Capture as captures, Watch as watches, Exchange as exchanges};
-ghost use Rattle.dsc_words.specs.declared.plans.Plan.{Plan as Planned};
+ghost use Rattle.command_line.specs.Words.{IsInRange, IsPlan};
+ghost use Rattle.command_line.specs.declared.plans.Plan.TheVariants.{Join as joins, Replay as replays, Make as makes, Capture as captures, Watch as watches, Exchange as exchanges};
+ghost use Rattle.command_line.specs.declared.plans.Plan.{Plan as Planned};
 ghost use Rattle.dsc_cmd.specs.Plans.{meaning_of, input_of, source_of, words_refused, HasOneOutput, WritesSummary, WritesFrontOfOutput};
 ghost use Rattle.dsc_cmd.specs.Promises.{spoken, KeepsWords, Runs};
 ghost use Rattle.stream_capture.specs.Telling.{capture_meaning};
@@ -18,8 +18,8 @@ ghost use Rattle.dsc_cmd.specs.LegalReplays.{legal_replay};
 use crate::laws::inputs_have_one_output;
 use crate::making::make;
 use sentence_files::Logs;
-use dsc_streams::{Failed, Sink, Source, Status, write_all};
-use dsc_words::{Plan, PlanError, one_plan, plan_of};
+use byte_streams::{Failed, Sink, Source, Status, write_all};
+use command_line::{Plan, PlanError, one_plan, plan_of};
 use encode_calls::{Encode, LongDots, ShortDots};
 use join_groups::{Answers, Ends, tell_groups};
 use line_engine::{Command, MOST_TAKEN, drive};

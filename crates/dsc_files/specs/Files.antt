@@ -11,24 +11,24 @@ use Rattle.traffic_lines.specs.declared.worlds.Entry as entries
 use Rattle.traffic_lines.specs.declared.worlds.Entry.TheVariants.{AtShip, AtCoast}
 use Rattle.traffic_lines.specs.declared.worlds.WorldLine.{WorldLine}
 use Rattle.traffic_lines.specs.declared.worlds.WorldLine.TheVariants as world
-use Rattle.dsc_lines.specs.declared.fault.LineFault.{LineFault}
-use Rattle.dsc_lines.specs.declared.fault.LineFault.TheVariants as fault
-use Rattle.dsc_lines.specs.declared.join.JoinLine.{JoinLine as Got}
-use Rattle.dsc_lines.specs.declared.join.JoinLine.TheVariants as got
-use Rattle.dsc_lines.specs.JoinLine.{IsLine}
-use Rattle.dsc_lines.specs.declared.calls.CallLine.{CallLine}
-use Rattle.dsc_lines.specs.declared.calls.CallLine.TheVariants as call
-use Rattle.dsc_lines.specs.declared.sentences.SentenceLine.{SentenceLine}
-use Rattle.dsc_lines.specs.declared.sentences.SentenceLine.TheVariants as sentence
-use Rattle.dsc_lines.specs.declared.books.BookLine.{BookLine}
-use Rattle.dsc_lines.specs.declared.books.BookLine.TheVariants as book
-use Rattle.dsc_lines.specs.CallLine.{extra_of, IsCallLine}
-use Rattle.dsc_lines.specs.SentenceLine.{IsSentenceLine}
-use Rattle.dsc_lines.specs.StreamLine.{IsStreamLine}
-use Rattle.dsc_lines.specs.BookLine.{IsBookLine}
-use Rattle.dsc_lines.specs.WorldLine.{IsWorldFileLine}
-use Rattle.dsc_lines.specs.PointLine.{PointLine, joined, traffic, IsPointLine}
-use Rattle.dsc_lines.specs.Lines.{Says, ReadsWithRoom}
+use Rattle.input_lines.specs.declared.fault.LineFault.{LineFault}
+use Rattle.input_lines.specs.declared.fault.LineFault.TheVariants as fault
+use Rattle.input_lines.specs.declared.join.JoinLine.{JoinLine as Got}
+use Rattle.input_lines.specs.declared.join.JoinLine.TheVariants as got
+use Rattle.input_lines.specs.JoinLine.{IsLine}
+use Rattle.input_lines.specs.declared.calls.CallLine.{CallLine}
+use Rattle.input_lines.specs.declared.calls.CallLine.TheVariants as call
+use Rattle.input_lines.specs.declared.sentences.SentenceLine.{SentenceLine}
+use Rattle.input_lines.specs.declared.sentences.SentenceLine.TheVariants as sentence
+use Rattle.input_lines.specs.declared.books.BookLine.{BookLine}
+use Rattle.input_lines.specs.declared.books.BookLine.TheVariants as book
+use Rattle.input_lines.specs.CallLine.{extra_of, IsCallLine}
+use Rattle.input_lines.specs.SentenceLine.{IsSentenceLine}
+use Rattle.input_lines.specs.StreamLine.{IsStreamLine}
+use Rattle.input_lines.specs.BookLine.{IsBookLine}
+use Rattle.input_lines.specs.WorldLine.{IsWorldFileLine}
+use Rattle.input_lines.specs.PointLine.{PointLine, joined, traffic, IsPointLine}
+use Rattle.input_lines.specs.Lines.{Says, ReadsWithRoom}
 use Rattle.dsc_files.specs.declared.lines.FileKind.{FileKind}
 use Rattle.dsc_files.specs.declared.lines.FileKind.TheVariants as kind
 use Rattle.dsc_files.specs.declared.lines.Line.{Line}

@@ -5,16 +5,16 @@ ghost use Rattle.call_values.specs.Calls.{IsCall};
 ghost use Rattle.slot_evidence.specs.declared.places.Seen.{Seen};
 ghost use Rattle.slot_evidence.specs.Sheet.{IsSheet};
 ghost use Rattle.slot_join.specs.declared.joined.Extra.{Extra};
-ghost use Rattle.dsc_texts.specs.Texts.{IsWholeOrAbsent, reported_text};
-ghost use Rattle.dsc_lines.specs.Evidence.{evidence_text};
-ghost use Rattle.dsc_lines.specs.declared.fault.LineFault.{LineFault};
-ghost use Rattle.dsc_lines.specs.declared.fault.LineFault.TheVariants.{NoMemory};
+ghost use Rattle.call_texts.specs.Texts.{IsWholeOrAbsent, reported_text};
+ghost use Rattle.input_lines.specs.Evidence.{evidence_text};
+ghost use Rattle.input_lines.specs.declared.fault.LineFault.{LineFault};
+ghost use Rattle.input_lines.specs.declared.fault.LineFault.TheVariants.{NoMemory};
 ghost use Rattle.dsc_files.specs.declared.lines.Line.{Line};
 ghost use Rattle.dsc_files.specs.declared.lines.Line.TheVariants as line;
 ghost use Rattle.dsc_files.specs.declared.lines.FileKind.TheVariants as kind;
 ghost use Rattle.dsc_files.specs.Files.{ReadsLine};
 
-use dsc_lines::{evidence_is_read, one_call_line};
+use input_lines::{evidence_is_read, one_call_line};
 
 /// The law on the text that `put_call` writes of a call and of the expansion after it: reading a line of calls can
 /// answer nothing but this call and this expansion.

@@ -1,12 +1,12 @@
 //! What a line of a file of any kind says.
 ghost use Rattle.std.specs.Prelude.{◌≡◌, Some};
-ghost use Rattle.dsc_lines.specs.CallLine as calls;
+ghost use Rattle.input_lines.specs.CallLine as calls;
 ghost use Rattle.dsc_files.specs.Files.{line_of_book, line_of_call, line_of_entry, line_of_join, line_of_point, line_of_sentence, line_of_traffic, line_of_world};
 
 use crate::events::{EventLine, ExchangeLine, event_line, exchange_line};
 use crate::points::PointLine;
 use call_values::{Band, Call, Mmsi};
-use dsc_lines::{BookLine, CallLine, JoinLine, SentenceLine};
+use input_lines::{BookLine, CallLine, JoinLine, SentenceLine};
 use expansion::Expansion;
 use slot_evidence::{Reception, Sheet};
 use slot_join::Extra;

@@ -6,7 +6,7 @@ ghost use Rattle.traffic_lines.specs.Readings.{ReadsAt};
 ghost use Rattle.dsc_files.specs.Files.{ReadsAtPoint};
 
 use crate::events::{event_of, line_of_ship, line_of_station};
-use dsc_lines::{JoinLine, LineFault, joined_line};
+use input_lines::{JoinLine, LineFault, joined_line};
 use std::alloc::Global;
 use traffic_lines::{
     Point, TrafficLine, one_traffic_line, read_base, read_coast_line, read_ship_line, read_station,

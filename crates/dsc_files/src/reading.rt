@@ -4,7 +4,7 @@ ghost use Rattle.dsc_files.specs.Files.{ReadsLine, ReadsStream};
 use crate::lines::{FileKind, Line};
 use crate::points::point_line;
 use crate::worlds::world_line;
-use dsc_lines::{LineFault, book_line, call_line, join_line, sentence_line, stream_line};
+use input_lines::{LineFault, book_line, call_line, join_line, sentence_line, stream_line};
 use slot_evidence::Reception;
 use std::alloc::Global;
 

@@ -3,11 +3,11 @@ ghost use Rattle.std.specs.Prelude.{◌≤◌, IfErr};
 ghost use Rattle.line_grammar.specs.Columns.{ReadsAs};
 ghost use Rattle.traffic_lines.specs.Readings.{ReadsInWorld};
 ghost use Rattle.traffic_lines.specs.Worlds.{IsWorldLine};
-ghost use Rattle.dsc_lines.specs.Readings.{Reads};
-ghost use Rattle.dsc_lines.specs.JoinLine.{IsNothing};
-ghost use Rattle.dsc_lines.specs.WorldLine.{IsWorldFileLine};
+ghost use Rattle.input_lines.specs.Readings.{Reads};
+ghost use Rattle.input_lines.specs.JoinLine.{IsNothing};
+ghost use Rattle.input_lines.specs.WorldLine.{IsWorldFileLine};
 
-use dsc_lines::{exchange_columns, says_nothing};
+use input_lines::{exchange_columns, says_nothing};
 use traffic_lines::{
     ExchangePoint, WorldLine, one_world_line, read_entry, read_exchange_base, read_exchange_coast,
     read_exchange_ship,

@@ -16,7 +16,7 @@ use Rattle.dsc_sentences.specs.declared.dsc.DscFields.{DscFields}
 use Rattle.dsc_sentences.specs.Dsc.{texts, shapes, IsDsc, IsReading, dsc}
 use Rattle.dsc_sentences.specs.inside.DscReading.{read_fields, FieldsAnswer, end_in}
 use Rattle.dsc_sentences.proofs.Letters.{end_kind, mark_kind, is_there}
-use Rattle.dsc_sentences.proofs.DscFieldLaws.{format_kind, category_kind, two_kind, four_kind, ten_kind, head_is, dsc_texts, one_record}
+use Rattle.dsc_sentences.proofs.DscFieldLaws.{format_kind, category_kind, two_kind, four_kind, ten_kind, head_is, call_texts, one_record}
 
 -- the fields that are read are lawful, and have these texts
 abbrev Has : List (List ℕ) → DscFields → Type 0
@@ -118,12 +118,12 @@ answers_found bytes s h = texts_sound dsc bytes (texts s) head_is h.0
 
 pub answers_only : (bytes : List ℕ) (answer : Result DscFields SentenceRefusal) (s : DscFields) → FieldsAnswer answer bytes → IsDsc s → bytes ≡ sentence (codes "$CDDSC") (texts s) → answer ≡ Ok s
 answers_only bytes (Ok v) s h lawful e =
-    let read : texts_of dsc bytes ≡ Ok (texts s) = ap (λ (l : List ℕ). texts_of dsc l) e ∙ texts_back dsc (texts s) (dsc_texts s lawful) in
+    let read : texts_of dsc bytes ≡ Ok (texts s) = ap (λ (l : List ℕ). texts_of dsc l) e ∙ texts_back dsc (texts s) (call_texts s lawful) in
     let found = h.0 in
     let same : texts v ≡ texts s = cc in
     ap Ok (one_record v s h.1 lawful same)
 answers_only bytes (Err x) s h lawful e =
-    let read : texts_of dsc bytes ≡ Ok (texts s) = ap (λ (l : List ℕ). texts_of dsc l) e ∙ texts_back dsc (texts s) (dsc_texts s lawful) in
+    let read : texts_of dsc bytes ≡ Ok (texts s) = ap (λ (l : List ℕ). texts_of dsc l) e ∙ texts_back dsc (texts s) (call_texts s lawful) in
     absurd (cc)
 
 pub answers_refused : (bytes : List ℕ) (answer : Result DscFields SentenceRefusal) (e : SentenceRefusal) → FieldsAnswer answer bytes → answer ≡ Err e → texts_of dsc bytes ≡ Err e
@@ -149,8 +149,8 @@ answers_read bytes (Err x) h = record {
 -- one text, one record
 pub one_sentence : (s t : DscFields) → IsDsc s → IsDsc t → sentence (codes "$CDDSC") (texts s) ≡ sentence (codes "$CDDSC") (texts t) → s ≡ t
 one_sentence s t hs ht e =
-    let first = texts_back dsc (texts s) (dsc_texts s hs) in
-    let second = texts_back dsc (texts t) (dsc_texts t ht) in
+    let first = texts_back dsc (texts s) (call_texts s hs) in
+    let second = texts_back dsc (texts t) (call_texts t ht) in
     let same = ap (λ (l : List ℕ). texts_of dsc l) e in
     one_record s t hs ht (cc)
 

@@ -71,9 +71,9 @@ unfolding is_head
 head_is = refl
 
 -- the texts of a DSC sentence's fields are those of its form
-pub dsc_texts : (s : DscFields) → IsDsc s → AreTexts dsc (texts s)
+pub call_texts : (s : DscFields) → IsDsc s → AreTexts dsc (texts s)
 unfolding texts shapes
-dsc_texts s h = are_texts dsc (texts s) head_is (λ e. cc) refl refl refl (omega arith) (fields_accepted s h)
+call_texts s h = are_texts dsc (texts s) head_is (λ e. cc) refl refl refl (omega arith) (fields_accepted s h)
 
 -- a record by its fields, so that records with the same fields are one
 unfoldable made : ℕ → List ℕ → Option ℕ → Option ℕ → Option ℕ → ArrayVec ℕ → Option ℕ → Option (List ℕ) → Option ℕ → End → Bool → DscFields

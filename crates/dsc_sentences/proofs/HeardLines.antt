@@ -12,7 +12,7 @@ use Rattle.dsc_sentences.specs.Verdicts.{told, with_line_end, without_return, ve
 use Rattle.dsc_sentences.specs.inside.DscReading.{FieldsAnswer}
 use Rattle.dsc_sentences.specs.inside.Hearing.{IsHeardAsDsc, IsHeardAsDse}
 use Rattle.dsc_sentences.proofs.DscAnswers.{answers_found, answers_only, answers_read}
-use Rattle.dsc_sentences.proofs.DscFieldLaws.{dsc_texts}
+use Rattle.dsc_sentences.proofs.DscFieldLaws.{call_texts}
 use Rattle.dsc_sentences.proofs.Told.{told_dsc, told_refused}
 
 -- what is heard of what is read
@@ -73,7 +73,7 @@ short_enough : (line text : List ℕ) (s : DscFields) → text ≡ without_retur
 short_enough line text s e h lawful same =
     let size : length (with_line_end line) ≡ length text + 2 = omega (arith, length-append (without_return line) (13 ∷ 10 ∷ []), ap length e) in
     let long = texts_too_long dsc (with_line_end line) (omega (arith, size, h)) in
-    let read : texts_of dsc (with_line_end line) ≡ Ok (texts s) = ap (λ (l : List ℕ). texts_of dsc l) same ∙ texts_back dsc (texts s) (dsc_texts s lawful) in
+    let read : texts_of dsc (with_line_end line) ≡ Ok (texts s) = ap (λ (l : List ℕ). texts_of dsc l) same ∙ texts_back dsc (texts s) (call_texts s lawful) in
     absurd (cc)
 
 pub heard_too_long : (line text : List ℕ) (refusal : SentenceRefusal) → text ≡ without_return line → 80 < length text → verdict_in (Err refusal) ≡ verdict_of line → IsHeard line (Err refusal)

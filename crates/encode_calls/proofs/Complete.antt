@@ -4,8 +4,8 @@ use Rattle.line_engine.specs.Lines.{Lines}
 use Rattle.line_engine.specs.Faults.{IsFaultless}
 use Rattle.line_engine.specs.Determined.{IsComplete}
 use Rattle.line_engine.proofs.PublicLaws.{sound_line_of}
-use Rattle.dsc_lines.specs.declared.calls.CallLine.{CallLine}
-use Rattle.dsc_lines.proofs.PublicLaws.{call_lines_judged}
+use Rattle.input_lines.specs.declared.calls.CallLine.{CallLine}
+use Rattle.input_lines.proofs.PublicLaws.{call_lines_judged}
 use Rattle.encode_calls.specs.Encoding.{AreCallLines, calls_of, encoded, IsEncoding, encode_meaning}
 
 module _ (long : Bool) where

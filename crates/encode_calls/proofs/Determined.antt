@@ -2,9 +2,9 @@
 use Rattle.std.proofs.Common.{◌≡◌, ℕ, ◌+◌, Bool, List, [], ◌∷◌, ◌++◌, length, refl, sym, ap, ◌∙◌}
 use Rattle.line_engine.specs.Lines.{Lines}
 use Rattle.line_engine.specs.Determined.{IsDetermined, BeginsWith}
-use Rattle.dsc_lines.specs.declared.calls.CallLine.{CallLine}
-use Rattle.dsc_lines.specs.CallLine.{IsCallLine}
-use Rattle.dsc_lines.proofs.PublicLaws.{one_column}
+use Rattle.input_lines.specs.declared.calls.CallLine.{CallLine}
+use Rattle.input_lines.specs.CallLine.{IsCallLine}
+use Rattle.input_lines.proofs.PublicLaws.{one_column}
 use Rattle.encode_calls.specs.Encoding.{AreCallLines, calls_of, encoded, IsEncoding, encode_meaning}
 use Rattle.encode_calls.proofs.Encoded.{calls_append, encoded_append}
 

@@ -3,9 +3,9 @@ use Rattle.std.proofs.Common.{◌≡◌, ℕ, suc, ◌+◌, ◌≤◌, Bool, Opt
 use Rattle.call_values.specs.declared.calls.Call.{Call}
 use Rattle.expansion.specs.declared.values.Sets.{Sets}
 use Rattle.line_engine.specs.Lines.{Lines}
-use Rattle.dsc_lines.specs.declared.calls.CallLine.{CallLine}
-use Rattle.dsc_lines.specs.declared.calls.CallLine.TheVariants as line
-use Rattle.dsc_lines.specs.CallLine.{IsCallLine}
+use Rattle.input_lines.specs.declared.calls.CallLine.{CallLine}
+use Rattle.input_lines.specs.declared.calls.CallLine.TheVariants as line
+use Rattle.input_lines.specs.CallLine.{IsCallLine}
 use Rattle.encode_calls.specs.Encoding.{AreCallLines, calls_of, encoded_line, encoded}
 use Rattle.encode_calls.specs.inside.Progress.{HasEncoded}
 

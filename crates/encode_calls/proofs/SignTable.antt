@@ -6,7 +6,7 @@ use Rattle.std.proofs.lemmas.Bool.{agree_below, agree_below_at}
 use Rattle.std.proofs.lemmas.List.{map-append}
 use Rattle.ten_unit.specs.Word.{word_of}
 use Rattle.phasing.specs.Sent.{dots, dot_count, sent}
-use Rattle.dsc_lines.specs.JoinLine.{sign_of}
+use Rattle.input_lines.specs.JoinLine.{sign_of}
 use Rattle.encode_calls.specs.declared.signs.TheConstants.{DOTS, LONG_DOTS, WORDS}
 
 -- the signs of both dot patterns

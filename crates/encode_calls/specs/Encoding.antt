@@ -6,10 +6,10 @@ use Rattle.expansion.specs.declared.values.Sets.{Sets}
 use Rattle.line_grammar.specs.Columns.{IsColumn}
 use Rattle.line_engine.specs.Lines.{Lines}
 use Rattle.line_engine.specs.Meaning.{Meaning}
-use Rattle.dsc_lines.specs.JoinLine.{text_of_reception}
-use Rattle.dsc_lines.specs.declared.calls.CallLine.{CallLine}
-use Rattle.dsc_lines.specs.declared.calls.CallLine.TheVariants as line
-use Rattle.dsc_lines.specs.CallLine.{IsCallLine}
+use Rattle.input_lines.specs.JoinLine.{text_of_reception}
+use Rattle.input_lines.specs.declared.calls.CallLine.{CallLine}
+use Rattle.input_lines.specs.declared.calls.CallLine.TheVariants as line
+use Rattle.input_lines.specs.CallLine.{IsCallLine}
 use Rattle.encode_calls.specs.Transmissions.{transmitted}
 
 -- the lines say these, one by one

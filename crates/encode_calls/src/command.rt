@@ -4,7 +4,7 @@ ghost use Rattle.encode_calls.specs.Encoding.{calls_of, encode_meaning, encoded}
 ghost use Rattle.encode_calls.specs.inside.Progress.{HasEncoded};
 
 use crate::lines::append_line;
-use dsc_lines::{CallLine, Status, call_line};
+use input_lines::{CallLine, Status, call_line};
 use line_engine::{Command, MOST_LINES, Refusal};
 use std::alloc::AllocError;
 

@@ -3,7 +3,7 @@ ghost use Rattle.std.specs.Prelude.{Bool};
 ghost use Rattle.line_engine.specs.Determined.{IsDetermined, HasOutputs};
 ghost use Rattle.encode_calls.specs.Encoding.{encode_meaning};
 
-use dsc_lines::one_call_line;
+use input_lines::one_call_line;
 
 /// The law that lines of calls determine what `encode` writes. It does nothing.
 pub fn lines_determine_output()

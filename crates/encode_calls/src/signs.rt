@@ -3,7 +3,7 @@ ghost use Rattle.std.specs.Prelude.{◌≡◌, ◌<◌, ◌≤◌, ◌++◌, All
 ghost use Rattle.std.specs.List.{flat_map};
 ghost use Rattle.phasing.specs.Sent.{dots, dot_count, sent};
 ghost use Rattle.ten_unit.specs.Word.{word_of};
-ghost use Rattle.dsc_lines.specs.JoinLine.{sign_of};
+ghost use Rattle.input_lines.specs.JoinLine.{sign_of};
 ghost use Rattle.line_engine.specs.Determined.{BeginsWith};
 
 use std::alloc::AllocError;

@@ -2,10 +2,10 @@
 use Rattle.std.proofs.Common.{◌≡◌, ℕ, Bool, ◌&&◌, cond, List, [], ◌∷◌, map, flat_map, refl, ap, subst}
 use Rattle.std.specs.List.{list_all, AllByRecursion}
 use Rattle.slot_join.specs.Answer.{IsAnswer, is_reported}
-use Rattle.dsc_lines.specs.JoinLine.{JoinLine}
+use Rattle.input_lines.specs.JoinLine.{JoinLine}
 use Rattle.join_groups.specs.Groups.{group_facts, AreGroups}
 use Rattle.join_groups.specs.Output.{GroupLine, TellsAnswer, IsJoinText}
-use Rattle.dsc_texts.specs.Texts.{answer_line}
+use Rattle.call_texts.specs.Texts.{answer_line}
 use Rattle.generated_join.specs.declared.summary.Summary.{Summary}
 use Rattle.generated_join.specs.Summary.{Answered, IsSummary}
 

@@ -2,7 +2,7 @@
 use Rattle.std.proofs.Common.{ℕ, zero, suc, ◌+◌, ◌<◌, ◌≤◌, ◌^◌, List, [], ◌∷◌, ◌++◌, flat_map, map, true, refl, arith}
 use Rattle.std.specs.List.{range_with_len}
 use Rattle.line_engine.specs.Lines.{Lines}
-use Rattle.dsc_lines.specs.JoinLine.{JoinLine, reception, text_of_reception}
+use Rattle.input_lines.specs.JoinLine.{JoinLine, reception, text_of_reception}
 use Rattle.join_groups.specs.Groups.{AreLines}
 use Rattle.generated_join.specs.Generator.{heard, lines_of_group, generated, generated_texts}
 

@@ -3,7 +3,7 @@ use Rattle.std.proofs.Common.{◌≡◌, ℕ, if◌then◌else◌, List, [], ◌
 use Rattle.std.specs.List.{list_all, AllByRecursion}
 use Rattle.slot_join.specs.Answer.{IsAnswer, is_reported}
 use Rattle.line_engine.specs.Lines.{Lines}
-use Rattle.dsc_lines.specs.JoinLine.{JoinLine}
+use Rattle.input_lines.specs.JoinLine.{JoinLine}
 use Rattle.join_groups.specs.Groups.{AreLines, group_facts, AreGroups}
 use Rattle.join_groups.proofs.PublicLaws.{groups_of, AreSome, some_lines, group_small, AnswerLaw}
 use Rattle.generated_join.specs.declared.summary.Summary.{Summary}

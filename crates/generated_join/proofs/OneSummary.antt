@@ -5,7 +5,7 @@ use mathlib.Core.List.{nil≢cons, cons-eq-cons}
 use Rattle.slot_evidence.specs.Facts.{Facts}
 use Rattle.slot_join.specs.declared.joined.Joined.{Joined}
 use Rattle.slot_join.specs.Answer.{IsAnswer, is_reported}
-use Rattle.dsc_lines.specs.JoinLine.{JoinLine}
+use Rattle.input_lines.specs.JoinLine.{JoinLine}
 use Rattle.join_groups.specs.Groups.{group_facts}
 use Rattle.join_groups.proofs.PublicLaws.{same_rising}
 use Rattle.generated_join.specs.declared.summary.Summary.{Summary}

@@ -14,7 +14,7 @@ use Rattle.time_diversity.specs.Slots.{dx_slot, rx_slot}
 use Rattle.time_diversity.specs.OnAir.{on_air}
 use Rattle.phasing.specs.Sent.{dots}
 use Rattle.line_engine.specs.Lines.{Lines}
-use Rattle.dsc_lines.specs.JoinLine.{JoinLine, reception, text_of_reception}
+use Rattle.input_lines.specs.JoinLine.{JoinLine, reception, text_of_reception}
 
 -- the distress alert of group k, from 42 degrees 31 minutes north, 83 degrees 12 minutes west
 abbrev pub alert_of : ℕ → Call

@@ -1,7 +1,7 @@
 //! Laws: each function here does nothing, and its contract is a theorem over definitions.
 ghost use Rattle.std.specs.Prelude.{◌≡◌, ℕ, ◌≤◌, ◌^◌, List, if◌then◌else◌};
 ghost use Rattle.std.specs.List.{list_all};
-ghost use Rattle.dsc_lines.specs.JoinLine.{JoinLine};
+ghost use Rattle.input_lines.specs.JoinLine.{JoinLine};
 ghost use Rattle.join_groups.specs.Groups.{AreLines};
 ghost use Rattle.join_groups.specs.Output.{IsJoinText};
 ghost use Rattle.slot_join.specs.Answer.{is_reported};

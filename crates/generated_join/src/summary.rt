@@ -2,7 +2,7 @@
 ghost use Rattle.std.specs.Prelude.{◌≡◌, ◌+◌, ◌<◌, ◌≤◌, ◌++◌, List, if◌then◌else◌, codes, decimal, length};
 ghost use Rattle.std.specs.List.{list_all};
 ghost use Rattle.arrayvec.specs.ArrayVec.{array_vec_len};
-ghost use Rattle.dsc_lines.specs.JoinLine.{JoinLine};
+ghost use Rattle.input_lines.specs.JoinLine.{JoinLine};
 ghost use Rattle.slot_join.specs.Answer.{is_reported as tells_call};
 ghost use Rattle.generated_join.specs.Summary.{IsSummary, summary_text, is_missing as names_missing};
 ghost use Rattle.generated_join.specs.inside.Counted.{HasCounted};

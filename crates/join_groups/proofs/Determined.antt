@@ -7,15 +7,15 @@ use Rattle.slot_evidence.specs.Facts.{Facts}
 use Rattle.slot_evidence.specs.Sheet.{IsEnds}
 use Rattle.slot_join.specs.declared.joined.Joined.{Joined}
 use Rattle.slot_join.specs.Answer.{IsAnswer, is_reported}
-use Rattle.dsc_lines.specs.Evidence.{evidence_text}
+use Rattle.input_lines.specs.Evidence.{evidence_text}
 use Rattle.line_engine.specs.Lines.{Lines}
 use Rattle.line_engine.specs.Determined.{IsDetermined}
-use Rattle.dsc_lines.specs.JoinLine.{JoinLine, IsLine}
-use Rattle.dsc_lines.proofs.PublicLaws.{one_column}
+use Rattle.input_lines.specs.JoinLine.{JoinLine, IsLine}
+use Rattle.input_lines.proofs.PublicLaws.{one_column}
 use Rattle.line_engine.proofs.PublicLaws.{begins_empty}
 use Rattle.join_groups.specs.Groups.{group_facts}
 use Rattle.join_groups.specs.Output.{GroupLine, Telling, TellsAnswer, TellsEvidence, IsGroupsText}
-use Rattle.dsc_texts.specs.Texts.{answer_line}
+use Rattle.call_texts.specs.Texts.{answer_line}
 use Rattle.join_groups.specs.Meanings.{EndsTelling, groups_meaning}
 use Rattle.join_groups.proofs.Rising.{same_rising}
 use Rattle.join_groups.proofs.LinesTaken.{OneLine, same_said}

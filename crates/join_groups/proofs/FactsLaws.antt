@@ -1,7 +1,7 @@
 -- the facts of groups determine what is told of them
 use Rattle.std.proofs.Common.{◌≡◌, ℕ, List, subst}
 use Rattle.line_engine.specs.Lines.{Lines}
-use Rattle.dsc_lines.specs.JoinLine.{JoinLine}
+use Rattle.input_lines.specs.JoinLine.{JoinLine}
 use Rattle.join_groups.specs.Groups.{AreLines}
 use Rattle.join_groups.specs.Output.{Telling, IsGroupsText}
 use Rattle.join_groups.specs.Meanings.{EndsTelling}

@@ -5,11 +5,11 @@ use Rattle.slot_evidence.specs.declared.places.Seen.{Seen}
 use Rattle.slot_evidence.specs.Facts.{Facts, facts_of, no_facts}
 use Rattle.slot_evidence.specs.Sheet.{IsEnds}
 use Rattle.ten_unit.specs.declared.character.Element.{Element}
-use Rattle.dsc_lines.specs.JoinLine.{JoinLine, nothing, reception, evidence, IsLine}
-use Rattle.dsc_lines.specs.Lines.{Says, facts_of_pairs}
-use Rattle.dsc_lines.proofs.PublicLaws.{reception_few}
-use Rattle.dsc_lines.specs.declared.join.JoinLine.{JoinLine as Got}
-use Rattle.dsc_lines.specs.declared.join.JoinLine.TheVariants as got
+use Rattle.input_lines.specs.JoinLine.{JoinLine, nothing, reception, evidence, IsLine}
+use Rattle.input_lines.specs.Lines.{Says, facts_of_pairs}
+use Rattle.input_lines.proofs.PublicLaws.{reception_few}
+use Rattle.input_lines.specs.declared.join.JoinLine.{JoinLine as Got}
+use Rattle.input_lines.specs.declared.join.JoinLine.TheVariants as got
 use Rattle.join_groups.specs.declared.groups.NamedGroups.{NamedGroups}
 use Rattle.join_groups.specs.Groups.{names, is_named, facts_of_line, group_facts}
 use Rattle.join_groups.specs.Holds.{IsFull, Holds, number_in, named_with, facts_with}

@@ -10,12 +10,12 @@ use Rattle.line_engine.specs.Lines.{Lines}
 use Rattle.line_engine.specs.Faults.{IsFaultless}
 use Rattle.line_engine.specs.Determined.{IsNeverStuck}
 use Rattle.line_engine.proofs.PublicLaws.{sound_line_of}
-use Rattle.dsc_lines.specs.JoinLine.{JoinLine, nothing, reception, evidence, IsPair, IsLine}
-use Rattle.dsc_lines.specs.Lines.{facts_of_pairs}
-use Rattle.dsc_lines.proofs.PublicLaws.{line_there}
+use Rattle.input_lines.specs.JoinLine.{JoinLine, nothing, reception, evidence, IsPair, IsLine}
+use Rattle.input_lines.specs.Lines.{facts_of_pairs}
+use Rattle.input_lines.proofs.PublicLaws.{line_there}
 use Rattle.join_groups.specs.Groups.{AreLines, is_named, facts_of_line, group_facts, AreAbove, IsRising, is_among, AreGroups}
 use Rattle.join_groups.specs.Output.{GroupLine, Telling, TellsAnswer, IsGroupsText}
-use Rattle.dsc_texts.specs.Texts.{answer_line}
+use Rattle.call_texts.specs.Texts.{answer_line}
 use Rattle.join_groups.specs.Meanings.{groups_meaning}
 
 -- it can't be that there is none

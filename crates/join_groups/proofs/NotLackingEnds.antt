@@ -8,9 +8,9 @@ use Rattle.slot_evidence.specs.declared.places.Seen.TheVariants as seen
 use Rattle.slot_evidence.specs.Facts.{Facts, Symbols}
 use Rattle.slot_evidence.specs.Seen.{IsSeen}
 use Rattle.slot_evidence.specs.Sheet.{IsEnds, seen_at}
-use Rattle.dsc_lines.specs.Evidence.{evidence_text}
+use Rattle.input_lines.specs.Evidence.{evidence_text}
 use Rattle.line_engine.specs.Determined.{IsNeverStuck}
-use Rattle.dsc_lines.specs.JoinLine.{JoinLine}
+use Rattle.input_lines.specs.JoinLine.{JoinLine}
 use Rattle.join_groups.specs.Groups.{group_facts, AreGroups}
 use Rattle.join_groups.specs.Output.{GroupLine, TellsEvidence, IsGroupsText}
 use Rattle.join_groups.specs.Meanings.{groups_meaning}

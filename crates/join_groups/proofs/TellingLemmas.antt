@@ -12,7 +12,7 @@ use Rattle.slot_evidence.specs.declared.places.Seen.{Seen}
 use Rattle.slot_evidence.specs.Facts.{Facts}
 use Rattle.slot_evidence.specs.Sheet.{IsEnds}
 use Rattle.receiver_pool.specs.declared.group_entries.GroupReception.{GroupReception}
-use Rattle.dsc_lines.specs.JoinLine.{JoinLine}
+use Rattle.input_lines.specs.JoinLine.{JoinLine}
 use Rattle.join_groups.specs.Groups.{is_named, group_facts, AreGroups}
 use Rattle.join_groups.specs.Holds.{HoldsIn}
 use Rattle.join_groups.specs.Output.{GroupLine, Telling, IsGroupsText}

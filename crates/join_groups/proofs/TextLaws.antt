@@ -14,9 +14,9 @@ use Rattle.slot_evidence.specs.Alike.{AreAlike}
 use Rattle.slot_evidence.proofs.PublicLaws.{same_alike, flip_alike}
 use Rattle.slot_join.specs.declared.joined.Joined.{Joined}
 use Rattle.slot_join.specs.Answer.{IsAnswer}
-use Rattle.dsc_lines.specs.JoinLine.{JoinLine, evidence}
-use Rattle.dsc_lines.specs.Lines.{facts_of_pairs}
-use Rattle.dsc_lines.specs.Evidence.{pairs_below}
+use Rattle.input_lines.specs.JoinLine.{JoinLine, evidence}
+use Rattle.input_lines.specs.Lines.{facts_of_pairs}
+use Rattle.input_lines.specs.Evidence.{pairs_below}
 use Rattle.join_groups.specs.Groups.{names, is_named, facts_of_line, group_facts}
 use Rattle.join_groups.specs.Output.{GroupLine, Telling, TellsAnswer, TellsEvidence, IsGroupsText}
 use Rattle.join_groups.specs.Laws.{AreOfGroup}

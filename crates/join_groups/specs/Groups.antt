@@ -3,8 +3,8 @@ use Rattle.std.specs.Prelude.{◌≡◌, ℕ, ◌<◌, Bool, false, ◌&&◌, �
 use Rattle.std.specs.List.{list_any}
 use Rattle.slot_evidence.specs.Facts.{Facts, facts_of}
 use Rattle.line_engine.specs.Lines.{Lines}
-use Rattle.dsc_lines.specs.JoinLine.{JoinLine, nothing, reception, evidence, IsLine}
-use Rattle.dsc_lines.specs.Lines.{facts_of_pairs}
+use Rattle.input_lines.specs.JoinLine.{JoinLine, nothing, reception, evidence, IsLine}
+use Rattle.input_lines.specs.Lines.{facts_of_pairs}
 
 -- the lines say these, one by one
 abbrev pub AreLines : List JoinLine → Lines → Type 0

@@ -1,6 +1,6 @@
 -- Lines of one group, and lines with alike facts: this project's profile.
 use Rattle.std.specs.Prelude.{◌≡◌, ℕ, ◌==◌, List}
-use Rattle.dsc_lines.specs.JoinLine.{JoinLine}
+use Rattle.input_lines.specs.JoinLine.{JoinLine}
 use Rattle.slot_evidence.specs.Alike.{AreAlike}
 use Rattle.join_groups.specs.Groups.{is_named, group_facts}
 

@@ -3,7 +3,7 @@ use Rattle.std.specs.Prelude.{◌≡◌, ℕ, ◌≤◌, true, false, List, [], 
 use Rattle.line_grammar.specs.Columns.{IsColumn}
 use Rattle.line_engine.specs.Lines.{Lines}
 use Rattle.line_engine.specs.Meaning.{Meaning}
-use Rattle.dsc_lines.specs.JoinLine.{JoinLine, IsLine}
+use Rattle.input_lines.specs.JoinLine.{JoinLine, IsLine}
 use Rattle.join_groups.specs.declared.groups.TheConstants.{MOST_GROUPS}
 use Rattle.join_groups.specs.Groups.{AreLines, names, is_named, AreGroups}
 use Rattle.join_groups.specs.Output.{Telling, IsGroupsText}

@@ -8,9 +8,9 @@ use Rattle.slot_evidence.specs.Sheet.{IsEnds}
 use Rattle.slot_join.specs.declared.joined.Joined.{Joined}
 use Rattle.slot_join.specs.declared.joined.Joined.TheVariants.{Reported, Missing, Differ, Outside, Check}
 use Rattle.slot_join.specs.Answer.{IsAnswer, is_reported}
-use Rattle.dsc_texts.specs.Texts.{answer_line}
-use Rattle.dsc_lines.specs.Evidence.{evidence_text}
-use Rattle.dsc_lines.specs.JoinLine.{JoinLine}
+use Rattle.call_texts.specs.Texts.{answer_line}
+use Rattle.input_lines.specs.Evidence.{evidence_text}
+use Rattle.input_lines.specs.JoinLine.{JoinLine}
 use Rattle.join_groups.specs.Groups.{group_facts, AreGroups}
 
 -- what is told of a group: its line, and whether the run may end with status 0

@@ -6,7 +6,7 @@ ghost use Rattle.join_groups.specs.Meanings.{groups_meaning};
 
 use crate::commands::TellGroups;
 use crate::telling::Teller;
-use dsc_streams::{Sink, Source, Status};
+use byte_streams::{Sink, Source, Status};
 use line_engine::drive;
 use receiver_pool::{Gate, GroupReception, GroupSheet, Workers, pool_groups};
 use std::alloc::{AllocError, Global};

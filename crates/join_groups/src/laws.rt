@@ -3,8 +3,8 @@ ghost use Rattle.std.specs.Prelude.{◌≡◌, ℕ, ◌<◌, ◌^◌, ◌↔◌,
 ghost use Rattle.slot_evidence.specs.declared.places.Seen.{Seen};
 ghost use Rattle.slot_evidence.specs.Sheet.{IsSheet, IsEnds};
 ghost use Rattle.line_engine.specs.Determined.{IsDetermined, LacksNoOutput};
-ghost use Rattle.dsc_lines.specs.JoinLine.{JoinLine, IsLine, evidence};
-ghost use Rattle.dsc_lines.specs.Evidence.{pairs_below, evidence_text};
+ghost use Rattle.input_lines.specs.JoinLine.{JoinLine, IsLine, evidence};
+ghost use Rattle.input_lines.specs.Evidence.{pairs_below, evidence_text};
 ghost use Rattle.line_engine.specs.Lines.{Lines};
 ghost use Rattle.join_groups.specs.Groups.{AreLines, group_facts};
 ghost use Rattle.join_groups.specs.Output.{TellsAnswer, TellsEvidence, IsJoinText, IsEvidenceText};
@@ -12,7 +12,7 @@ ghost use Rattle.join_groups.specs.Meanings.{EndsTelling, groups_meaning};
 ghost use Rattle.join_groups.specs.Laws.{AreOfGroup, HaveAlikeFacts};
 
 use crate::groups::{MOST_GROUPS, MOST_IN_BATCH};
-use dsc_lines::{evidence_is_read, one_line};
+use input_lines::{evidence_is_read, one_line};
 use slot_evidence::{ends_are_kept, one_sheet};
 use slot_join::{alike_facts_have_one_answer, no_answer_is_lacking, one_answer};
 

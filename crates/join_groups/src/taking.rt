@@ -1,12 +1,12 @@
 //! The lines of `join` and `evidence`, and what groups take of them.
 ghost use Rattle.std.specs.Prelude.{◌≡◌, ◌≢◌, ◌++◌, ◌∷◌, ◌<◌, ◌≤◌, length, [], List, IfErr, OnOk};
-ghost use Rattle.dsc_lines.specs.JoinLine.{JoinLine as Line, IsLine};
+ghost use Rattle.input_lines.specs.JoinLine.{JoinLine as Line, IsLine};
 ghost use Rattle.join_groups.specs.Holds.{HoldsSome};
 ghost use Rattle.join_groups.specs.Meanings.{BringsTooMany};
 ghost use Rattle.join_groups.specs.inside.Kept.{Keeps, IsRefused, IsShort, TakesRead, RefusesRead};
 
 use crate::groups::{MOST_IN_BATCH, NamedGroups};
-use dsc_lines::{JoinLine, LineFault, join_line};
+use input_lines::{JoinLine, LineFault, join_line};
 use line_engine::{LONGEST_LINE, Refusal};
 use live_watch::WatchedJoiner;
 use receiver_pool::Joiner;

@@ -2,15 +2,15 @@
 ghost use Rattle.std.specs.Prelude.{◌≡◌, ℕ, ◌++◌, List, [], IfOk, if◌then◌else◌};
 ghost use Rattle.slot_evidence.specs.Facts.{Facts};
 ghost use Rattle.slot_evidence.specs.Sheet.{IsEnds};
-ghost use Rattle.dsc_lines.specs.JoinLine.{JoinLine};
+ghost use Rattle.input_lines.specs.JoinLine.{JoinLine};
 ghost use Rattle.join_groups.specs.Output as output;
 ghost use Rattle.join_groups.specs.Output.{Telling, TellsAnswer, TellsEvidence, IsGroupsText};
 ghost use Rattle.join_groups.specs.Holds.{HoldsSome};
 ghost use Rattle.join_groups.specs.inside.Kept.{Keeps};
 
 use crate::groups::NamedGroups;
-use dsc_lines::put_evidence_line;
-use dsc_texts::put_answer_line;
+use input_lines::put_evidence_line;
+use call_texts::put_answer_line;
 use slot_evidence::Sheet;
 use slot_join::{Joined, report};
 use std::alloc::AllocError;

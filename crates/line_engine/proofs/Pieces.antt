@@ -1,8 +1,8 @@
 -- from one read to the next
 use Rattle.std.proofs.Common.{◌≡◌, ℕ, zero, suc, ◌+◌, ◌*◌, ◌<◌, ◌≤◌, true, List, [], ◌++◌, length, Option, Result, Ok, Err, IsErrAnd, refl, sym, ◌∙◌, ap, subst, arith, append-nil, length-append}
 use Rattle.std.proofs.lemmas.List.{nil_from_length}
-use Rattle.dsc_streams.specs.Streams.{Loses, IsEnded}
-use Rattle.dsc_streams.proofs.PublicLaws.{Loses-none, Loses-more}
+use Rattle.byte_streams.specs.Streams.{Loses, IsEnded}
+use Rattle.byte_streams.proofs.PublicLaws.{Loses-none, Loses-more}
 use Rattle.line_engine.specs.declared.halts.Halt.{Halt}
 use Rattle.line_engine.specs.declared.halts.Halt.TheVariants as halt
 use Rattle.line_engine.specs.Lines.{Lines, lines_of}

@@ -1,10 +1,10 @@
 -- a run over a meaning is one over any with the same faults that it implies
 use Rattle.std.proofs.Common.{ℕ, List, ◌++◌, Option, ◌⊎◌, inl, inr}
-use Rattle.dsc_streams.specs.declared.streams.Source
-use Rattle.dsc_streams.specs.declared.streams.Sink
+use Rattle.byte_streams.specs.declared.streams.Source
+use Rattle.byte_streams.specs.declared.streams.Sink
 use Rattle.line_engine.specs.declared.faults.Fault.{Fault}
 use Rattle.line_engine.specs.declared.faults.Fault.TheVariants.{TooManyLines, TooLong, Column, TooManyGroups}
-use Rattle.dsc_streams.specs.Streams.{IsEnded}
+use Rattle.byte_streams.specs.Streams.{IsEnded}
 use Rattle.line_engine.specs.Lines.{Lines, lines_of}
 use Rattle.line_engine.specs.Meaning.{Meaning}
 use Rattle.line_engine.specs.Faults.{IsFault, IsFaultless, IsFirstFault}

@@ -1,6 +1,6 @@
 -- how a run ends
 use Rattle.std.proofs.Common.{◌≡◌, ◌≢◌, ℕ, List, [], ◌++◌, Option, refl, sym, ◌∙◌, ap, subst, arith, append-nil, ◌⊎◌, inl, inr}
-use Rattle.dsc_streams.specs.Streams.{IsEnded}
+use Rattle.byte_streams.specs.Streams.{IsEnded}
 use Rattle.line_engine.specs.declared.faults.FirstFault.{FirstFault}
 use Rattle.line_engine.specs.declared.halts.Halt.{Halt}
 use Rattle.line_engine.specs.declared.halts.Halt.TheVariants as halt

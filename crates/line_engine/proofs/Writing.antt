@@ -1,7 +1,7 @@
 -- what a sink gains
 use Rattle.std.proofs.Common.{◌≡◌, ℕ, List, [], ◌++◌, length, false, nat_eq, Option, Result, Ok, Err, OnOk, OnErr, IfErr, IsErrAnd, refl, sym, ◌∙◌, ap, subst, append_assoc, append-nil}
-use Rattle.dsc_streams.specs.Streams.{Gains, Rises}
-use Rattle.dsc_streams.proofs.PublicLaws.{Gains-none, Gains-more}
+use Rattle.byte_streams.specs.Streams.{Gains, Rises}
+use Rattle.byte_streams.proofs.PublicLaws.{Gains-none, Gains-more}
 use Rattle.line_engine.specs.inside.Progress.{HasWritten, Fails}
 
 -- a sink to which nothing was appended yet

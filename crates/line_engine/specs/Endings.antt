@@ -1,7 +1,7 @@
 -- How a run ends, by its status, and by what contracts see of its source and its sink before it and after it: this
 -- project's profile.
 use Rattle.std.specs.Prelude.{◌≡◌, ℕ, ◌≤◌, ◌⊎◌, List, [], ◌++◌, length, Option, Some}
-use Rattle.dsc_streams.specs.Streams.{Loses, Gains, IsEnded, IsFlushed}
+use Rattle.byte_streams.specs.Streams.{Loses, Gains, IsEnded, IsFlushed}
 use Rattle.line_engine.specs.Lines.{Lines, lines_of, IsCutInto}
 use Rattle.line_engine.specs.Meaning.{Meaning}
 use Rattle.line_engine.specs.Faults.{IsFaultless}

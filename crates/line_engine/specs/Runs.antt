@@ -1,8 +1,8 @@
 -- The promise of a run, by its status: this project's profile.
 use Rattle.std.specs.Prelude.{◌≡◌, ◌≢◌, ℕ, ◌⊎◌}
-use Rattle.dsc_streams.specs.declared.streams.Source
-use Rattle.dsc_streams.specs.declared.streams.Sink
-use Rattle.dsc_streams.specs.Streams.{Rises, SeenBefore}
+use Rattle.byte_streams.specs.declared.streams.Source
+use Rattle.byte_streams.specs.declared.streams.Sink
+use Rattle.byte_streams.specs.Streams.{Rises, SeenBefore}
 use Rattle.line_engine.specs.declared.bounds.TheConstants.{MOST_TAKEN}
 use Rattle.line_engine.specs.Meaning.{Meaning, IsQuiet}
 use Rattle.line_engine.specs.Endings.{IsFinished, IsOfFault, IsBrokenOff, TellsWhole, TellsFault, TellsSoFar, CutsOff, TellsFront, TakesAtMost}

@@ -7,7 +7,7 @@ ghost use Rattle.line_engine.specs.Commands.{IsTakenBehind, IsRefusedBehind, Kee
 ghost use Rattle.line_engine.specs.Endings.{IsFinished};
 
 use crate::bounds::{LONGEST_LINE, MOST_LINES};
-use dsc_streams::Status;
+use byte_streams::Status;
 use std::alloc::{AllocError, AllocFailed};
 
 /// Why a command doesn't take a line.

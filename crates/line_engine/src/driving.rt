@@ -1,6 +1,6 @@
 //! A run: the lines of a source to a command, and its text to a sink.
 ghost use Rattle.std.specs.Prelude.{◌≡◌, ◌≢◌, ◌⊎◌, ℕ, List, [], OnOk, IfErr, IsErrOf};
-ghost use Rattle.dsc_streams.specs.Streams.{Rises, SeenBefore};
+ghost use Rattle.byte_streams.specs.Streams.{Rises, SeenBefore};
 ghost use Rattle.line_engine.specs.declared.halts.Halt.TheVariants as halts;
 ghost use Rattle.line_engine.specs.Meaning.{IsQuiet};
 ghost use Rattle.line_engine.specs.Endings.{IsFinished, IsOfFault, IsBrokenOff, TakesAtMost, TellsWhole, TellsFault, TellsSoFar, CutsOff, TellsFront};
@@ -14,7 +14,7 @@ use crate::halts::Halt;
 use crate::telling::{tell, write_pending};
 use crate::walk::{check_open, pause, take_last, take_lines};
 use crate::window::Window;
-use dsc_streams::{Failed, Sink, Source, Status};
+use byte_streams::{Failed, Sink, Source, Status};
 use std::alloc::{AllocError, Global};
 
 /// Reads a source to its end and gives its lines to the command. What is pending is written before each read.

@@ -5,7 +5,7 @@ ghost use Rattle.line_engine.specs.Faults.{fault_line, fault_name};
 ghost use Rattle.line_engine.specs.Faults as faults;
 
 use arrayvec::ArrayVec;
-use dsc_streams::Status;
+use byte_streams::Status;
 use line_grammar::{append, append_number};
 
 /// What is wrong with a line of an input.

@@ -4,7 +4,7 @@ ghost use Rattle.line_engine.specs.Endings.{Writes};
 ghost use Rattle.line_engine.specs.inside.Progress.{HasWritten, Fails, PendingFails};
 
 use crate::halts::Halt;
-use dsc_streams::{Failed, Sink, Status, write_all};
+use byte_streams::{Failed, Sink, Status, write_all};
 
 /// Writes what is pending, and empties it.
 pub(crate) fn write_pending<K: Sink>(out: &mut Vec<u8>, sink: &mut K) -> Result<(), Halt>

@@ -10,7 +10,7 @@ use crate::command::{Command, Refusal};
 use crate::faults::{Fault, FirstFault};
 use crate::halts::Halt;
 use crate::telling::write_pending;
-use dsc_streams::Sink;
+use byte_streams::Sink;
 use memchr::memchr;
 
 /// Whether a line after so many lines, which has so many bytes, is within the limits.

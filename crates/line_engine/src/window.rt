@@ -1,9 +1,9 @@
 //! The bytes that were read and not yet taken.
 ghost use Rattle.std.specs.Prelude.{◌≡◌, ℕ, ◌+◌, ◌-◌, ◌≤◌, List, [], ◌++◌, length, drop, IfOk, OnOk, OnErr};
-ghost use Rattle.dsc_streams.specs.Streams.{Loses, Rises, IsEnded};
+ghost use Rattle.byte_streams.specs.Streams.{Loses, Rises, IsEnded};
 
 use crate::bounds::{LONGEST_LINE, PIECE};
-use dsc_streams::{Failed, Source};
+use byte_streams::{Failed, Source};
 use std::alloc::{AllocError, Global};
 use std::marker::Model;
 

@@ -5,8 +5,8 @@ use Rattle.line_engine.specs.Lines.{Lines}
 use Rattle.line_engine.specs.Faults.{IsFaultless}
 use Rattle.line_engine.specs.Determined.{IsComplete}
 use Rattle.line_engine.proofs.PublicLaws.{sound_line_of}
-use Rattle.dsc_lines.specs.declared.sentences.SentenceLine.{SentenceLine}
-use Rattle.dsc_lines.proofs.PublicLaws.{sentence_lines_judged}
+use Rattle.input_lines.specs.declared.sentences.SentenceLine.{SentenceLine}
+use Rattle.input_lines.proofs.PublicLaws.{sentence_lines_judged}
 use Rattle.sentence_files.specs.Telling.{AreSentenceLines, line_text, is_well, sentences_meaning}
 
 -- lines without a fault say something

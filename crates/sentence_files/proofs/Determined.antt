@@ -4,11 +4,11 @@ use Rattle.std.specs.List.{list_all}
 use Rattle.std.proofs.lemmas.Grind.{flat_map-append}
 use Rattle.line_engine.specs.Lines.{Lines}
 use Rattle.line_engine.specs.Determined.{IsDetermined, BeginsWith}
-use Rattle.dsc_lines.specs.declared.sentences.SentenceLine.{SentenceLine}
-use Rattle.dsc_lines.specs.declared.sentences.SentenceLine.TheVariants.{Said, Sentence}
-use Rattle.dsc_lines.specs.SentenceLine.{IsSentenceLine, SayTheSame}
+use Rattle.input_lines.specs.declared.sentences.SentenceLine.{SentenceLine}
+use Rattle.input_lines.specs.declared.sentences.SentenceLine.TheVariants.{Said, Sentence}
+use Rattle.input_lines.specs.SentenceLine.{IsSentenceLine, SayTheSame}
 use Rattle.dsc_sentences.specs.Verdicts.{verdict_of, verdict_text}
-use Rattle.dsc_lines.proofs.PublicLaws.{one_column}
+use Rattle.input_lines.proofs.PublicLaws.{one_column}
 use Rattle.sentence_files.specs.Telling.{AreSentenceLines, call_sentences, is_accepted, line_text, is_well, Gives, EndsSo, sentences_meaning}
 
 -- a line says one thing

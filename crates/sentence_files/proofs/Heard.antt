@@ -4,7 +4,7 @@ use Rattle.std.specs.List.{Contains}
 use Rattle.std.proofs.Math.Bool.{or-false}
 use Rattle.std.proofs.lemmas.Option.{same_Some}
 use Rattle.sentence_frame.specs.declared.refusals.SentenceRefusal.{SentenceRefusal}
-use Rattle.dsc_lines.specs.BookLine.{is_sentence}
+use Rattle.input_lines.specs.BookLine.{is_sentence}
 use Rattle.dsc_sentences.specs.declared.dsc.DscFields.{DscFields}
 use Rattle.dsc_sentences.specs.Heard.{IsHeard}
 use Rattle.dsc_sentences.specs.Verdicts.{verdict_of}

@@ -2,8 +2,8 @@
 use Rattle.std.proofs.Common.{◌≡◌, ℕ, List, sym, ap, ◌∙◌}
 use Rattle.line_engine.specs.Lines.{Lines}
 use Rattle.line_engine.specs.Determined.{IsDetermined}
-use Rattle.dsc_lines.specs.BookLine.{IsBookLine}
-use Rattle.dsc_lines.proofs.PublicLaws.{one_column}
+use Rattle.input_lines.specs.BookLine.{IsBookLine}
+use Rattle.input_lines.proofs.PublicLaws.{one_column}
 use Rattle.casualty_book.specs.declared.rows.BookRow.{BookRow}
 use Rattle.casualty_book.specs.Books.{IsBook, HaveSameRows}
 use Rattle.casualty_book.specs.Texts.{book_text}

@@ -5,7 +5,7 @@ use Rattle.std.proofs.lemmas.List.Elements.{Contains-append_left, Contains-push,
 use Rattle.std.proofs.Math.Bool.{or-false, or_assoc}
 use Rattle.plain_laws.proofs.Lists.{holds_none}
 use Rattle.line_engine.specs.Lines.{Lines}
-use Rattle.dsc_lines.specs.BookLine.{is_sentence}
+use Rattle.input_lines.specs.BookLine.{is_sentence}
 use Rattle.dsc_sentences.specs.Verdicts.{verdict_of}
 use Rattle.casualty_book.specs.declared.rows.BookRow.{BookRow}
 use Rattle.sentence_files.specs.declared.books.Logs.{Logs}

@@ -4,8 +4,8 @@ use Rattle.std.specs.List.{list_all}
 use Rattle.std.proofs.lemmas.Grind.{flat_map-append}
 use Rattle.std.proofs.Math.Bool.{and-true, and_assoc}
 use Rattle.line_engine.specs.Lines.{Lines}
-use Rattle.dsc_lines.specs.declared.sentences.SentenceLine.{SentenceLine}
-use Rattle.dsc_lines.specs.SentenceLine.{IsSentenceLine}
+use Rattle.input_lines.specs.declared.sentences.SentenceLine.{SentenceLine}
+use Rattle.input_lines.specs.SentenceLine.{IsSentenceLine}
 use Rattle.sentence_files.specs.Telling.{AreSentenceLines, line_text, is_well}
 use Rattle.sentence_files.specs.inside.Progress.{HasTold}
 

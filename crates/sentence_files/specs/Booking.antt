@@ -4,7 +4,7 @@ use Rattle.std.specs.List.{Contains, list_any}
 use Rattle.line_grammar.specs.Columns.{IsColumn}
 use Rattle.line_engine.specs.Lines.{Lines}
 use Rattle.line_engine.specs.Meaning.{Meaning}
-use Rattle.dsc_lines.specs.BookLine.{is_sentence, IsBookLine}
+use Rattle.input_lines.specs.BookLine.{is_sentence, IsBookLine}
 use Rattle.dsc_sentences.specs.declared.dsc.DscFields.{DscFields}
 use Rattle.dsc_sentences.specs.declared.verdicts.Verdict.{Verdict}
 use Rattle.dsc_sentences.specs.declared.verdicts.Verdict.TheVariants.{Accepted, Refused}

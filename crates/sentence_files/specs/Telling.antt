@@ -5,11 +5,11 @@ use Rattle.line_grammar.specs.Bytes.{line_feed}
 use Rattle.line_grammar.specs.Columns.{IsColumn}
 use Rattle.line_engine.specs.Lines.{Lines}
 use Rattle.line_engine.specs.Meaning.{Meaning}
-use Rattle.dsc_lines.specs.declared.calls.CallLine.{CallLine}
-use Rattle.dsc_lines.specs.declared.calls.CallLine.TheVariants as line
-use Rattle.dsc_lines.specs.declared.sentences.SentenceLine.{SentenceLine}
-use Rattle.dsc_lines.specs.declared.sentences.SentenceLine.TheVariants.{Said, Sentence}
-use Rattle.dsc_lines.specs.SentenceLine.{IsSentenceLine}
+use Rattle.input_lines.specs.declared.calls.CallLine.{CallLine}
+use Rattle.input_lines.specs.declared.calls.CallLine.TheVariants as line
+use Rattle.input_lines.specs.declared.sentences.SentenceLine.{SentenceLine}
+use Rattle.input_lines.specs.declared.sentences.SentenceLine.TheVariants.{Said, Sentence}
+use Rattle.input_lines.specs.SentenceLine.{IsSentenceLine}
 use Rattle.dsc_sentences.specs.declared.verdicts.Verdict.{Verdict}
 use Rattle.dsc_sentences.specs.declared.verdicts.Verdict.TheVariants.{Accepted, Refused}
 use Rattle.dsc_sentences.specs.CallSentences.{sentences_of}

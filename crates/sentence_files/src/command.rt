@@ -6,7 +6,7 @@ ghost use Rattle.dsc_sentences.specs.CallSentences.{sentences_of};
 ghost use Rattle.sentence_files.specs.Telling.{call_sentences, is_accepted, is_well, line_text, sentences_meaning};
 ghost use Rattle.sentence_files.specs.inside.Progress.{HasTold};
 
-use dsc_lines::{CallLine, SentenceLine, Status, sentence_line};
+use input_lines::{CallLine, SentenceLine, Status, sentence_line};
 use dsc_sentences::{Verdict, put_sentences, put_verdict, verdict_on};
 use line_engine::{Command, Refusal};
 use std::alloc::AllocError;

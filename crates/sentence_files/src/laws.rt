@@ -2,7 +2,7 @@
 ghost use Rattle.line_engine.specs.Determined.{IsDetermined, HasOutputs};
 ghost use Rattle.sentence_files.specs.Telling.{sentences_meaning};
 
-use dsc_lines::one_sentence_line;
+use input_lines::one_sentence_line;
 
 /// The law that lines of calls and sentences determine what `sentences` writes. It does nothing.
 pub fn lines_determine_output()

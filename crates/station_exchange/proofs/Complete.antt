@@ -6,7 +6,7 @@ use Rattle.line_engine.specs.Determined.{HasOutputs}
 use Rattle.line_engine.proofs.PublicLaws.{has_outputs, sound_line_of}
 use Rattle.traffic_lines.specs.declared.worlds.WorldLine.TheVariants.{Ship, Coast, Base, Entry}
 use Rattle.traffic_lines.proofs.PublicLaws.{IsExchangePoint}
-use Rattle.dsc_lines.proofs.PublicLaws.{world_lines_judged}
+use Rattle.input_lines.proofs.PublicLaws.{world_lines_judged}
 use Rattle.station_exchange.specs.Said.{Said, point_of, world_of, AreSaid}
 use Rattle.station_exchange.specs.Output.{text_of, all_accepted}
 use Rattle.station_exchange.specs.Meaning.{IsIllFormed, Exchanges, exchange_meaning}

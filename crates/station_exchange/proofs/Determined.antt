@@ -3,8 +3,8 @@ use Rattle.std.proofs.Common.{◌≡◌, ℕ, if◌then◌else◌, List, ◌++�
 use Rattle.line_grammar.specs.Columns.{IsColumn}
 use Rattle.line_engine.specs.Lines.{Lines}
 use Rattle.line_engine.specs.Determined.{IsDetermined, BeginsWith}
-use Rattle.dsc_lines.specs.WorldLine.{IsWorldFileLine}
-use Rattle.dsc_lines.proofs.PublicLaws.{one_column}
+use Rattle.input_lines.specs.WorldLine.{IsWorldFileLine}
+use Rattle.input_lines.proofs.PublicLaws.{one_column}
 use Rattle.station_exchange.specs.Said.{Said, point_of, world_of}
 use Rattle.station_exchange.specs.Output.{text_of, all_accepted}
 use Rattle.station_exchange.specs.Meaning.{IsIllFormed, Exchanges, exchange_meaning}

@@ -7,8 +7,8 @@ use Rattle.traffic_lines.specs.declared.worlds.ExchangePoint.TheVariants as poin
 use Rattle.traffic_lines.specs.declared.worlds.Entry as entries
 use Rattle.traffic_lines.specs.declared.worlds.WorldLine.TheVariants.{Ship, Coast, Base, Entry}
 use Rattle.line_engine.specs.Lines.{Lines}
-use Rattle.dsc_lines.specs.JoinLine.{IsNothing}
-use Rattle.dsc_lines.specs.WorldLine.{IsWorldFileLine}
+use Rattle.input_lines.specs.JoinLine.{IsNothing}
+use Rattle.input_lines.specs.WorldLine.{IsWorldFileLine}
 use Rattle.exchange.specs.StandsFor.{Stands}
 use Rattle.exchange.specs.WorldRules.{Parties, answer_behind}
 use Rattle.exchange.specs.WorldHistories.{WorldHistory, ends_of}

@@ -8,7 +8,7 @@ use Rattle.line_engine.specs.declared.command.Refusal.{Refusal}
 use Rattle.line_engine.specs.Commands.{IsTakenBehind, IsRefusedBehind}
 use Rattle.traffic_lines.specs.declared.worlds.ExchangePoint.{ExchangePoint}
 use Rattle.traffic_lines.specs.declared.worlds.WorldLine.{WorldLine}
-use Rattle.dsc_lines.specs.WorldLine.{IsWorldFileLine}
+use Rattle.input_lines.specs.WorldLine.{IsWorldFileLine}
 use Rattle.station_lines.proofs.PublicLaws.{not_empty}
 use Rattle.station_exchange.specs.Said.{Said, point_of, AreSaid}
 use Rattle.station_exchange.specs.Meaning.{exchange_meaning}

@@ -3,7 +3,7 @@ use Rattle.std.specs.Prelude.{◌≡◌, ℕ, List, if◌then◌else◌}
 use Rattle.line_grammar.specs.Columns.{IsColumn}
 use Rattle.line_engine.specs.Lines.{Lines}
 use Rattle.line_engine.specs.Meaning.{Meaning}
-use Rattle.dsc_lines.specs.WorldLine.{IsWorldFileLine}
+use Rattle.input_lines.specs.WorldLine.{IsWorldFileLine}
 use Rattle.station_exchange.specs.Said.{Said, point_of, world_of, AreSaid}
 use Rattle.station_exchange.specs.Output.{text_of, all_accepted}
 

@@ -6,7 +6,7 @@ use Rattle.traffic_lines.specs.declared.worlds.ExchangePoint.{ExchangePoint}
 use Rattle.traffic_lines.specs.declared.worlds.ExchangePoint.TheVariants as point
 use Rattle.traffic_lines.specs.declared.worlds.WorldLine.{WorldLine}
 use Rattle.traffic_lines.specs.declared.worlds.WorldLine.TheVariants.{Ship, Coast, Base, Entry}
-use Rattle.dsc_lines.specs.WorldLine.{IsWorldFileLine}
+use Rattle.input_lines.specs.WorldLine.{IsWorldFileLine}
 use Rattle.line_engine.specs.Lines.{Lines}
 use Rattle.exchange.specs.WorldHistories.{WorldHistory}
 use Rattle.exchange.specs.WorldRules.{Parties, world_continued}

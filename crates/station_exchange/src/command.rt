@@ -10,7 +10,7 @@ ghost use Rattle.station_exchange.specs.inside.Gives.{gives_text};
 
 use crate::stages::{Stage, behind_base, behind_coast, behind_ship};
 use call_values::{Band, Mmsi};
-use dsc_lines::{Status, exchange_columns, one_exchange_line, says_nothing};
+use input_lines::{Status, exchange_columns, one_exchange_line, says_nothing};
 use line_engine::{Command, Refusal};
 use std::alloc::{AllocError, Global};
 use traffic_rules::Acts;

@@ -3,7 +3,7 @@ ghost use Rattle.line_engine.specs.Runs.{IsRun};
 ghost use Rattle.station_exchange.specs.Meaning.{exchange_meaning};
 
 use crate::command::Exchanging;
-use dsc_streams::{Sink, Source, Status};
+use byte_streams::{Sink, Source, Status};
 use line_engine::drive;
 use std::alloc::Global;
 

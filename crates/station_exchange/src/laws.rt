@@ -9,7 +9,7 @@ ghost use Rattle.exchange.specs.WorldRules.{IsLegal};
 ghost use Rattle.station_exchange.specs.Meaning.{exchange_meaning};
 ghost use Rattle.station_exchange.specs.Said.{Said, parties_of, world_of, AreSaid};
 
-use dsc_lines::one_exchange_line;
+use input_lines::one_exchange_line;
 use exchange::exchanges_go_on_legally;
 
 /// The law that the lines of a file of an exchange determine what `exchange` writes. It does nothing.

@@ -5,8 +5,8 @@ use Rattle.traffic_rules.specs.declared.acts.Act.TheVariants.{Send, Shown, Held,
 use Rattle.line_grammar.specs.Shapes.{digits}
 use Rattle.line_grammar.specs.Sections.{labelled}
 use Rattle.line_grammar.specs.Grammar.{Grammar, finish, word, none, part, written}
-use Rattle.dsc_texts.specs.CallGrammar.{identity, ship_in_distress}
-use Rattle.dsc_texts.specs.CallParts.{form_of, parts_of, ship_in_distress_parts}
+use Rattle.call_texts.specs.CallGrammar.{identity, ship_in_distress}
+use Rattle.call_texts.specs.CallParts.{form_of, parts_of, ship_in_distress_parts}
 use Rattle.station_lines.specs.Moments.{number, at_moment}
 
 -- a call is sent, so many times in a row

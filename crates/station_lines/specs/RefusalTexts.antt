@@ -5,7 +5,7 @@ use Rattle.traffic_rules.specs.declared.refusals.StationRefusal.TheVariants.{Ale
 use Rattle.line_grammar.specs.Shapes.{digits}
 use Rattle.line_grammar.specs.Sections.{labelled}
 use Rattle.line_grammar.specs.Grammar.{Grammar, finish, word, none, part, written}
-use Rattle.dsc_texts.specs.CallGrammar.{identity}
+use Rattle.call_texts.specs.CallGrammar.{identity}
 use Rattle.station_lines.specs.Moments.{number, at_moment}
 
 -- the station's distress alert is on already

@@ -5,7 +5,7 @@ ghost use Rattle.station_lines.specs.ActTexts.{act_text, told_act};
 
 use crate::moments::{append_labelled, append_moment};
 use arrayvec::ArrayVec;
-use dsc_texts::{append_call, append_ship_in_distress};
+use call_texts::{append_call, append_ship_in_distress};
 use line_grammar::{append, append_digits};
 use traffic_rules::Act;
 
@@ -30,7 +30,7 @@ pub fn append_act_text<const N: usize>(out: &mut ArrayVec<u8, N>, at: u32, act: 
 }
 
 /// Appends what is written of an act, which takes at most 137 bytes.
-#[tactic(auto, unfolding(dsc_texts::specs::CallParts::call_text))]
+#[tactic(auto, unfolding(call_texts::specs::CallParts::call_text))]
 fn append_act<const N: usize>(out: &mut ArrayVec<u8, N>, act: &Act)
     requires { array_vec_len out.old + 137 ≤ N }
     ensures { out.new.items ≡ out.old.items ++ told_act act.now }

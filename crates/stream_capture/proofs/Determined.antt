@@ -4,8 +4,8 @@ use Rattle.ten_unit.specs.declared.character.Element.{Element}
 use Rattle.line_grammar.specs.Columns.{Spelling}
 use Rattle.line_engine.specs.Lines.{Lines}
 use Rattle.line_engine.specs.Determined.{IsDetermined, BeginsWith}
-use Rattle.dsc_lines.specs.StreamLine.{IsStreamLine}
-use Rattle.dsc_lines.proofs.PublicLaws.{one_column}
+use Rattle.input_lines.specs.StreamLine.{IsStreamLine}
+use Rattle.input_lines.proofs.PublicLaws.{one_column}
 use Rattle.long_capture.specs.Captures.{decided}
 use Rattle.stream_capture.specs.Telling.{AreStreamLines, stream_of, AnsweredStart, AreAnswered, told_text, are_reported, GivesStarts, EndsStarts, capture_meaning}
 use Rattle.stream_capture.proofs.Texts.{told_append}

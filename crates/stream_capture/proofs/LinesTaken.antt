@@ -3,8 +3,8 @@ use Rattle.std.proofs.Common.{◌≡◌, ℕ, ◌+◌, ◌<◌, ◌≤◌, ◌^�
 use Rattle.ten_unit.specs.declared.character.Element.{Element}
 use Rattle.line_engine.specs.declared.bounds.TheConstants.{LONGEST_LINE, MOST_LINES}
 use Rattle.line_engine.specs.Lines.{Lines}
-use Rattle.dsc_lines.specs.StreamLine.{IsStreamLine}
-use Rattle.dsc_lines.proofs.PublicLaws.{stream_few}
+use Rattle.input_lines.specs.StreamLine.{IsStreamLine}
+use Rattle.input_lines.proofs.PublicLaws.{stream_few}
 use Rattle.long_capture.specs.Captures.{Ending, decided}
 use Rattle.stream_capture.specs.declared.command.Capturing.{Capturing}
 use Rattle.stream_capture.specs.Telling.{AreStreamLines, stream_of, AreAnswered, EndsStarts}

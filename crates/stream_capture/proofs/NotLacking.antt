@@ -10,8 +10,8 @@ use Rattle.line_engine.specs.Lines.{Lines}
 use Rattle.line_engine.specs.Faults.{IsFaultless}
 use Rattle.line_engine.specs.Determined.{IsNeverStuck}
 use Rattle.line_engine.proofs.PublicLaws.{sound_line_of}
-use Rattle.dsc_lines.specs.StreamLine.{IsStreamLine}
-use Rattle.dsc_lines.proofs.PublicLaws.{line_there}
+use Rattle.input_lines.specs.StreamLine.{IsStreamLine}
+use Rattle.input_lines.proofs.PublicLaws.{line_there}
 use Rattle.long_capture.specs.Starts.{starts_below, facts_from}
 use Rattle.long_capture.specs.Captures.{decided}
 use Rattle.stream_capture.specs.Telling.{AreStreamLines, stream_of, AnsweredStart, AreAnswered, told_text, are_reported, capture_meaning}

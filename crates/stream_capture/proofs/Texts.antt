@@ -4,7 +4,7 @@ use Rattle.slot_join.specs.declared.joined.Joined.{Joined}
 use Rattle.std.specs.Fmt.{signed_decimal}
 use Rattle.std.proofs.Math.Bool.{and-true, and_assoc}
 use Rattle.slot_join.specs.Answer.{is_reported}
-use Rattle.dsc_texts.specs.Texts.{answer_line}
+use Rattle.call_texts.specs.Texts.{answer_line}
 use Rattle.stream_capture.specs.Telling.{AnsweredStart, start_line, told_text, are_reported}
 
 -- a start's line after a text, piece by piece

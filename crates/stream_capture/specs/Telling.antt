@@ -9,8 +9,8 @@ use Rattle.slot_join.specs.Answer.{IsAnswer, is_reported}
 use Rattle.line_grammar.specs.Columns.{IsColumn}
 use Rattle.line_engine.specs.Lines.{Lines}
 use Rattle.line_engine.specs.Meaning.{Meaning}
-use Rattle.dsc_lines.specs.StreamLine.{IsStreamLine}
-use Rattle.dsc_texts.specs.Texts.{answer_line}
+use Rattle.input_lines.specs.StreamLine.{IsStreamLine}
+use Rattle.call_texts.specs.Texts.{answer_line}
 use Rattle.long_capture.specs.Starts.{starts_below, facts_from}
 use Rattle.long_capture.specs.Captures.{decided}
 

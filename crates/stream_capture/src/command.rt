@@ -10,8 +10,8 @@ ghost use Rattle.stream_capture.specs.inside.Gives.{gives_text};
 
 use crate::elements::elements_of;
 use crate::lines::append_start;
-use dsc_lines::{one_stream_line, stream_line};
-use dsc_streams::Status;
+use input_lines::{one_stream_line, stream_line};
+use byte_streams::Status;
 use line_engine::{Command, LONGEST_LINE, Refusal};
 use long_capture::{Capture, Start, starts_go_on, taking_ends};
 use std::alloc::AllocError;

@@ -5,7 +5,7 @@ ghost use Rattle.line_engine.specs.Determined.{IsDetermined, LacksNoOutput};
 ghost use Rattle.ten_unit.specs.declared.character.Element.{Element};
 ghost use Rattle.stream_capture.specs.Telling.{AreStreamLines, stream_of, EndsStarts, capture_meaning};
 
-use dsc_lines::one_stream_line;
+use input_lines::one_stream_line;
 use long_capture::decided_starts_stay;
 use slot_join::{no_answer_is_lacking, one_answer};
 

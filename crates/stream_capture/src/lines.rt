@@ -6,7 +6,7 @@ ghost use Rattle.slot_evidence.specs.Sheet.{IsEnds};
 ghost use Rattle.slot_join.specs.declared.joined.Joined.{Joined};
 ghost use Rattle.stream_capture.specs.Telling.{start_line};
 
-use dsc_texts::put_answer_line;
+use call_texts::put_answer_line;
 use itoa::Buffer;
 use slot_join::is_reported;
 use slot_evidence::Sheet;

@@ -1,7 +1,7 @@
 -- the rows of events, and the parts of their texts
 use Rattle.std.proofs.Common.{◌≡◌, ℕ, Bool, true, false, ◌⊎◌, inl, inr, Option, Some, None, codes, refl, arith}
 use Rattle.call_values.specs.declared.calls.Call.{Call}
-use Rattle.dsc_texts.proofs.PublicLaws.{identity_told, address_told, position_told, nature_told, comm_told, calls_section, extra_section}
+use Rattle.call_texts.proofs.PublicLaws.{identity_told, address_told, position_told, nature_told, comm_told, calls_section, extra_section}
 use Rattle.line_grammar.specs.Grammar.{Grammar, Parts}
 use Rattle.line_grammar.proofs.Rows.{Names, under}
 use Rattle.line_grammar.proofs.Sections.{Section, worded, labelled, nothing, followed, sided}

@@ -3,8 +3,8 @@ use Rattle.std.proofs.Common.{◌≡◌, ◌≢◌, ℕ, true, ◌⊎◌, inl, i
 use Rattle.call_values.specs.declared.choices.Band.{Band}
 use Rattle.call_values.specs.declared.choices.Band.TheVariants.{Mf, Hf, Vhf}
 use Rattle.call_values.specs.Identity.{IsMmsi}
-use Rattle.dsc_texts.specs.CallGrammar.{identity}
-use Rattle.dsc_texts.proofs.PublicLaws.{identity_told}
+use Rattle.call_texts.specs.CallGrammar.{identity}
+use Rattle.call_texts.proofs.PublicLaws.{identity_told}
 use Rattle.line_grammar.specs.Shapes.{digits}
 use Rattle.line_grammar.specs.Tokens.{Token}
 use Rattle.line_grammar.specs.Grammar.{Grammar, Parts}

@@ -8,12 +8,12 @@ use Rattle.call_values.specs.Parts.{IsTo}
 use Rattle.call_values.specs.Positions.{IsPosition}
 use Rattle.dsc_symbols.specs.Natures.{IsNature}
 use Rattle.dsc_symbols.specs.Telecommands.{IsComm}
-use Rattle.dsc_texts.specs.CallGrammar as calls
-use Rattle.dsc_texts.specs.CallGrammar.{perhaps, expansion}
-use Rattle.dsc_texts.specs.CallParts.{address_text, position_text}
-use Rattle.dsc_texts.specs.Texts.{IsWholeOrAbsent}
-use Rattle.dsc_texts.specs.inside.Expansions.{extra_parts}
-use Rattle.dsc_texts.specs.inside.Places.{call_parts}
+use Rattle.call_texts.specs.CallGrammar as calls
+use Rattle.call_texts.specs.CallGrammar.{perhaps, expansion}
+use Rattle.call_texts.specs.CallParts.{address_text, position_text}
+use Rattle.call_texts.specs.Texts.{IsWholeOrAbsent}
+use Rattle.call_texts.specs.inside.Expansions.{extra_parts}
+use Rattle.call_texts.specs.inside.Places.{call_parts}
 use Rattle.line_grammar.specs.declared.decimal.TheConstants.{LARGEST_NUMBER}
 use Rattle.line_grammar.specs.Shapes.{digits}
 use Rattle.line_grammar.specs.Tokens.{Token, free_number}

@@ -5,7 +5,7 @@ use Rattle.call_values.specs.declared.bounds.TheConstants.{LAST_BASE}
 use Rattle.call_values.specs.declared.choices.Band.{Band}
 use Rattle.call_values.specs.declared.choices.Band.TheVariants.{Mf, Hf, Vhf}
 use Rattle.call_values.specs.Identity.{IsMmsi}
-use Rattle.dsc_texts.specs.CallGrammar.{identity}
+use Rattle.call_texts.specs.CallGrammar.{identity}
 use Rattle.line_grammar.specs.Shapes.{digits}
 use Rattle.line_grammar.specs.Tokens.{Token, free_number, is_digit}
 use Rattle.line_grammar.specs.Grammar.{Grammar, word, field, either, Parts, part, first, second}

@@ -3,7 +3,7 @@ use Rattle.std.specs.Prelude.{◌≡◌, ◌≢◌, ℕ, List, [], ◌∷◌, �
 use Rattle.call_values.specs.declared.bounds.TheConstants as bounds
 use Rattle.call_values.specs.declared.choices.Band.{Band}
 use Rattle.call_values.specs.Identity.{IsMmsi}
-use Rattle.dsc_texts.specs.CallGrammar.{identity}
+use Rattle.call_texts.specs.CallGrammar.{identity}
 use Rattle.line_grammar.specs.Shapes.{digits, fixed_number}
 use Rattle.line_grammar.specs.Tokens.{Token, shaped}
 use Rattle.line_grammar.specs.Grammar.{Grammar, word, either, Parts, part, first, second}

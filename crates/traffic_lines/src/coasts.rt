@@ -9,7 +9,7 @@ use crate::rows::{Rows, spelled, to_end};
 use crate::values::AckWait;
 use call_values::{CoastDelay, Mmsi, To};
 use cursor::Cursor;
-use dsc_texts::field;
+use call_texts::field;
 use line_grammar::{Left, end, further};
 
 /// Reads that no delay is given.

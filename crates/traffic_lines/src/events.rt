@@ -7,7 +7,7 @@ ghost use Rattle.traffic_lines.specs.Events.{IsDeed, IsEvent, IsGet, IsHearing, 
 use crate::lines::{Deed, Event, Hearing};
 use crate::rows::{Rows, spelled, to_end};
 use crate::values::{Held, Number};
-use dsc_texts::{any_call, extra_of};
+use call_texts::{any_call, extra_of};
 use expansion::Expansion;
 use line_grammar::{Left, further};
 

@@ -5,7 +5,7 @@ ghost use Rattle.traffic_lines.specs.declared.worlds.WorldLine.{WorldLine};
 ghost use Rattle.traffic_lines.specs.Lines.{IsFirstByte, IsLineText};
 ghost use Rattle.traffic_lines.specs.Worlds.{IsWorldLineText};
 
-use dsc_texts::texts_tell_calls_apart;
+use call_texts::texts_tell_calls_apart;
 
 /// The law that a line says one thing, wherever it is.
 pub fn one_traffic_line()

@@ -1,5 +1,5 @@
 //! The lines in front of the events, and those of a ship: a reader for each row.
-ghost use Rattle.dsc_texts.specs.CallGrammar.{identity};
+ghost use Rattle.call_texts.specs.CallGrammar.{identity};
 ghost use Rattle.call_values.specs.Identity.{IsMmsi};
 ghost use Rattle.line_grammar.specs.Sections.{last, nth};
 ghost use Rattle.line_grammar.specs.Rows.{ReadsRow};
@@ -11,7 +11,7 @@ use crate::rows::{Rows, spelled, to_end};
 use crate::values::{Number, Second};
 use call_values::{Band, Mmsi};
 use cursor::Cursor;
-use dsc_texts::{Token, field};
+use call_texts::{Token, field};
 use line_grammar::{Left, further, word};
 
 /// The identity of a ship that is the station.

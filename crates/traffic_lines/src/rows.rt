@@ -6,7 +6,7 @@ ghost use Rattle.line_grammar.specs.Sections.{labelled, last, ReadsTail};
 ghost use Rattle.line_grammar.specs.Rows.{ReadsRow, ReadsWhole};
 
 use cursor::Cursor;
-use dsc_texts::{Token, end, field};
+use call_texts::{Token, end, field};
 use line_grammar::{Left, column};
 
 /// A value that goes to the end of a line, by rows of a grammar.

@@ -9,7 +9,7 @@ use crate::rows::{Rows, spelled, to_end};
 use crate::values::Wait;
 use call_values::{Comm, Nature, Position};
 use cursor::Cursor;
-use dsc_texts::field;
+use call_texts::field;
 use line_grammar::{Left, further};
 
 /// Reads `position` and the ten digits of a position.

@@ -10,7 +10,7 @@ use call_values::bounds::{
     LAST_BASE, LONGEST_ALERT_DELAY, LONGEST_COAST_DELAY, SHORTEST_ALERT_DELAY, SHORTEST_COAST_DELAY,
 };
 use call_values::{AlertDelay, CoastDelay};
-use dsc_texts::Token;
+use call_texts::Token;
 use line_grammar::{LARGEST_NUMBER, Left, free_number};
 use std::marker::Model;
 

@@ -4,7 +4,7 @@ use Rattle.line_grammar.specs.Columns.{IsColumn}
 use Rattle.traffic_lines.specs.declared.lines.Point.{Point}
 use Rattle.traffic_lines.specs.declared.lines.TrafficLine.{TrafficLine}
 use Rattle.traffic_lines.specs.Lines.{IsTrafficLine}
-use Rattle.dsc_lines.specs.PointLine.{traffic, IsPointLine}
+use Rattle.input_lines.specs.PointLine.{traffic, IsPointLine}
 use Rattle.traffic_replay.specs.declared.command.Replay.{Replay}
 use Rattle.traffic_replay.specs.declared.stages.Stage.{Stage}
 use Rattle.traffic_replay.specs.Said.{Said, point_of}

@@ -14,8 +14,8 @@ use Rattle.station_lines.specs.Events.{EventLine}
 use Rattle.traffic_lines.specs.declared.lines.Event.TheVariants.{Does, Comes}
 use Rattle.traffic_lines.specs.declared.lines.Hearing.TheVariants.{Hear, Heard}
 use Rattle.traffic_lines.specs.declared.lines.TrafficLine.TheVariants as line
-use Rattle.dsc_lines.specs.PointLine.{joined, traffic, IsPointLine}
-use Rattle.dsc_lines.proofs.PublicLaws.{one_column}
+use Rattle.input_lines.specs.PointLine.{joined, traffic, IsPointLine}
+use Rattle.input_lines.proofs.PublicLaws.{one_column}
 use Rattle.traffic_replay.specs.declared.outcomes.Unreported.{Unreported}
 use Rattle.traffic_replay.specs.Said.{Said, Kind, ship, coast, kind_of, identities_of, station_of, point_of}
 use Rattle.traffic_replay.specs.HeardGroups.{facts_since_heard}

@@ -3,8 +3,8 @@ use Rattle.std.proofs.Common.{◌≡◌, ℕ, Bool, true, false, cond, ◌||◌,
 use Rattle.std.proofs.Math.Bool.{or_comm}
 use Rattle.slot_evidence.specs.Facts.{Facts, union, no_facts}
 use Rattle.traffic_lines.specs.declared.lines.TrafficLine.{TrafficLine}
-use Rattle.dsc_lines.specs.JoinLine.{JoinLine}
-use Rattle.dsc_lines.specs.PointLine.{joined, traffic}
+use Rattle.input_lines.specs.JoinLine.{JoinLine}
+use Rattle.input_lines.specs.PointLine.{joined, traffic}
 use Rattle.join_groups.specs.Groups.{names, is_named, facts_of_line, group_facts}
 use Rattle.join_groups.proofs.PublicLaws.{same_facts, unnamed_line}
 use Rattle.traffic_replay.specs.Said.{Said}

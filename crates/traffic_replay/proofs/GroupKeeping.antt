@@ -5,8 +5,8 @@ use Rattle.traffic_lines.specs.declared.lines.TrafficLine.{TrafficLine}
 use Rattle.traffic_lines.specs.declared.lines.TrafficLine.TheVariants.{Event}
 use Rattle.traffic_lines.specs.declared.lines.Event.TheVariants.{Comes}
 use Rattle.traffic_lines.specs.declared.lines.Hearing.TheVariants.{Heard}
-use Rattle.dsc_lines.specs.JoinLine.{JoinLine, nothing}
-use Rattle.dsc_lines.specs.PointLine.{joined, traffic}
+use Rattle.input_lines.specs.JoinLine.{JoinLine, nothing}
+use Rattle.input_lines.specs.PointLine.{joined, traffic}
 use Rattle.join_groups.specs.declared.groups.NamedGroups.{NamedGroups}
 use Rattle.join_groups.specs.Groups.{names, is_named, facts_of_line}
 use Rattle.join_groups.specs.Holds.{Holds, number_in, named_with, facts_with, facts_without}

@@ -12,7 +12,7 @@ use Rattle.traffic_lines.specs.declared.lines.Event.TheVariants.{Comes}
 use Rattle.traffic_lines.specs.declared.lines.Hearing.TheVariants.{Heard}
 use Rattle.traffic_lines.specs.declared.lines.TrafficLine.TheVariants as line
 use Rattle.traffic_lines.specs.Events.{IsStationOwn, IsHearing, IsEvent}
-use Rattle.dsc_lines.specs.PointLine.{joined, traffic}
+use Rattle.input_lines.specs.PointLine.{joined, traffic}
 use Rattle.traffic_replay.specs.declared.outcomes.Unreported.{Unreported}
 use Rattle.traffic_replay.specs.Said.{Said, base_of, AreSaid}
 use Rattle.traffic_replay.specs.Happenings.{heard_as, Taking, ComesOf, Happening, AreHappenings}

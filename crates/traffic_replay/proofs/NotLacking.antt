@@ -20,9 +20,9 @@ use Rattle.traffic_lines.specs.declared.lines.Point.{Point}
 use Rattle.traffic_lines.specs.declared.lines.Point.TheVariants as point
 use Rattle.traffic_lines.specs.declared.lines.TrafficLine.TheVariants as line
 use Rattle.traffic_lines.specs.Lines.{IsOfShip, IsOfCoast, MayStand}
-use Rattle.dsc_lines.specs.JoinLine.{nothing, reception, evidence}
-use Rattle.dsc_lines.specs.PointLine.{PointLine, joined, traffic, IsPointLine}
-use Rattle.dsc_lines.proofs.PublicLaws.{line_there}
+use Rattle.input_lines.specs.JoinLine.{nothing, reception, evidence}
+use Rattle.input_lines.specs.PointLine.{PointLine, joined, traffic, IsPointLine}
+use Rattle.input_lines.proofs.PublicLaws.{line_there}
 use Rattle.join_groups.proofs.PublicLaws.{AreSome, group_small, AnswerLaw}
 use Rattle.traffic_replay.specs.declared.outcomes.Unreported.{Unreported}
 use Rattle.traffic_replay.specs.Said.{Said, Kind, ship, coast, kind_of, base_of, identities_of, station_of, among_events, behind_base, point_of, AreSaid}

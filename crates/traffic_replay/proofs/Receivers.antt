@@ -6,12 +6,12 @@ use Rattle.slot_evidence.specs.declared.places.Seen.{Seen}
 use Rattle.slot_evidence.specs.Facts.{facts_of}
 use Rattle.slot_evidence.specs.Sheet.{IsEnds}
 use Rattle.traffic_lines.specs.declared.lines.TrafficLine.{TrafficLine}
-use Rattle.dsc_lines.specs.declared.join.JoinLine.{JoinLine as Got}
-use Rattle.dsc_lines.specs.declared.join.JoinLine.TheVariants as got
-use Rattle.dsc_lines.specs.JoinLine.{JoinLine, nothing, reception, evidence}
+use Rattle.input_lines.specs.declared.join.JoinLine.{JoinLine as Got}
+use Rattle.input_lines.specs.declared.join.JoinLine.TheVariants as got
+use Rattle.input_lines.specs.JoinLine.{JoinLine, nothing, reception, evidence}
 use Rattle.traffic_lines.specs.declared.lines.Point.{Point}
-use Rattle.dsc_lines.specs.PointLine.{joined, traffic, MayBeJoined, IsPointLine}
-use Rattle.dsc_lines.specs.Lines.{Says, ReadsJoinedAt}
+use Rattle.input_lines.specs.PointLine.{joined, traffic, MayBeJoined, IsPointLine}
+use Rattle.input_lines.specs.Lines.{Says, ReadsJoinedAt}
 use Rattle.join_groups.specs.Groups.{facts_of_line}
 use Rattle.join_groups.specs.Meanings.{BringsTooMany}
 use Rattle.join_groups.proofs.PublicLaws.{says_reception, says_evidence}

@@ -18,8 +18,8 @@ use Rattle.traffic_lines.specs.declared.lines.Point.TheVariants as point
 use Rattle.traffic_lines.specs.declared.lines.StationLine.{StationLine}
 use Rattle.traffic_lines.specs.declared.lines.StationLine.TheVariants as named
 use Rattle.traffic_lines.specs.Lines.{line_of_station}
-use Rattle.dsc_lines.specs.JoinLine.{JoinLine}
-use Rattle.dsc_lines.specs.PointLine.{joined, traffic, IsBody}
+use Rattle.input_lines.specs.JoinLine.{JoinLine}
+use Rattle.input_lines.specs.PointLine.{joined, traffic, IsBody}
 use Rattle.join_groups.specs.declared.groups.TheConstants.{MOST_IN_BATCH}
 use Rattle.traffic_replay.specs.declared.command.Replay.{Replay}
 use Rattle.traffic_replay.specs.declared.stages.Groups.{Groups}

@@ -7,7 +7,7 @@ use Rattle.line_engine.specs.declared.command.Refusal.TheVariants.{Column, TooMa
 use Rattle.line_engine.specs.declared.command.Refusal.{Refusal}
 use Rattle.line_engine.specs.Commands.{IsTakenBehind, IsRefusedBehind}
 use Rattle.traffic_lines.specs.declared.lines.Point.{Point}
-use Rattle.dsc_lines.specs.PointLine.{PointLine, joined, IsPointLine}
+use Rattle.input_lines.specs.PointLine.{PointLine, joined, IsPointLine}
 use Rattle.station_lines.proofs.PublicLaws.{not_empty}
 use Rattle.traffic_replay.specs.Said.{Said, point_of, AreSaid}
 use Rattle.join_groups.specs.Meanings.{BringsTooMany}

@@ -13,7 +13,7 @@ use Rattle.ship_station.specs.declared.events.ShipWhat.TheVariants as ship
 use Rattle.coast_station.specs.declared.events.CoastWhat.{CoastWhat}
 use Rattle.coast_station.specs.declared.events.CoastWhat.TheVariants as coast
 use Rattle.station_lines.specs.Events.{ship_event, coast_event}
-use Rattle.dsc_lines.specs.PointLine.{traffic}
+use Rattle.input_lines.specs.PointLine.{traffic}
 use Rattle.traffic_replay.specs.declared.outcomes.Unreported.{Unreported}
 use Rattle.traffic_replay.specs.Said.{Said, base_of}
 use Rattle.traffic_replay.specs.HeardGroups.{facts_since_heard}

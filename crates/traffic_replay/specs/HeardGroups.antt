@@ -5,8 +5,8 @@ use Rattle.line_engine.specs.Lines.{Lines}
 use Rattle.traffic_lines.specs.declared.lines.Event.TheVariants.{Comes}
 use Rattle.traffic_lines.specs.declared.lines.Hearing.TheVariants.{Heard}
 use Rattle.traffic_lines.specs.declared.lines.TrafficLine.TheVariants.{Event}
-use Rattle.dsc_lines.specs.JoinLine.{JoinLine}
-use Rattle.dsc_lines.specs.PointLine.{PointLine, joined, traffic, IsPointLine}
+use Rattle.input_lines.specs.JoinLine.{JoinLine}
+use Rattle.input_lines.specs.PointLine.{PointLine, joined, traffic, IsPointLine}
 use Rattle.join_groups.specs.Groups.{group_facts}
 use Rattle.join_groups.specs.Meanings.{BringsTooMany}
 use Rattle.traffic_replay.specs.Said.{Said, point_of, AreSaid}

@@ -6,7 +6,7 @@ use Rattle.line_engine.specs.Meaning.{Meaning}
 use Rattle.traffic_rules.specs.Rules.{Rules}
 use Rattle.ship_station.specs.ShipRules.{ship_rules}
 use Rattle.coast_station.specs.CoastRules.{coast_rules}
-use Rattle.dsc_lines.specs.PointLine.{IsPointLine}
+use Rattle.input_lines.specs.PointLine.{IsPointLine}
 use Rattle.traffic_replay.specs.Said.{Said, Kind, ship, coast, kind_of, identities_of, station_of, point_of, AreSaid}
 use Rattle.traffic_replay.specs.HeardGroups.{IsOverfull}
 use Rattle.traffic_replay.specs.Happenings.{Taking, taking_ship, taking_coast, Happening, AreHappenings}

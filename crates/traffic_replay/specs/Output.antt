@@ -5,7 +5,7 @@ use Rattle.traffic_rules.specs.Histories.{History}
 use Rattle.traffic_rules.specs.Rules.{Rules, answer_to, continued}
 use Rattle.station_lines.specs.Moments.{at_moment}
 use Rattle.station_lines.specs.Answers.{answer_lines}
-use Rattle.dsc_texts.specs.Texts.{answer_text}
+use Rattle.call_texts.specs.Texts.{answer_text}
 use Rattle.traffic_replay.specs.declared.outcomes.Unreported.{Unreported}
 use Rattle.traffic_replay.specs.Happenings.{Happening}
 

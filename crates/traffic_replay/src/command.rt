@@ -1,9 +1,9 @@
 //! The command `replay`.
 ghost use Rattle.std.specs.Prelude.{◌≡◌, ◌⊎◌, ◌∷◌, ◌≤◌, ℕ, List, [], length, OnOk, IfErr};
 ghost use Rattle.line_engine.specs.Commands.{KeepsText};
-ghost use Rattle.dsc_lines.specs.PointLine.{joined, IsBody};
-ghost use Rattle.dsc_lines.specs.JoinLine.{JoinLine as ReceiverLine};
-ghost use Rattle.dsc_lines.specs.Lines.{Says};
+ghost use Rattle.input_lines.specs.PointLine.{joined, IsBody};
+ghost use Rattle.input_lines.specs.JoinLine.{JoinLine as ReceiverLine};
+ghost use Rattle.input_lines.specs.Lines.{Says};
 ghost use Rattle.slot_evidence.specs.Facts.{Facts, facts_of};
 ghost use Rattle.slot_evidence.specs.Sheet.{IsEnds};
 ghost use Rattle.join_groups.specs.Meanings.{BringsTooMany};
@@ -17,7 +17,7 @@ ghost use Rattle.traffic_replay.specs.inside.Gives.{gives_text};
 use crate::stages::{Stage, behind_base};
 use crate::steps::happen;
 use arrayvec::ArrayVec;
-use dsc_lines::{JoinLine, LineFault, Status, joined_line, one_point_line};
+use input_lines::{JoinLine, LineFault, Status, joined_line, one_point_line};
 use join_groups::NamedGroups;
 use line_engine::{Command, LONGEST_LINE, Refusal};
 use phasing::LONGEST;

@@ -1,7 +1,7 @@
 //! Heard groups: what receivers showed of a group since it was last heard.
 ghost use Rattle.std.specs.Prelude.{◌≡◌, ℕ, [], ◌∷◌, IfOk, OnOk};
 ghost use Rattle.slot_join.specs.Answer.{IsAnswer};
-ghost use Rattle.dsc_lines.specs.PointLine.{traffic};
+ghost use Rattle.input_lines.specs.PointLine.{traffic};
 ghost use Rattle.traffic_lines.specs.declared.lines.Event.TheVariants.{Comes};
 ghost use Rattle.traffic_lines.specs.declared.lines.Hearing.TheVariants as hearing;
 ghost use Rattle.traffic_lines.specs.declared.lines.TrafficLine.TheVariants as station;

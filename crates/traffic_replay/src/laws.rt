@@ -16,7 +16,7 @@ ghost use Rattle.traffic_replay.specs.Meaning.{replay_meaning};
 ghost use Rattle.traffic_replay.specs.Output.{history_of};
 ghost use Rattle.traffic_replay.specs.Said.{Said, identities_of, station_of, AreSaid};
 
-use dsc_lines::one_point_line;
+use input_lines::one_point_line;
 use slot_join::{no_answer_is_lacking, one_answer};
 
 /// The law that the lines of a traffic file determine what `replay` writes. It does nothing.

@@ -5,7 +5,7 @@ ghost use Rattle.receiver_pool.specs.Groups.{facts_of_group, IsShort, Shows};
 ghost use Rattle.traffic_replay.specs.Meaning.{replay_meaning};
 
 use crate::command::Replaying;
-use dsc_streams::{Sink, Source, Status};
+use byte_streams::{Sink, Source, Status};
 use line_engine::drive;
 use receiver_pool::{Gate, GroupReception, GroupSheet, Workers, pool_groups};
 use std::alloc::{AllocError, Global};

@@ -1,7 +1,7 @@
 //! What the lines of a traffic file have come to.
 ghost use Rattle.std.specs.Prelude.{◌≡◌, ◌≤◌, ◌∷◌, ◌++◌, [], length, OnOk};
 ghost use Rattle.ship_station.specs.Stands.{Stands};
-ghost use Rattle.dsc_lines.specs.PointLine.{IsBody};
+ghost use Rattle.input_lines.specs.PointLine.{IsBody};
 ghost use Rattle.traffic_replay.specs.inside.Progress.{GoesOn, IsBehindBase, IsReadyAt, identities_in, point_at};
 
 use call_values::Mmsi;

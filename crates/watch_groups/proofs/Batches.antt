@@ -3,7 +3,7 @@ use Rattle.std.proofs.Common.{◌≡◌, ℕ, ◌+◌, ◌<◌, ◌≤◌, List,
 use Rattle.std.proofs.lemmas.Bool.{cases_lt}
 use Rattle.std.proofs.lemmas.List.{length_push, length-take-le, get_or_push, take-append-le, take_all}
 use Rattle.ten_unit.specs.declared.character.Element.{Element}
-use Rattle.dsc_lines.specs.JoinLine.{JoinLine, nothing, reception, evidence}
+use Rattle.input_lines.specs.JoinLine.{JoinLine, nothing, reception, evidence}
 use Rattle.join_groups.specs.declared.groups.TheConstants.{MOST_IN_BATCH}
 use Rattle.watch_groups.specs.declared.telling.ToldCall.{ToldCall}
 use Rattle.watch_groups.specs.Telling.{receptions, EndsBatch, TellsReported, TellsEachBatch}

@@ -11,7 +11,7 @@ use Rattle.slot_evidence.specs.Facts.{Facts}
 use Rattle.slot_join.specs.declared.joined.Joined.{Joined}
 use Rattle.slot_join.specs.Answer.{IsAnswer}
 use Rattle.live_watch.specs.Told.{IsTold}
-use Rattle.dsc_lines.specs.JoinLine.{JoinLine}
+use Rattle.input_lines.specs.JoinLine.{JoinLine}
 use Rattle.join_groups.specs.Groups.{group_facts}
 use Rattle.join_groups.proofs.PublicLaws.{named_push, facts_push}
 use Rattle.watch_groups.specs.declared.telling.ToldCall.{ToldCall}

@@ -4,7 +4,7 @@ use Rattle.line_engine.specs.Lines.{Lines}
 use Rattle.line_engine.specs.declared.command.Refusal.{Refusal}
 use Rattle.line_engine.specs.declared.command.Refusal.TheVariants.{Memory, TooManyGroups}
 use Rattle.line_engine.specs.Commands.{IsTakenBehind, IsRefusedBehind}
-use Rattle.dsc_lines.specs.JoinLine.{JoinLine, IsLine}
+use Rattle.input_lines.specs.JoinLine.{JoinLine, IsLine}
 use Rattle.join_groups.specs.declared.groups.NamedGroups.{NamedGroups}
 use Rattle.join_groups.specs.Output.{TellsAnswer, IsGroupsText}
 use Rattle.join_groups.specs.Meanings.{BringsTooMany}

@@ -3,7 +3,7 @@ use Rattle.std.proofs.Common.{◌≡◌, ℕ, Bool, false, ◌||◌, ◌==◌, L
 use Rattle.std.proofs.lemmas.Bool.{or_right, cases_eq, ne_eqb, or_from}
 use Rattle.std.proofs.lemmas.List.Folds.{list_any-append}
 use Rattle.std.proofs.Math.Bool.{or-false}
-use Rattle.dsc_lines.specs.JoinLine.{JoinLine}
+use Rattle.input_lines.specs.JoinLine.{JoinLine}
 use Rattle.join_groups.specs.Groups.{is_among}
 use Rattle.watch_groups.specs.declared.telling.ToldCall.{ToldCall}
 use Rattle.watch_groups.specs.inside.Kept.{IsDone, LooksAt, LooksThrough}

@@ -8,10 +8,10 @@ use Rattle.slot_join.specs.declared.joined.Joined.TheVariants.{Reported}
 use Rattle.slot_join.specs.declared.joined.Extra.{Extra}
 use Rattle.slot_join.specs.Answer.{IsAnswer}
 use Rattle.live_watch.specs.Told.{IsTold}
-use Rattle.dsc_lines.specs.JoinLine.{JoinLine, nothing, reception, evidence}
+use Rattle.input_lines.specs.JoinLine.{JoinLine, nothing, reception, evidence}
 use Rattle.join_groups.specs.declared.groups.TheConstants.{MOST_IN_BATCH}
 use Rattle.join_groups.specs.Groups.{is_named, group_facts}
-use Rattle.dsc_texts.specs.CallParts.{call_text}
+use Rattle.call_texts.specs.CallParts.{call_text}
 use Rattle.watch_groups.specs.declared.telling.ToldCall.{ToldCall}
 
 -- the line of a told call: the word told, the group, and the call's text

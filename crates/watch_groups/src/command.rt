@@ -3,8 +3,8 @@ ghost use Rattle.std.specs.Prelude.{◌≡◌, ◌≢◌, ◌⊎◌, ℕ, ◌+�
 ghost use Rattle.line_engine.specs.Lines.{Lines};
 ghost use Rattle.line_engine.specs.Commands.{IsTakenBehind, IsRefusedBehind, KeepsText, StandsBelow};
 ghost use Rattle.line_engine.specs.Endings.{IsFinished};
-ghost use Rattle.dsc_lines.specs.JoinLine.{JoinLine as Line};
-ghost use Rattle.dsc_lines.specs.Lines.{Says};
+ghost use Rattle.input_lines.specs.JoinLine.{JoinLine as Line};
+ghost use Rattle.input_lines.specs.Lines.{Says};
 ghost use Rattle.join_groups.specs.Meanings.{BringsTooMany};
 ghost use Rattle.join_groups.specs.Holds.{HoldsSome};
 ghost use Rattle.join_groups.specs.Groups.{is_among, is_named};
@@ -17,8 +17,8 @@ ghost use Rattle.watch_groups.specs.inside.Kept.{Watches, StandsFor, LooksThroug
 ghost use Rattle.watch_groups.specs.inside.Gives.{gives_told};
 
 use crate::telling::{Judged, ToldCalls, look_through, note_untold, watcher_of};
-use dsc_lines::{JoinLine, LineFault, join_line, one_line};
-use dsc_streams::Status;
+use input_lines::{JoinLine, LineFault, join_line, one_line};
+use byte_streams::Status;
 use join_groups::{Answers, MOST_IN_BATCH, NamedGroups, take_waiting, tell_all};
 use line_engine::{Command, Refusal};
 use live_watch::{WatchedJoiner, told_calls};

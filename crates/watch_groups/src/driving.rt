@@ -6,7 +6,7 @@ ghost use Rattle.live_watch.specs.Batches.{HasWatched};
 ghost use Rattle.watch_groups.specs.Meaning.{watch_meaning};
 
 use crate::command::WatchGroups;
-use dsc_streams::{Sink, Source, Status};
+use byte_streams::{Sink, Source, Status};
 use line_engine::drive;
 use live_watch::{BatchWatcher, WatchedWorkers, watch_batch};
 use receiver_pool::{Gate, GroupReception, GroupSheet};

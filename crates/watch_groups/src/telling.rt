@@ -5,7 +5,7 @@ ghost use Rattle.live_watch.specs.Told.{IsToTell, IsWatched};
 ghost use Rattle.call_values.specs.declared.calls.Call.{Call as Sent};
 ghost use Rattle.slot_evidence.specs.Facts.{Facts};
 ghost use Rattle.slot_evidence.specs.Sheet.{IsEnds, facts_in};
-ghost use Rattle.dsc_lines.specs.JoinLine.{JoinLine};
+ghost use Rattle.input_lines.specs.JoinLine.{JoinLine};
 ghost use Rattle.join_groups.specs.Groups.{is_among, is_named};
 ghost use Rattle.join_groups.specs.Holds.{HoldsSome};
 ghost use Rattle.join_groups.specs.inside.Kept.{Keeps};
@@ -17,7 +17,7 @@ ghost use Rattle.watch_groups.specs.inside.Kept.{Notes, LooksAt, LooksThrough};
 
 use arrayvec::ArrayVec;
 use call_values::Call;
-use dsc_texts::append_call;
+use call_texts::append_call;
 use join_groups::NamedGroups;
 use live_watch::{BatchWatcher, Unreported, judge};
 use slot_evidence::{Sheet, sheet_has_facts};

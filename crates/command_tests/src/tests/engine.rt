@@ -5,7 +5,7 @@ ghost use Rattle.line_engine.specs.Lines.{Lines};
 ghost use Rattle.line_engine.specs.Said.{said};
 ghost use Rattle.line_engine.specs.Determined.{IsDetermined};
 
-use dsc_streams::{ByteSink, ByteSource, Failed, Source, Status, SureSink};
+use byte_streams::{ByteSink, ByteSource, Failed, Source, Status, SureSink};
 use line_engine::{
     Command, LONGEST_LINE, Refusal, drive, limits, one_first_fault, one_output, said_lines,
 };

@@ -1,5 +1,5 @@
 //! Replays by their lines and statuses.
-use dsc_lines::{SureSink, SureSource};
+use input_lines::{SureSink, SureSource};
 use receiver_pool::Open;
 use std::alloc::{AllocError, Global};
 use std::test::Fail;

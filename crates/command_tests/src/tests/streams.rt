@@ -1,5 +1,5 @@
 //! Streams of the system and in-memory ones.
-use dsc_streams::{
+use byte_streams::{
     ByteSink, ByteSource, Failed, Sink, Source, StdSink, StdSource, SureSink, SureSource, write_all,
 };
 use std::alloc::Global;

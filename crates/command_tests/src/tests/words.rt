@@ -1,5 +1,5 @@
 //! Words of the command line that are a plan, and words that are none.
-use dsc_words::*;
+use command_line::*;
 use std::alloc::{AllocError, Global};
 use std::test::Fail;
 

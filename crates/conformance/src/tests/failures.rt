@@ -23,7 +23,7 @@ struct CountedSink {
 }
 
 impl Sink for CountedSink {
-    ghost use Rattle.dsc_streams.specs.Sure.{no_faults, told};
+    ghost use Rattle.byte_streams.specs.Sure.{no_faults, told};
 
     ghost written = { λ s. told s.sink };
 

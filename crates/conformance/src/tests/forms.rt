@@ -1,6 +1,6 @@
 //! Every form of call by its text and its list.
 use call_grammar::{ReadRefusal, read, spell};
-use dsc_texts::{put_call, read_bare_call, read_call};
+use call_texts::{put_call, read_bare_call, read_call};
 use slot_join::Extra;
 use std::test::Fail;
 

@@ -18,7 +18,7 @@ pub(crate) struct CountedSource<'a> {
 
 impl Source for CountedSource<'_> {
     ghost use Rattle.std.specs.Prelude.{Some};
-    ghost use Rattle.dsc_streams.specs.Sure.{no_faults};
+    ghost use Rattle.byte_streams.specs.Sure.{no_faults};
 
     ghost left = { λ s. Some s.source.left };
 

@@ -34,8 +34,8 @@ struct Endless {
 }
 
 impl Source for Endless {
-    ghost use Rattle.dsc_streams.specs.Standard.{untold};
-    ghost use Rattle.dsc_streams.specs.Sure.{no_faults};
+    ghost use Rattle.byte_streams.specs.Standard.{untold};
+    ghost use Rattle.byte_streams.specs.Sure.{no_faults};
 
     ghost left = { λ _. untold };
 

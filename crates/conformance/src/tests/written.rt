@@ -17,7 +17,7 @@ struct CountedSink<'a> {
 }
 
 impl Sink for CountedSink<'_> {
-    ghost use Rattle.dsc_streams.specs.Sure.{no_faults, told};
+    ghost use Rattle.byte_streams.specs.Sure.{no_faults, told};
 
     ghost written = { λ s. told s.sink };
 
@@ -47,7 +47,7 @@ struct NotingSource<'a> {
 
 impl Source for NotingSource<'_> {
     ghost use Rattle.std.specs.Prelude.{Some};
-    ghost use Rattle.dsc_streams.specs.Sure.{no_faults};
+    ghost use Rattle.byte_streams.specs.Sure.{no_faults};
 
     ghost left = { λ s. Some s.source.left };
 

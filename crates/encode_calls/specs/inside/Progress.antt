@@ -1,7 +1,7 @@
 -- What the command has encoded so far: this project's profile.
 use Rattle.std.specs.Prelude.{◌≡◌, ℕ, Bool, List, length}
 use Rattle.line_engine.specs.Lines.{Lines}
-use Rattle.dsc_lines.specs.declared.calls.CallLine.{CallLine}
+use Rattle.input_lines.specs.declared.calls.CallLine.{CallLine}
 use Rattle.encode_calls.specs.Encoding.{AreCallLines, calls_of, encoded}
 
 -- these lines had so many calls, and this is what they give

@@ -4,10 +4,10 @@ use Rattle.ten_unit.specs.declared.character.Element.{Element}
 use Rattle.line_grammar.specs.Columns.{IsColumn}
 use Rattle.line_engine.specs.declared.command.Refusal.{Refusal}
 use Rattle.line_engine.specs.declared.command.Refusal.TheVariants.{Column, TooManyGroups, Memory}
-use Rattle.dsc_lines.specs.JoinLine.{JoinLine, IsLine}
-use Rattle.dsc_lines.specs.Lines.{Says}
-use Rattle.dsc_lines.specs.declared.join.JoinLine.{JoinLine as Got}
-use Rattle.dsc_lines.specs.declared.join.JoinLine.TheVariants as got
+use Rattle.input_lines.specs.JoinLine.{JoinLine, IsLine}
+use Rattle.input_lines.specs.Lines.{Says}
+use Rattle.input_lines.specs.declared.join.JoinLine.{JoinLine as Got}
+use Rattle.input_lines.specs.declared.join.JoinLine.TheVariants as got
 use Rattle.phasing.specs.declared.reception.TheConstants.{LONGEST}
 use Rattle.line_engine.specs.Lines.{Lines}
 use Rattle.join_groups.specs.declared.groups.NamedGroups.{NamedGroups}

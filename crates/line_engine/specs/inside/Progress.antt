@@ -1,6 +1,6 @@
 -- A run in its midst: this project's profile.
 use Rattle.std.specs.Prelude.{◌≡◌, ◌≢◌, ℕ, ◌+◌, ◌<◌, ◌≤◌, List, [], ◌∷◌, ◌++◌, length, Option}
-use Rattle.dsc_streams.specs.Streams.{Loses, Gains, Rises, IsEnded}
+use Rattle.byte_streams.specs.Streams.{Loses, Gains, Rises, IsEnded}
 use Rattle.line_engine.specs.declared.bounds.TheConstants.{MOST_LINES, LONGEST_LINE, MOST_TAKEN}
 use Rattle.line_engine.specs.declared.faults.Fault.{Fault}
 use Rattle.line_engine.specs.declared.faults.Fault.TheVariants.{TooManyLines, TooLong, Column, TooManyGroups}

@@ -2,7 +2,7 @@
 use Rattle.std.specs.Prelude.{◌≡◌, ℕ, Bool, not, List}
 use Rattle.std.specs.List.{list_all, flat_map}
 use Rattle.line_engine.specs.Lines.{Lines}
-use Rattle.dsc_lines.specs.declared.sentences.SentenceLine.{SentenceLine}
+use Rattle.input_lines.specs.declared.sentences.SentenceLine.{SentenceLine}
 use Rattle.sentence_files.specs.Telling.{AreSentenceLines, line_text, is_well}
 
 -- these lines gave this text, and whether one of them is a sentence that is refused

@@ -9,7 +9,7 @@ use Rattle.line_grammar.specs.Columns.{IsColumn}
 use Rattle.line_engine.specs.Lines.{Lines}
 use Rattle.line_engine.specs.declared.command.Refusal.{Refusal}
 use Rattle.line_engine.specs.declared.command.Refusal.TheVariants as refusal
-use Rattle.dsc_lines.specs.WorldLine.{IsWorldFileLine}
+use Rattle.input_lines.specs.WorldLine.{IsWorldFileLine}
 use Rattle.exchange.specs.StandsFor.{Stands}
 use Rattle.station_exchange.specs.declared.command.Exchanging.{Exchanging}
 use Rattle.station_exchange.specs.declared.stages.Stage.{Stage}

@@ -1,5 +1,5 @@
 //! Lines of evidence.
-use dsc_lines::{put_evidence, put_evidence_line};
+use input_lines::{put_evidence, put_evidence_line};
 use slot_evidence::Sheet;
 
 #[test]

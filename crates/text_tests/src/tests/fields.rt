@@ -1,5 +1,5 @@
 //! Fields of call texts at the ends of their ranges, and their faults.
-use dsc_texts::read_bare_call;
+use call_texts::read_bare_call;
 use std::alloc::{AllocError, Global};
 use std::test::Fail;
 

@@ -1,7 +1,7 @@
 //! Lines of receptions, streams, logs and traffic files, and their columns.
 use call_values::Band;
 use dsc_files::{EventLine, FileKind, Line, line_of};
-use dsc_lines::LineFault;
+use input_lines::LineFault;
 use phasing::Elements;
 use slot_evidence::{Reception, Seen};
 use std::alloc::Global;

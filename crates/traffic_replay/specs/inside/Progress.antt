@@ -18,14 +18,14 @@ use Rattle.coast_station.specs.CoastRules.{coast_rules}
 use Rattle.coast_station.specs.Stands.{Stands as CoastStands}
 use Rattle.call_values.specs.declared.choices.Band.{Band}
 use Rattle.call_values.specs.declared.bounds.TheConstants.{LAST_BASE}
-use Rattle.dsc_lines.specs.JoinLine.{JoinLine}
-use Rattle.dsc_lines.specs.PointLine.{PointLine, joined, IsBody, IsPointLine}
+use Rattle.input_lines.specs.JoinLine.{JoinLine}
+use Rattle.input_lines.specs.PointLine.{PointLine, joined, IsBody, IsPointLine}
 use Rattle.traffic_lines.specs.Lines.{IsTrafficLine}
 use Rattle.line_grammar.specs.Columns.{IsColumn}
 use Rattle.line_engine.specs.declared.command.Refusal.{Refusal}
 use Rattle.line_engine.specs.declared.command.Refusal.TheVariants as refusal
-use Rattle.dsc_lines.specs.declared.join.JoinLine.{JoinLine as Got}
-use Rattle.dsc_lines.specs.declared.join.JoinLine.TheVariants as got
+use Rattle.input_lines.specs.declared.join.JoinLine.{JoinLine as Got}
+use Rattle.input_lines.specs.declared.join.JoinLine.TheVariants as got
 use Rattle.join_groups.specs.Groups.{facts_of_line, names}
 use Rattle.join_groups.specs.declared.groups.TheConstants.{MOST_IN_BATCH}
 use Rattle.join_groups.specs.Holds.{HoldsSome}

@@ -1,7 +1,7 @@
 -- What a line names. This project's own form.
 use Rattle.std.specs.Prelude.{◌≡◌, ℕ, List}
 use Rattle.ten_unit.specs.declared.character.Element.{Element}
-use Rattle.dsc_lines.specs.JoinLine.{JoinLine, nothing, reception, evidence}
+use Rattle.input_lines.specs.JoinLine.{JoinLine, nothing, reception, evidence}
 use Rattle.watch_groups.specs.declared.command.Named.{Named}
 use Rattle.watch_groups.specs.declared.command.Named.TheVariants as named
 

@@ -1,5 +1,5 @@
 use Rattle.std.proofs.Common.{◌∙◌, sym, ap, refl}
-use Rattle.dsc_words.specs.declared.plans.Plan.TheVariants.{Encode}
+use Rattle.command_line.specs.declared.plans.Plan.TheVariants.{Encode}
 use Rattle.dsc_cmd.proofs.MadeEndings.{made_run, join_is_not_make, evidence_is_not_make, encode_is_not_make, sentences_is_not_make, replay_is_not_make, capture_is_not_make, watch_is_not_make, exchange_is_not_make, book_is_not_make}
 use Rattle.dsc_cmd.proofs.PlanRuns.{at_plan}
 use Rattle.dsc_cmd.proofs.running.execute.Goals as goal

@@ -1,7 +1,7 @@
 use Rattle.std.proofs.Common.{Err, inl, inr, refl, ap, sym, subst}
-use Rattle.dsc_words.specs.declared.plans.PlanError.{PlanError}
-use Rattle.dsc_words.specs.declared.plans.Plan.{Plan}
-use Rattle.dsc_words.specs.declared.plans.Plan.TheVariants.{Join, Replay, Make, Capture, Watch, Exchange}
+use Rattle.command_line.specs.declared.plans.PlanError.{PlanError}
+use Rattle.command_line.specs.declared.plans.Plan.{Plan}
+use Rattle.command_line.specs.declared.plans.Plan.TheVariants.{Join, Replay, Make, Capture, Watch, Exchange}
 use Rattle.line_engine.specs.Endings.{TellsWhole}
 use Rattle.dsc_cmd.specs.Plans.{meaning_of, input_of, HasOneOutput, WritesFrontOfOutput}
 use Rattle.dsc_cmd.proofs.FrontsOfOutput.{front_broken_off, front_none}

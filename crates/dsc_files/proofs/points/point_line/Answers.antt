@@ -1,7 +1,7 @@
 use Rattle.std.proofs.Common.{Option, Some, Ok, refl, subst}
-use Rattle.dsc_lines.specs.declared.join.JoinLine.{JoinLine}
-use Rattle.dsc_lines.specs.PointLine.{joined, traffic}
-use Rattle.dsc_lines.specs.Lines.{ReadsJoinedAt}
+use Rattle.input_lines.specs.declared.join.JoinLine.{JoinLine}
+use Rattle.input_lines.specs.PointLine.{joined, traffic}
+use Rattle.input_lines.specs.Lines.{ReadsJoinedAt}
 use Rattle.dsc_files.proofs.points.point_line.Goals as goal
 
 pub returns-in-Some : goal.returns-in-Some

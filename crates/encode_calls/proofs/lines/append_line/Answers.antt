@@ -1,7 +1,7 @@
 use Rattle.std.proofs.Common.{◌++◌, List, ℕ, [], ◌∷◌, map, ap, ◌∙◌}
 use Rattle.std.specs.Prelude.{codes, decimal}
 use Rattle.phasing.specs.Sent.{sent}
-use Rattle.dsc_lines.specs.JoinLine.{sign_of}
+use Rattle.input_lines.specs.JoinLine.{sign_of}
 use Rattle.encode_calls.proofs.Bodies.{line_appended}
 use Rattle.encode_calls.proofs.lines.append_line.Goals as goal
 

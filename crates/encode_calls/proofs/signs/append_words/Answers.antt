@@ -2,7 +2,7 @@ use Rattle.std.proofs.Common.{◌≡◌, ℕ, suc, ◌+◌, List, ◌++◌, ◌�
 use Rattle.std.proofs.lemmas.List.{length-set, map-append, take_all}
 use Rattle.std.proofs.lemmas.List.Folds.{flat_map-map}
 use Rattle.ten_unit.specs.Word.{word_of}
-use Rattle.dsc_lines.specs.JoinLine.{sign_of}
+use Rattle.input_lines.specs.JoinLine.{sign_of}
 use Rattle.encode_calls.proofs.SignTable.{signs_of_words}
 use Rattle.encode_calls.proofs.signs.append_words.Goals as goal
 

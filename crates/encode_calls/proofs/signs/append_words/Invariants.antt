@@ -1,6 +1,6 @@
 use Rattle.std.proofs.Common.{◌≡◌, length, take, map}
 use Rattle.ten_unit.specs.Word.{word_of}
-use Rattle.dsc_lines.specs.JoinLine.{sign_of}
+use Rattle.input_lines.specs.JoinLine.{sign_of}
 use Rattle.encode_calls.proofs.signs.append_words.Given as goal
 
 abbrev pub invariant-loop-number : goal.invariant-loop-number

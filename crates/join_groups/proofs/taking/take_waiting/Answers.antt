@@ -1,8 +1,8 @@
 use Rattle.std.proofs.Common.{refl, subst, inl, inr}
 use Rattle.std.proofs.lemmas.Result.{on_ok_weaker, IfErr-weaker}
 use Rattle.slot_evidence.specs.Facts.{facts_of}
-use Rattle.dsc_lines.specs.declared.join.JoinLine.{JoinLine as Got}
-use Rattle.dsc_lines.specs.Lines.{Says}
+use Rattle.input_lines.specs.declared.join.JoinLine.{JoinLine as Got}
+use Rattle.input_lines.specs.Lines.{Says}
 use Rattle.join_groups.specs.Groups.{is_named, facts_of_line, group_facts}
 use Rattle.join_groups.proofs.Keeping.{says_nothing, says_reception, says_evidence, keeps_line, full_brings, brings_full}
 use Rattle.join_groups.proofs.taking.take_waiting.Goals as goal

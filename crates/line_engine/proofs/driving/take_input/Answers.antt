@@ -1,6 +1,6 @@
 use Rattle.std.proofs.Common.{◌≡◌, ◌-◌, ◌≤◌, List, ℕ, [], length, drop, refl, sym, ◌∙◌, ap, subst, arith, length-drop}
 use Rattle.std.proofs.lemmas.Result.{MatchResult-weaker, IfErr-at_err, on_ok_weaker}
-use Rattle.dsc_streams.proofs.PublicLaws.{Loses-none}
+use Rattle.byte_streams.proofs.PublicLaws.{Loses-none}
 use Rattle.line_engine.specs.declared.halts.Halt.TheVariants as halt
 use Rattle.line_engine.specs.inside.Progress.{PassesLimit}
 use Rattle.line_engine.proofs.Cutting.{is_text}

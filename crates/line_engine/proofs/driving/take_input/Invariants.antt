@@ -1,5 +1,5 @@
 use Rattle.std.proofs.Common.{◌≡◌, ℕ, ◌+◌, ◌-◌, ◌*◌, ◌<◌, ◌≤◌, true, List, length}
-use Rattle.dsc_streams.specs.Streams.{Loses}
+use Rattle.byte_streams.specs.Streams.{Loses}
 use Rattle.line_engine.specs.inside.Progress.{IsOn}
 use Rattle.line_engine.proofs.Cutting.{is_text}
 use Rattle.line_engine.proofs.driving.take_input.Given as goal

@@ -1,5 +1,5 @@
 use Rattle.std.proofs.Common.{codes, ap, rules}
-use Rattle.dsc_texts.specs.CallGrammar.{identity}
+use Rattle.call_texts.specs.CallGrammar.{identity}
 use Rattle.line_grammar.specs.Grammar.{finish, Parts, part, first}
 use Rattle.line_grammar.specs.Sections.{labelled, nth}
 use Rattle.line_grammar.specs.Shapes.{digits}

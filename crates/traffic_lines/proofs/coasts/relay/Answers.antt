@@ -1,6 +1,6 @@
 use Rattle.std.proofs.Common.{codes, ap, rules}
-use Rattle.dsc_texts.specs.CallGrammar.{identity, address}
-use Rattle.dsc_texts.specs.CallParts.{address_text}
+use Rattle.call_texts.specs.CallGrammar.{identity, address}
+use Rattle.call_texts.specs.CallParts.{address_text}
 use Rattle.line_grammar.specs.Grammar.{Grammar, finish, Parts, part, second}
 use Rattle.line_grammar.specs.Sections.{labelled, last}
 use Rattle.line_grammar.specs.Shapes.{digits}

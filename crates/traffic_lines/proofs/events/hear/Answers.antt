@@ -1,6 +1,6 @@
 use Rattle.std.proofs.Common.{codes, refl, sym, ap, ◌∙◌}
-use Rattle.dsc_texts.specs.CallGrammar.{calls, perhaps, expansion}
-use Rattle.dsc_texts.specs.inside.Places.{call_parts}
+use Rattle.call_texts.specs.CallGrammar.{calls, perhaps, expansion}
+use Rattle.call_texts.specs.inside.Places.{call_parts}
 use Rattle.line_grammar.specs.Grammar.{Grammar, finish, word, Parts, first}
 use Rattle.line_grammar.specs.Sections.{nth}
 use Rattle.line_grammar.proofs.Rows.{leaves_row, after_row, leaves_after}

@@ -1,5 +1,5 @@
 use Rattle.std.proofs.Common.{codes, refl, ap}
-use Rattle.dsc_texts.specs.CallGrammar.{calls}
+use Rattle.call_texts.specs.CallGrammar.{calls}
 use Rattle.line_grammar.specs.Grammar.{finish, word}
 use Rattle.line_grammar.specs.Sections.{last}
 use Rattle.line_grammar.proofs.Rows.{leaves_row, after_row, leaves_after}

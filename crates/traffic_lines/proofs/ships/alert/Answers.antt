@@ -1,5 +1,5 @@
 use Rattle.std.proofs.Common.{◌∙◌, codes, refl, sym, ap, rules}
-use Rattle.dsc_texts.specs.CallGrammar as calls
+use Rattle.call_texts.specs.CallGrammar as calls
 use Rattle.line_grammar.specs.Grammar.{finish}
 use Rattle.line_grammar.specs.Sections.{labelled, nth}
 use Rattle.line_grammar.specs.inside.Reading.{read}

@@ -9,7 +9,7 @@ use Rattle.traffic_lines.specs.declared.lines.Hearing.TheVariants.{Hear, Heard}
 use Rattle.traffic_lines.specs.declared.lines.TrafficLine.TheVariants as line
 use Rattle.traffic_lines.specs.Lines.{event_with, deed_with}
 use Rattle.station_lines.specs.Answers.{answer_lines}
-use Rattle.dsc_lines.specs.PointLine.{traffic}
+use Rattle.input_lines.specs.PointLine.{traffic}
 use Rattle.traffic_replay.specs.inside.Happens.{Happens}
 use Rattle.traffic_replay.specs.inside.Kept.{KeepsGroups}
 use Rattle.traffic_replay.proofs.GroupKeeping.{silent}

@@ -1,5 +1,5 @@
 use Rattle.std.proofs.Common.{◌≡◌, ℕ, true, List, drop}
-use Rattle.dsc_lines.specs.JoinLine.{JoinLine}
+use Rattle.input_lines.specs.JoinLine.{JoinLine}
 use Rattle.join_groups.specs.Groups.{is_among, is_named}
 use Rattle.join_groups.specs.inside.Kept.{Keeps}
 use Rattle.watch_groups.specs.inside.Kept.{LooksThrough}

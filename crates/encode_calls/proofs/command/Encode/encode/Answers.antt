@@ -1,7 +1,7 @@
 use Rattle.std.proofs.Common.{◌++◌, [], ◌∷◌, Option, List, ℕ, sym, ap, ◌∙◌, append-nil}
 use Rattle.call_values.specs.declared.calls.Call.{Call}
 use Rattle.expansion.specs.declared.values.Sets.{Sets}
-use Rattle.dsc_lines.specs.declared.calls.CallLine.{CallLine}
+use Rattle.input_lines.specs.declared.calls.CallLine.{CallLine}
 use Rattle.encode_calls.specs.Encoding.{calls_of, encoded_line, encoded}
 use Rattle.encode_calls.proofs.command.Encode.encode.Goals as goal
 

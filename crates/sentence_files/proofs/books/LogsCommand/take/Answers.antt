@@ -1,7 +1,7 @@
 use Rattle.std.proofs.Common.{◌≡◌, true, subst}
-use Rattle.dsc_lines.specs.declared.books.BookLine.{BookLine}
-use Rattle.dsc_lines.specs.declared.books.BookLine.TheVariants.{Nothing, Sentence}
-use Rattle.dsc_lines.specs.BookLine.{is_sentence, IsBookLine}
+use Rattle.input_lines.specs.declared.books.BookLine.{BookLine}
+use Rattle.input_lines.specs.declared.books.BookLine.TheVariants.{Nothing, Sentence}
+use Rattle.input_lines.specs.BookLine.{is_sentence, IsBookLine}
 use Rattle.sentence_files.proofs.Taken.{stands_on, takes_nothing}
 use Rattle.sentence_files.proofs.books.LogsCommand.take.Goals as goal
 

@@ -1,4 +1,4 @@
-use Rattle.dsc_texts.specs.CallGrammar.{identity}
+use Rattle.call_texts.specs.CallGrammar.{identity}
 use Rattle.line_grammar.specs.Sections.{last}
 use Rattle.line_grammar.proofs.Rows.{further_row}
 use Rattle.traffic_lines.specs.Lines.{IsStation, stations_parts, ship, coast}

@@ -1,8 +1,8 @@
 use Rattle.std.proofs.Common.{subst, inl, inr}
 use Rattle.std.proofs.lemmas.Result.{on_ok_weaker, IfErr-weaker}
 use Rattle.slot_evidence.specs.Facts.{facts_of}
-use Rattle.dsc_lines.specs.declared.join.JoinLine.{JoinLine as Got}
-use Rattle.dsc_lines.specs.Lines.{Says}
+use Rattle.input_lines.specs.declared.join.JoinLine.{JoinLine as Got}
+use Rattle.input_lines.specs.Lines.{Says}
 use Rattle.join_groups.specs.Groups.{facts_of_line}
 use Rattle.traffic_replay.specs.inside.Progress.{IsShown}
 use Rattle.traffic_replay.proofs.Receivers.{Tells, reception_shows, evidence_shows, nothing_taken}

@@ -1,8 +1,8 @@
 use Rattle.std.proofs.Common.{◌++◌, Ok, refl, sym, subst, inl, inr}
 use Rattle.std.proofs.lemmas.Result.{on_ok_weaker, IfErr-weaker}
 use Rattle.traffic_lines.specs.declared.lines.Point.{Point}
-use Rattle.dsc_lines.specs.PointLine.{joined, IsPointLine}
-use Rattle.dsc_lines.specs.Lines.{ReadsJoinedAt}
+use Rattle.input_lines.specs.PointLine.{joined, IsPointLine}
+use Rattle.input_lines.specs.Lines.{ReadsJoinedAt}
 use Rattle.join_groups.proofs.PublicLaws.{short_read}
 use Rattle.line_engine.specs.declared.command.Refusal.{Refusal}
 use Rattle.traffic_replay.specs.inside.Progress.{Refuses, point_at}

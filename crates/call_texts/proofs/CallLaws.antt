@@ -1,0 +1,91 @@
+-- the texts of calls, with and without an expansion
+use Rattle.std.proofs.Common.{◌≡◌, ℕ, true, List, ◌++◌, refl, sym, ◌∙◌, ap}
+use Rattle.call_values.specs.declared.calls.Call.{Call}
+use Rattle.call_values.specs.declared.calls.Call.TheVariants.{Alert, Ack, Relay, RelayAck, AllShips, AreaCall, GroupCall, Individual, Service}
+use Rattle.call_values.specs.declared.parts.Kind.TheVariants.{Test, AskPosition, Position}
+use Rattle.call_values.specs.Calls.{IsCall}
+use Rattle.slot_join.specs.declared.joined.Extra.{Extra}
+use Rattle.slot_join.specs.declared.joined.Extra.TheVariants.{Absent, Whole, Broken}
+use Rattle.line_grammar.specs.Grammar.{Grammar, finish, none, Spells, written}
+use Rattle.line_grammar.specs.inside.Reading.{fits}
+use Rattle.line_grammar.specs.inside.Soundness.{is_sound}
+use Rattle.line_grammar.proofs.Stops.{IsAlike}
+use Rattle.call_texts.specs.CallGrammar.{calls, expansion, perhaps}
+use Rattle.call_texts.specs.CallParts.{call_text, expansion_text}
+use Rattle.call_texts.specs.Texts.{IsBareCallText, IsCallText, IsWholeOrAbsent, extra_text, reported_text}
+use Rattle.call_texts.specs.inside.Expansions.{extra_parts}
+use Rattle.call_texts.specs.inside.Places.{call_parts}
+use Rattle.line_grammar.proofs.Sections.{followed, closed}
+use Rattle.call_texts.proofs.CallTexts.{calls_section}
+use Rattle.call_texts.proofs.ExpansionTexts.{extra_section}
+use Rattle.line_grammar.proofs.Forms.{Texts, one_value, texts_alike}
+
+-- the texts of calls with nothing after them
+pub bare_is : (c : Call) → call_text c ≡ written (calls finish) (call_parts c none)
+unfolding call_text
+bare_is (Alert casualty) = refl
+bare_is (Ack from casualty) = refl
+bare_is (Relay to from casualty ask) = refl
+bare_is (RelayAck to from casualty) = refl
+bare_is (AllShips category from one two f1 f2) = refl
+bare_is (AreaCall area category from one two f1 f2) = refl
+bare_is (GroupCall group category from one two f1 f2) = refl
+bare_is (Individual to category from one two message end) = refl
+bare_is (Service to category from (Test reply)) = refl
+bare_is (Service to category from AskPosition) = refl
+bare_is (Service to category from (Position position time)) = refl
+
+pub bare_sound : is_sound (calls finish) ≡ true
+unfolding fits
+bare_sound = refl
+
+pub bare_texts : Texts {V = Call} (calls finish) IsCall (λ c. call_parts c none) call_text
+bare_texts = record {
+  form = closed calls_section;
+  sound = bare_sound;
+  plain = refl;
+  all = refl;
+  text_is = λ c h. bare_is c;
+}
+
+-- the lines of the grammar are these texts
+pub bare_texts_alike : IsAlike (Spells (calls finish)) IsBareCallText
+bare_texts_alike = texts_alike bare_texts
+
+-- the texts of calls that an expansion may follow
+abbrev pub with_expansion : Grammar
+with_expansion = calls (perhaps expansion finish)
+
+extra_is : (x : Extra) → IsWholeOrAbsent x → extra_text x ≡ written (perhaps expansion finish) (extra_parts x none)
+unfolding expansion_text
+extra_is Absent h = refl
+extra_is (Whole x) h = refl
+extra_is (Broken n) h = absurd h
+
+text_is : (c : Call) (x : Extra) → IsCall c → IsWholeOrAbsent x → reported_text c x ≡ written with_expansion (call_parts c (extra_parts x none))
+text_is c x h k =
+    ap (λ (l : List ℕ). l ++ extra_text x) (bare_is c) ∙ ap (λ (l : List ℕ). written (calls finish) (call_parts c none) ++ l) (extra_is x k)
+    ∙ sym (calls_section.split c h (perhaps expansion finish) (extra_parts x none))
+
+pub with_expansion_sound : is_sound with_expansion ≡ true
+unfolding fits
+with_expansion_sound = refl
+
+pub texts : Texts {V = Call × Extra} with_expansion (λ w. IsCall w.0 × IsWholeOrAbsent w.1) (λ w. call_parts w.0 (extra_parts w.1 none)) (λ w. reported_text w.0 w.1)
+texts = record {
+  form = closed (followed calls_section extra_section);
+  sound = with_expansion_sound;
+  plain = refl;
+  all = refl;
+  text_is = λ w h. text_is w.0 w.1 h.0 h.1;
+}
+
+-- two texts belong to two calls or to two expansions
+pub one_call : (a b : Call) (x y : Extra) → IsCall a → IsCall b → IsWholeOrAbsent x → IsWholeOrAbsent y → reported_text a x ≡ reported_text b y → (a ≡ b) × (x ≡ y)
+one_call a b x y h k m n e =
+    let same = one_value texts (a, x) (b, y) (h, m) (k, n) e in
+    (ap (λ (w : Call × Extra). w.0) same, ap (λ (w : Call × Extra). w.1) same)
+
+-- the lines of the grammar are these texts
+pub call_texts_alike : IsAlike (Spells with_expansion) IsCallText
+call_texts_alike = texts_alike texts

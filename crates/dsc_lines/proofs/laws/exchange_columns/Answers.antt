@@ -1,5 +1,0 @@
-use Rattle.dsc_lines.proofs.Choices.{worlds_choice, others_column}
-use Rattle.dsc_lines.proofs.laws.exchange_columns.Goals as goal
-
-pub returns : goal.returns
-returns c = λ point. others_column (worlds_choice point)

@@ -1,5 +1,0 @@
-use Rattle.dsc_lines.proofs.Choices.{one_stream}
-use Rattle.dsc_lines.proofs.laws.one_stream_line.Goals as goal
-
-pub returns : goal.returns
-returns c = one_stream

@@ -1,6 +1,0 @@
-use Rattle.dsc_texts.specs.Texts.{IsCallText}
-use Rattle.line_grammar.proofs.Forms.{column_is}
-use Rattle.dsc_texts.proofs.reading.read_call.Goals as goal
-
-pub returns-in-Err-clause-read : goal.returns-in-Err-clause-read
-returns-in-Err-clause-read c = column_is IsCallText _ _ _ c.column.ensures c.in-Err.ensures.read
