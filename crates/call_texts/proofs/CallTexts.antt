@@ -1,5 +1,5 @@
 -- calls and the parts of their texts
-use Rattle.std.proofs.Common.{◌≡◌, ℕ, Bool, [], ◌∷◌, ◌⊎◌, inl, inr, Option, codes, refl, ap}
+use Rattle.std.proofs.Common.{◌≡◌, ℕ, Bool, ◌⊎◌, inl, inr, Option, codes, refl, ap}
 use Rattle.line_grammar.specs.Grammar.{word, field, Parts, part}
 use Rattle.call_values.specs.declared.positions.Fix.{Fix}
 use Rattle.call_values.specs.declared.calls.Casualty.{Casualty}

@@ -1,8 +1,8 @@
 -- identities and symbols are numbers in nine and in three digits
-use Rattle.std.proofs.Common.{◌≡◌, ℕ, ◌<◌, ◌^◌, Bool, true, false, List, [], ◌∷◌, ◌⊎◌, inl, inr, refl, ◌∙◌, ap, arith}
+use Rattle.std.proofs.Common.{◌≡◌, ℕ, ◌<◌, ◌^◌, Bool, true, false, List, ◌⊎◌, inl, inr, refl, ◌∙◌, ap, arith}
 use Rattle.std.proofs.lemmas.Bool.Decides.{nat_tests}
 use Rattle.line_grammar.specs.Shapes.{fixed_number, is_within, digits}
-use Rattle.line_grammar.specs.Tokens.{Token, IsToken, shaped}
+use Rattle.line_grammar.specs.Tokens.{shaped}
 use Rattle.line_grammar.proofs.Digits.{one_number}
 use Rattle.line_grammar.proofs.Sections.{TokenTexts, numbers}
 use Rattle.call_values.specs.Identity.{IsMmsi}

@@ -10,7 +10,7 @@ use Rattle.expansion.specs.declared.bounds.TheConstants.{LAST_ENHANCEMENT, LAST_
 use Rattle.line_grammar.specs.Shapes.{Shape, letters, fixed_number, pair, choice}
 use Rattle.line_grammar.specs.Tokens.{Token, shaped}
 use Rattle.line_grammar.specs.Sections.{labelled}
-use Rattle.line_grammar.specs.Grammar.{Grammar, word, field, either}
+use Rattle.line_grammar.specs.Grammar.{Grammar, word, either}
 
 -- the nine digits of an identity
 abbrev pub identity_shape : Shape

@@ -6,8 +6,8 @@ ghost use Rattle.call_texts.specs.Texts.{report_text, answer_text};
 
 use crate::calls::append_reported;
 use arrayvec::ArrayVec;
-use slot_join::Joined;
 use line_grammar::{append, append_number};
+use slot_join::Joined;
 
 /// A group's answer, without the end of its line: `g0 reported ..`, `g0 missing 7`, `g0 differ 8 14 22`,
 /// `g0 outside 6 91` or `g0 check 17 78 79`.

@@ -15,8 +15,8 @@ use arrayvec::ArrayVec;
 use call_grammar::end_of;
 use call_values::{Call, Casualty, Category, Kind, Mmsi};
 use dsc_symbols::ends::{ACKNOWLEDGE_BQ, ACKNOWLEDGE_RQ};
-use slot_join::Extra;
 use line_grammar::{append, append_digits};
+use slot_join::Extra;
 
 /// The text of a call and of what follows it on air.
 pub fn put_call(call: &Call, extra: &Extra) -> ArrayVec<u8, 256>

@@ -7,8 +7,8 @@ ghost use Rattle.call_texts.specs.inside.Expansions.{label_and_set};
 
 use arrayvec::ArrayVec;
 use expansion::{Expansion, Part, PartKind};
-use slot_join::Extra;
 use line_grammar::{append, append_digits, append_number};
+use slot_join::Extra;
 
 /// Appends what comes after a call, which takes at most 40 bytes.
 pub fn append_extra<const N: usize>(out: &mut ArrayVec<u8, N>, extra: &Extra)

@@ -1,7 +1,7 @@
 //! Readers of the fields of call texts: positions, times, areas, frequencies and addresses.
 #![tactic(auto, unfolding(line_grammar::specs::inside::Reading::read_token))]
 
-ghost use Rattle.std.specs.Prelude.{◌≡◌, ◌≤◌, ◌<◌, ◌^◌, ◌++◌, ◌∷◌, [], IfOk, IfErr, Ok, Err, List, ℕ, codes, true};
+ghost use Rattle.std.specs.Prelude.{◌≡◌, ◌≤◌, ◌<◌, ◌^◌, ◌++◌, ◌∷◌, [], IfOk, IfErr, Ok, Err, codes, true};
 ghost use Rattle.line_grammar.specs.Shapes as shape;
 ghost use Rattle.line_grammar.specs.Shapes.{digits, is_within};
 ghost use Rattle.line_grammar.specs.inside.Reading.{read_shape, read_token};

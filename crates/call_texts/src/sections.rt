@@ -1,5 +1,5 @@
 //! Sections that several forms of call texts have in common.
-ghost use Rattle.std.specs.Prelude.{◌≡◌, codes, IfOk};
+ghost use Rattle.std.specs.Prelude.{◌≡◌, IfOk};
 ghost use Rattle.line_grammar.specs.Grammar.{part};
 ghost use Rattle.call_texts.specs.CallGrammar as grammar;
 ghost use Rattle.line_grammar.specs.Sections.{labelled, ReadsSection};

@@ -2,8 +2,8 @@
 ghost use Rattle.std.specs.Prelude.{◌≡◌};
 
 use arrayvec::ArrayVec;
-use std::alloc::AllocError;
 use line_grammar::append;
+use std::alloc::AllocError;
 
 /// What a row is about, in the order of rows (ITU-R M.493, distress calls).
 #[derive(Clone, Copy, Debug, PartialEq, Eq, PartialOrd, Ord)]

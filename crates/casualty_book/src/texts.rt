@@ -7,8 +7,8 @@ ghost use Rattle.casualty_book.specs.Texts as texts;
 
 use crate::rows::{BookKind, BookRow};
 use arrayvec::ArrayVec;
-use sentence_frame::{append_digit_text, widened};
 use line_grammar::{append, append_digits};
+use sentence_frame::{append_digit_text, widened};
 
 /// The text of a row, without LF.
 #[tactic(auto, unfolding(crate::specs::Texts::row_text))]

@@ -17,7 +17,6 @@ ghost use Rattle.dsc_cmd.specs.LegalReplays.{legal_replay};
 
 use crate::laws::inputs_have_one_output;
 use crate::making::make;
-use sentence_files::Logs;
 use byte_streams::{Failed, Sink, Source, Status, write_all};
 use command_line::{Plan, PlanError, one_plan, plan_of};
 use encode_calls::{Encode, LongDots, ShortDots};
@@ -26,7 +25,7 @@ use line_engine::{Command, MOST_TAKEN, drive};
 use live_watch::told_calls;
 use long_capture::start_reports_the_call;
 use receiver_pool::Gate;
-use sentence_files::Sentences;
+use sentence_files::{Logs, Sentences};
 use slot_evidence::ends_are_kept;
 use slot_join::{
     alike_facts_have_one_answer, heard_calls_show_no_other, intact_copies_report_the_call,

@@ -6,8 +6,8 @@ ghost use Rattle.dsc_files.specs.Files.{line_of_book, line_of_call, line_of_entr
 use crate::events::{EventLine, ExchangeLine, event_line, exchange_line};
 use crate::points::PointLine;
 use call_values::{Band, Call, Mmsi};
-use input_lines::{BookLine, CallLine, JoinLine, SentenceLine};
 use expansion::Expansion;
+use input_lines::{BookLine, CallLine, JoinLine, SentenceLine};
 use slot_evidence::{Reception, Sheet};
 use slot_join::Extra;
 use traffic_lines::{Entry, ExchangePoint, Point, TrafficLine, WorldLine};

@@ -9,8 +9,8 @@ use crate::dsc::DscSentence;
 use crate::dse_reading::read_dse;
 use crate::reading::fields_read;
 use arrayvec::ArrayVec;
-use sentence_frame::{LONGEST_SENTENCE, SentenceRefusal};
 use line_grammar::append;
+use sentence_frame::{LONGEST_SENTENCE, SentenceRefusal};
 
 /// The DSC sentence of a line that has no LF: one CR at its end is dropped, and CR LF are added. A line that begins
 /// with `$CDDSE` is read as a DSE sentence, and where it is accepted the answer is None. A refused line gives its first

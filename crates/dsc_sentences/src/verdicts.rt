@@ -7,8 +7,8 @@ ghost use Rattle.sentence_frame.specs.declared.refusals.SentenceRefusal.TheVaria
 
 use crate::hearing::sentence_on;
 use arrayvec::ArrayVec;
-use sentence_frame::{SentenceRefusal, hexadecimal};
 use line_grammar::{append, append_number};
+use sentence_frame::{SentenceRefusal, hexadecimal};
 
 /// The verdict on a sentence.
 #[derive(Clone, Copy, Debug, PartialEq, Eq)]

@@ -1,5 +1,5 @@
 //! The join of generated groups.
-ghost use Rattle.std.specs.Prelude.{◌≡◌, ◌≤◌, IfOk, length};
+ghost use Rattle.std.specs.Prelude.{◌≤◌, IfOk};
 ghost use Rattle.join_groups.specs.Groups.{group_facts};
 ghost use Rattle.slot_join.specs.Answer.{IsAnswer};
 ghost use Rattle.generated_join.specs.Generator.{generated, lines_of_group};

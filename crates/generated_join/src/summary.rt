@@ -9,9 +9,8 @@ ghost use Rattle.generated_join.specs.inside.Counted.{HasCounted};
 
 use crate::hearing::RECEPTIONS;
 use arrayvec::ArrayVec;
-use slot_join::is_reported;
-use slot_join::Joined;
 use line_grammar::{append, append_number};
+use slot_join::{Joined, is_reported};
 
 /// The numbers of a joined input: its groups and receptions, the groups of which a call was reported, and those of
 /// which the answer names a missing place.

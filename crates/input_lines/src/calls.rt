@@ -6,8 +6,8 @@ ghost use Rattle.input_lines.specs.JoinLine.{IsNothing};
 ghost use Rattle.input_lines.specs.Readings.{Reads};
 
 use crate::worlds::says_nothing;
-use call_values::Call;
 use call_texts::read_call;
+use call_values::Call;
 use expansion::Expansion;
 use slot_join::Extra;
 

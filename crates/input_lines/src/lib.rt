@@ -16,12 +16,12 @@ mod traffic;
 mod worlds;
 
 pub use books::{BookLine, book_line};
-pub use calls::{CallLine, call_line};
 pub use byte_streams::{
     ByteSink, ByteSource, Failed, NoMemory, Sink, Source, Status, StdSink, StdSource, SureSink,
     SureSource, write_all,
 };
 pub use call_texts::{put_answer, put_answer_line, put_call};
+pub use calls::{CallLine, call_line};
 pub use fault::LineFault;
 pub use join::{JoinLine, join_line};
 pub use laws::{

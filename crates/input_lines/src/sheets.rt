@@ -7,8 +7,8 @@ ghost use Rattle.input_lines.specs.inside.Reading.{pairs_text};
 ghost use Rattle.input_lines.specs.Evidence.{pairs_at, evidence_text};
 
 use arrayvec::ArrayVec;
-use slot_evidence::{Seen, Sheet};
 use line_grammar::{append, append_number};
+use slot_evidence::{Seen, Sheet};
 
 /// A group's evidence, without the end of its line: `e g9 0:120 8:14 8:22`. It has the pairs of all places, by rising
 /// place: of each its one symbol, or its least and then its greatest.

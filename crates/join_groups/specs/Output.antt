@@ -1,12 +1,11 @@
 -- What is written of groups: this project's profile.
-use Rattle.std.specs.Prelude.{◌≡◌, ℕ, Bool, true, false, if◌then◌else◌, List, [], ◌∷◌, ◌++◌, map}
+use Rattle.std.specs.Prelude.{◌≡◌, ℕ, Bool, true, if◌then◌else◌, List, [], ◌∷◌, ◌++◌, map}
 use Rattle.std.specs.List.{list_all, flat_map, AllByRecursion}
 use Rattle.line_grammar.specs.Bytes.{line_feed}
 use Rattle.slot_evidence.specs.declared.places.Seen.{Seen}
 use Rattle.slot_evidence.specs.Facts.{Facts}
 use Rattle.slot_evidence.specs.Sheet.{IsEnds}
 use Rattle.slot_join.specs.declared.joined.Joined.{Joined}
-use Rattle.slot_join.specs.declared.joined.Joined.TheVariants.{Reported, Missing, Differ, Outside, Check}
 use Rattle.slot_join.specs.Answer.{IsAnswer, is_reported}
 use Rattle.call_texts.specs.Texts.{answer_line}
 use Rattle.input_lines.specs.Evidence.{evidence_text}

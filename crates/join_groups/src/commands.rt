@@ -1,18 +1,13 @@
 //! The commands `join` and `evidence`.
-ghost use Rattle.std.specs.Prelude.{◌≡◌, ℕ, ◌+◌, ◌≤◌, ◌++◌, ◌∷◌, [], List, length, IfOk, IfErr, OnOk};
-ghost use Rattle.line_engine.specs.Lines.{Lines};
-ghost use Rattle.line_engine.specs.Commands.{IsTakenBehind, IsRefusedBehind, KeepsText, StandsBelow};
-ghost use Rattle.line_engine.specs.Endings.{IsFinished};
-ghost use Rattle.input_lines.specs.JoinLine.{JoinLine};
-ghost use Rattle.join_groups.specs.Groups.{AreLines};
+ghost use Rattle.std.specs.Prelude.{◌≡◌, []};
 ghost use Rattle.join_groups.specs.Meanings.{groups_meaning};
 ghost use Rattle.join_groups.specs.inside.Kept.{StandsFor};
 
 use crate::groups::NamedGroups;
 use crate::taking::take_line;
 use crate::telling::{Teller, tell_all};
-use input_lines::one_line;
 use byte_streams::Status;
+use input_lines::one_line;
 use line_engine::{Command, Refusal};
 use receiver_pool::Joiner;
 use std::alloc::{AllocError, Global};

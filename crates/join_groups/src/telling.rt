@@ -3,16 +3,15 @@ ghost use Rattle.std.specs.Prelude.{◌≡◌, ℕ, ◌++◌, List, [], IfOk, if
 ghost use Rattle.slot_evidence.specs.Facts.{Facts};
 ghost use Rattle.slot_evidence.specs.Sheet.{IsEnds};
 ghost use Rattle.input_lines.specs.JoinLine.{JoinLine};
-ghost use Rattle.join_groups.specs.Output as output;
 ghost use Rattle.join_groups.specs.Output.{Telling, TellsAnswer, TellsEvidence, IsGroupsText};
 ghost use Rattle.join_groups.specs.Holds.{HoldsSome};
 ghost use Rattle.join_groups.specs.inside.Kept.{Keeps};
 
 use crate::groups::NamedGroups;
-use input_lines::put_evidence_line;
 use call_texts::put_answer_line;
+use input_lines::put_evidence_line;
 use slot_evidence::Sheet;
-use slot_join::{Joined, report};
+use slot_join::{is_reported, report};
 use std::alloc::AllocError;
 
 /// A way to write the line of a group.

@@ -1,5 +1,5 @@
 -- the readers of rows, and what they answer of whole lines
-use Rattle.std.proofs.Common.{◌≡◌, ℕ, ◌+◌, ◌≤◌, true, List, length, Result, Ok, Err, is_ok, IfOk, IfErr, IsErrAnd, refl, sym, ◌∙◌, ap, subst, arith}
+use Rattle.std.proofs.Common.{◌≡◌, ℕ, true, List, Result, Ok, Err, is_ok, IfOk, IsErrAnd, refl, sym, ◌∙◌, ap, subst, arith}
 use Rattle.line_grammar.specs.Grammar.{Grammar, finish, word, field, either, Parts, none, part, first, second, Spells, written}
 use Rattle.line_grammar.specs.Rows.{IsWritten, ReadsRow, ReadsWhole, ReadsAmong}
 use Rattle.line_grammar.specs.Sections.{ReadsForm, ReadsTail}

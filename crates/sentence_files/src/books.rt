@@ -1,14 +1,13 @@
 //! The command `book`.
-ghost use Rattle.std.specs.Prelude.{◌≡◌, ◌∷◌, ◌++◌, [], OnOk, true};
-ghost use Rattle.line_engine.specs.Lines.{Lines};
+ghost use Rattle.std.specs.Prelude.{◌≡◌, [], OnOk, true};
 ghost use Rattle.input_lines.specs.BookLine.{is_sentence};
 ghost use Rattle.casualty_book.specs.Books.{HasAlsoOf};
 ghost use Rattle.sentence_files.specs.Booking.{book_meaning};
 ghost use Rattle.sentence_files.specs.inside.Booked.{StandsFor, TakesOne, row_heard};
 
 use casualty_book::Book;
-use input_lines::{BookLine, Status, book_line, one_book_line};
 use dsc_sentences::{DscSentence, sentence_on};
+use input_lines::{BookLine, Status, book_line, one_book_line};
 use line_engine::{Command, Refusal};
 use std::alloc::{AllocError, Global};
 

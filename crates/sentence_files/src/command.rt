@@ -2,12 +2,11 @@
 ghost use Rattle.std.specs.Prelude.{◌≡◌, ◌||◌, ◌++◌, ◌∷◌, not, [], OnOk};
 ghost use Rattle.line_grammar.specs.Bytes.{line_feed};
 ghost use Rattle.dsc_sentences.specs.Verdicts.{verdict_of, verdict_text};
-ghost use Rattle.dsc_sentences.specs.CallSentences.{sentences_of};
 ghost use Rattle.sentence_files.specs.Telling.{call_sentences, is_accepted, is_well, line_text, sentences_meaning};
 ghost use Rattle.sentence_files.specs.inside.Progress.{HasTold};
 
-use input_lines::{CallLine, SentenceLine, Status, sentence_line};
 use dsc_sentences::{Verdict, put_sentences, put_verdict, verdict_on};
+use input_lines::{CallLine, SentenceLine, Status, sentence_line};
 use line_engine::{Command, Refusal};
 use std::alloc::AllocError;
 

@@ -1,6 +1,7 @@
 //! The answer to a group's facts, and what follows a reported call.
 ghost use Rattle.std.specs.Prelude.{◌≡◌};
 ghost use Rattle.slot_join.specs.Answer as answers;
+
 use call_values::Call;
 use expansion::Expansion;
 

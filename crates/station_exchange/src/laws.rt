@@ -9,8 +9,8 @@ ghost use Rattle.exchange.specs.WorldRules.{IsLegal};
 ghost use Rattle.station_exchange.specs.Meaning.{exchange_meaning};
 ghost use Rattle.station_exchange.specs.Said.{Said, parties_of, world_of, AreSaid};
 
-use input_lines::one_exchange_line;
 use exchange::exchanges_go_on_legally;
+use input_lines::one_exchange_line;
 
 /// The law that the lines of a file of an exchange determine what `exchange` writes. It does nothing.
 #[tactic(auto, using(crate::proofs::Determined::exchange_determined))]

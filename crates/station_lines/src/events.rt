@@ -3,9 +3,9 @@ ghost use Rattle.std.specs.Prelude.{◌≡◌, ◌≤◌, ℕ};
 ghost use Rattle.traffic_lines.specs.declared.lines.Deed.{Deed};
 ghost use Rattle.station_lines.specs.Events as events;
 
+use crate::civil_minute;
 use call_values::bounds::LAST_BASE;
 use call_values::{HourMinute, Position};
-use crate::civil_minute;
 use coast_station::{Coast, CoastWhat};
 use ship_station::{Ship, ShipWhat};
 use stations::Station;

@@ -7,7 +7,7 @@ use Rattle.line_engine.specs.Determined.{IsDetermined, BeginsWith}
 use Rattle.input_lines.specs.StreamLine.{IsStreamLine}
 use Rattle.input_lines.proofs.PublicLaws.{one_column}
 use Rattle.long_capture.specs.Captures.{decided}
-use Rattle.stream_capture.specs.Telling.{AreStreamLines, stream_of, AnsweredStart, AreAnswered, told_text, are_reported, GivesStarts, EndsStarts, capture_meaning}
+use Rattle.stream_capture.specs.Telling.{AreStreamLines, stream_of, AnsweredStart, AreAnsweredStarts, told_text, are_reported, GivesStarts, EndsStarts, capture_meaning}
 use Rattle.stream_capture.proofs.Texts.{told_append}
 use Rattle.stream_capture.proofs.Fronts.{OneAnswer, Stays, told_stays, told_goes_on, one_told}
 
@@ -79,8 +79,8 @@ stream_goes_on one x y first later a b =
 -- ---- one text
 
 told_alike : OneAnswer → (e f : List Element) → e ≡ f → (bound : List Element → ℕ) (a b : List AnsweredStart)
-    → AreAnswered e (bound e) a → AreAnswered f (bound f) b → a ≡ b
-told_alike one e f same bound a b x y = one_told one e (bound e) a b x (subst (λ (g : List Element). AreAnswered g (bound g) b) (sym same) y)
+    → AreAnsweredStarts e (bound e) a → AreAnsweredStarts f (bound f) b → a ≡ b
+told_alike one e f same bound a b x y = one_told one e (bound e) a b x (subst (λ (g : List Element). AreAnsweredStarts g (bound g) b) (sym same) y)
 
 one_text : OneStreamLine → OneAnswer → (lines : Lines) (a b : List ℕ) → GivesStarts lines a → GivesStarts lines b → a ≡ b
 one_text line answer lines a b g h =
@@ -104,7 +104,7 @@ record TellsBelow (bound : ℕ → ℕ) (lines : Lines) (text : List ℕ) : Type
   pub said : List (List Element)
   pub are_lines : AreStreamLines said lines
   pub told : List AnsweredStart
-  pub are_told : AreAnswered (stream_of said) (bound (length (stream_of said))) told
+  pub are_told : AreAnsweredStarts (stream_of said) (bound (length (stream_of said))) told
   pub text_is : text ≡ told_text 0 told
 
 begins : OneStreamLine → OneAnswer → Stays → (bound : ℕ → ℕ) → ((n m : ℕ) → n ≤ m → decided n ≤ bound m)
@@ -114,7 +114,7 @@ begins line answer stays bound rises first later text whole g h =
     let goes_on = stream_goes_on line g.said h.said first later g.are_lines h.are_lines in
     let all = e ++ goes_on.0 in
     let longer : length e ≤ length all = omega (arith, length-append e goes_on.0) in
-    let further = subst (λ (s : List Element). AreAnswered s (bound (length s)) h.told) goes_on.1 h.are_told in
+    let further = subst (λ (s : List Element). AreAnsweredStarts s (bound (length s)) h.told) goes_on.1 h.are_told in
     let stay = told_stays stays e goes_on.0 g.told g.are_told in
     let told = told_goes_on answer all (decided (length e)) (bound (length all)) g.told h.told (rises (length e) (length all) longer) stay further in
     let back = told_text (0 + length g.told) told.0 in

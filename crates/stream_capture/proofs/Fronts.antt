@@ -11,7 +11,7 @@ use Rattle.slot_join.specs.declared.joined.Joined.{Joined}
 use Rattle.slot_join.specs.Answer.{IsAnswer}
 use Rattle.long_capture.specs.Starts.{starts_below, facts_from}
 use Rattle.long_capture.specs.Captures.{decided}
-use Rattle.stream_capture.specs.Telling.{AnsweredStart, AreAnswered}
+use Rattle.stream_capture.specs.Telling.{AnsweredStart, AreAnsweredStarts}
 
 -- a set of facts has one answer
 abbrev pub OneAnswer : Type 0
@@ -80,7 +80,7 @@ answers_stay stays e more (one ∷ told) below answered =
     (subst (λ (F : Facts). IsAnswer F one.answer) same answered.0, answers_stay stays e more told below.1 answered.1)
 
 -- what is told of the decided starts of a stream stays, whatever follows
-pub told_stays : Stays → (e more : List Element) (told : List AnsweredStart) → AreAnswered e (decided (length e)) told → AreAnswered (e ++ more) (decided (length e)) told
+pub told_stays : Stays → (e more : List Element) (told : List AnsweredStart) → AreAnsweredStarts e (decided (length e)) told → AreAnsweredStarts (e ++ more) (decided (length e)) told
 told_stays stays e more told are =
     let bound = decided (length e) in
     record {
@@ -112,7 +112,7 @@ goes_on law e (a ∷ whole) (b ∷ front) leads same x y =
     }
 
 -- what is told of a stream below a higher lead begins with what is told below a lower one
-pub told_goes_on : OneAnswer → (e : List Element) (low high : ℕ) (front whole : List AnsweredStart) → low ≤ high → AreAnswered e low front → AreAnswered e high whole
+pub told_goes_on : OneAnswer → (e : List Element) (low high : ℕ) (front whole : List AnsweredStart) → low ≤ high → AreAnsweredStarts e low front → AreAnsweredStarts e high whole
     → (back : List AnsweredStart) × (whole ≡ front ++ back)
 told_goes_on law e low high front whole rising x y =
     let leads = y.leads ∙ starts_split e low high rising ∙ ap (λ (l : List ℕ). l ++ starts_between e low high) (sym x.leads) in
@@ -124,7 +124,7 @@ none_behind [] e = refl
 none_behind (one ∷ back) e = absurd cc
 
 -- below a lead one thing is told of a stream
-pub one_told : OneAnswer → (e : List Element) (bound : ℕ) (a b : List AnsweredStart) → AreAnswered e bound a → AreAnswered e bound b → a ≡ b
+pub one_told : OneAnswer → (e : List Element) (bound : ℕ) (a b : List AnsweredStart) → AreAnsweredStarts e bound a → AreAnsweredStarts e bound b → a ≡ b
 one_told law e bound a b x y =
     let on = goes_on law e a b [] (x.leads ∙ sym y.leads ∙ sym (append-nil (map (λ one. one.lead) b))) x.answers y.answers in
     on.list ∙ ap (λ (l : List AnsweredStart). b ++ l) (none_behind on.back on.leads_are) ∙ append-nil b

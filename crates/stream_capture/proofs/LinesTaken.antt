@@ -7,7 +7,7 @@ use Rattle.input_lines.specs.StreamLine.{IsStreamLine}
 use Rattle.input_lines.proofs.PublicLaws.{stream_few}
 use Rattle.long_capture.specs.Captures.{Ending, decided}
 use Rattle.stream_capture.specs.declared.command.Capturing.{Capturing}
-use Rattle.stream_capture.specs.Telling.{AreStreamLines, stream_of, AreAnswered, EndsStarts}
+use Rattle.stream_capture.specs.Telling.{AreStreamLines, stream_of, AreAnsweredStarts, EndsStarts}
 use Rattle.stream_capture.specs.inside.Progress.{HasTold, EndsTold, HasToldAll, HasRoom, StandsFor}
 use Rattle.stream_capture.proofs.Ready.{few_told}
 use Rattle.stream_capture.proofs.Determined.{stream_append}
@@ -63,8 +63,8 @@ ends_told command e text ending h = record {
   ending = ending;
   told = h.told;
   are_told =
-      subst (λ (n : ℕ). AreAnswered e n h.told) (sym h.stands.far)
-      (subst (λ (s : List Element). AreAnswered s (decided (length e)) h.told) (append-nil e) (h.are_told []));
+      subst (λ (n : ℕ). AreAnsweredStarts e n h.told) (sym h.stands.far)
+      (subst (λ (s : List Element). AreAnsweredStarts s (decided (length e)) h.told) (append-nil e) (h.are_told []));
   text_is = h.text_is;
   counts = h.counts;
 }

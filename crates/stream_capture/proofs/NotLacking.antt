@@ -14,7 +14,7 @@ use Rattle.input_lines.specs.StreamLine.{IsStreamLine}
 use Rattle.input_lines.proofs.PublicLaws.{line_there}
 use Rattle.long_capture.specs.Starts.{starts_below, facts_from}
 use Rattle.long_capture.specs.Captures.{decided}
-use Rattle.stream_capture.specs.Telling.{AreStreamLines, stream_of, AnsweredStart, AreAnswered, told_text, are_reported, capture_meaning}
+use Rattle.stream_capture.specs.Telling.{AreStreamLines, stream_of, AnsweredStart, AreAnsweredStarts, told_text, are_reported, capture_meaning}
 
 -- it can't be that there is none
 abbrev IsThere : Type 0 → Type 0
@@ -44,7 +44,7 @@ module _ (law : AnswerLaw) (e : List Element) where
         answers = (is, rest.answers);
       })))
 
-  pub starts_there : (bound : ℕ) → IsThere ((told : List AnsweredStart) × AreAnswered e bound told)
+  pub starts_there : (bound : ℕ) → IsThere ((told : List AnsweredStart) × AreAnsweredStarts e bound told)
   starts_there bound k = told_there (starts_below e bound) (λ t. k (t.told, record { leads = t.leads_are; answers = t.answers }))
 
 -- lines without a fault say something

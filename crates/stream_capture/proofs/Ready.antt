@@ -11,10 +11,10 @@ use Rattle.long_capture.specs.declared.captures.Capture.{Capture}
 use Rattle.long_capture.specs.Starts.{starts_below}
 use Rattle.long_capture.specs.Captures.{Stands, IsOpen, taken, left, decided}
 use Rattle.stream_capture.specs.declared.command.Capturing.{Capturing}
-use Rattle.stream_capture.specs.Telling.{AnsweredStart, AreAnswered, told_text}
+use Rattle.stream_capture.specs.Telling.{AnsweredStart, AreAnsweredStarts, told_text}
 use Rattle.stream_capture.specs.inside.Progress.{HasTold, StandsFor}
 
-none_told : (e : List Element) → AreAnswered e 0 []
+none_told : (e : List Element) → AreAnsweredStarts e 0 []
 unfolding starts_below
 none_told e = record { leads = refl; answers = tt }
 
@@ -44,7 +44,7 @@ below_few e bound = omega (
   length-range_with_len 0 bound,
 )
 
-pub few_told : (e : List Element) (bound : ℕ) (told : List AnsweredStart) → AreAnswered e bound told → length told ≤ bound
+pub few_told : (e : List Element) (bound : ℕ) (told : List AnsweredStart) → AreAnsweredStarts e bound told → length told ≤ bound
 few_told e bound told are = omega (arith, length-map told (λ (one : AnsweredStart). one.lead), ap length are.leads, below_few e bound)
 
 -- it may take so many elements more

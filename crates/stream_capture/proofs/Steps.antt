@@ -12,7 +12,7 @@ use Rattle.long_capture.specs.Starts.{starts_below, facts_from}
 use Rattle.long_capture.specs.Told.{IsStart, AreQuiet, IsNextStart}
 use Rattle.long_capture.specs.Captures.{Stands, Ending, decided, reached}
 use Rattle.stream_capture.specs.declared.command.Capturing.{Capturing}
-use Rattle.stream_capture.specs.Telling.{AnsweredStart, AreAnswered, start_line, told_text}
+use Rattle.stream_capture.specs.Telling.{AnsweredStart, AreAnsweredStarts, start_line, told_text}
 use Rattle.stream_capture.specs.inside.Progress.{Counts, HasTold, EndsTold, HasToldAll, TellsOne}
 use Rattle.stream_capture.proofs.Texts.{line_of, told_push, reported_push}
 
@@ -33,11 +33,11 @@ same_last : {a b high : ℕ} → high ≡ a + 1 → high ≡ b + 1 → a ≡ b
 same_last {a} {b} {high} e f = omega (arith, e, f)
 
 module _ (laws : Laws) where
-  quiet_told : (e : List Element) (low high : ℕ) (told : List AnsweredStart) → AreAnswered e low told → AreQuiet e low high → AreAnswered e high told
+  quiet_told : (e : List Element) (low high : ℕ) (told : List AnsweredStart) → AreAnsweredStarts e low told → AreQuiet e low high → AreAnsweredStarts e high told
   quiet_told e low high told t quiet = record { leads = t.leads ∙ sym (laws.quiet e low high quiet); answers = t.answers }
 
-  next_told : (e : List Element) (low high lead : ℕ) (start : Start) (told : List AnsweredStart) (answer : Joined) → AreAnswered e low told → IsNextStart e low high start → high ≡ lead + 1
-      → ((F : Facts) → IsEnds F start.sheet → IsAnswer F answer) → AreAnswered e high (told ++ one_at lead answer ∷ [])
+  next_told : (e : List Element) (low high lead : ℕ) (start : Start) (told : List AnsweredStart) (answer : Joined) → AreAnsweredStarts e low told → IsNextStart e low high start → high ≡ lead + 1
+      → ((F : Facts) → IsEnds F start.sheet → IsAnswer F answer) → AreAnsweredStarts e high (told ++ one_at lead answer ∷ [])
   next_told e low high lead start told answer t is last answers =
       let same : is.lead ≡ lead = same_last is.last last in
       let at = subst (λ (k : ℕ). IsStart e k start) same is.is in
@@ -79,8 +79,8 @@ module _ (laws : Laws) where
   -- ---- some elements further
 
   -- what was told of the stream so far, whatever follows the next elements
-  so_far : (old : Capturing) (e xs : List Element) (text : List ℕ) (h : HasTold old e text) (more : List Element) → AreAnswered (e ++ (xs ++ more)) (reached old.capture) h.told
-  so_far old e xs text h more = subst (λ (n : ℕ). AreAnswered (e ++ (xs ++ more)) n h.told) (sym h.stands.far) (h.are_told (xs ++ more))
+  so_far : (old : Capturing) (e xs : List Element) (text : List ℕ) (h : HasTold old e text) (more : List Element) → AreAnsweredStarts (e ++ (xs ++ more)) (reached old.capture) h.told
+  so_far old e xs text h more = subst (λ (n : ℕ). AreAnsweredStarts (e ++ (xs ++ more)) n h.told) (sym h.stands.far) (h.are_told (xs ++ more))
 
   pub quiet_taken : (old new : Capturing) (e xs : List Element) (text : List ℕ) → HasTold old e text → Stands new.capture (e ++ xs)
       → ((more : List Element) → AreQuiet (e ++ (xs ++ more)) (reached old.capture) (reached new.capture)) → new.count ≡ old.count → new.is_well ≡ old.is_well → HasTold new (e ++ xs) text
@@ -90,8 +90,8 @@ module _ (laws : Laws) where
         stands = stands;
         told = h.told;
         are_told = λ more.
-            subst (λ (s : List Element). AreAnswered s (decided (length (e ++ xs))) h.told) (sym (append_assoc e xs more))
-            (subst (λ (n : ℕ). AreAnswered (e ++ (xs ++ more)) n h.told) stands.far
+            subst (λ (s : List Element). AreAnsweredStarts s (decided (length (e ++ xs))) h.told) (sym (append_assoc e xs more))
+            (subst (λ (n : ℕ). AreAnsweredStarts (e ++ (xs ++ more)) n h.told) stands.far
             (quiet_told (e ++ (xs ++ more)) (reached old.capture) (reached new.capture) h.told (so_far old e xs text h more) (quiet more)));
         text_is = counted.text_is;
         counts = counted.counts;
@@ -107,8 +107,8 @@ module _ (laws : Laws) where
         stands = subst (λ c. Stands c (e ++ xs)) (sym one.capture_is) stands;
         told = h.told ++ one_at here.lead one.answer ∷ [];
         are_told = λ more.
-            subst (λ (s : List Element). AreAnswered s (decided (length (e ++ xs))) (h.told ++ one_at here.lead one.answer ∷ [])) (sym (append_assoc e xs more))
-            (subst (λ (n : ℕ). AreAnswered (e ++ (xs ++ more)) n (h.told ++ one_at here.lead one.answer ∷ [])) stands.far
+            subst (λ (s : List Element). AreAnsweredStarts s (decided (length (e ++ xs))) (h.told ++ one_at here.lead one.answer ∷ [])) (sym (append_assoc e xs more))
+            (subst (λ (n : ℕ). AreAnsweredStarts (e ++ (xs ++ more)) n (h.told ++ one_at here.lead one.answer ∷ [])) stands.far
             (next_told (e ++ (xs ++ more)) (reached old.capture) (reached taken.capture) here.lead start h.told one.answer (so_far old e xs (text ++ before) h more) (next more) here.last one.is_answer));
         text_is = counted.text_is;
         counts = counted.counts;
@@ -125,7 +125,7 @@ module _ (laws : Laws) where
         ending = subst (λ c. Ending c e) (sym one.capture_is) ending;
         told = h.told ++ one_at next.lead one.answer ∷ [];
         are_told =
-            subst (λ c. AreAnswered e (reached c) (h.told ++ one_at next.lead one.answer ∷ [])) (sym one.capture_is)
+            subst (λ c. AreAnsweredStarts e (reached c) (h.told ++ one_at next.lead one.answer ∷ [])) (sym one.capture_is)
             (next_told e (reached old.capture) (reached taken.capture) next.lead start h.told one.answer h.are_told next next.last one.is_answer);
         text_is = counted.text_is;
         counts = counted.counts;
@@ -138,7 +138,7 @@ module _ (laws : Laws) where
       let counted = recounted old new h.told text count well h.text_is h.counts in
       record {
         told = h.told;
-        are_told = subst (λ (n : ℕ). AreAnswered e n h.told) all (quiet_told e (reached old.capture) (reached new.capture) h.told h.are_told quiet);
+        are_told = subst (λ (n : ℕ). AreAnsweredStarts e n h.told) all (quiet_told e (reached old.capture) (reached new.capture) h.told h.are_told quiet);
         text_is = counted.text_is;
         well_is = counted.counts.well_is;
       }

@@ -32,7 +32,7 @@ pub record AnsweredStart : Type 0 where
   pub answer : Joined
 
 -- these are the starts of a stream below a lead, each with the answer to its facts
-pub record AreAnswered (e : List Element) (bound : ℕ) (told : List AnsweredStart) : Type 0 where
+pub record AreAnsweredStarts (e : List Element) (bound : ℕ) (told : List AnsweredStart) : Type 0 where
   pub leads : map (λ one. one.lead) told ≡ starts_below e bound
   pub answers : AllByRecursion (λ one. IsAnswer (facts_from e one.lead) one.answer) told
 
@@ -54,7 +54,7 @@ pub record GivesStarts (lines : Lines) (text : List ℕ) : Type 0 where
   pub said : List (List Element)
   pub are_lines : AreStreamLines said lines
   pub told : List AnsweredStart
-  pub are_told : AreAnswered (stream_of said) (decided (length (stream_of said))) told
+  pub are_told : AreAnsweredStarts (stream_of said) (decided (length (stream_of said))) told
   pub text_is : text ≡ told_text 0 told
 
 -- an input of these lines has this text, the lines of all starts, and this status: 1 where a start isn't reported
@@ -62,7 +62,7 @@ pub record EndsStarts (lines : Lines) (text : List ℕ) (status : ℕ) : Type 0 
   pub said : List (List Element)
   pub are_lines : AreStreamLines said lines
   pub told : List AnsweredStart
-  pub are_told : AreAnswered (stream_of said) (length (stream_of said) + LEAD_OF_FIRST) told
+  pub are_told : AreAnsweredStarts (stream_of said) (length (stream_of said) + LEAD_OF_FIRST) told
   pub text_is : text ≡ told_text 0 told
   pub status_is : status ≡ (if are_reported told then 0 else 1)
 

@@ -1,7 +1,6 @@
 //! The command `capture`.
-ghost use Rattle.std.specs.Prelude.{◌≡◌, ◌+◌, ◌-◌, ◌<◌, ◌≤◌, ◌^◌, ◌∷◌, ◌++◌, List, ℕ, [], map, length, take, IfOk, OnOk};
+ghost use Rattle.std.specs.Prelude.{◌+◌, ◌-◌, ◌<◌, ◌≤◌, ◌^◌, ◌++◌, List, ℕ, [], map, length, take, IfOk, OnOk};
 ghost use Rattle.ten_unit.specs.declared.character.Element.{Element as Taken};
-ghost use Rattle.line_engine.specs.Commands.{StandsBelow};
 ghost use Rattle.ten_unit.specs.Signs.{element_of as element_at};
 ghost use Rattle.long_capture.specs.Captures.{taken, IsOpen};
 ghost use Rattle.stream_capture.specs.Telling.{capture_meaning};
@@ -10,8 +9,8 @@ ghost use Rattle.stream_capture.specs.inside.Gives.{gives_text};
 
 use crate::elements::elements_of;
 use crate::lines::append_start;
-use input_lines::{one_stream_line, stream_line};
 use byte_streams::Status;
+use input_lines::{one_stream_line, stream_line};
 use line_engine::{Command, LONGEST_LINE, Refusal};
 use long_capture::{Capture, Start, starts_go_on, taking_ends};
 use std::alloc::AllocError;

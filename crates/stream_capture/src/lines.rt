@@ -8,9 +8,8 @@ ghost use Rattle.stream_capture.specs.Telling.{start_line};
 
 use call_texts::put_answer_line;
 use itoa::Buffer;
-use slot_join::is_reported;
 use slot_evidence::Sheet;
-use slot_join::report;
+use slot_join::{is_reported, report};
 use std::alloc::AllocError;
 
 /// Appends the line of the start with this number, at this origin and with this sheet, and answers whether a call was

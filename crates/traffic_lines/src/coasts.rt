@@ -7,9 +7,9 @@ ghost use Rattle.traffic_lines.specs.Events.{IsCoastOwn, IsPerhapsDelay, ask_par
 use crate::lines::CoastOwn;
 use crate::rows::{Rows, spelled, to_end};
 use crate::values::AckWait;
+use call_texts::field;
 use call_values::{CoastDelay, Mmsi, To};
 use cursor::Cursor;
-use call_texts::field;
 use line_grammar::{Left, end, further};
 
 /// Reads that no delay is given.

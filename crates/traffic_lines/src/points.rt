@@ -9,9 +9,9 @@ ghost use Rattle.traffic_lines.specs.Lines.{IsAtMoment, IsBase, IsShipLine, IsSt
 use crate::lines::{Event, Hearing, ShipLine, ShipOwn, StationLine};
 use crate::rows::{Rows, spelled, to_end};
 use crate::values::{Number, Second};
+use call_texts::{Token, field};
 use call_values::{Band, Mmsi};
 use cursor::Cursor;
-use call_texts::{Token, field};
 use line_grammar::{Left, further, word};
 
 /// The identity of a ship that is the station.

@@ -5,8 +5,8 @@ ghost use Rattle.line_grammar.specs.inside.Soundness.{is_sound};
 ghost use Rattle.line_grammar.specs.Sections.{labelled, last, ReadsTail};
 ghost use Rattle.line_grammar.specs.Rows.{ReadsRow, ReadsWhole};
 
-use cursor::Cursor;
 use call_texts::{Token, end, field};
+use cursor::Cursor;
 use line_grammar::{Left, column};
 
 /// A value that goes to the end of a line, by rows of a grammar.

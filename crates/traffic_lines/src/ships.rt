@@ -7,9 +7,9 @@ ghost use Rattle.traffic_lines.specs.Events.{IsShipOwn, ship_parts};
 use crate::lines::ShipOwn;
 use crate::rows::{Rows, spelled, to_end};
 use crate::values::Wait;
+use call_texts::field;
 use call_values::{Comm, Nature, Position};
 use cursor::Cursor;
-use call_texts::field;
 use line_grammar::{Left, further};
 
 /// Reads `position` and the ten digits of a position.

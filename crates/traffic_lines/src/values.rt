@@ -6,11 +6,11 @@ ghost use Rattle.line_grammar.specs.inside.Reading.{read_token};
 ghost use Rattle.traffic_lines.specs.Events as events;
 ghost use Rattle.traffic_lines.specs.Events.{IsHeldNumber};
 
+use call_texts::Token;
 use call_values::bounds::{
     LAST_BASE, LONGEST_ALERT_DELAY, LONGEST_COAST_DELAY, SHORTEST_ALERT_DELAY, SHORTEST_COAST_DELAY,
 };
 use call_values::{AlertDelay, CoastDelay};
-use call_texts::Token;
 use line_grammar::{LARGEST_NUMBER, Left, free_number};
 use std::marker::Model;
 

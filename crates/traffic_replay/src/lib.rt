@@ -9,10 +9,10 @@ mod replaying;
 mod stages;
 mod steps;
 
-pub use station_lines::civil_minute;
 pub use command::Replay;
 pub use laws::{
     alerts_end_by_hand_or_acknowledgement, histories_are_legal, lines_determine_output,
     no_output_is_lacking,
 };
 pub use replaying::replay;
+pub use station_lines::civil_minute;

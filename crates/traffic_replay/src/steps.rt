@@ -16,8 +16,8 @@ ghost use Rattle.traffic_replay.specs.inside.Kept.{KeepsGroups};
 
 use crate::heard::hear;
 use crate::outcomes::{Unreported, heard_call};
-use call_values::bounds::LAST_BASE;
 use call_texts::put_answer_line;
+use call_values::bounds::LAST_BASE;
 use itoa::Buffer;
 use join_groups::{MOST_IN_BATCH, NamedGroups};
 use receiver_pool::Joiner;

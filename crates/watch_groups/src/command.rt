@@ -1,8 +1,5 @@
 //! The command `watch`.
-ghost use Rattle.std.specs.Prelude.{◌≡◌, ◌≢◌, ◌⊎◌, ℕ, ◌+◌, ◌<◌, ◌≤◌, ◌++◌, ◌∷◌, [], true, List, length, IfOk, IfErr, OnOk};
-ghost use Rattle.line_engine.specs.Lines.{Lines};
-ghost use Rattle.line_engine.specs.Commands.{IsTakenBehind, IsRefusedBehind, KeepsText, StandsBelow};
-ghost use Rattle.line_engine.specs.Endings.{IsFinished};
+ghost use Rattle.std.specs.Prelude.{◌≡◌, ◌≢◌, ◌⊎◌, ℕ, ◌+◌, ◌<◌, ◌++◌, ◌∷◌, [], true, List, IfErr, OnOk};
 ghost use Rattle.input_lines.specs.JoinLine.{JoinLine as Line};
 ghost use Rattle.input_lines.specs.Lines.{Says};
 ghost use Rattle.join_groups.specs.Meanings.{BringsTooMany};
@@ -17,8 +14,8 @@ ghost use Rattle.watch_groups.specs.inside.Kept.{Watches, StandsFor, LooksThroug
 ghost use Rattle.watch_groups.specs.inside.Gives.{gives_told};
 
 use crate::telling::{Judged, ToldCalls, look_through, note_untold, watcher_of};
-use input_lines::{JoinLine, LineFault, join_line, one_line};
 use byte_streams::Status;
+use input_lines::{JoinLine, LineFault, join_line, one_line};
 use join_groups::{Answers, MOST_IN_BATCH, NamedGroups, take_waiting, tell_all};
 use line_engine::{Command, Refusal};
 use live_watch::{WatchedJoiner, told_calls};

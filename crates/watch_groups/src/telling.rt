@@ -16,15 +16,15 @@ ghost use Rattle.watch_groups.specs.inside.Groups.{AreTheirGroups};
 ghost use Rattle.watch_groups.specs.inside.Kept.{Notes, LooksAt, LooksThrough};
 
 use arrayvec::ArrayVec;
-use call_values::Call;
 use call_texts::append_call;
+use call_values::Call;
 use join_groups::NamedGroups;
+use line_grammar::{append, append_number};
 use live_watch::{BatchWatcher, Unreported, judge};
 use slot_evidence::{Sheet, sheet_has_facts};
 use std::alloc::{AllocError, Global};
 use std::collections::BTreeSet;
 use std::marker::Model;
-use line_grammar::{append, append_number};
 
 /// A call that was told, and its group.
 #[derive(Clone, Copy, Debug, PartialEq, Eq)]

@@ -11,7 +11,7 @@ use Rattle.line_engine.specs.Lines.{Lines}
 use Rattle.long_capture.specs.declared.starts.Start.{Start}
 use Rattle.long_capture.specs.Captures.{Stands, Ending, decided, reached}
 use Rattle.stream_capture.specs.declared.command.Capturing.{Capturing}
-use Rattle.stream_capture.specs.Telling.{AreStreamLines, stream_of, AnsweredStart, AreAnswered, start_line, told_text, are_reported}
+use Rattle.stream_capture.specs.Telling.{AreStreamLines, stream_of, AnsweredStart, AreAnsweredStarts, start_line, told_text, are_reported}
 
 -- the command keeps how many starts were told, and whether each was reported
 pub record Counts (command : Capturing) (told : List AnsweredStart) : Type 0 where
@@ -22,7 +22,7 @@ pub record Counts (command : Capturing) (told : List AnsweredStart) : Type 0 whe
 pub record HasTold (command : Capturing) (e : List Element) (text : List ℕ) : Type 0 where
   pub stands : Stands command.capture e
   pub told : List AnsweredStart
-  pub are_told : (more : List Element) → AreAnswered (e ++ more) (decided (length e)) told
+  pub are_told : (more : List Element) → AreAnsweredStarts (e ++ more) (decided (length e)) told
   pub text_is : text ≡ told_text 0 told
   pub counts : Counts command told
 
@@ -30,14 +30,14 @@ pub record HasTold (command : Capturing) (e : List Element) (text : List ℕ) : 
 pub record EndsTold (command : Capturing) (e : List Element) (text : List ℕ) : Type 0 where
   pub ending : Ending command.capture e
   pub told : List AnsweredStart
-  pub are_told : AreAnswered e (reached command.capture) told
+  pub are_told : AreAnsweredStarts e (reached command.capture) told
   pub text_is : text ≡ told_text 0 told
   pub counts : Counts command told
 
 -- it was given this stream to its end, and told this text of all its starts
 pub record HasToldAll (command : Capturing) (e : List Element) (text : List ℕ) : Type 0 where
   pub told : List AnsweredStart
-  pub are_told : AreAnswered e (length e + LEAD_OF_FIRST) told
+  pub are_told : AreAnsweredStarts e (length e + LEAD_OF_FIRST) told
   pub text_is : text ≡ told_text 0 told
   pub well_is : command.is_well ≡ are_reported told
 

@@ -1,8 +1,8 @@
 //! Lines of acts and refusals.
 use crate::tests::calls::call_of;
-use station_lines::*;
 use arrayvec::ArrayVec;
 use call_values::{Call, Mmsi};
+use station_lines::*;
 use std::test::Fail;
 use traffic_rules::{Act, StationRefusal};
 

@@ -1,6 +1,6 @@
 //! Texts of calls and expansions, and their columns.
-use call_values::Call;
 use call_texts::*;
+use call_values::Call;
 use expansion::{Expansion, Part, PartKind};
 use slot_join::{Extra, Joined};
 use std::test::Fail;

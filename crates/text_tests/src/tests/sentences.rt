@@ -1,7 +1,7 @@
 //! Sentences of calls and expansions, and verdicts.
+use call_texts::read_bare_call;
 use call_values::{Call, End, Mmsi};
 use dsc_sentences::*;
-use call_texts::read_bare_call;
 use expansion::{Expansion, Part};
 use std::test::Fail;
 

@@ -2,7 +2,7 @@ use Rattle.std.proofs.Common.{codes, refl, sym, ◌∙◌, ap}
 use Rattle.line_grammar.specs.Grammar.{word}
 use Rattle.line_grammar.specs.inside.Reading.{read}
 use Rattle.call_texts.specs.CallGrammar as grammar
-use Rattle.line_grammar.specs.Sections.{labelled, nth}
+use Rattle.line_grammar.specs.Sections.{nth}
 use Rattle.call_texts.specs.inside.Reading.{parts_with}
 use Rattle.line_grammar.proofs.SectionSteps.{both, behind, word_read, word_left, whole, no_tail, leaves_form}
 use Rattle.call_texts.proofs.forms.ack.Goals as goal

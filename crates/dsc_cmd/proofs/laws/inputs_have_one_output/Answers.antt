@@ -12,7 +12,7 @@ laws_of c = record {
   replay = c.lines_determine_output-4.ensures;
   capture = c.lines_determine_output-5.ensures;
   exchange = c.lines_determine_output-6.ensures;
-  book = c.lines_determine_output-7.ensures;
+  book = c.logs_determine_output.ensures;
   made = c.made_text_is_one.ensures;
 }
 

@@ -8,3 +8,9 @@ pub returns-in_ok-take_signs-in-Ok-clause-stands : goal.returns-in_ok-take_signs
 returns-in_ok-take_signs-in-Ok-clause-stands c = λ lines written h.
     line_taken c.args.self.now c.take_signs.new.self lines c.args.line.now (written ++ c.args.out.now.items) _ (map element_of c.in-Ok.signs.now) h c.in-Ok.ensures.line c.requires.short
     (c.in_ok-take_signs-in-Ok.ensures (stream_of h.said) written h.told)
+
+pub returns-in_ok-take_signs-in-Ok-clause-taken : goal.returns-in_ok-take_signs-in-Ok-clause-taken
+returns-in_ok-take_signs-in-Ok-clause-taken c = λ lines written stands. record {
+  well_formed = λ n column. column.is_none (map element_of c.in-Ok.signs.now) c.in-Ok.ensures.line;
+  not_overfull = λ no. no;
+}
