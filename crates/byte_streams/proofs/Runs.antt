@@ -27,16 +27,6 @@ Gains-more (Some old) None (Some new) xs ys h k = absurd k
 Gains-more None None (Some new) xs ys h k = absurd k
 Gains-more a b None xs ys h k = tt
 
-pub SeenBefore-from_Loses : (a b : Option (List ℕ)) (xs : List ℕ) → Loses a b xs → SeenBefore a b
-SeenBefore-from_Loses (Some all) b xs h rest e = (all, refl)
-SeenBefore-from_Loses None (Some rest) xs h r e = absurd h
-SeenBefore-from_Loses None None xs h r e = cc
-
-pub SeenBefore-from_Gains : (a b : Option (List ℕ)) (xs : List ℕ) → Gains a b xs → SeenBefore a b
-SeenBefore-from_Gains (Some all) b xs h rest e = (all, refl)
-SeenBefore-from_Gains None (Some rest) xs h r e = absurd h
-SeenBefore-from_Gains None None xs h r e = cc
-
 -- one write more of the front of a text
 pub front_more : (a b c : Option (List ℕ)) (text front rest after : List ℕ) (n : ℕ) → text ≡ front ++ rest → after ≡ drop n rest → Gains a b front → Gains b c (take n rest) → (x : List ℕ) × (text ≡ x ++ after) × Gains a c x
 front_more a b c text front rest after n e d g h =

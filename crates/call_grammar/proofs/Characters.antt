@@ -63,8 +63,7 @@ of_message (At p) lawful = (omega arith, of_position p lawful)
 
 of_category : (g : Category) → category_symbol g < 128
 of_category Routine = omega arith
-of_category Safety = omega arith
-of_category Urgency = omega arith
+of_category _ = omega arith
 
 of_identity : (n : ℕ) → IsMmsi n → AreCharacters (identity_symbols n)
 of_identity n lawful = ten (10 * n) (omega (arith, lawful))
@@ -117,9 +116,7 @@ of_fields (Service m g from k) lawful =
 
 of_to : (t : To) → format_to t < 128
 of_to to.All = omega arith
-of_to (to.Area a) = omega arith
-of_to (to.Group m) = omega arith
-of_to (to.One m) = omega arith
+of_to _ = omega arith
 
 of_format : (c : Call) → format_of c < 128
 of_format (Alert casualty) = omega arith

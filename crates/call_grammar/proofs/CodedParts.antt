@@ -49,10 +49,7 @@ format_there x (inr (inr (inr (inr e)))) = subst (λ y. format_symbol (format_of
 
 format_back : (f : Specifier) → format_of_symbol (format_symbol f) ≡ f
 format_back format.Alert = refl
-format_back format.All = refl
-format_back format.Area = refl
-format_back format.Group = refl
-format_back format.One = refl
+format_back _ = refl
 
 pub format_coded : Coded (Allows letter.Format) (λ _. Unit {0}) format_symbol
 format_coded = record {
@@ -116,8 +113,7 @@ end_there x (inr (inr e)) = subst (λ y. end_symbol (end_of_symbol y) ≡ y) (sy
 
 end_back : (v : End) → end_of_symbol (end_symbol v) ≡ v
 end_back Ask = refl
-end_back Reply = refl
-end_back Plain = refl
+end_back _ = refl
 
 pub end_coded : Coded (Allows letter.End) (λ _. Unit {0}) end_symbol
 end_coded = record {

@@ -48,10 +48,6 @@ letter_at x false h e = h
 pub letter_up : (initial x : ℕ) → (initial ≡ NO_INFORMATION → ⊥) → Allows (field_letter initial) x → x ≤ 99
 letter_up initial x n h = letter_at x (initial == NO_INFORMATION) h (ne_eqb initial NO_INFORMATION n)
 
-letter_same : (x : ℕ) (t : Bool) → t ≡ true → Allows (if t then Exactly NO_INFORMATION else UpTo 99) x → x ≡ NO_INFORMATION
-letter_same x true e h = h
-letter_same x false e h = absurd (cc)
-
 -- where a field is found to have three characters
 short_at : (initial b c : ℕ) (absent vhf hf : Bool) → Allows letter.Field initial → (initial / 10 ≡ 4 → ⊥)
     → (initial == NO_INFORMATION) ≡ absent → (initial == VHF_CHANNEL) ≡ vhf → (initial / 10 == 3) ≡ hf

@@ -38,8 +38,7 @@ only = record { value = refl; list = refl }
 IsDistressTelecommand-relay : (t : To) → IsDistressTelecommand t false
 IsDistressTelecommand-relay to.All = tt
 IsDistressTelecommand-relay (to.Area a) = refl
-IsDistressTelecommand-relay (to.Group m) = refl
-IsDistressTelecommand-relay (to.One m) = refl
+IsDistressTelecommand-relay _ = refl
 
 -- after each address
 from_distress : (t : To) (v : Call) (w : List ℕ) → IsTo t → Distress t v w → CallWords v (format_to t ∷ (address_symbols t ++ (categories.DISTRESS ∷ w)))

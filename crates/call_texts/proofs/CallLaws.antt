@@ -48,10 +48,6 @@ bare_texts = record {
   text_is = λ c h. bare_is c;
 }
 
--- the lines of the grammar are these texts
-pub bare_texts_alike : IsAlike (Spells (calls finish)) IsBareCallText
-bare_texts_alike = texts_alike bare_texts
-
 -- the texts of calls that an expansion may follow
 abbrev pub with_expansion : Grammar
 with_expansion = calls (perhaps expansion finish)

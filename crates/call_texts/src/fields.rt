@@ -201,6 +201,20 @@ fn eight_digits(bytes: &[u8]) -> Result<(Field, &[u8]), Left>
     Ok((Field::tens(number as u32 - TENS).unwrap(), rest))
 }
 
+/// The six or eight digits of a frequency or channel at the front of these bytes, and what follows them.
+fn six_or_eight_digits(bytes: &[u8]) -> Result<(Field, &[u8]), Left>
+    ensures value { IfOk result (λ parts. read_shape (shape.choice (shape.fixed_number 6 SIX_DIGITS) (shape.fixed_number
+        8 EIGHT_DIGITS)) bytes.now ≡ Ok (texts.frequency_text parts.0, parts.1.now)) }
+    ensures left { IfErr result (λ left. read_shape (shape.choice (shape.fixed_number 6 SIX_DIGITS) (shape.fixed_number
+        8 EIGHT_DIGITS)) bytes.now ≡ Err left) }
+{
+    let six = six_digits(bytes);
+    if six.is_ok() {
+        return six;
+    }
+    further(&six, &eight_digits(bytes))
+}
+
 /// The six or eight digits of a frequency or channel, or none.
 impl Token for Field {
     ghost token = { grammar.frequency };
@@ -212,8 +226,7 @@ impl Token for Field {
         if absent.is_ok() {
             return absent;
         }
-        let told = further(&six_digits(bytes), &eight_digits(bytes));
-        further(&absent, &told)
+        further(&absent, &six_or_eight_digits(bytes))
     }
 }
 

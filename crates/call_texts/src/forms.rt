@@ -2,7 +2,7 @@
 ghost use Rattle.std.specs.Prelude.{codes};
 ghost use Rattle.line_grammar.specs.Grammar.{first, second};
 ghost use Rattle.call_texts.specs.CallGrammar as grammar;
-ghost use Rattle.line_grammar.specs.Sections.{labelled, nth, last, ReadsForm};
+ghost use Rattle.line_grammar.specs.Sections.{labelled, nth, last, FindsForm, ReadsForm};
 ghost use Rattle.call_texts.specs.inside.Reading.{ending_with, parts_with};
 
 use crate::line::word;
@@ -13,7 +13,8 @@ use call_values::{Area, Call, End, HourMinute, Kind, Message, Mmsi, Position, To
 use cursor::Cursor;
 use line_grammar::{Left, further};
 
-/// Reads a distress alert.
+/// Reads a distress alert. It is inlined, since no call is read as often.
+#[inline(always)]
 pub fn alert<T: Tail>(bytes: &[u8]) -> Result<(Call, T), Left>
     ensures { ReadsForm (grammar.alert T.grammar) (nth 0) (parts_with T.parts) bytes.now result }
 {
@@ -181,7 +182,11 @@ fn message_and_end<T: Tail>(bytes: &[u8]) -> Result<(Ending, T), Left>
     ensures { ReadsForm (grammar.message (grammar.end grammar.all_ends T.grammar)) (λ p. p) (ending_with T.parts)
         bytes.now result }
 {
-    further(&frequencies_and_end(bytes), &position_and_end(bytes))
+    let frequencies = frequencies_and_end(bytes);
+    if frequencies.is_ok() {
+        return frequencies;
+    }
+    further(&frequencies, &position_and_end(bytes))
 }
 
 /// Reads a call to one station.
@@ -266,55 +271,69 @@ fn service<T: Tail>(bytes: &[u8]) -> Result<(Call, T), Left>
     further(&test(bytes), &positions)
 }
 
-/// Reads a call that is no distress call. The form that the bytes are of ends the search. It isn't inlined, so that no
-/// other form clears the room of these.
-#[inline(never)]
+/// Reads a call that is no distress call, by each form.
 fn other_call<T: Tail>(bytes: &[u8]) -> Result<(Call, T), Left>
     ensures { ReadsForm (grammar.other_calls T.grammar) (last 4) (parts_with T.parts) bytes.now result }
 {
-    let to_all = all_ships(bytes);
-    if to_all.is_ok() {
-        return to_all;
-    }
-    let to_area = area_call(bytes);
-    if to_area.is_ok() {
-        return to_area;
-    }
-    let to_group = group_call(bytes);
-    if to_group.is_ok() {
-        return to_group;
-    }
     let to_one = further(&individual(bytes), &service(bytes));
-    let to_some = further(&to_group, &to_one);
-    let to_others = further(&to_area, &to_some);
-    further(&to_all, &to_others)
+    let to_some = further(&group_call(bytes), &to_one);
+    let to_others = further(&area_call(bytes), &to_some);
+    further(&all_ships(bytes), &to_others)
 }
 
-/// Reads a call that is no distress alert. It isn't inlined for the same reason.
+/// Reads a call by each form. It isn't inlined, since only a text that is no call comes here.
 #[inline(never)]
-fn all_but_alert<T: Tail>(bytes: &[u8]) -> Result<(Call, T), Left>
-    ensures { ReadsForm (grammar.all_but_alerts T.grammar) (last 1) (parts_with T.parts) bytes.now result }
+fn each_form<T: Tail>(bytes: &[u8]) -> Result<(Call, T), Left>
+    ensures { ReadsForm (grammar.calls T.grammar) (λ p. p) (parts_with T.parts) bytes.now result }
 {
-    let answer = ack(bytes);
-    if answer.is_ok() {
-        return answer;
-    }
-    let relayed = relay(bytes);
-    if relayed.is_ok() {
-        return relayed;
-    }
     let others = further(&relay_ack(bytes), &other_call(bytes));
-    let relays = further(&relayed, &others);
-    further(&answer, &relays)
+    let relays = further(&relay(bytes), &others);
+    let distress = further(&ack(bytes), &relays);
+    further(&alert(bytes), &distress)
 }
 
-/// Reads a call of any form. The form that the bytes are of ends the search.
+/// Reads a call by the form that the first two bytes tell. A fault says nothing of other forms.
+fn told_form<T: Tail>(bytes: &[u8]) -> Result<(Call, T), Left>
+    ensures { FindsForm (grammar.calls T.grammar) (λ p. p) (parts_with T.parts) bytes.now result }
+{
+    let Some((first, rest)) = bytes.split_first() else {
+        return Err(0);
+    };
+    let Some((second, _)) = rest.split_first() else {
+        return Err(0);
+    };
+    match (*first, *second) {
+        (b'a', b'l') => {
+            let told = alert(bytes);
+            if told.is_ok() { told } else { all_ships(bytes) }
+        }
+        (b'a', b'c') => ack(bytes),
+        (b'a', b'r') => area_call(bytes),
+        (b'a', b's') => position_request(bytes),
+        (b'r', b'e') => {
+            let relayed = relay(bytes);
+            if relayed.is_ok() {
+                relayed
+            } else {
+                relay_ack(bytes)
+            }
+        }
+        (b'g', b'r') => group_call(bytes),
+        (b'o', b'n') => individual(bytes),
+        (b't', b'e') => test(bytes),
+        (b'p', b'o') => position_answer(bytes),
+        _ => Err(0),
+    }
+}
+
+/// Reads a call of any form: by the form that its first bytes tell, since every call's text is of that form; and by
+/// each form where that finds no call, for the column of the fault.
 pub fn any_call<T: Tail>(bytes: &[u8]) -> Result<(Call, T), Left>
     ensures { ReadsForm (grammar.calls T.grammar) (λ p. p) (parts_with T.parts) bytes.now result }
 {
-    let told = alert(bytes);
+    let told = told_form(bytes);
     if told.is_ok() {
         return told;
     }
-    further(&told, &all_but_alert(bytes))
+    each_form(bytes)
 }

@@ -21,8 +21,7 @@ end_one Plain Plain h = refl
 -- the symbol of an end of sequence is a character
 pub end_small : (e : End) → end_symbol e < 128
 end_small Ask = omega arith
-end_small Reply = omega arith
-end_small Plain = omega arith
+end_small _ = omega arith
 
 -- positions with the same parts are the same
 pub same_fix : (f g : Fix) → f.quadrant ≡ g.quadrant → f.lat_deg ≡ g.lat_deg → f.lat_min ≡ g.lat_min → f.lon_deg ≡ g.lon_deg → f.lon_min ≡ g.lon_min → f ≡ g

@@ -12,6 +12,4 @@ is_call (Relay to from casualty ask) h k = (h, k.0, k.1)
 is_call (RelayAck to from casualty) h k = (h, k.0, k.1)
 is_call (AllShips category from first second f1 f2) h k = k
 is_call (AreaCall area category from first second f1 f2) h k = (h, k.0, k.1)
-is_call (GroupCall group category from first second f1 f2) h k = (h, k.0, k.1)
-is_call (Individual to category from first second message end) h k = (h, k.0, k.1)
-is_call (Service to category from kind) h k = (h, k.0, k.1)
+is_call _ h k = (h, k.0, k.1)

@@ -4,7 +4,8 @@ use Rattle.std.specs.Cmp.Lexicographic.{slice_cmp}
 use Rattle.std.specs.Ordering.{ordering_then}
 use Rattle.std.proofs.lemmas.Bool.{and_parts}
 use Rattle.std.proofs.lemmas.Nat.{div-mul-add, mod-mul-add}
-use Rattle.sentence_frame.specs.Texts.{AreDigits}
+use Rattle.sentence_frame.specs.Texts.{AreDigits, digit_text}
+use Rattle.casualty_book.specs.Texts.{digits_or_hyphen}
 use Rattle.casualty_book.specs.inside.Packing.{number_from, number_of, digits_in, digits_of}
 
 -- the number of so many places
@@ -206,3 +207,13 @@ pub part_fits : (number weight i d digit : ℕ) (all : List ℕ) → i < length 
 part_fits number weight i d digit all there is e long small =
     let h = sum_fits number weight i d digit all there is e long small in
     omega (arith, h)
+
+-- a number that shows no digits, and one that shows some
+pub none_shown : (slots n : ℕ) → n < 1152921504606846976 → digits_in slots n ≡ []
+unfolding digits_in
+none_shown zero n h = refl
+none_shown (suc slots) n h = rw (eq-eqb (n / 1152921504606846976) 0 (omega (arith, h))) refl
+
+pub some_shown : (slots n : ℕ) → 1152921504606846976 ≤ n → digits_or_hyphen (digits_in (suc slots) n) ≡ digit_text (digits_in (suc slots) n)
+unfolding digits_in
+some_shown slots n h = rw (ne_eqb (n / 1152921504606846976) 0 (λ e. omega (arith, e, h))) refl

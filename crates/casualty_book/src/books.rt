@@ -7,12 +7,13 @@ ghost use Rattle.casualty_book.specs.Rows.{IsLawful};
 ghost use Rattle.casualty_book.specs.Books.{HasAlsoOf, IsBook, IsUnion};
 ghost use Rattle.casualty_book.specs.Sentences as rows;
 ghost use Rattle.casualty_book.specs.Texts as texts;
+ghost use Rattle.casualty_book.specs.inside.Packing.{unpack};
 ghost use Rattle.casualty_book.specs.declared.rows.BookRow.{BookRow as Row};
 
 use crate::packing::{Packed, pack, unpack};
 use crate::rows::BookRow;
 use crate::sentences::row_of;
-use crate::texts::put_row;
+use crate::texts::put_key;
 use dsc_sentences::DscSentence;
 use std::alloc::{AllocError, Global};
 use std::collections::BTreeSet;
@@ -100,18 +101,17 @@ impl Book {
         // Reserved at once, so that the buffer does not grow step by step.
         out.reserve_exact(self.rows.len().saturating_mul(LONGEST_LINE))?;
         for key in self.rows.iter() {
-            append_row(out, &unpack(key))?;
+            append_row(out, key)?;
         }
         Ok(())
     }
 }
 
-/// Appends the text of a row, with LF.
-fn append_row(out: &mut Vec<u8>, row: &BookRow) -> Result<(), AllocError>
-    requires { IsLawful row.now }
-    ensures { OnOk result (out.new.items ≡ out.old.items ++ (texts.row_text row.now ++ line_feed ∷ [])) }
+/// Appends the text of a key's row, with LF.
+fn append_row(out: &mut Vec<u8>, key: &Packed) -> Result<(), AllocError>
+    ensures { OnOk result (out.new.items ≡ out.old.items ++ (texts.row_text (unpack key.now) ++ line_feed ∷ [])) }
 {
-    out.extend_from_slice(&put_row(row))?;
+    out.extend_from_slice(&put_key(key))?;
     out.push(b'\n')?;
     Ok(())
 }

@@ -15,7 +15,7 @@ use std::alloc::AllocError;
 use std::cmp::Ordering;
 
 /// What a list's first digit counts in its number: 16 to the power of 15.
-const FIRST_WEIGHT: u64 = 1 << 60;
+pub(crate) const FIRST_WEIGHT: u64 = 1 << 60;
 
 /// A row as a key of 32 bytes: its wide fields come first. Keys are ordered like their rows, and compared faster:
 /// digits are one number, and nothing is 0.

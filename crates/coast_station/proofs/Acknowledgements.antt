@@ -22,7 +22,7 @@ use Rattle.coast_station.specs.declared.events.CoastWhat.TheVariants.{Accept, Ti
 use Rattle.coast_station.specs.declared.casualties.OpenCasualty.{OpenCasualty}
 use Rattle.coast_station.specs.Accepting.{waits, has_ended, is_due, is_due_at_once, find_casualty, acknowledgement, accept_due_of, acknowledgements_due}
 use Rattle.coast_station.specs.Acknowledged.{accepts, GoesBackToAlert}
-use Rattle.coast_station.specs.Casualties.{acknowledges, ends, is_alert, open_casualty, born, open_casualties}
+use Rattle.coast_station.specs.Casualties.{acknowledges, closes, is_alert, open_casualty, born, open_casualties}
 use Rattle.coast_station.specs.CoastRules.{Station, held, is_for, at_call, due_at, coast_rules}
 use Rattle.coast_station.specs.Events.{IsCoastWhat}
 use Rattle.coast_station.proofs.Births.{by_test}
@@ -114,12 +114,12 @@ ack_form : (m : ℕ) (a : Act) → acknowledges m a ≡ true → (from : ℕ) ×
 ack_form m (act.Send (call.Ack from casualty) times) is = (from, times, casualty, refl, eqb-true casualty.mmsi m is)
 ack_form m _ is = absurd (false≢true is)
 
-ack_ends : (m : ℕ) (a : Act) → acknowledges m a ≡ true → ends m a ≡ true
+ack_ends : (m : ℕ) (a : Act) → acknowledges m a ≡ true → closes m a ≡ true
 ack_ends m (act.Send c times) is = is
 ack_ends m _ is = absurd (false≢true is)
 
-any_ends : (m : ℕ) (acts : List Act) → list_any (acknowledges m) acts ≡ true → list_any (ends m) acts ≡ true
-any_ends m acts is = let some = some_among (acknowledges m) acts is in among_any (ends m) some.0 acts some.1 (ack_ends m some.0 some.2)
+any_ends : (m : ℕ) (acts : List Act) → list_any (acknowledges m) acts ≡ true → list_any (closes m) acts ≡ true
+any_ends m acts is = let some = some_among (acknowledges m) acts is in among_any (closes m) some.0 acts some.1 (ack_ends m some.0 some.2)
 
 within : (q p : Entry CoastWhat → Bool) (between earlier : History CoastWhat) (first : Entry CoastWhat) → p first ≡ true
     → list_any q (since p (between ++ first ∷ earlier)) ≡ true → list_any q between ≡ true
@@ -149,7 +149,7 @@ pub heard_between : (who : Station) (later between earlier : History CoastWhat) 
     → list_any (is_alert who.own mmsi) between ≡ true
 heard_between who later between earlier first second mmsi legal one two =
     let here = legal_before (coast_rules who) later (second ∷ (between ++ first ∷ earlier)) legal in
-    within (is_alert who.own mmsi) (does (ends mmsi)) between earlier first (any_ends mmsi first.acts one)
+    within (is_alert who.own mmsi) (does (closes mmsi)) between earlier first (any_ends mmsi first.acts one)
     (sym (open_born who.own mmsi (between ++ first ∷ earlier)) ∙ acknowledged_open who (between ++ first ∷ earlier) second mmsi here.0 here.1 two)
 
 -- one acknowledgement of an identity at an event
@@ -161,7 +161,7 @@ once_behind : (m : ℕ) (first last : List Act) (a : Act) → Once m (first ++ a
 once_behind m [] last a once is = once.0 is
 once_behind m (b ∷ first) last a once is = once_behind m first last a once.1 is
 
-ends_no_ack : (m : ℕ) (acts : List Act) → list_any (ends m) acts ≡ false → list_any (acknowledges m) acts ≡ false
+ends_no_ack : (m : ℕ) (acts : List Act) → list_any (closes m) acts ≡ false → list_any (acknowledges m) acts ≡ false
 ends_no_ack m acts none =
     by_test (list_any (acknowledges m) acts) (λ b. list_any (acknowledges m) acts ≡ b → b ≡ false)
     (λ _ is. absurd (false≢true (sym none ∙ any_ends m acts is))) (λ _ _. refl) refl
@@ -170,7 +170,7 @@ once_none : (m : ℕ) (acts : List Act) → list_any (acknowledges m) acts ≡ f
 once_none m [] none = tt
 once_none m (a ∷ acts) none = let parts = or_parts (acknowledges m a) (list_any (acknowledges m) acts) none in (λ _. parts.1, once_none m acts parts.1)
 
-silent_once : (m : ℕ) (acts : List Act) → list_any (ends m) acts ≡ false → Once m acts
+silent_once : (m : ℕ) (acts : List Act) → list_any (closes m) acts ≡ false → Once m acts
 silent_once m acts none = once_none m acts (ends_no_ack m acts none)
 
 once_append : (m : ℕ) (first last : List Act) → Once m first → list_any (acknowledges m) last ≡ false → Once m (first ++ last)

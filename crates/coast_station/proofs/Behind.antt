@@ -11,7 +11,7 @@ use Rattle.coast_station.specs.declared.events.CoastWhat.{CoastWhat}
 use Rattle.coast_station.specs.declared.events.CoastWhat.TheVariants.{Accept, Heard}
 use Rattle.coast_station.specs.declared.casualties.OpenCasualty.{OpenCasualty}
 use Rattle.coast_station.specs.Acknowledged.{accepts}
-use Rattle.coast_station.specs.Casualties.{HeardAlert, where_of, ends, open_with, alert_at, is_alert, delay_at, since_end, since_birth, open_casualty}
+use Rattle.coast_station.specs.Casualties.{HeardAlert, where_of, closes, open_with, alert_at, is_alert, delay_at, since_end, since_birth, open_casualty}
 use Rattle.coast_station.specs.Events.{IsCoastWhat, alert_in, delay_for}
 use Rattle.coast_station.specs.Firsts.{from_first, first_told, before_first}
 use Rattle.coast_station.proofs.Births.{by_test, before_none}
@@ -36,7 +36,7 @@ from_is_front p (e ∷ h) =
 
 pub birth_is_front : (own m : ℕ) (h : History CoastWhat) → IsFront (since_birth own m h) h
 birth_is_front own m h =
-    let lived = since_is_front (does (ends m)) h in
+    let lived = since_is_front (does (closes m)) h in
     let born = from_is_front (is_alert own m) (since_end m h) in
     (born.0 ++ lived.0, lived.1 ∙ ap (λ g. g ++ lived.0) born.1 ∙ append_assoc (since_birth own m h) born.0 lived.0)
 

@@ -9,7 +9,7 @@ use Rattle.traffic_rules.specs.Histories.{Entry, History, does, last_told}
 use Rattle.coast_station.specs.declared.events.CoastWhat.{CoastWhat}
 use Rattle.coast_station.specs.declared.events.CoastWhat.TheVariants.{Accept, Tick, Relay, Send, Answer, Heard}
 use Rattle.coast_station.specs.declared.casualties.OpenCasualty.{OpenCasualty}
-use Rattle.coast_station.specs.Casualties.{HeardAlert, where_of, ends, open_with, alert_at, is_alert, delay_at, since_end, open_casualty}
+use Rattle.coast_station.specs.Casualties.{HeardAlert, where_of, closes, open_with, alert_at, is_alert, delay_at, since_end, open_casualty}
 use Rattle.coast_station.specs.Events.{alert_in, delay_for}
 use Rattle.coast_station.specs.Firsts.{from_first, first_told, before_first}
 
@@ -96,10 +96,7 @@ grows own mmsi e h some =
 alert_accepts_none : (own mmsi : ℕ) (what : CoastWhat) → is_some (where_of mmsi (alert_in own what)) ≡ true → delay_for mmsi what ≡ None
 alert_accepts_none own mmsi (Accept accepted delay) heard = absurd (false≢true heard)
 alert_accepts_none own mmsi Tick heard = refl
-alert_accepts_none own mmsi (Relay other to ask) heard = refl
-alert_accepts_none own mmsi (Send c) heard = refl
-alert_accepts_none own mmsi (Answer number accepts) heard = refl
-alert_accepts_none own mmsi (Heard c) heard = refl
+alert_accepts_none own mmsi _ heard = refl
 
 pub some_mapped : {A B : Type 0} (f : A → B) (o : Option A) → is_some (option_map f o) ≡ is_some o
 some_mapped f None = refl
@@ -155,12 +152,12 @@ added own mmsi e h =
     refl
 
 -- what ends no casualty leaves it open, changed by its own alert and delay alone
-pub goes_on : (own mmsi : ℕ) (e : Entry CoastWhat) (h : History CoastWhat) → does (ends mmsi) e ≡ false
+pub goes_on : (own mmsi : ℕ) (e : Entry CoastWhat) (h : History CoastWhat) → does (closes mmsi) e ≡ false
     → open_casualty own mmsi (e ∷ h) ≡ after (alert_at own mmsi e) (delay_at mmsi e) (open_casualty own mmsi h)
 goes_on own mmsi e h lasts =
-    ap (λ (g : History CoastWhat). open_in own mmsi (from_first (is_alert own mmsi) g)) (cond-false (does (ends mmsi) e) [] (e ∷ since_end mmsi h) lasts)
+    ap (λ (g : History CoastWhat). open_in own mmsi (from_first (is_alert own mmsi) g)) (cond-false (does (closes mmsi) e) [] (e ∷ since_end mmsi h) lasts)
     ∙ added own mmsi e (since_end mmsi h)
 
-pub is_ended : (own mmsi : ℕ) (e : Entry CoastWhat) (h : History CoastWhat) → does (ends mmsi) e ≡ true → open_casualty own mmsi (e ∷ h) ≡ None
+pub is_ended : (own mmsi : ℕ) (e : Entry CoastWhat) (h : History CoastWhat) → does (closes mmsi) e ≡ true → open_casualty own mmsi (e ∷ h) ≡ None
 is_ended own mmsi e h ended =
-    ap (λ (g : History CoastWhat). open_in own mmsi (from_first (is_alert own mmsi) g)) (cond-true (does (ends mmsi) e) [] (e ∷ since_end mmsi h) ended)
+    ap (λ (g : History CoastWhat). open_in own mmsi (from_first (is_alert own mmsi) g)) (cond-true (does (closes mmsi) e) [] (e ∷ since_end mmsi h) ended)

@@ -14,7 +14,7 @@ use Rattle.coast_station.specs.declared.events.CoastWhat.{CoastWhat}
 use Rattle.coast_station.specs.declared.events.CoastWhat.TheVariants.{Accept, Heard}
 use Rattle.coast_station.specs.declared.casualties.OpenCasualty.{OpenCasualty}
 use Rattle.coast_station.specs.Accepting.{is_due, find_casualty, acknowledgement, acknowledgements_due}
-use Rattle.coast_station.specs.Casualties.{HeardAlert, where_of, ends, alert_at, delay_at, since_birth, open_casualty, with_alert, born, open_casualties}
+use Rattle.coast_station.specs.Casualties.{HeardAlert, where_of, closes, alert_at, delay_at, since_birth, open_casualty, with_alert, born, open_casualties}
 use Rattle.coast_station.specs.Events.{alert_in, delay_for}
 use Rattle.coast_station.specs.Firsts.{before_first}
 use Rattle.coast_station.specs.inside.Left.{without, replaced, not_due, newly_open, noted_at, noted}
@@ -65,7 +65,7 @@ find_open own k h =
 
 -- acts of which none ends a casualty
 abbrev pub EndsNone : List Act → Type 0
-EndsNone acts = (m : ℕ) → list_any (ends m) acts ≡ false
+EndsNone acts = (m : ℕ) → list_any (closes m) acts ≡ false
 
 keeps_each : (keeps : ℕ → Bool) (ms : List ℕ) → ((m : ℕ) → keeps m ≡ true) → filter keeps ms ≡ ms
 keeps_each keeps [] each = refl
@@ -84,14 +84,14 @@ module _ (own : ℕ) (e : Entry CoastWhat) (h : History CoastWhat) where
 
   born_on : EndsNone e.acts → born own (e ∷ h) ≡ with_alert (alert_in own e.what) (born own h)
   born_on silent =
-      keeps_each (λ (m : ℕ). not (does (ends m) e)) (with_alert (alert_in own e.what) (born own h)) (λ m. not_from_false (does (ends m) e) (silent m))
+      keeps_each (λ (m : ℕ). not (does (closes m) e)) (with_alert (alert_in own e.what) (born own h)) (λ m. not_from_false (does (closes m) e) (silent m))
 
   -- without an alert the same identities are born
   born_same : EndsNone e.acts → alert_in own e.what ≡ None → born own (e ∷ h) ≡ born own h
   born_same silent none = born_on silent ∙ ap (λ (a : Option Casualty). with_alert a (born own h)) none
 
   -- without an alert and a delay a casualty goes on as it was
-  unchanged : (m : ℕ) → does (ends m) e ≡ false → where_of m (alert_in own e.what) ≡ None → delay_for m e.what ≡ None → is_now m ≡ was m
+  unchanged : (m : ℕ) → does (closes m) e ≡ false → where_of m (alert_in own e.what) ≡ None → delay_for m e.what ≡ None → is_now m ≡ was m
   unchanged m lasts no_alert no_delay =
       goes_on own m e h lasts
       ∙ ap (λ (a : Option Casualty). after (option_map (λ (alert : Casualty). record { alert = alert; at = e.at }) a) (delay_for m e.what) (was m)) no_alert
@@ -103,24 +103,24 @@ module _ (own : ℕ) (e : Entry CoastWhat) (h : History CoastWhat) where
       ∙ same_listed was is_now (born own h) (λ m. unchanged m (silent m) (ap (where_of m) no_alert) (no_delay m))
 
   -- the casualty of an identity is ended, and no other
-  pub closed_open : (k : ℕ) (x : OpenCasualty) → was k ≡ Some x → ((m : ℕ) → list_any (ends m) e.acts ≡ (k == m)) → alert_in own e.what ≡ None
+  pub closed_open : (k : ℕ) (x : OpenCasualty) → was k ≡ Some x → ((m : ℕ) → list_any (closes m) e.acts ≡ (k == m)) → alert_in own e.what ≡ None
       → ((m : ℕ) → (m == k) ≡ false → delay_for m e.what ≡ None) → open_casualties own (e ∷ h) ≡ without k (open_casualties own h)
   closed_open k x open_k ended no_alert no_delay =
-      let keeps : ℕ → Bool = λ m. not (does (ends m) e) in
-      let lasts : (m : ℕ) → (m == k) ≡ false → does (ends m) e ≡ false = λ m other. ended m ∙ apart_turned m k other in
+      let keeps : ℕ → Bool = λ m. not (does (closes m) e) in
+      let lasts : (m : ℕ) → (m == k) ≡ false → does (closes m) e ≡ false = λ m other. ended m ∙ apart_turned m k other in
       ap (λ (a : Option Casualty). listed_of is_now (filter keeps (with_alert a (born own h)))) no_alert
       ∙ one_without was is_now keeps k x (born own h) (born_apart own h) (named own h)
       (λ m other. unchanged m (lasts m other) (ap (where_of m) no_alert) (no_delay m other)) open_k
-      (not_from_true (does (ends k) e) (ended k ∙ eq-eqb k k refl)) (λ m other. not_from_false (does (ends m) e) (lasts m other))
+      (not_from_true (does (closes k) e) (ended k ∙ eq-eqb k k refl)) (λ m other. not_from_false (does (closes m) e) (lasts m other))
 
   -- at a tick those that are due are ended
-  pub due_open : (at : ℕ) → ((m : ℕ) → list_any (ends m) e.acts ≡ is_due_open at (was m)) → alert_in own e.what ≡ None → ((m : ℕ) → delay_for m e.what ≡ None)
+  pub due_open : (at : ℕ) → ((m : ℕ) → list_any (closes m) e.acts ≡ is_due_open at (was m)) → alert_in own e.what ≡ None → ((m : ℕ) → delay_for m e.what ≡ None)
       → open_casualties own (e ∷ h) ≡ not_due at (open_casualties own h)
   due_open at ended no_alert no_delay =
-      let keeps : ℕ → Bool = λ m. not (does (ends m) e) in
+      let keeps : ℕ → Bool = λ m. not (does (closes m) e) in
       ap (λ (a : Option Casualty). listed_of is_now (filter keeps (with_alert a (born own h)))) no_alert
       ∙ due_left was is_now at keeps (born own h) (λ m x is. ap not (ended m ∙ ap (is_due_open at) is))
-      (λ m kept. unchanged m (not-true (does (ends m) e) kept) (ap (where_of m) no_alert) (no_delay m))
+      (λ m kept. unchanged m (not-true (does (closes m) e) kept) (ap (where_of m) no_alert) (no_delay m))
 
 append_once : (o : Option OpenCasualty) (xs : List OpenCasualty) (x : OpenCasualty) → (option_to_list o ++ xs) ++ x ∷ [] ≡ option_to_list o ++ (xs ++ x ∷ [])
 append_once None xs x = refl
@@ -217,7 +217,7 @@ module _ (own at k : ℕ) (h : History CoastWhat) (x : OpenCasualty) where
       ∙ cond-true (is_some x.delay) (Some x) (Some (changed None (delay_for m (Accept k delay)) x)) old ∙ sym was_m)
       (λ _ other. unchanged own e h m refl refl (no_delay delay m other)) refl)
 
-  pub acknowledged_open : (delay : Option ℕ) (acts : List Act) → open_casualty own k h ≡ Some x → ((m : ℕ) → list_any (ends m) acts ≡ (k == m))
+  pub acknowledged_open : (delay : Option ℕ) (acts : List Act) → open_casualty own k h ≡ Some x → ((m : ℕ) → list_any (closes m) acts ≡ (k == m))
       → open_casualties own (accepting delay acts ∷ h) ≡ without k (open_casualties own h)
   acknowledged_open delay acts was ended = closed_open own (accepting delay acts) h k x was ended refl (no_delay delay)
 
@@ -226,20 +226,20 @@ abbrev acknowledged : (own : ℕ) → List OpenCasualty → List Act
 acknowledged own xs = map (λ (x : OpenCasualty). acknowledgement own x.alert) xs
 
 due_by : (own at m k : ℕ) (told : ℕ → Option OpenCasualty) (ms : List ℕ) (o : Option OpenCasualty) → AreNamed told → told k ≡ o
-    → list_any (ends m) (acknowledgements_due own at (listed_of told ms)) ≡ (is_among m ms && is_due_open at (told m))
-    → list_any (ends m) (acknowledgements_due own at (option_to_list o ++ listed_of told ms)) ≡ (((k == m) || is_among m ms) && is_due_open at (told m))
+    → list_any (closes m) (acknowledgements_due own at (listed_of told ms)) ≡ (is_among m ms && is_due_open at (told m))
+    → list_any (closes m) (acknowledgements_due own at (option_to_list o ++ listed_of told ms)) ≡ (((k == m) || is_among m ms) && is_due_open at (told m))
 due_by own at m k told ms None names was rest =
-    among_one_more (k == m) false (is_due_open at (told m)) (list_any (ends m) (acknowledgements_due own at (listed_of told ms))) (is_among m ms)
+    among_one_more (k == m) false (is_due_open at (told m)) (list_any (closes m) (acknowledgements_due own at (listed_of told ms))) (is_among m ms)
     (λ same. ap (is_due_open at) (sym was ∙ ap told (eqb-true k m same))) rest
 due_by own at m k told ms (Some x) names was rest =
-    chosen (λ xs. list_any (ends m) (acknowledged own xs)) (is_due at x) (x ∷ filter (is_due at) (listed_of told ms)) (filter (is_due at) (listed_of told ms))
-    ∙ ap (λ b. if is_due at x then b || list_any (ends m) (acknowledgements_due own at (listed_of told ms)) else list_any (ends m) (acknowledgements_due own at (listed_of told ms)))
+    chosen (λ xs. list_any (closes m) (acknowledged own xs)) (is_due at x) (x ∷ filter (is_due at) (listed_of told ms)) (filter (is_due at) (listed_of told ms))
+    ∙ ap (λ b. if is_due at x then b || list_any (closes m) (acknowledgements_due own at (listed_of told ms)) else list_any (closes m) (acknowledgements_due own at (listed_of told ms)))
     (ap (λ (n : ℕ). n == m) (names k x was))
-    ∙ among_one_more (k == m) (is_due at x) (is_due_open at (told m)) (list_any (ends m) (acknowledgements_due own at (listed_of told ms))) (is_among m ms)
+    ∙ among_one_more (k == m) (is_due at x) (is_due_open at (told m)) (list_any (closes m) (acknowledgements_due own at (listed_of told ms))) (is_among m ms)
     (λ same. ap (is_due_open at) (sym was ∙ ap told (eqb-true k m same))) rest
 
 pub any_due : (own at m : ℕ) (told : ℕ → Option OpenCasualty) (ms : List ℕ) → AreNamed told
-    → list_any (ends m) (acknowledgements_due own at (listed_of told ms)) ≡ (is_among m ms && is_due_open at (told m))
+    → list_any (closes m) (acknowledgements_due own at (listed_of told ms)) ≡ (is_among m ms && is_due_open at (told m))
 any_due own at m told [] names = refl
 any_due own at m told (k ∷ ms) names = due_by own at m k told ms (told k) names refl (any_due own at m told ms names)
 
@@ -247,10 +247,10 @@ both_due : (at : ℕ) (o : Option OpenCasualty) → (is_some o && is_due_open at
 both_due at None = refl
 both_due at (Some x) = refl
 
-pub tick_ends : (own at m : ℕ) (h : History CoastWhat) (others : List Act) → list_any (ends m) others ≡ false
-    → list_any (ends m) (acknowledgements_due own at (open_casualties own h) ++ others) ≡ is_due_open at (open_casualty own m h)
+pub tick_ends : (own at m : ℕ) (h : History CoastWhat) (others : List Act) → list_any (closes m) others ≡ false
+    → list_any (closes m) (acknowledgements_due own at (open_casualties own h) ++ others) ≡ is_due_open at (open_casualty own m h)
 tick_ends own at m h others none =
-    list_any-append (ends m) (acknowledgements_due own at (open_casualties own h)) others
-    ∙ or_false_right (list_any (ends m) (acknowledgements_due own at (open_casualties own h))) (list_any (ends m) others) none
+    list_any-append (closes m) (acknowledgements_due own at (open_casualties own h)) others
+    ∙ or_false_right (list_any (closes m) (acknowledgements_due own at (open_casualties own h))) (list_any (closes m) others) none
     ∙ any_due own at m (λ k. open_casualty own k h) (born own h) (named own h)
     ∙ ap (λ b. b && is_due_open at (open_casualty own m h)) (born_open own m h) ∙ both_due at (open_casualty own m h)

@@ -7,7 +7,7 @@ use Rattle.plain_laws.proofs.Tests.{apart_turned}
 use Rattle.call_values.specs.declared.calls.Casualty.{Casualty}
 use Rattle.traffic_rules.specs.Histories.{History, does}
 use Rattle.coast_station.specs.declared.events.CoastWhat.{CoastWhat}
-use Rattle.coast_station.specs.Casualties.{where_of, ends, alert_at, is_alert, delay_at, since_end, is_born, open_casualty, with_alert, born}
+use Rattle.coast_station.specs.Casualties.{where_of, closes, alert_at, is_alert, delay_at, since_end, is_born, open_casualty, with_alert, born}
 use Rattle.coast_station.specs.Events.{alert_in}
 use Rattle.coast_station.proofs.Births.{chosen, by_test, after_is_some, some_mapped, goes_on, is_ended, from_none, born_is_open, open_in}
 
@@ -61,9 +61,9 @@ born_open own mmsi [] = refl
 born_open own mmsi (e ∷ h) =
     let a = alert_in own e.what in
     let heard = some_mapped (λ (alert : Casualty). record { alert = alert; at = e.at }) (where_of mmsi a) in
-    among_filter (λ (m : ℕ). not (does (ends m) e)) mmsi (with_alert a (born own h))
-    ∙ by_test (does (ends mmsi) e)
-    (λ b. does (ends mmsi) e ≡ b → (is_among mmsi (with_alert a (born own h)) && not b) ≡ is_some (open_casualty own mmsi (e ∷ h)))
+    among_filter (λ (m : ℕ). not (does (closes m) e)) mmsi (with_alert a (born own h))
+    ∙ by_test (does (closes mmsi) e)
+    (λ b. does (closes mmsi) e ≡ b → (is_among mmsi (with_alert a (born own h)) && not b) ≡ is_some (open_casualty own mmsi (e ∷ h)))
     (λ _ ended. and_right (is_among mmsi (with_alert a (born own h))) false refl ∙ sym (ap is_some (is_ended own mmsi e h ended)))
     (λ _ lasts. and-true (is_among mmsi (with_alert a (born own h))) ∙ among_with_alert mmsi a (born own h)
     ∙ ap (λ b. b || is_some (where_of mmsi a)) (born_open own mmsi h)
@@ -107,5 +107,5 @@ apart_with_alert (Some casualty) ms apart =
 pub born_apart : (own : ℕ) (h : History CoastWhat) → AreApart (born own h)
 born_apart own [] = tt
 born_apart own (e ∷ h) =
-    apart_filter (λ (m : ℕ). not (does (ends m) e)) (with_alert (alert_in own e.what) (born own h))
+    apart_filter (λ (m : ℕ). not (does (closes m) e)) (with_alert (alert_in own e.what) (born own h))
     (apart_with_alert (alert_in own e.what) (born own h) (born_apart own h))

@@ -28,7 +28,7 @@ use Rattle.coast_station.specs.Accepting.{waits, find_casualty, is_due_at_once, 
 use Rattle.coast_station.specs.Casualties.{open_casualty, open_casualties}
 use Rattle.coast_station.specs.CoastRules.{Station, held, is_for, at_call, refusal_by, due_by, refusal_at, due_at, coast_rules}
 use Rattle.coast_station.specs.Events.{IsCoastWhat, alert_in}
-use Rattle.coast_station.specs.Stands.{Keeps, Stands}
+use Rattle.coast_station.specs.StandsFor.{Keeps, StandsFor}
 use Rattle.coast_station.specs.inside.Afterwards.{after_accept_of, after_call, open_after, held_after, answer_by, afterwards}
 use Rattle.coast_station.specs.inside.Left.{without, replaced}
 use Rattle.coast_station.proofs.Births.{by_test}
@@ -172,8 +172,8 @@ keeps_afterwards who h old at what keeps legal none = record {
 -- a station that is as it was after a refusal, and keeps this after an accepted event, stands for its history as this
 -- goes on
 pub goes : (who : Station) (h : History CoastWhat) (at : ℕ) (what : CoastWhat) (old new : Coast) (result : Result (Unit {0}) StationRefusal) (acts : List Act)
-    → last_moment h ≤ at → IsCoastWhat what → Stands old who h → answer_with result acts ≡ answer_by old at what
-    → OnErr result (new ≡ old) → OnOk result (new ≡ record (afterwards old at what) { last = at }) → Stands new who (continued (coast_rules who) h at what)
+    → last_moment h ≤ at → IsCoastWhat what → StandsFor old who h → answer_with result acts ≡ answer_by old at what
+    → OnErr result (new ≡ old) → OnOk result (new ≡ record (afterwards old at what) { last = at }) → StandsFor new who (continued (coast_rules who) h at what)
 goes who h at what old new result acts late event stands answer same after =
     goes_on (coast_rules who) h at what (λ (g : History CoastWhat). Keeps new who g) result acts late event stands.0 (answer ∙ answer_same who h old at what stands.1)
     (on_err_weaker result (λ is. subst (λ (coast : Coast). Keeps coast who h) (sym is) stands.1) same)

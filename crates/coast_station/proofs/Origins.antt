@@ -16,7 +16,7 @@ use Rattle.coast_station.specs.declared.events.CoastWhat.TheVariants.{Accept, Ti
 use Rattle.coast_station.specs.declared.casualties.OpenCasualty.{OpenCasualty}
 use Rattle.coast_station.specs.Accepting.{is_due, is_due_at_once, find_casualty, acknowledgement, accept_due_of, acknowledgements_due}
 use Rattle.coast_station.specs.Acknowledged.{accepts}
-use Rattle.coast_station.specs.Casualties.{ends, open_casualty, born, open_casualties}
+use Rattle.coast_station.specs.Casualties.{closes, open_casualty, born, open_casualties}
 use Rattle.coast_station.specs.CoastRules.{Station, held, is_for, at_call, refusal_at, due_at, coast_rules}
 use Rattle.coast_station.proofs.Births.{by_test}
 use Rattle.coast_station.proofs.Changes.{find_open}
@@ -37,9 +37,9 @@ pub record Origin (who : Station) (h : History CoastWhat) (at : ℕ) (what : Coa
   pub reason : IsSentFor who at identity what open_one
 
 -- an acknowledgement isn't among acts that end no casualty
-not_among : (from times : ℕ) (casualty : Casualty) (acts : List Act) → list_any (ends casualty.mmsi) acts ≡ false → Among (act.Send (call.Ack from casualty) times) acts → ⊥
+not_among : (from times : ℕ) (casualty : Casualty) (acts : List Act) → list_any (closes casualty.mmsi) acts ≡ false → Among (act.Send (call.Ack from casualty) times) acts → ⊥
 not_among from times casualty acts none among =
-    false≢true (sym none ∙ among_any (ends casualty.mmsi) (act.Send (call.Ack from casualty) times) acts among (eq-eqb casualty.mmsi casualty.mmsi refl))
+    false≢true (sym none ∙ among_any (closes casualty.mmsi) (act.Send (call.Ack from casualty) times) acts among (eq-eqb casualty.mmsi casualty.mmsi refl))
 
 same_alert : (own from times : ℕ) (casualty alert : Casualty) → act.Send (call.Ack from casualty) times ≡ acknowledgement own alert → casualty ≡ alert
 same_alert own from times casualty alert same = cc

@@ -26,10 +26,10 @@ acknowledges mmsi _ = false
 
 -- an act ends the casualty of this identity: it acknowledges its alert, or informs the operator that another station
 -- has done so
-abbrev pub ends : (mmsi : ℕ) → Act → Bool
-ends mmsi (Send call times) = is_ack_of mmsi call
-ends mmsi (CasualtyClosed closed) = closed == mmsi
-ends mmsi _ = false
+abbrev pub closes : (mmsi : ℕ) → Act → Bool
+closes mmsi (Send call times) = is_ack_of mmsi call
+closes mmsi (CasualtyClosed closed) = closed == mmsi
+closes mmsi _ = false
 
 -- an alert, where this identity sent it
 abbrev pub where_of : (mmsi : ℕ) → Option Casualty → Option Casualty
@@ -59,7 +59,7 @@ delay_at mmsi e = delay_for mmsi e.what
 
 -- the entries since the casualty was last ended
 abbrev pub since_end : (mmsi : ℕ) → History CoastWhat → History CoastWhat
-since_end mmsi h = since (does (ends mmsi)) h
+since_end mmsi h = since (does (closes mmsi)) h
 
 -- the casualty is born: an alert of it was heard since it was last ended
 abbrev pub is_born : (own mmsi : ℕ) → History CoastWhat → Bool
@@ -90,7 +90,7 @@ with_alert (Some casualty) identities =
 -- the identities of the casualties that are born, in the order of their births
 abbrev pub born : (own : ℕ) → History CoastWhat → List ℕ
 born own [] = []
-born own (e ∷ h) = filter (λ (mmsi : ℕ). not (does (ends mmsi) e)) (with_alert (alert_in own e.what) (born own h))
+born own (e ∷ h) = filter (λ (mmsi : ℕ). not (does (closes mmsi) e)) (with_alert (alert_in own e.what) (born own h))
 
 -- the open casualties, in the order of their births
 abbrev pub open_casualties : (own : ℕ) → History CoastWhat → List OpenCasualty

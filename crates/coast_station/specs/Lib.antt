@@ -4,5 +4,5 @@ pub mod Casualties
 pub mod Accepting
 pub mod Acknowledged
 pub mod CoastRules
-pub mod Stands
+pub mod StandsFor
 pub mod inside

@@ -8,7 +8,7 @@ ghost use Rattle.coast_station.specs.declared.events.CoastWhat.{CoastWhat as Wha
 ghost use Rattle.coast_station.specs.Accepting as accepting;
 ghost use Rattle.coast_station.specs.CoastRules as rules;
 ghost use Rattle.coast_station.specs.CoastRules.{coast_rules};
-ghost use Rattle.coast_station.specs.Stands.{Stands};
+ghost use Rattle.coast_station.specs.StandsFor.{StandsFor};
 ghost use Rattle.coast_station.specs.inside.Afterwards.{answer_by, afterwards};
 
 use crate::casualties::{Casualties, OpenCasualty, acknowledgement};
@@ -35,7 +35,7 @@ impl Coast {
     /// A coast station with its identity, which works in this band. It knows of no casualty and holds no call, and its
     /// last moment is 0.
     pub fn new(own: Mmsi, band: Band) -> Coast
-        ensures { Stands result (record { own = own; band = band }) [] }
+        ensures { StandsFor result (record { own = own; band = band }) [] }
     {
         Coast {
             own,
@@ -53,8 +53,8 @@ impl Coast {
     /// (`NeedsDelay`); a call that the operator may not send (`NotSendable`); an answer to a number under which no call
     /// that was got is held (`NoSuchCall`); what would begin a seventeenth casualty or held call (`Full`).
     pub fn step_into(&mut self, event: &CoastEvent, acts: &mut Acts) -> Result<(), StationRefusal>
-        ensures answers { AnswersByRules coast_rules Stands self.old event.now.at event.now.what (answer_with result acts.new.items) }
-        ensures goes_on { GoesOnByRules coast_rules Stands self.old event.now.at event.now.what self.new }
+        ensures answers { AnswersByRules coast_rules StandsFor self.old event.now.at event.now.what (answer_with result acts.new.items) }
+        ensures goes_on { GoesOnByRules coast_rules StandsFor self.old event.now.at event.now.what self.new }
         ensures none { OnErr result (acts.new.items ≡ []) }
         ensures unchanged { OnErr result (self.new ≡ self.old) }
     {
@@ -70,7 +70,7 @@ impl Coast {
 
     /// The same as `step_into`, with the acts in a list of its own.
     pub fn step(&mut self, event: &CoastEvent) -> Result<Acts, StationRefusal>
-        ensures { IsStep coast_rules Stands self.old event.now.at event.now.what (listed result) self.new }
+        ensures { IsStep coast_rules StandsFor self.old event.now.at event.now.what (listed result) self.new }
     {
         let mut acts = ArrayVec::new();
         self.step_into(event, &mut acts)?;

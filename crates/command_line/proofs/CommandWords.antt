@@ -44,9 +44,6 @@ first_fault met word =
     let step = subcommand_or_other [] met idle 1 word nothing_held in
     or_else (other_fault app.top met word nothing_held) (step_fault app.top 1 step.0 step.1)
 
-first_fault_is : (word : Text) → turn_fault app.top names start word ≡ first_fault (subcommand_met names idle word) word
-first_fault_is word = refl
-
 first_known : (word : Text) (met : Option Text) → bytes_eq word (codes "--") ≡ false → first_fault met word ≡ [] → (command : Text) × (met ≡ Some command)
 first_known word None undashed e = absurd (stray_word app.top word (long_of word) (subst (λ (d : Bool). turn_by (bare app.top) start word d (long_of word) ≡ []) undashed e))
 first_known word (Some command) undashed e = (command, refl)
@@ -103,10 +100,6 @@ abbrev after_walk : Walk → Kinds
 after_walk w =
     or_else (entered_fault app w.stopped) (or_else (settle_fault [] false w.held)
     (or_else (defaults_fault (settled [] w.held).rows []) (check_fault app.top (finished [] w.held) (is_some (entered app w.stopped)))))
-
-fault_is : (name word : Text) (ws : List Text)
-    → fault_of dsc (name ∷ word ∷ ws) ≡ or_else (walk_fault app.top names start (word ∷ ws)) (after_walk (walk app.top.rules names nothing_held (word ∷ ws)))
-fault_is name word ws = refl
 
 -- what words that pass begin with
 pub record Enters (words : List Text) : Type 0 where

@@ -57,10 +57,6 @@ module _ (name long : Text) where
   abbrev pub command : Shape
   command = leaf (with_option name long)
 
-  rest_turn_is : (rows : List Row) (pending : Option (Text × List Text)) (word : Text)
-      → turn_fault command [] (at_rest rows pending) word ≡ turn_by command (at_rest rows pending) word (bytes_eq word (codes "--")) (long_of word)
-  rest_turn_is rows pending word = refl
-
   pub rest_next_is : (rows : List Row) (pending : Option (Text × List Text)) (word : Text)
       → walked command.rules [] (at_rest rows pending) word ≡ next_by command (at_rest rows pending) word (bytes_eq word (codes "--")) (long_of word)
   unfolding walked

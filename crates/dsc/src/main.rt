@@ -27,7 +27,7 @@ fn words<R: Env + AllocGlobal>(rt: &R, alloc: Global) -> Result<Vec<String>, All
 
 /// Says on the standard error which command was meant, where the first word nearly is one, and how the program is used.
 #[inline(never)]
-fn tell_usage(rt: &impl Eprint, alloc: Global, words: &[String]) {
+fn print_usage(rt: &impl Eprint, alloc: Global, words: &[String]) {
     if let Some(word) = words.get(1) {
         if let Ok(Some(command)) = nearest_command(alloc, word.as_str()) {
             let _ = eprintln!(rt; "dsc: did you mean {command}?");
@@ -38,7 +38,7 @@ fn tell_usage(rt: &impl Eprint, alloc: Global, words: &[String]) {
 
 /// Says on the standard error what failed, or what the line on the standard output means for whoever doesn't see it.
 /// Where that can't be written, the status alone says so.
-fn tell(rt: &impl Eprint, status: u8) {
+fn explain_status(rt: &impl Eprint, status: u8) {
     let line = match status {
         3 | 7 => "dsc: the input was refused: the output's last line says where",
         4 => "dsc: the input failed",
@@ -51,15 +51,15 @@ fn tell(rt: &impl Eprint, status: u8) {
 
 fn main(rt: HostRuntime) -> ExitCode {
     let Ok(words) = words(&rt, rt.alloc()) else {
-        tell(&rt, 6);
+        explain_status(&rt, 6);
         return ExitCode::from(6);
     };
     let mut source = StdSource::new(rt.reader());
     let mut sink = StdSink::new(io::writer(&rt));
     let status = run(&rt, rt.alloc(), &words, &mut source, &mut sink, &Open).number();
     if status == 2 {
-        tell_usage(&rt, rt.alloc(), &words);
+        print_usage(&rt, rt.alloc(), &words);
     }
-    tell(&rt, status);
+    explain_status(&rt, status);
     ExitCode::from(status)
 }

@@ -11,7 +11,7 @@ use Rattle.slot_evidence.specs.Facts.{Facts, Symbols, facts_of, facts_of_all}
 use Rattle.slot_evidence.specs.Sheet.{IsEnds, facts_in}
 use Rattle.slot_evidence.specs.Alike.{AreAlike}
 use Rattle.slot_evidence.proofs.PublicLaws.{same_alike, flip_alike}
-use Rattle.input_lines.specs.JoinLine.{JoinLine, nothing, reception, evidence}
+use Rattle.input_lines.specs.ReceiverLine.{ReceiverLine, nothing, reception, evidence}
 use Rattle.input_lines.specs.Lines.{facts_of_pairs}
 use Rattle.join_groups.specs.Groups.{facts_of_line, group_facts}
 use Rattle.dsc_cmd.specs.Heard.{StandsForThem, AreBehindLine, AreBehind}
@@ -42,13 +42,13 @@ module _ (laws : Laws) (k : ℕ) where
       subst (λ (S : Symbols). AreAlike S (facts_of_all here p)) same (flip_alike (facts_of_all here p) (facts_in stands.sheet p) (laws.sheet (facts_of_all here) stands.sheet p stands.ends))
   by_evidence group pairs here p false is behind = same_alike (λ v. false) (facts_of_all here p) (λ v. sym (all_none here p v (behind.1 (eqb-false group k is))))
 
-  line_alike : (line : JoinLine) (here : List (List Element)) → AreBehindLine k line here → (p : ℕ) → AreAlike (facts_of_line k line p) (facts_of_all here p)
+  line_alike : (line : ReceiverLine) (here : List (List Element)) → AreBehindLine k line here → (p : ℕ) → AreAlike (facts_of_line k line p) (facts_of_all here p)
   line_alike nothing here behind p = same_alike (λ v. false) (facts_of_all here p) (λ v. sym (all_none here p v behind))
   line_alike (reception group e) here behind p = by_reception group e here p (group == k) refl behind
   line_alike (evidence group pairs) here behind p = by_evidence group pairs here p (group == k) refl behind
 
   -- the facts of the group are alike those of all receptions of its lines
-  pub behind_alike : (said : List JoinLine) (receptions : List (List Element)) → AreBehind k said receptions → (p : ℕ) → AreAlike (group_facts said k p) (facts_of_all receptions p)
+  pub behind_alike : (said : List ReceiverLine) (receptions : List (List Element)) → AreBehind k said receptions → (p : ℕ) → AreAlike (group_facts said k p) (facts_of_all receptions p)
   unfolding group_facts facts_of_all
   behind_alike [] receptions none p = same_alike (λ v. false) (facts_of_all receptions p) (λ v. sym (all_none receptions p v none))
   behind_alike (line ∷ said) receptions behind p =

@@ -22,7 +22,7 @@ use Rattle.expansion.specs.declared.values.Sets.{Sets}
 use Rattle.expansion.specs.Expansions.{IsExpansion}
 use Rattle.slot_evidence.proofs.PublicLaws.{itself}
 use Rattle.input_lines.specs.CallLine.{extra_of}
-use Rattle.input_lines.specs.JoinLine.{JoinLine, nothing, reception, evidence, text_of_reception}
+use Rattle.input_lines.specs.ReceiverLine.{ReceiverLine, nothing, reception, evidence, text_of_reception}
 use Rattle.input_lines.specs.Lines.{facts_of_pairs}
 use Rattle.join_groups.specs.Groups.{names, is_named, facts_of_line, group_facts}
 use Rattle.join_groups.specs.Output.{TellsAnswer, IsJoinText}
@@ -46,38 +46,38 @@ heard_whole long k call expansion small = record {
 -- ---- the facts
 
 module _ (k : ℕ) (e : List Element) where
-  abbrev IsThis : JoinLine → Type 0
+  abbrev IsThis : ReceiverLine → Type 0
   IsThis line = names k line ≡ true → line ≡ reception k e
 
   -- a line that gives facts of the group names it
-  named_by_facts : (line : JoinLine) (p v : ℕ) → facts_of_line k line p v ≡ true → names k line ≡ true
+  named_by_facts : (line : ReceiverLine) (p v : ℕ) → facts_of_line k line p v ≡ true → names k line ≡ true
   named_by_facts nothing p v h = absurd (cc)
   named_by_facts (reception group d) p v h = (and_parts (group == k) (facts_of d p v) h).0
   named_by_facts (evidence group pairs) p v h = (and_parts (group == k) (facts_of_pairs pairs p v) h).0
 
-  line_facts : (line : JoinLine) (p v : ℕ) → IsThis line → facts_of_line k line p v ≡ true → facts_of e p v ≡ true
+  line_facts : (line : ReceiverLine) (p v : ℕ) → IsThis line → facts_of_line k line p v ≡ true → facts_of e p v ≡ true
   line_facts line p v this h =
-      (and_parts (k == k) (facts_of e p v) (subst (λ (l : JoinLine). facts_of_line k l p v ≡ true) (this (named_by_facts line p v h)) h)).1
+      (and_parts (k == k) (facts_of e p v) (subst (λ (l : ReceiverLine). facts_of_line k l p v ≡ true) (this (named_by_facts line p v h)) h)).1
 
-  no_more : (said : List JoinLine) (p v : ℕ) → AllByRecursion IsThis said → list_any (λ line. facts_of_line k line p v) said ≡ true → facts_of e p v ≡ true
+  no_more : (said : List ReceiverLine) (p v : ℕ) → AllByRecursion IsThis said → list_any (λ line. facts_of_line k line p v) said ≡ true → facts_of e p v ≡ true
   no_more [] p v each h = absurd (cc)
   no_more (line ∷ said) p v each h = elim (or_cases (facts_of_line k line p v) (list_any (λ line. facts_of_line k line p v) said) h) [
     | inl here ↦ line_facts line p v each.0 here
     | inr more ↦ no_more said p v each.1 more
   ]
 
-  no_less : (said : List JoinLine) (p v : ℕ) → AllByRecursion IsThis said → list_any (names k) said ≡ true → facts_of e p v ≡ true → list_any (λ line. facts_of_line k line p v) said ≡ true
+  no_less : (said : List ReceiverLine) (p v : ℕ) → AllByRecursion IsThis said → list_any (names k) said ≡ true → facts_of e p v ≡ true → list_any (λ line. facts_of_line k line p v) said ≡ true
   no_less [] p v each named h = absurd (cc)
   no_less (line ∷ said) p v each named h = elim (or_cases (names k line) (list_any (names k) said) named) [
     | inl here ↦
         let own : facts_of_line k (reception k e) p v ≡ true = and_from (k == k) (facts_of e p v) (eq-eqb k k refl) h in
-        let fact : facts_of_line k line p v ≡ true = subst (λ (l : JoinLine). facts_of_line k l p v ≡ true) (sym (each.0 here)) own in
+        let fact : facts_of_line k line p v ≡ true = subst (λ (l : ReceiverLine). facts_of_line k l p v ≡ true) (sym (each.0 here)) own in
         ap (λ (b : Bool). b || list_any (λ line. facts_of_line k line p v) said) fact
     | inr more ↦ or_right (facts_of_line k line p v) (list_any (λ line. facts_of_line k line p v) said) (no_less said p v each.1 more h)
   ]
 
 -- the facts of the group are those of the one reception
-same_facts : (said : List JoinLine) (k : ℕ) (e : List Element) → AllByRecursion (λ line. names k line ≡ true → line ≡ reception k e) said → is_named said k ≡ true
+same_facts : (said : List ReceiverLine) (k : ℕ) (e : List Element) → AllByRecursion (λ line. names k line ≡ true → line ≡ reception k e) said → is_named said k ≡ true
     → (p : ℕ) → AreAlike (group_facts said k p) (facts_of e p)
 unfolding group_facts is_named
 same_facts said k e each named p = record {
@@ -119,7 +119,7 @@ one_answer laws long call None answer is whole h =
 one_answer laws long call (Some x) answer is whole h =
     laws.expanded call (tail_of call (Some x)) x long answer is (record { last = end_named (end_of call); own = own_end call; lawful = whole; list = refl }) h
 
-pub tells_call : Laws → (said : List JoinLine) (k : ℕ) (long : Bool) (call : Call) (expansion : Option Sets) → IsCall call → IfSome expansion IsExpansion → IsOfEncoded said k long call expansion
+pub tells_call : Laws → (said : List ReceiverLine) (k : ℕ) (long : Bool) (call : Call) (expansion : Option Sets) → IsCall call → IfSome expansion IsExpansion → IsOfEncoded said k long call expansion
     → (text : List ℕ) (status : ℕ) (joined : IsJoinText said text status) → TellsCall joined.all k call expansion
 tells_call laws said k long call expansion is whole of text status joined =
     let one = found (λ told. TellsAnswer (group_facts said told.group) told) joined.all k joined.each (joined.groups.named k ∙ of.named) in

@@ -13,7 +13,7 @@ use Rattle.slot_join.specs.declared.joined.Joined.{Joined}
 use Rattle.slot_join.specs.Answer.{IsAnswer}
 use Rattle.slot_join.specs.Heard.{IsHeard}
 use Rattle.slot_join.specs.Intact.{IsSent, IsSentOrLostPlace, ArrivesInParts}
-use Rattle.input_lines.specs.JoinLine.{JoinLine}
+use Rattle.input_lines.specs.ReceiverLine.{ReceiverLine}
 use Rattle.join_groups.specs.Groups.{is_among, group_facts}
 use Rattle.join_groups.specs.Output.{GroupLine, TellsAnswer, IsJoinText}
 use Rattle.call_texts.specs.Texts.{answer_line}
@@ -61,7 +61,7 @@ found P (t ∷ all) k each among = elim (or_cases (t.group == k) (is_among (map 
 ]
 
 -- the line of a group whose receptions heard one call
-pub tells_sent : Laws → (said : List JoinLine) (text : List ℕ) (status : ℕ) (is_text : IsJoinText said text status) (k : ℕ) (call : Call) (tail : List ℕ) (receptions : List (List Element))
+pub tells_sent : Laws → (said : List ReceiverLine) (text : List ℕ) (status : ℕ) (is_text : IsJoinText said text status) (k : ℕ) (call : Call) (tail : List ℕ) (receptions : List (List Element))
     → IsOfCall said k call tail receptions → TellsSent is_text.all k call tail receptions
 tells_sent laws said text status is_text k call tail receptions of =
     let one = found (λ told. TellsAnswer (group_facts said told.group) told) is_text.all k is_text.each (is_text.groups.named k ∙ of.named) in

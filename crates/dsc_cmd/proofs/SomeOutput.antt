@@ -27,12 +27,7 @@ plan_outputs laws (Encode long) some = laws.encode long
 plan_outputs laws Sentences some = laws.sentences
 plan_outputs laws Exchange some = laws.exchange
 plan_outputs laws (Join workers) some = absurd some
-plan_outputs laws (Evidence workers) some = absurd some
-plan_outputs laws (Replay workers) some = absurd some
-plan_outputs laws (Make n) some = absurd some
-plan_outputs laws Capture some = absurd some
-plan_outputs laws (Watch workers) some = absurd some
-plan_outputs laws Book some = absurd some
+plan_outputs laws _ some = absurd some
 
 -- ---- no input lacks an output
 

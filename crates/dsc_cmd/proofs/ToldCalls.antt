@@ -11,7 +11,7 @@ use Rattle.slot_evidence.specs.Alike.{AreAlike}
 use Rattle.slot_join.specs.Heard.{IsHeard}
 use Rattle.slot_join.specs.OneCall.{ShowsNoOther}
 use Rattle.live_watch.specs.Told.{IsTold}
-use Rattle.input_lines.specs.JoinLine.{JoinLine}
+use Rattle.input_lines.specs.ReceiverLine.{ReceiverLine}
 use Rattle.join_groups.specs.Groups.{group_facts}
 use Rattle.watch_groups.specs.declared.telling.ToldCall.{ToldCall}
 use Rattle.watch_groups.specs.Telling.{AreTold}
@@ -56,14 +56,14 @@ module _ (laws : Laws) (call : Call) (tail : List ℕ) (lawful : IsCall call) wh
   all_no_other receptions heard p v below has = any_no_other receptions p v heard below has
 
 -- the facts of a group whose receptions are of one call show no other symbols
-group_no_other : Laws → (said : List JoinLine) (k : ℕ) (call : Call) (tail : List ℕ) (receptions : List (List Element)) → IsOfCall said k call tail receptions
+group_no_other : Laws → (said : List ReceiverLine) (k : ℕ) (call : Call) (tail : List ℕ) (receptions : List (List Element)) → IsOfCall said k call tail receptions
     → ShowsNoOther (group_facts said k) (through_check call)
 group_no_other laws said k call tail receptions of =
     no_other_alike (group_facts said k) (facts_of_all receptions) (through_check call) (behind.behind_alike laws.sets k said receptions of.behind)
     (all_no_other laws call tail of.lawful receptions of.heard)
 
 -- so no other call may be told of it
-pub tells_no_other : Laws → (said : List JoinLine) (told : List ToldCall) → AreTold said told → TellsNoOther said told
+pub tells_no_other : Laws → (said : List ReceiverLine) (told : List ToldCall) → AreTold said told → TellsNoOther said told
 tells_no_other laws said [] are k call tail receptions of = tt
 tells_no_other laws said (one ∷ told) are k call tail receptions of = (
   λ same.

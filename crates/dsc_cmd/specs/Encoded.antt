@@ -6,7 +6,7 @@ use Rattle.call_values.specs.declared.calls.Call.{Call}
 use Rattle.expansion.specs.declared.values.Sets.{Sets}
 use Rattle.slot_join.specs.declared.joined.Joined.TheVariants.{Reported}
 use Rattle.input_lines.specs.CallLine.{extra_of}
-use Rattle.input_lines.specs.JoinLine.{JoinLine, reception, IsLine}
+use Rattle.input_lines.specs.ReceiverLine.{ReceiverLine, reception, IsLine}
 use Rattle.join_groups.specs.Groups.{names, is_named}
 use Rattle.join_groups.specs.Output.{GroupLine}
 use Rattle.encode_calls.specs.Transmissions.{transmitted}
@@ -22,7 +22,7 @@ pub record IsHeardWhole (long : Bool) (k : ℕ) (call : Call) (expansion : Optio
 
 -- some line names the group, and each that does holds a reception that heard the call's whole transmission, with what
 -- follows it
-pub record IsOfEncoded (said : List JoinLine) (k : ℕ) (long : Bool) (call : Call) (expansion : Option Sets) : Type 0 where
+pub record IsOfEncoded (said : List ReceiverLine) (k : ℕ) (long : Bool) (call : Call) (expansion : Option Sets) : Type 0 where
   pub named : is_named said k ≡ true
   pub each : AllByRecursion (λ line. names k line ≡ true → line ≡ reception k (transmitted long call expansion)) said
 

@@ -9,7 +9,7 @@ use Rattle.slot_evidence.specs.declared.places.Seen.{Seen}
 use Rattle.slot_evidence.specs.Facts.{facts_of_all}
 use Rattle.slot_evidence.specs.Sheet.{IsEnds, facts_in}
 use Rattle.slot_join.specs.Heard.{IsHeard}
-use Rattle.input_lines.specs.JoinLine.{JoinLine, nothing, reception, evidence}
+use Rattle.input_lines.specs.ReceiverLine.{ReceiverLine, nothing, reception, evidence}
 use Rattle.input_lines.specs.Lines.{facts_of_pairs}
 use Rattle.join_groups.specs.Groups.{is_named}
 
@@ -21,20 +21,20 @@ pub record StandsForThem (pairs : List (ℕ × ℕ)) (receptions : List (List El
 
 -- the receptions of a line, as far as it is of this group: that of a reception line, and those for which evidence
 -- stands; any other line has none
-abbrev pub AreBehindLine : ℕ → JoinLine → List (List Element) → Type 0
+abbrev pub AreBehindLine : ℕ → ReceiverLine → List (List Element) → Type 0
 AreBehindLine k nothing receptions = receptions ≡ []
 AreBehindLine k (reception group e) receptions = (group ≡ k → receptions ≡ e ∷ []) × ((group ≡ k → ⊥) → receptions ≡ [])
 AreBehindLine k (evidence group pairs) receptions = (group ≡ k → StandsForThem pairs receptions) × ((group ≡ k → ⊥) → receptions ≡ [])
 
 -- the receptions of the group's lines, in turn
-abbrev pub AreBehind : ℕ → List JoinLine → List (List Element) → Type 0
+abbrev pub AreBehind : ℕ → List ReceiverLine → List (List Element) → Type 0
 AreBehind k [] receptions = receptions ≡ []
 AreBehind k (line ∷ said) receptions =
     (here : List (List Element)) × (rest : List (List Element)) × (receptions ≡ here ++ rest) × AreBehindLine k line here × AreBehind k said rest
 
 -- lines name the group, and all the receptions of its lines heard this call and what follows it: truly phased, and in
 -- each character wrong in one sense alone
-pub record IsOfCall (said : List JoinLine) (k : ℕ) (call : Call) (tail : List ℕ) (receptions : List (List Element)) : Type 0 where
+pub record IsOfCall (said : List ReceiverLine) (k : ℕ) (call : Call) (tail : List ℕ) (receptions : List (List Element)) : Type 0 where
   pub lawful : IsCall call
   pub named : is_named said k ≡ true
   pub behind : AreBehind k said receptions

@@ -9,7 +9,7 @@ use Rattle.byte_streams.specs.Streams.{Loses, IsEnded}
 use Rattle.line_engine.specs.Lines.{Lines, lines_of}
 use Rattle.line_engine.specs.Meaning.{Meaning}
 use Rattle.line_engine.specs.Endings.{Writes}
-use Rattle.input_lines.specs.JoinLine.{JoinLine}
+use Rattle.input_lines.specs.ReceiverLine.{ReceiverLine}
 use Rattle.join_groups.specs.Groups.{AreLines}
 use Rattle.join_groups.specs.Output.{GroupLine, TellsAnswer, IsJoinText}
 use Rattle.slot_join.specs.Answer.{is_reported}
@@ -40,7 +40,7 @@ pub record ReportsSent (left_before left_after before after : Option (List ℕ))
   pub input : List ℕ
   pub lost : Loses left_before left_after input
   pub ended : IsEnded left_after
-  pub said : List JoinLine
+  pub said : List ReceiverLine
   pub are_lines : AreLines said (lines_of input)
   pub text : List ℕ
   pub is_text : IsJoinText said text status

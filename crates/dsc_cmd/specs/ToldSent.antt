@@ -6,14 +6,14 @@ use Rattle.ten_unit.specs.declared.character.Element.{Element}
 use Rattle.call_values.specs.declared.calls.Call.{Call}
 use Rattle.line_engine.specs.Lines.{Lines}
 use Rattle.line_engine.specs.Meaning.{Meaning}
-use Rattle.input_lines.specs.JoinLine.{JoinLine}
+use Rattle.input_lines.specs.ReceiverLine.{ReceiverLine}
 use Rattle.watch_groups.specs.declared.telling.ToldCall.{ToldCall}
 use Rattle.watch_groups.specs.Meaning.{watch_meaning, GivesTold, EndsWatch}
 use Rattle.dsc_cmd.specs.Heard.{IsOfCall}
 use Rattle.dsc_cmd.specs.Sent.{TellsSent}
 
 -- where all receptions of a group are of one call, no other call is told of it
-abbrev pub TellsNoOther : List JoinLine → List ToldCall → Type 0
+abbrev pub TellsNoOther : List ReceiverLine → List ToldCall → Type 0
 TellsNoOther said told = (k : ℕ) (call : Call) (tail : List ℕ) (receptions : List (List Element)) → IsOfCall said k call tail receptions
     → AllByRecursion (λ one. one.group ≡ k → one.call ≡ call) told
 

@@ -4,7 +4,7 @@ ghost use Rattle.call_values.specs.Calls.{IsCall};
 ghost use Rattle.call_values.specs.declared.calls.Call.{Call};
 ghost use Rattle.dsc_cmd.specs.Encoded.{IsHeardWhole, IsOfEncoded, TellsCall};
 ghost use Rattle.dsc_cmd.specs.Plans.{meaning_of, HasOneOutput, HasSomeOutput};
-ghost use Rattle.input_lines.specs.JoinLine.{JoinLine};
+ghost use Rattle.input_lines.specs.ReceiverLine.{ReceiverLine};
 ghost use Rattle.command_line.specs.Words.{IsInRange};
 ghost use Rattle.command_line.specs.declared.plans.Plan.{Plan};
 ghost use Rattle.command_line.specs.declared.plans.Plan.TheVariants.{Join, Evidence};
@@ -29,7 +29,7 @@ use slot_join::{alike_facts_have_one_answer, transmissions_are_answered};
 pub fn encoded_calls_are_reported()
     ensures line { (long : Bool) (k : ℕ) (call : Call) (expansion : Option Sets) → k < 2 ^ 32
         → IsHeardWhole long k call expansion }
-    ensures reported { (said : List JoinLine) (k : ℕ) (long : Bool) (call : Call) (expansion : Option Sets)
+    ensures reported { (said : List ReceiverLine) (k : ℕ) (long : Bool) (call : Call) (expansion : Option Sets)
         → IsCall call → IfSome expansion IsExpansion → IsOfEncoded said k long call expansion
         → (text : List ℕ) (status : ℕ) (joined : IsJoinText said text status) → TellsCall joined.all k call expansion }
 {
@@ -59,10 +59,10 @@ pub fn inputs_have_one_output()
 /// The law that facts determine what `join` and `evidence` write, whatever the number of workers: two inputs without a
 /// fault whose lines name the same groups, each with alike facts, have one text and status.
 pub fn facts_determine_outputs()
-    ensures join { (m n : ℕ) (first second : Lines) (said other : List JoinLine) → AreLines said first
+    ensures join { (m n : ℕ) (first second : Lines) (said other : List ReceiverLine) → AreLines said first
         → AreLines other second → HaveAlikeFacts said other → (a b : List ℕ) (s t : ℕ)
         → IsWhole (meaning_of (Join m)) first a s → IsWhole (meaning_of (Join n)) second b t → (a ≡ b) × (s ≡ t) }
-    ensures evidence { (m n : ℕ) (first second : Lines) (said other : List JoinLine) → AreLines said first
+    ensures evidence { (m n : ℕ) (first second : Lines) (said other : List ReceiverLine) → AreLines said first
         → AreLines other second → HaveAlikeFacts said other → (a b : List ℕ) (s t : ℕ)
         → IsWhole (meaning_of (Evidence m)) first a s → IsWhole (meaning_of (Evidence n)) second b t
         → (a ≡ b) × (s ≡ t) }

@@ -2,7 +2,7 @@
 ghost use Rattle.std.specs.Prelude.{◌≡◌, ◌≢◌, ◌⊎◌, ◌≤◌, List, if◌then◌else◌};
 ghost use Rattle.std.specs.List.{list_all};
 ghost use Rattle.byte_streams.specs.Streams.{Rises, SeenBefore};
-ghost use Rattle.input_lines.specs.JoinLine.{JoinLine};
+ghost use Rattle.input_lines.specs.ReceiverLine.{ReceiverLine};
 ghost use Rattle.line_engine.specs.Endings.{IsFinished};
 ghost use Rattle.slot_join.specs.Answer.{is_reported};
 ghost use Rattle.generated_join.specs.Generator.{generated};
@@ -18,7 +18,7 @@ use std::alloc::{AllocError, Global};
 /// The status of a join with this summary: 0 where a call was reported of every group, and else 1.
 fn status_of(summary: &Summary) -> Status
     ensures which { IsFinished result }
-    ensures whole { (said : List JoinLine) (is : IsSummary said summary.now)
+    ensures whole { (said : List ReceiverLine) (is : IsSummary said summary.now)
         → result ≡ (if list_all (λ one. is_reported one.answer) is.all then 0 else 1) }
 {
     Status::of(summary.is_whole())
@@ -26,7 +26,7 @@ fn status_of(summary: &Summary) -> Status
 
 /// Writes the summary of so many generated groups. It ends with status 0 where a call was reported of every group, with
 /// 1 where not, or with that of a write fault.
-fn tell_summary<K: Sink>(groups: u16, summary: &Summary, sink: &mut K) -> Status
+fn write_summary<K: Sink>(groups: u16, summary: &Summary, sink: &mut K) -> Status
     requires { IsSummary (generated groups) summary.now }
     ensures which { IsFinished result ⊎ (result ≡ 5) }
     ensures done { IsFinished result
@@ -60,7 +60,7 @@ pub(crate) fn make<K: Sink, G: Gate>(alloc: Global, groups: u16, sink: &mut K, g
     ensures told { SeenBefore (K.written sink.old) (K.written sink.new) }
 {
     match summary_of(alloc, groups, gate) {
-        Ok(summary) => tell_summary(groups, &summary, sink),
+        Ok(summary) => write_summary(groups, &summary, sink),
         Err(AllocError) => Status::new(6),
     }
 }

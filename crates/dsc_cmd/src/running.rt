@@ -20,7 +20,7 @@ use crate::making::make;
 use byte_streams::{Failed, Sink, Source, Status, write_all};
 use command_line::{Plan, PlanError, one_plan, plan_of};
 use encode_calls::{Encode, LongDots, ShortDots};
-use join_groups::{Answers, Ends, tell_groups};
+use join_groups::{WriteAnswers, WriteEvidence, write_groups};
 use line_engine::{Command, MOST_TAKEN, drive};
 use live_watch::told_calls;
 use long_capture::start_reports_the_call;
@@ -111,21 +111,21 @@ fn execute<R: Threads + Sync, S: Source, K: Sink, G: Gate>(
         → (source.new ≡ source.old) × (IsFinished result ⊎ (result ≡ 5) ⊎ (result ≡ 6)) }
 {
     match plan {
-        Plan::Join { workers } => tell_groups(
+        Plan::Join { workers } => write_groups(
             rt,
             alloc,
             source,
             sink,
-            Answers,
+            WriteAnswers,
             u32::from(workers),
             gate,
         ),
-        Plan::Evidence { workers } => tell_groups(
+        Plan::Evidence { workers } => write_groups(
             rt,
             alloc,
             source,
             sink,
-            Ends,
+            WriteEvidence,
             u32::from(workers),
             gate,
         ),

@@ -7,15 +7,15 @@ use Rattle.traffic_lines.specs.declared.lines.TrafficLine.{TrafficLine}
 use Rattle.traffic_lines.specs.declared.lines.StationOwn.TheVariants as own
 use Rattle.traffic_lines.specs.declared.lines.TrafficLine.TheVariants.{Ship, Coast, Base, Group, Event}
 use Rattle.dsc_files.specs.Events.{event_line, exchange_line}
-use Rattle.traffic_lines.specs.declared.worlds.Entry as entries
-use Rattle.traffic_lines.specs.declared.worlds.Entry.TheVariants.{AtShip, AtCoast}
+use Rattle.traffic_lines.specs.declared.worlds.EndEvent as entries
+use Rattle.traffic_lines.specs.declared.worlds.EndEvent.TheVariants.{AtShip, AtCoast}
 use Rattle.traffic_lines.specs.declared.worlds.WorldLine.{WorldLine}
 use Rattle.traffic_lines.specs.declared.worlds.WorldLine.TheVariants as world
 use Rattle.input_lines.specs.declared.fault.LineFault.{LineFault}
 use Rattle.input_lines.specs.declared.fault.LineFault.TheVariants as fault
 use Rattle.input_lines.specs.declared.join.JoinLine.{JoinLine as Got}
 use Rattle.input_lines.specs.declared.join.JoinLine.TheVariants as got
-use Rattle.input_lines.specs.JoinLine.{IsLine}
+use Rattle.input_lines.specs.ReceiverLine.{IsLine}
 use Rattle.input_lines.specs.declared.calls.CallLine.{CallLine}
 use Rattle.input_lines.specs.declared.calls.CallLine.TheVariants as call
 use Rattle.input_lines.specs.declared.sentences.SentenceLine.{SentenceLine}
@@ -99,7 +99,7 @@ abbrev pub ReadsStream : List ℕ → Result Line LineFault → Type 0
 ReadsStream text answer = ReadsWithRoom IsStreamLine (λ e read. read ≡ line_of_stream e) text answer
 
 -- what an event line of an exchange says, as a line of any file
-abbrev pub line_of_entry : entries.Entry → Line
+abbrev pub line_of_entry : entries.EndEvent → Line
 line_of_entry (AtShip moment what) = line.AtShip moment (exchange_line own.Ship what)
 line_of_entry (AtCoast moment what) = line.AtCoast moment (exchange_line own.Coast what)
 
@@ -109,7 +109,7 @@ line_of_world None = line.Nothing
 line_of_world (Some (world.Ship mmsi)) = line.Ship mmsi
 line_of_world (Some (world.Coast mmsi band)) = line.Coast mmsi band
 line_of_world (Some (world.Base second)) = line.Base second
-line_of_world (Some (world.Entry entry)) = line_of_entry entry
+line_of_world (Some (world.EndEvent entry)) = line_of_entry entry
 
 -- the answer for a line of a file of this kind
 abbrev pub ReadsLine : FileKind → List ℕ → Result Line LineFault → Type 0

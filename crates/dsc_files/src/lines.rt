@@ -10,7 +10,7 @@ use expansion::Expansion;
 use input_lines::{BookLine, CallLine, JoinLine, SentenceLine};
 use slot_evidence::{Reception, Sheet};
 use slot_join::Extra;
-use traffic_lines::{Entry, ExchangePoint, Point, TrafficLine, WorldLine};
+use traffic_lines::{EndEvent, ExchangePoint, Point, TrafficLine, WorldLine};
 
 /// Which lines a file has.
 #[derive(Clone, Copy, Debug, PartialEq, Eq)]
@@ -148,16 +148,16 @@ impl From<PointLine> for Line {
     }
 }
 
-impl From<Entry> for Line {
+impl From<EndEvent> for Line {
     ghost from_gives = { λ says line. line ≡ line_of_entry says };
 
-    fn from(says: Entry) -> Line {
+    fn from(says: EndEvent) -> Line {
         match says {
-            Entry::AtShip { at, what } => Line::AtShip {
+            EndEvent::AtShip { at, what } => Line::AtShip {
                 at,
                 what: exchange_line(what),
             },
-            Entry::AtCoast { at, what } => Line::AtCoast {
+            EndEvent::AtCoast { at, what } => Line::AtCoast {
                 at,
                 what: exchange_line(what),
             },
@@ -173,7 +173,7 @@ impl From<WorldLine> for Line {
             WorldLine::Ship(mmsi) => Line::Ship(mmsi),
             WorldLine::Coast(mmsi, band) => Line::Coast(mmsi, band),
             WorldLine::Base(second) => Line::Base(second),
-            WorldLine::Entry(entry) => Line::from(entry),
+            WorldLine::EndEvent(entry) => Line::from(entry),
         }
     }
 }

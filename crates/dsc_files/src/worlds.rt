@@ -4,13 +4,13 @@ ghost use Rattle.line_grammar.specs.Columns.{ReadsAs};
 ghost use Rattle.traffic_lines.specs.Readings.{ReadsInWorld};
 ghost use Rattle.traffic_lines.specs.Worlds.{IsWorldLine};
 ghost use Rattle.input_lines.specs.Readings.{Reads};
-ghost use Rattle.input_lines.specs.JoinLine.{IsNothing};
+ghost use Rattle.input_lines.specs.ReceiverLine.{IsNothing};
 ghost use Rattle.input_lines.specs.WorldLine.{IsWorldFileLine};
 
 use input_lines::{exchange_columns, says_nothing};
 use traffic_lines::{
-    ExchangePoint, WorldLine, one_world_line, read_entry, read_exchange_base, read_exchange_coast,
-    read_exchange_ship,
+    ExchangePoint, WorldLine, one_world_line, read_end_event, read_exchange_base,
+    read_exchange_coast, read_exchange_ship,
 };
 
 /// Reads a line at this point.
@@ -30,8 +30,8 @@ fn world_line_at(point: ExchangePoint, bytes: &[u8]) -> Result<WorldLine, usize>
             Ok(second) => Ok(WorldLine::Base(second)),
             Err(n) => Err(n),
         },
-        ExchangePoint::Events => match read_entry(bytes) {
-            Ok(says) => Ok(WorldLine::Entry(says)),
+        ExchangePoint::Events => match read_end_event(bytes) {
+            Ok(says) => Ok(WorldLine::EndEvent(says)),
             Err(n) => Err(n),
         },
     }

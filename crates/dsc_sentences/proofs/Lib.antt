@@ -2,6 +2,7 @@ mod Letters
 mod DscFieldLaws
 mod DscAnswers
 mod Places
+mod Taken
 mod DseSets
 mod DseLaws
 mod DseAnswers

@@ -1,7 +1,8 @@
 -- the digits of records are digits, as many as there may be
-use Rattle.std.proofs.Common.{◌≡◌, ℕ, zero, suc, ◌+◌, ◌/◌, ◌%◌, ◌≤◌, Bool, true, ◌&&◌, nat_lt, List, [], ◌∷◌, ◌++◌, length, refl, ◌∙◌, arith, length-append}
+use Rattle.std.proofs.Common.{◌≡◌, ℕ, zero, suc, ◌+◌, ◌/◌, ◌%◌, ◌≤◌, Bool, true, ◌&&◌, nat_lt, List, [], ◌∷◌, ◌++◌, length, refl, sym, ◌∙◌, ap, arith, length-append}
 use Rattle.std.specs.List.{list_all}
 use Rattle.std.proofs.lemmas.Bool.{and_from, lt-ltb}
+use Rattle.std.proofs.lemmas.List.{map-append}
 use Rattle.std.proofs.lemmas.List.Folds.{list_all-append}
 use Rattle.call_values.specs.declared.bodies.Body.{Body}
 use Rattle.call_values.specs.declared.bodies.Body.TheVariants.{Alert, Distress, Request, Service}
@@ -9,7 +10,7 @@ use Rattle.call_values.specs.declared.fields.FieldKind.{FieldKind}
 use Rattle.call_values.specs.declared.fields.FieldKind.TheVariants.{Absent, Hundreds, Hf, Vhf, Tens}
 use Rattle.call_values.specs.declared.parts.Message.TheVariants.{Fields, At}
 use Rattle.call_values.specs.declared.parts.Kind.TheVariants.{Test, AskPosition, Position}
-use Rattle.sentence_frame.specs.Texts.{AreDigits, IsDigits, IsUpToDigits}
+use Rattle.sentence_frame.specs.Texts.{digits, digit_text, AreDigits, IsDigits, IsUpToDigits}
 use Rattle.dsc_sentences.specs.Calls.{decimals, position_number, frequency_place, place_of}
 
 abbrev is_value : ℕ → Bool
@@ -32,6 +33,14 @@ decimals_digits (suc width) n =
 
 pub are_decimals : (width n : ℕ) → IsDigits width (decimals width n)
 are_decimals width n = record { long = decimals_length width n; digits = decimals_digits width n }
+
+-- digits are the text of their values
+pub digits_are_decimals : (width n : ℕ) → digits width n ≡ digit_text (decimals width n)
+unfolding digits decimals
+digits_are_decimals zero n = refl
+digits_are_decimals (suc width) n =
+    ap (λ (l : List ℕ). l ++ (48 + n % 10) ∷ []) (digits_are_decimals width (n / 10))
+    ∙ sym (map-append (λ (d : ℕ). 48 + d) (decimals width (n / 10)) ((n % 10) ∷ []))
 
 up_to : (width n : ℕ) → width ≤ 16 → IsUpToDigits 16 (decimals width n)
 up_to width n h = let e = decimals_length width n in record { long = omega (arith, e, h); digits = decimals_digits width n }

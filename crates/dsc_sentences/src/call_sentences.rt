@@ -2,10 +2,9 @@
 ghost use Rattle.std.specs.Prelude.{◌≡◌};
 ghost use Rattle.dsc_sentences.specs.CallSentences.{sentences_of};
 
-use crate::calls::of_call;
+use crate::call_printing::print_call;
 use crate::dse_printing::print_dse;
 use crate::expansions::of_expansion;
-use crate::printing::print;
 use arrayvec::ArrayVec;
 use call_values::Call;
 use expansion::Expansion;
@@ -19,9 +18,9 @@ pub fn put_sentences(call: &Call, expansion: &Option<Expansion>) -> ArrayVec<u8,
 {
     let mut out = ArrayVec::new();
     match expansion {
-        None => append(&mut out, print(&of_call(call, false)).as_slice()),
+        None => append(&mut out, print_call(call, false).as_slice()),
         Some(expansion) => {
-            append(&mut out, print(&of_call(call, true)).as_slice());
+            append(&mut out, print_call(call, true).as_slice());
             let sentence = of_expansion(call.sender(), expansion);
             append(&mut out, print_dse(&sentence).as_slice());
         }

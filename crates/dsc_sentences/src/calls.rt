@@ -50,7 +50,7 @@ fn last_two(symbol: u8) -> u8
 }
 
 /// The last two digits of a call's format specifier.
-fn format_of(call: &Call) -> u8
+pub fn format_of(call: &Call) -> u8
     ensures value { result ≡ rows.last_two (sequence.format_of call.now) }
     ensures range { is_among last_digits.FORMATS result ≡ true }
 {
@@ -77,7 +77,7 @@ fn address_of(to: &To, sender: &Mmsi) -> [u8; 10]
 }
 
 /// The last two digits of the category.
-fn category_of(body: &Body) -> u8
+pub fn category_of(body: &Body) -> u8
     ensures value { result ≡ rows.last_two (rows.category_of body.now) }
     ensures range { is_among last_digits.CATEGORIES result ≡ true }
 {
@@ -90,7 +90,7 @@ fn category_of(body: &Body) -> u8
 }
 
 /// The last two digits of an alert's nature of distress, else of the first telecommand.
-fn first_of(body: &Body) -> u8
+pub fn first_of(body: &Body) -> u8
     ensures value { result ≡ rows.last_two (rows.first_of body.now) }
     ensures range { result ≤ 99 }
 {
@@ -111,7 +111,7 @@ fn first_of(body: &Body) -> u8
 }
 
 /// The last two digits of what is to follow a distress call, else of the second telecommand.
-fn second_of(body: &Body) -> u8
+pub fn second_of(body: &Body) -> u8
     ensures value { result ≡ rows.last_two (rows.second_of body.now) }
     ensures range { result ≤ 99 }
 {
@@ -208,7 +208,7 @@ fn time_number(time: &HourMinute) -> u16
 }
 
 /// The time of a distress, or of a given position.
-fn time_of(body: &Body) -> Option<u16>
+pub fn time_of(body: &Body) -> Option<u16>
     ensures value { result ≡ rows.time_of body.now }
     ensures range { IfSome result (λ n. n ≤ 9999) }
 {
@@ -236,7 +236,7 @@ fn distress_of(body: &Body) -> Option<[u8; 10]>
 }
 
 /// The last two digits of its nature of distress.
-fn nature_of(body: &Body) -> Option<u8>
+pub fn nature_of(body: &Body) -> Option<u8>
     ensures value { result ≡ rows.nature_of body.now }
     ensures range { IfSome result (λ n. n ≤ 99) }
 {

@@ -15,6 +15,9 @@ use sentence_frame::{LONGEST_SENTENCE, SentenceRefusal};
 /// The DSC sentence of a line that has no LF: one CR at its end is dropped, and CR LF are added. A line that begins
 /// with `$CDDSE` is read as a DSE sentence, and where it is accepted the answer is None. A refused line gives its first
 /// refusal.
+///
+/// What reads the line is inlined, so that a verdict, which drops the values, costs none of their moves.
+#[inline(always)]
 pub fn sentence_on(line: &[u8]) -> Result<Option<DscSentence>, SentenceRefusal>
     ensures { IsHeard line.now result }
 {
@@ -22,7 +25,8 @@ pub fn sentence_on(line: &[u8]) -> Result<Option<DscSentence>, SentenceRefusal>
     if text.len() > LONGEST_SENTENCE - 2 {
         return Err(SentenceRefusal::TooLong(text.len() + 2));
     }
-    let bytes = with_line_end(text);
+    let mut bytes = ArrayVec::new();
+    append_line_end(&mut bytes, text);
     if line.starts_with(b"$CDDSE") {
         heard_as_dse(bytes.as_slice())
     } else {
@@ -40,18 +44,18 @@ fn without_return(line: &[u8]) -> &[u8]
     }
 }
 
-/// A text with CR and LF.
-fn with_line_end(text: &[u8]) -> ArrayVec<u8, LONGEST_SENTENCE>
-    requires { length text.now ≤ 80 }
-    ensures { result.items ≡ text.now ++ carriage_return ∷ line_feed ∷ [] }
+/// Appends a text with CR and LF to nothing.
+fn append_line_end(bytes: &mut ArrayVec<u8, LONGEST_SENTENCE>, text: &[u8])
+    requires text { length text.now ≤ 80 }
+    requires nothing { bytes.old.items ≡ [] }
+    ensures { bytes.new.items ≡ text.now ++ carriage_return ∷ line_feed ∷ [] }
 {
-    let mut bytes = ArrayVec::new();
-    append(&mut bytes, text);
-    append(&mut bytes, b"\r\n");
-    bytes
+    append(bytes, text);
+    append(bytes, b"\r\n");
 }
 
 /// What is heard of bytes that are read as a DSC sentence.
+#[inline(always)]
 fn heard_as_dsc(bytes: &[u8]) -> Result<Option<DscSentence>, SentenceRefusal>
     ensures { IsHeardAsDsc bytes.now result }
 {

@@ -2,6 +2,7 @@
 //! the fields are this project's profile).
 #![tactic(auto)]
 
+mod call_printing;
 mod call_sentences;
 mod calls;
 mod decimals;
@@ -15,6 +16,7 @@ mod hearing;
 mod laws;
 mod printing;
 mod reading;
+mod taking;
 mod verdicts;
 
 pub use call_sentences::put_sentences;

@@ -36,7 +36,7 @@ pub fn print(s: &DscSentence) -> ArrayVec<u8, 82>
 }
 
 /// The letter of an end of sequence.
-fn end_letter(end: End) -> &'static [u8]
+pub fn end_letter(end: End) -> &'static [u8]
     ensures { result.now ≡ end_text end }
 {
     match end {
@@ -47,14 +47,14 @@ fn end_letter(end: End) -> &'static [u8]
 }
 
 /// The letter of a call that an expansion follows; none of another.
-fn expanded_letter(expanded: bool) -> &'static [u8]
+pub fn expanded_letter(expanded: bool) -> &'static [u8]
     ensures { result.now ≡ expanded_text expanded }
 {
     if expanded { b"E" } else { b"" }
 }
 
 /// Appends a comma, and so many digits where there is a number.
-fn append_perhaps_number_field(out: &mut ArrayVec<u8, 82>, width: usize, number: Option<u16>)
+pub fn append_perhaps_number_field(out: &mut ArrayVec<u8, 82>, width: usize, number: Option<u16>)
     requires { array_vec_len out.old + width < 82 }
     ensures items { out.new.items ≡ out.old.items ++ comma ∷ perhaps_text (digits width) number }
     ensures len { array_vec_len out.new ≤ array_vec_len out.old + 1 + width }

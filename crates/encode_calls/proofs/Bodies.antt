@@ -5,7 +5,7 @@ use Rattle.call_values.specs.declared.calls.Call.{Call}
 use Rattle.expansion.specs.declared.values.Sets.{Sets}
 use Rattle.time_diversity.specs.OnAir.{on_air}
 use Rattle.phasing.specs.Sent.{dots, sent}
-use Rattle.input_lines.specs.JoinLine.{sign_of, text_of_reception}
+use Rattle.input_lines.specs.ReceiverLine.{sign_of, text_of_reception}
 use Rattle.encode_calls.specs.Transmissions.{list_on_air, transmitted}
 use Rattle.encode_calls.specs.Encoding.{encoded_line}
 

@@ -1,12 +1,14 @@
 -- the signs of dots and of words
-use Rattle.std.proofs.Common.{◌≡◌, ℕ, ◌<◌, Bool, true, List, [], ◌∷◌, ◌++◌, map, flat_map, slice_index_or, refl, sym, ap, ◌∙◌}
+use Rattle.std.proofs.Common.{◌≡◌, ℕ, ◌+◌, ◌<◌, ◌≤◌, Bool, true, List, [], ◌∷◌, ◌++◌, length, get_or, map, flat_map, append-nil, slice_index_or, take, refl, sym, ap, ◌∙◌, arith}
 use Rattle.std.specs.Str.{bytes_eq}
 use Rattle.std.proofs.lemmas.Slice.Eq.{bytes_eq-Decides}
 use Rattle.std.proofs.lemmas.Bool.{agree_below, agree_below_at}
-use Rattle.std.proofs.lemmas.List.{map-append}
+use Rattle.std.proofs.lemmas.List.{map-append, length-take-le, take-take, take_more}
+use Rattle.std.proofs.lemmas.List.Concat.{flat_map-append}
+use Rattle.std.proofs.Math.Seq.{take-append-add}
 use Rattle.ten_unit.specs.Word.{word_of}
 use Rattle.phasing.specs.Sent.{dots, dot_count, sent}
-use Rattle.input_lines.specs.JoinLine.{sign_of}
+use Rattle.input_lines.specs.ReceiverLine.{sign_of}
 use Rattle.encode_calls.specs.declared.signs.TheConstants.{DOTS, LONG_DOTS, WORDS}
 
 -- the signs of both dot patterns
@@ -20,22 +22,35 @@ long_dots = refl
 
 -- each row of the table has the signs of its symbol's word
 is_right : ℕ → Bool
-is_right v = bytes_eq (slice_index_or WORDS v []) (map sign_of (word_of v))
+is_right v = bytes_eq (take 10 (slice_index_or WORDS v [])) (map sign_of (word_of v))
 
 all_right : agree_below is_right (λ _. true) 128 ≡ true
 unfolding is_right word_of
 all_right = refl
 
-pub word_right : (v : ℕ) → v < 128 → slice_index_or WORDS v [] ≡ map sign_of (word_of v)
+pub word_right : (v : ℕ) → v < 128 → take 10 (slice_index_or WORDS v []) ≡ map sign_of (word_of v)
 unfolding is_right
 word_right v below =
-    (bytes_eq-Decides (slice_index_or WORDS v []) (map sign_of (word_of v))).0 (agree_below_at is_right (λ _. true) 128 v all_right below)
+    (bytes_eq-Decides (take 10 (slice_index_or WORDS v [])) (map sign_of (word_of v))).0 (agree_below_at is_right (λ _. true) 128 v all_right below)
 
--- the signs of words, one word after the other
-pub signs_of_words : (slots : List ℕ) → flat_map (λ v. map sign_of (word_of v)) slots ≡ map sign_of (flat_map word_of slots)
-signs_of_words [] = refl
-signs_of_words (v ∷ slots) = ap (λ l. map sign_of (word_of v) ++ l) (signs_of_words slots) ∙ sym (map-append sign_of (word_of v) (flat_map word_of slots))
+-- the first ten of a row that is written over what comes from a place on
+pub overwritten : (words row new : List ℕ) (a : ℕ) → a ≤ length words → take (a + 16) new ≡ take a words ++ row → take (a + 10) new ≡ take a words ++ take 10 row
+overwritten words row new a inside put =
+    sym (take-take (a + 10) (a + 16) new (omega arith))
+    ∙ ap (take (a + 10)) put
+    ∙ ap (λ (n : ℕ). take (n + 10) (take a words ++ row)) (sym (length-take-le a words inside))
+    ∙ take-append-add (take a words) row 10
 
+-- the signs of the words of one more symbol
+pub one_more : (symbols : List ℕ) (n : ℕ) → n < length symbols → map sign_of (flat_map word_of (take n symbols)) ++ map sign_of (word_of (get_or symbols n 0)) ≡ map sign_of (flat_map word_of (take (n + 1) symbols))
+one_more symbols n inside =
+    let v = get_or symbols n 0 in
+    sym (map-append sign_of (flat_map word_of (take n symbols)) (word_of v))
+    ∙ ap (λ l. map sign_of (flat_map word_of (take n symbols) ++ l)) (sym (append-nil (word_of v)))
+    ∙ ap (map sign_of) (sym (flat_map-append word_of (take n symbols) (v ∷ [])))
+    ∙ ap (λ (l : List ℕ). map sign_of (flat_map word_of l)) (sym (take_more symbols n 0 inside))
+
+-- the signs of a transmission: those of its dots, and those of its words
 pub signs_of_sent : (slots : List ℕ) (long : Bool) → map sign_of (dots (dot_count long)) ++ map sign_of (flat_map word_of slots) ≡ map sign_of (sent slots long)
 unfolding sent
 signs_of_sent slots long = sym (map-append sign_of (dots (dot_count long)) (flat_map word_of slots))

@@ -6,7 +6,7 @@ use Rattle.expansion.specs.declared.values.Sets.{Sets}
 use Rattle.line_grammar.specs.Columns.{IsColumn}
 use Rattle.line_engine.specs.Lines.{Lines}
 use Rattle.line_engine.specs.Meaning.{Meaning}
-use Rattle.input_lines.specs.JoinLine.{text_of_reception}
+use Rattle.input_lines.specs.ReceiverLine.{text_of_reception}
 use Rattle.input_lines.specs.declared.calls.CallLine.{CallLine}
 use Rattle.input_lines.specs.declared.calls.CallLine.TheVariants as line
 use Rattle.input_lines.specs.CallLine.{IsCallLine}

@@ -3,7 +3,7 @@ ghost use Rattle.std.specs.Prelude.{◌≡◌, ◌++◌, OnOk};
 ghost use Rattle.encode_calls.specs.Encoding.{encoded_line};
 
 use crate::signs::append_signs;
-use crate::transmissions::slots_of;
+use crate::transmissions::write_slots;
 use call_values::Call;
 use expansion::Expansion;
 use itoa::Buffer;
@@ -23,7 +23,9 @@ pub(crate) fn append_line(
     out.extend_from_slice(b"r g")?;
     out.extend_from_slice(number.format(group).as_bytes())?;
     out.extend_from_slice(b" ")?;
-    append_signs(out, &slots_of(call, expansion), long)?;
+    let mut symbols = [0; 144];
+    let count = write_slots(call, expansion, &mut symbols);
+    append_signs(out, &symbols[..count], long)?;
     out.extend_from_slice(b"\n")?;
     Ok(())
 }

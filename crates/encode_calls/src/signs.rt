@@ -1,9 +1,9 @@
 //! The signs of transmissions: those of the dots, and those of each symbol's word.
-ghost use Rattle.std.specs.Prelude.{◌≡◌, ◌<◌, ◌≤◌, ◌++◌, All, [], length, map, slice_index_or, OnOk, OnErr};
+ghost use Rattle.std.specs.Prelude.{◌≡◌, ◌<◌, ◌≤◌, ◌+◌, ◌++◌, All, [], length, map, slice_index_or, take, OnOk, OnErr};
 ghost use Rattle.std.specs.List.{flat_map};
 ghost use Rattle.phasing.specs.Sent.{dots, dot_count, sent};
 ghost use Rattle.ten_unit.specs.Word.{word_of};
-ghost use Rattle.input_lines.specs.JoinLine.{sign_of};
+ghost use Rattle.input_lines.specs.ReceiverLine.{sign_of};
 ghost use Rattle.line_engine.specs.Determined.{BeginsWith};
 
 use std::alloc::AllocError;
@@ -29,23 +29,29 @@ fn append_dots(out: &mut Vec<u8>, long: bool) -> Result<(), AllocError>
 }
 
 /// The row of a symbol.
-fn row(symbol: u8) -> [u8; 10]
+fn row(symbol: u8) -> [u8; 16]
     requires { symbol < 128 }
     ensures { result ≡ slice_index_or WORDS symbol [] }
 {
     WORDS[symbol as usize]
 }
 
-/// The signs of a symbol's word.
-fn word_signs(symbol: u8) -> [u8; 10]
-    requires { symbol < 128 }
-    ensures { result ≡ map sign_of (word_of symbol) }
-{
-    row(symbol)
-}
-
 /// So many words are written together.
 const TOGETHER: usize = 64;
+
+/// The room for that many words, and for what a row has after its word.
+const ROOM: usize = 10 * TOGETHER + 6;
+
+/// Writes the signs of a symbol's word from this place on, and six more, which the next word is written over: sixteen
+/// signs at once are one move of a processor.
+#[inline(always)]
+fn write_word(words: &mut [u8; ROOM], at: usize, symbol: u8)
+    requires at { at + 16 ≤ ROOM }
+    requires symbol { symbol < 128 }
+    ensures { take (at + 10) words.new ≡ take at words.old ++ map sign_of (word_of symbol) }
+{
+    words[at..at + 16].copy_from_slice(&row(symbol));
+}
 
 /// Appends the signs of the words of symbols. The error is want of memory.
 #[inline(always)]
@@ -55,11 +61,11 @@ fn append_words(out: &mut Vec<u8>, symbols: &[u8]) -> Result<(), AllocError>
     ensures signs { OnOk result (out.new.items ≡ out.old.items ++ map sign_of (flat_map word_of symbols.now)) }
     ensures kept { OnErr result (out.new.items ≡ out.old.items) }
 {
-    let mut words = [[b'-'; 10]; TOGETHER];
+    let mut words = [b'-'; ROOM];
     for number in 0..symbols.len() {
-        words[number] = word_signs(symbols[number]);
+        write_word(&mut words, 10 * number, symbols[number]);
     }
-    out.extend_from_slice(words[..symbols.len()].as_flattened())?;
+    out.extend_from_slice(&words[..10 * symbols.len()])?;
     Ok(())
 }
 
@@ -79,134 +85,134 @@ pub fn append_signs(out: &mut Vec<u8>, slots: &[u8], long: bool) -> Result<(), A
     Ok(())
 }
 
-/// The signs of the word of each symbol from 0 to 127 (ITU-R M.493, the ten-unit code).
-static WORDS: [[u8; 10]; 128] = [
-    *b"BBBBBBBYYY",
-    *b"YBBBBBBYYB",
-    *b"BYBBBBBYYB",
-    *b"YYBBBBBYBY",
-    *b"BBYBBBBYYB",
-    *b"YBYBBBBYBY",
-    *b"BYYBBBBYBY",
-    *b"YYYBBBBYBB",
-    *b"BBBYBBBYYB",
-    *b"YBBYBBBYBY",
-    *b"BYBYBBBYBY",
-    *b"YYBYBBBYBB",
-    *b"BBYYBBBYBY",
-    *b"YBYYBBBYBB",
-    *b"BYYYBBBYBB",
-    *b"YYYYBBBBYY",
-    *b"BBBBYBBYYB",
-    *b"YBBBYBBYBY",
-    *b"BYBBYBBYBY",
-    *b"YYBBYBBYBB",
-    *b"BBYBYBBYBY",
-    *b"YBYBYBBYBB",
-    *b"BYYBYBBYBB",
-    *b"YYYBYBBBYY",
-    *b"BBBYYBBYBY",
-    *b"YBBYYBBYBB",
-    *b"BYBYYBBYBB",
-    *b"YYBYYBBBYY",
-    *b"BBYYYBBYBB",
-    *b"YBYYYBBBYY",
-    *b"BYYYYBBBYY",
-    *b"YYYYYBBBYB",
-    *b"BBBBBYBYYB",
-    *b"YBBBBYBYBY",
-    *b"BYBBBYBYBY",
-    *b"YYBBBYBYBB",
-    *b"BBYBBYBYBY",
-    *b"YBYBBYBYBB",
-    *b"BYYBBYBYBB",
-    *b"YYYBBYBBYY",
-    *b"BBBYBYBYBY",
-    *b"YBBYBYBYBB",
-    *b"BYBYBYBYBB",
-    *b"YYBYBYBBYY",
-    *b"BBYYBYBYBB",
-    *b"YBYYBYBBYY",
-    *b"BYYYBYBBYY",
-    *b"YYYYBYBBYB",
-    *b"BBBBYYBYBY",
-    *b"YBBBYYBYBB",
-    *b"BYBBYYBYBB",
-    *b"YYBBYYBBYY",
-    *b"BBYBYYBYBB",
-    *b"YBYBYYBBYY",
-    *b"BYYBYYBBYY",
-    *b"YYYBYYBBYB",
-    *b"BBBYYYBYBB",
-    *b"YBBYYYBBYY",
-    *b"BYBYYYBBYY",
-    *b"YYBYYYBBYB",
-    *b"BBYYYYBBYY",
-    *b"YBYYYYBBYB",
-    *b"BYYYYYBBYB",
-    *b"YYYYYYBBBY",
-    *b"BBBBBBYYYB",
-    *b"YBBBBBYYBY",
-    *b"BYBBBBYYBY",
-    *b"YYBBBBYYBB",
-    *b"BBYBBBYYBY",
-    *b"YBYBBBYYBB",
-    *b"BYYBBBYYBB",
-    *b"YYYBBBYBYY",
-    *b"BBBYBBYYBY",
-    *b"YBBYBBYYBB",
-    *b"BYBYBBYYBB",
-    *b"YYBYBBYBYY",
-    *b"BBYYBBYYBB",
-    *b"YBYYBBYBYY",
-    *b"BYYYBBYBYY",
-    *b"YYYYBBYBYB",
-    *b"BBBBYBYYBY",
-    *b"YBBBYBYYBB",
-    *b"BYBBYBYYBB",
-    *b"YYBBYBYBYY",
-    *b"BBYBYBYYBB",
-    *b"YBYBYBYBYY",
-    *b"BYYBYBYBYY",
-    *b"YYYBYBYBYB",
-    *b"BBBYYBYYBB",
-    *b"YBBYYBYBYY",
-    *b"BYBYYBYBYY",
-    *b"YYBYYBYBYB",
-    *b"BBYYYBYBYY",
-    *b"YBYYYBYBYB",
-    *b"BYYYYBYBYB",
-    *b"YYYYYBYBBY",
-    *b"BBBBBYYYBY",
-    *b"YBBBBYYYBB",
-    *b"BYBBBYYYBB",
-    *b"YYBBBYYBYY",
-    *b"BBYBBYYYBB",
-    *b"YBYBBYYBYY",
-    *b"BYYBBYYBYY",
-    *b"YYYBBYYBYB",
-    *b"BBBYBYYYBB",
-    *b"YBBYBYYBYY",
-    *b"BYBYBYYBYY",
-    *b"YYBYBYYBYB",
-    *b"BBYYBYYBYY",
-    *b"YBYYBYYBYB",
-    *b"BYYYBYYBYB",
-    *b"YYYYBYYBBY",
-    *b"BBBBYYYYBB",
-    *b"YBBBYYYBYY",
-    *b"BYBBYYYBYY",
-    *b"YYBBYYYBYB",
-    *b"BBYBYYYBYY",
-    *b"YBYBYYYBYB",
-    *b"BYYBYYYBYB",
-    *b"YYYBYYYBBY",
-    *b"BBBYYYYBYY",
-    *b"YBBYYYYBYB",
-    *b"BYBYYYYBYB",
-    *b"YYBYYYYBBY",
-    *b"BBYYYYYBYB",
-    *b"YBYYYYYBBY",
-    *b"BYYYYYYBBY",
-    *b"YYYYYYYBBB",
+/// The signs of the word of each symbol from 0 to 127, each with six more (ITU-R M.493, the ten-unit code).
+static WORDS: [[u8; 16]; 128] = [
+    *b"BBBBBBBYYY------",
+    *b"YBBBBBBYYB------",
+    *b"BYBBBBBYYB------",
+    *b"YYBBBBBYBY------",
+    *b"BBYBBBBYYB------",
+    *b"YBYBBBBYBY------",
+    *b"BYYBBBBYBY------",
+    *b"YYYBBBBYBB------",
+    *b"BBBYBBBYYB------",
+    *b"YBBYBBBYBY------",
+    *b"BYBYBBBYBY------",
+    *b"YYBYBBBYBB------",
+    *b"BBYYBBBYBY------",
+    *b"YBYYBBBYBB------",
+    *b"BYYYBBBYBB------",
+    *b"YYYYBBBBYY------",
+    *b"BBBBYBBYYB------",
+    *b"YBBBYBBYBY------",
+    *b"BYBBYBBYBY------",
+    *b"YYBBYBBYBB------",
+    *b"BBYBYBBYBY------",
+    *b"YBYBYBBYBB------",
+    *b"BYYBYBBYBB------",
+    *b"YYYBYBBBYY------",
+    *b"BBBYYBBYBY------",
+    *b"YBBYYBBYBB------",
+    *b"BYBYYBBYBB------",
+    *b"YYBYYBBBYY------",
+    *b"BBYYYBBYBB------",
+    *b"YBYYYBBBYY------",
+    *b"BYYYYBBBYY------",
+    *b"YYYYYBBBYB------",
+    *b"BBBBBYBYYB------",
+    *b"YBBBBYBYBY------",
+    *b"BYBBBYBYBY------",
+    *b"YYBBBYBYBB------",
+    *b"BBYBBYBYBY------",
+    *b"YBYBBYBYBB------",
+    *b"BYYBBYBYBB------",
+    *b"YYYBBYBBYY------",
+    *b"BBBYBYBYBY------",
+    *b"YBBYBYBYBB------",
+    *b"BYBYBYBYBB------",
+    *b"YYBYBYBBYY------",
+    *b"BBYYBYBYBB------",
+    *b"YBYYBYBBYY------",
+    *b"BYYYBYBBYY------",
+    *b"YYYYBYBBYB------",
+    *b"BBBBYYBYBY------",
+    *b"YBBBYYBYBB------",
+    *b"BYBBYYBYBB------",
+    *b"YYBBYYBBYY------",
+    *b"BBYBYYBYBB------",
+    *b"YBYBYYBBYY------",
+    *b"BYYBYYBBYY------",
+    *b"YYYBYYBBYB------",
+    *b"BBBYYYBYBB------",
+    *b"YBBYYYBBYY------",
+    *b"BYBYYYBBYY------",
+    *b"YYBYYYBBYB------",
+    *b"BBYYYYBBYY------",
+    *b"YBYYYYBBYB------",
+    *b"BYYYYYBBYB------",
+    *b"YYYYYYBBBY------",
+    *b"BBBBBBYYYB------",
+    *b"YBBBBBYYBY------",
+    *b"BYBBBBYYBY------",
+    *b"YYBBBBYYBB------",
+    *b"BBYBBBYYBY------",
+    *b"YBYBBBYYBB------",
+    *b"BYYBBBYYBB------",
+    *b"YYYBBBYBYY------",
+    *b"BBBYBBYYBY------",
+    *b"YBBYBBYYBB------",
+    *b"BYBYBBYYBB------",
+    *b"YYBYBBYBYY------",
+    *b"BBYYBBYYBB------",
+    *b"YBYYBBYBYY------",
+    *b"BYYYBBYBYY------",
+    *b"YYYYBBYBYB------",
+    *b"BBBBYBYYBY------",
+    *b"YBBBYBYYBB------",
+    *b"BYBBYBYYBB------",
+    *b"YYBBYBYBYY------",
+    *b"BBYBYBYYBB------",
+    *b"YBYBYBYBYY------",
+    *b"BYYBYBYBYY------",
+    *b"YYYBYBYBYB------",
+    *b"BBBYYBYYBB------",
+    *b"YBBYYBYBYY------",
+    *b"BYBYYBYBYY------",
+    *b"YYBYYBYBYB------",
+    *b"BBYYYBYBYY------",
+    *b"YBYYYBYBYB------",
+    *b"BYYYYBYBYB------",
+    *b"YYYYYBYBBY------",
+    *b"BBBBBYYYBY------",
+    *b"YBBBBYYYBB------",
+    *b"BYBBBYYYBB------",
+    *b"YYBBBYYBYY------",
+    *b"BBYBBYYYBB------",
+    *b"YBYBBYYBYY------",
+    *b"BYYBBYYBYY------",
+    *b"YYYBBYYBYB------",
+    *b"BBBYBYYYBB------",
+    *b"YBBYBYYBYY------",
+    *b"BYBYBYYBYY------",
+    *b"YYBYBYYBYB------",
+    *b"BBYYBYYBYY------",
+    *b"YBYYBYYBYB------",
+    *b"BYYYBYYBYB------",
+    *b"YYYYBYYBBY------",
+    *b"BBBBYYYYBB------",
+    *b"YBBBYYYBYY------",
+    *b"BYBBYYYBYY------",
+    *b"YYBBYYYBYB------",
+    *b"BBYBYYYBYY------",
+    *b"YBYBYYYBYB------",
+    *b"BYYBYYYBYB------",
+    *b"YYYBYYYBBY------",
+    *b"BBBYYYYBYY------",
+    *b"YBBYYYYBYB------",
+    *b"BYBYYYYBYB------",
+    *b"YYBYYYYBBY------",
+    *b"BBYYYYYBYB------",
+    *b"YBYYYYYBBY------",
+    *b"BYYYYYYBBY------",
+    *b"YYYYYYYBBB------",
 ];

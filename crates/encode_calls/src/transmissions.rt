@@ -1,5 +1,5 @@
 //! What is sent of a call.
-ghost use Rattle.std.specs.Prelude.{◌≡◌, ◌<◌, ◌≤◌, ◌++◌, length, All};
+ghost use Rattle.std.specs.Prelude.{◌≡◌, ◌<◌, ◌≤◌, ◌++◌, length, take, All};
 ghost use Rattle.call_grammar.specs.Spelling as calls;
 ghost use Rattle.time_diversity.specs.OnAir as diversity;
 ghost use Rattle.encode_calls.specs.Transmissions.{list_on_air};
@@ -9,7 +9,7 @@ use call_grammar::{own_end, spell};
 use call_values::Call;
 use expansion::{Expansion, spell_sets};
 use line_grammar::append;
-use time_diversity::on_air;
+use time_diversity::{on_air, write_on_air};
 
 /// The symbols of a call, and of the expansion after it, if one is there.
 fn list_of(call: &Call, expansion: &Option<Expansion>) -> ArrayVec<u8, 64>
@@ -28,6 +28,21 @@ fn list_of(call: &Call, expansion: &Option<Expansion>) -> ArrayVec<u8, 64>
         append(&mut list, &spell_sets(sets, own_end(call)));
     }
     list
+}
+
+/// Writes the symbols of all slots of a call's transmission, and of the expansion after it, if one is there, and
+/// answers how many they are (ITU-R M.493, call sequence and time diversity).
+#[inline(always)]
+pub(crate) fn write_slots(
+    call: &Call,
+    expansion: &Option<Expansion>,
+    symbols: &mut [u8; 144],
+) -> usize
+    ensures slots { take result symbols.new ≡ diversity.on_air (list_on_air call.now expansion.now) }
+    ensures length { result ≤ 140 }
+    ensures symbols { All (λ v. v < 128) (take result symbols.new) }
+{
+    write_on_air(&list_of(call, expansion), symbols)
 }
 
 /// The symbols of all slots of a call's transmission, and of the expansion after it, if one is there (ITU-R M.493, call

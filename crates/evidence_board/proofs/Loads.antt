@@ -41,10 +41,6 @@ kept_both old one new p least past greatest inside size unseen order small is fi
     ∙ ap (λ (s : List Seen). set s p (seen_between least past)) first
     ∙ set-set old p (seen_with (seen_at old p) least) (seen_between least past)
 
--- order by numbers
-pub rest_tells : (r : Reach) → IsResting r → r.past ≡ 0 → r.least ≡ 128
-rest_tells r rest none = subst (λ (n : ℕ). AreInOrder r.least n) none rest
-
 pub order_small : (least past : ℕ) → AreInOrder least past → (least ≤ 128) × (past ≤ 128)
 order_small least zero order = (omega (arith, order), omega arith)
 order_small least (suc greatest) order = (omega (arith, order), omega (arith, order))
@@ -58,51 +54,10 @@ lows_some : (lows past : ℕ) → (past ≡ 0 → ⊥) → lows_after lows past 
 lows_some lows zero some_there = absurd (some_there refl)
 lows_some lows (suc greatest) some_there = refl
 
-lows_none : (lows past : ℕ) → past ≡ 0 → lows ≡ lows_after lows past
-lows_none lows past none = ap (lows_after lows) (sym none)
-
--- the greatest word was empty
-module _ (facts : List (ℕ × ℕ)) (p found : ℕ) (before after : View) (changed : Changed before p (loaded_past found (place_at before p)) after) (told : IsPastFound facts p before found) where
-  here : place_at after p ≡ loaded_past found (place_at before p)
-  here = changed.here
-
-  pub changed_here : Changed before p (place_at after p) after
-  changed_here = record { here = refl; others = changed.others; share = changed.share; size = changed.size }
-
-  pub nothing_looked : found ≡ 0 → IsResting (place_at before p).seen → LooksAt facts p (place_at before p) (place_at after p)
-  nothing_looked none rest =
-      let c = place_at before p in
-      let less = told.no_less in
-      let empty : c.seen.least ≡ 128 = rest_tells c.seen rest (omega arith) in
-      subst (λ (x : Place). LooksAt facts p c x) (sym here)
-      record {
-        looked = record {
-          given = refl;
-          loads = refl;
-          lows = lows_none c.lows found none;
-          no_less = record { least = omega arith; past = less };
-          allowed = record { least = told.least_allowed; greatest = told.allowed };
-        };
-        rest = subst (λ (n : ℕ). AreInOrder c.seen.least n) (sym none) empty;
-      }
-
-  pub nothing_kept : (sheet : List Seen) → found ≡ 0 → seen_at sheet p ≡ seen.None → sheet ≡ set sheet p (kept_of (place_at after p).seen)
-  nothing_kept sheet none unseen =
-      let is : kept_of (place_at after p).seen ≡ seen.None = ap (λ (x : Place). kept_of x.seen) here ∙ ap (seen_between (place_at before p).seen.least) none in
-      sym (set-get_or sheet p seen.None) ∙ ap (set sheet p) (unseen ∙ sym is)
-
 -- both words were loaded
 module _ (facts : List (ℕ × ℕ)) (p past least : ℕ) (before mid after : View) (some_there : past ≡ 0 → ⊥) (loaded : Changed before p (loaded_past past (place_at before p)) mid) (first : IsPastFound facts p before past) (changed : Changed mid p (loaded_least least (place_at mid p)) after) where
   whole : place_at after p ≡ loaded_least least (loaded_past past (place_at before p))
   whole = changed.here ∙ ap (loaded_least least) loaded.here
-
-  pub both_changed : Changed before p (place_at after p) after
-  both_changed = record {
-    here = refl;
-    others = λ q apart. changed.others q apart ∙ loaded.others q apart;
-    share = changed.share ∙ loaded.share;
-    size = changed.size ∙ loaded.size;
-  }
 
   pub past_is : (place_at mid p).seen.past ≡ past
   past_is = ap (λ (x : Place). x.seen.past) loaded.here
@@ -132,9 +87,6 @@ module _ (facts : List (ℕ × ℕ)) (p past least : ℕ) (before mid after : Vi
         };
         rest = order_some least past order.0 order.1;
       }
-
-  pub both_kept : seen_between least past ≡ kept_of (place_at after p).seen
-  both_kept = sym (ap (λ (x : Place). kept_of x.seen) whole)
 
 -- a sheet one place further
 pub sheet_further : (F : ℕ → Seen) (old new : List Seen) (k : ℕ) (x : Seen) → length old ≡ 64 → k < 64 → new ≡ set old k x → x ≡ F k

@@ -25,7 +25,7 @@ use Rattle.exchange.specs.declared.events.WorldEvent.{WorldEvent}
 use Rattle.exchange.specs.declared.events.WorldEvent.TheVariants as world
 use Rattle.exchange.specs.AlertEnds.{ship_does, accepts_casualty, IsSentByCoast, IsGotByCoast, AcknowledgesSentAlert, IsAcknowledgement, IsCancel, MayEnd}
 use Rattle.exchange.specs.Sent.{sent_by}
-use Rattle.exchange.specs.WorldHistories.{Given, did, refuses, nothing, WorldEntry, WorldHistory, entry_of, ship_what, coast_what, ends_of}
+use Rattle.exchange.specs.WorldHistories.{Given, did, refuses, nothing, WorldEntry, WorldHistory, entry_of, ship_what, coast_what, histories_of}
 use Rattle.exchange.specs.WorldRules.{Parties, IsOwnOfShip, IsOwnOfCoast, IsFromOutside, AreAnswered, IsLegal}
 use Rattle.exchange.proofs.Answered.{answered_before, coast_legal, ship_at, ship_history}
 use Rattle.exchange.proofs.Deliveries.{Sends, sent_at}
@@ -56,7 +56,7 @@ module _ (c : Call) where
 
 -- an entry of the coast station that hears a call, in the exchange
 module _ (c : Call) (before : WorldHistory) where
-  got_by : (at number : ℕ) (o : Option Call) (g : Given) (y : Entry CoastWhat) → slice_get (sent_by (ends_of before).ship) number ≡ o
+  got_by : (at number : ℕ) (o : Option Call) (g : Given) (y : Entry CoastWhat) → slice_get (sent_by (histories_of before).ship) number ≡ o
       → entry_of (option_map (λ (call : Call). (at, at_coast.Heard call)) o) g ≡ Some y → y.what ≡ at_coast.Heard c
       → IsGotByCoast c (record { event = world.CoastGets at number; gave = g }) before
   got_by at number None g y found is hears = absurd (none-some y is)
@@ -67,14 +67,14 @@ module _ (c : Call) (before : WorldHistory) where
   got_by at number (Some d) (nothing n) y found is hears = absurd (none-some y is)
 
   heard_there : (event : WorldEvent) (g : Given) (y : Entry CoastWhat) → IsFromOutside event
-      → entry_of (coast_what (sent_by (ends_of before).ship) event) g ≡ Some y → y.what ≡ at_coast.Heard c
+      → entry_of (coast_what (sent_by (histories_of before).ship) event) g ≡ Some y → y.what ≡ at_coast.Heard c
       → IsGotByCoast c (record { event = event; gave = g }) before
   heard_there (world.Coast e) (did acts) y outside is hears =
       let same = ap (λ (z : Entry CoastWhat). z.what) (same_Some (record { at = e.at; what = e.what; acts = acts }) y is) in
       absurd (subst (λ (what : CoastWhat). IsOwnOfCoast what) (same ∙ hears) outside)
   heard_there (world.Coast e) (refuses refusal) y outside is hears = absurd (none-some y is)
   heard_there (world.Coast e) (nothing n) y outside is hears = absurd (none-some y is)
-  heard_there (world.CoastGets at number) g y outside is hears = got_by at number (slice_get (sent_by (ends_of before).ship) number) g y refl is hears
+  heard_there (world.CoastGets at number) g y outside is hears = got_by at number (slice_get (sent_by (histories_of before).ship) number) g y refl is hears
   heard_there (world.Ship e) g y outside is hears = absurd (none-some y is)
   heard_there (world.ShipGets at number) g y outside is hears = absurd (none-some y is)
 
@@ -91,15 +91,15 @@ Ends =
     (who : Identities) (later earlier : History ShipWhat) (ended : Entry ShipWhat) → Legal (ship_rules who) (later ++ ended ∷ earlier)
     → IsTrue (does is_end ended) → MayEndAlert who.own ended.what
 
-module _ (goes_back : GoesBack) (who : Parties) (earlier : WorldHistory) (legal : Legal (coast_rules who.coast) (ends_of earlier).coast)
+module _ (goes_back : GoesBack) (who : Parties) (earlier : WorldHistory) (legal : Legal (coast_rules who.coast) (histories_of earlier).coast)
     (answered : AreAnswered who earlier) where
   -- an acknowledgement among the calls that the coast station sent goes back to an alert of the ship
-  back : (number from : ℕ) (casualty : Casualty) → slice_get (sent_by (ends_of earlier).coast) number ≡ Some (call.Ack from casualty)
+  back : (number from : ℕ) (casualty : Casualty) → slice_get (sent_by (histories_of earlier).coast) number ≡ Some (call.Ack from casualty)
       → AcknowledgesSentAlert (call.Ack from casualty) casualty earlier
   back number from casualty found =
       let ack = call.Ack from casualty in
       let mmsi = casualty.mmsi in
-      let s = sent_at (ends_of earlier).coast number ack found in
+      let s = sent_at (histories_of earlier).coast number ack found in
       let first = lift mmsi earlier s.later s.earlier s.sent s.order in
       let split = subst (λ (h : History CoastWhat). Legal (coast_rules who.coast) h) s.order legal in
       let g = goes_back who.coast s.later s.earlier s.sent from s.sends.times casualty s.sends.first s.sends.last split s.sends.split in
@@ -115,22 +115,22 @@ module _ (goes_back : GoesBack) (who : Parties) (earlier : WorldHistory) (legal 
         got = second.here;
         before = second.earlier;
         order = first.order ∙ ap (λ (w : WorldHistory). first.later ++ first.here ∷ w) second.order;
-        acknowledged = sent_there ack (sent_by (ends_of first.earlier).ship) first.here.event first.here.gave s.sent first.entry s.sends;
+        acknowledged = sent_there ack (sent_by (histories_of first.earlier).ship) first.here.event first.here.gave s.sent first.entry s.sends;
         heard = heard_there (call.Alert casualty) second.earlier second.here.event second.here.gave g.heard outside second.entry g.alert;
         accepted = elim (or_cases (accepts mmsi s.sent.what) (list_any accepting g.between) g.accepted) [
           | inl this ↦ or_left (accepts_casualty mmsi first.here) (list_any (accepts_casualty mmsi) second.later)
-              (accepted_there mmsi (sent_by (ends_of first.earlier).ship) first.here.event first.here.gave s.sent first.entry this)
+              (accepted_there mmsi (sent_by (histories_of first.earlier).ship) first.here.event first.here.gave s.sent first.entry this)
           | inr others ↦ or_right (accepts_casualty mmsi first.here) (list_any (accepts_casualty mmsi) second.later) (second.accepted others)
         ];
       }
 
-  acknowledgement_of : (own number : ℕ) (c : Call) → slice_get (sent_by (ends_of earlier).coast) number ≡ Some c → MayEndAlert own (at_ship.Heard c)
+  acknowledgement_of : (own number : ℕ) (c : Call) → slice_get (sent_by (histories_of earlier).coast) number ≡ Some c → MayEndAlert own (at_ship.Heard c)
       → IsAcknowledgement own number earlier
   acknowledgement_of own number (call.Ack from casualty) found names =
       record { from = from; casualty = casualty; delivered = found; names = names; goes_back = back number from casualty found }
   acknowledgement_of own number c found may = absurd may
 
-  got_end : (own at number : ℕ) (o : Option Call) (g : Given) (x : Entry ShipWhat) → slice_get (sent_by (ends_of earlier).coast) number ≡ o
+  got_end : (own at number : ℕ) (o : Option Call) (g : Given) (x : Entry ShipWhat) → slice_get (sent_by (histories_of earlier).coast) number ≡ o
       → entry_of (option_map (λ (call : Call). (at, at_ship.Heard call)) o) g ≡ Some x → MayEndAlert own x.what → IsAcknowledgement own number earlier
   got_end own at number None g x found is may = absurd (none-some x is)
   got_end own at number (Some c) (did acts) x found is may =
@@ -145,13 +145,13 @@ module _ (goes_back : GoesBack) (who : Parties) (earlier : WorldHistory) (legal 
   cancel_of own _ outside may = absurd may
 
   ended_by : (own : ℕ) (event : WorldEvent) (g : Given) (x : Entry ShipWhat) → IsFromOutside event
-      → entry_of (ship_what (sent_by (ends_of earlier).coast) event) g ≡ Some x → MayEndAlert own x.what → MayEnd own event earlier
+      → entry_of (ship_what (sent_by (histories_of earlier).coast) event) g ≡ Some x → MayEndAlert own x.what → MayEnd own event earlier
   ended_by own (world.Ship e) (did acts) x outside is may =
       let same = same_Some (record { at = e.at; what = e.what; acts = acts }) x is in
       cancel_of own e.what outside (subst (λ (z : Entry ShipWhat). MayEndAlert own z.what) (sym same) may)
   ended_by own (world.Ship e) (refuses refusal) x outside is may = absurd (none-some x is)
   ended_by own (world.Ship e) (nothing n) x outside is may = absurd (none-some x is)
-  ended_by own (world.ShipGets at number) g x outside is may = got_end own at number (slice_get (sent_by (ends_of earlier).coast) number) g x refl is may
+  ended_by own (world.ShipGets at number) g x outside is may = got_end own at number (slice_get (sent_by (histories_of earlier).coast) number) g x refl is may
   ended_by own (world.Coast e) g x outside is may = absurd (none-some x is)
   ended_by own (world.CoastGets at number) g x outside is may = absurd (none-some x is)
 
@@ -161,7 +161,7 @@ may_end ends goes_back who later earlier ended legal ending =
     let at = ship_at who is_end later earlier ended legal ending in
     let order = ship_history who is_end later earlier ended at.entry at.is in
     let ships = subst (λ (h : History ShipWhat). Legal (ship_rules who.ship) h) order legal.ship in
-    let may = ends who.ship _ (ends_of earlier).ship at.entry ships at.does_it in
+    let may = ends who.ship _ (histories_of earlier).ship at.entry ships at.does_it in
     let answered = answered_before who later (ended ∷ earlier) legal.answered in
     let coasts = coast_legal who (ended ∷ []) earlier (coast_legal who later (ended ∷ earlier) legal.coast) in
     ended_by goes_back who earlier coasts answered.2 who.ship.own ended.event ended.gave at.entry answered.0 at.is may

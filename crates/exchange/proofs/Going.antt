@@ -12,7 +12,7 @@ use Rattle.coast_station.specs.CoastRules.{coast_rules}
 use Rattle.exchange.specs.declared.events.WorldEvent.{WorldEvent}
 use Rattle.exchange.specs.declared.events.WorldEvent.TheVariants as world
 use Rattle.exchange.specs.Sent.{sent_by}
-use Rattle.exchange.specs.WorldHistories.{WorldHistory, ends_of}
+use Rattle.exchange.specs.WorldHistories.{WorldHistory, histories_of}
 use Rattle.exchange.specs.WorldRules.{Parties, IsFromOutside, IsWorldEvent, given_by, given_at, world_continued, IsLegal}
 use Rattle.exchange.specs.inside.Moves.{after_event}
 use Rattle.exchange.proofs.Moving.{goes_on}
@@ -32,21 +32,21 @@ module _ {What : Type 0} (rules : Rules What) where
   got_next heard events h at number (Some call) legal = own_next h at (heard call) (events call) legal
 
 module _ (who : Parties) (w : WorldHistory) where
-  ship_next : (event : WorldEvent) → IsWorldEvent event → Legal (ship_rules who.ship) (ends_of w).ship
-      → Legal (ship_rules who.ship) (ends_of (world_continued who w event)).ship
-  ship_next (world.Ship e) is legal = own_next (ship_rules who.ship) (ends_of w).ship e.at e.what is legal
+  ship_next : (event : WorldEvent) → IsWorldEvent event → Legal (ship_rules who.ship) (histories_of w).ship
+      → Legal (ship_rules who.ship) (histories_of (world_continued who w event)).ship
+  ship_next (world.Ship e) is legal = own_next (ship_rules who.ship) (histories_of w).ship e.at e.what is legal
   ship_next (world.Coast e) is legal = legal
   ship_next (world.ShipGets at number) is legal =
-      got_next (ship_rules who.ship) at_ship.Heard (λ call. tt) (ends_of w).ship at number (slice_get (sent_by (ends_of w).coast) number) legal
+      got_next (ship_rules who.ship) at_ship.Heard (λ call. tt) (histories_of w).ship at number (slice_get (sent_by (histories_of w).coast) number) legal
   ship_next (world.CoastGets at number) is legal = legal
 
-  coast_next : (event : WorldEvent) → IsWorldEvent event → Legal (coast_rules who.coast) (ends_of w).coast
-      → Legal (coast_rules who.coast) (ends_of (world_continued who w event)).coast
+  coast_next : (event : WorldEvent) → IsWorldEvent event → Legal (coast_rules who.coast) (histories_of w).coast
+      → Legal (coast_rules who.coast) (histories_of (world_continued who w event)).coast
   coast_next (world.Ship e) is legal = legal
-  coast_next (world.Coast e) is legal = own_next (coast_rules who.coast) (ends_of w).coast e.at e.what is legal
+  coast_next (world.Coast e) is legal = own_next (coast_rules who.coast) (histories_of w).coast e.at e.what is legal
   coast_next (world.ShipGets at number) is legal = legal
   coast_next (world.CoastGets at number) is legal =
-      got_next (coast_rules who.coast) at_coast.Heard (λ call. tt) (ends_of w).coast at number (slice_get (sent_by (ends_of w).ship) number) legal
+      got_next (coast_rules who.coast) at_coast.Heard (λ call. tt) (histories_of w).coast at number (slice_get (sent_by (histories_of w).ship) number) legal
 
   pub world_goes_on : (event : WorldEvent) → IsFromOutside event → IsWorldEvent event → IsLegal who w → IsLegal who (world_continued who w event)
   world_goes_on event outside is legal = record {

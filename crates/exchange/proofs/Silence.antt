@@ -19,7 +19,7 @@ use Rattle.exchange.specs.declared.events.WorldEvent.{WorldEvent}
 use Rattle.exchange.specs.declared.events.WorldEvent.TheVariants as world
 use Rattle.exchange.specs.AlertEnds.{is_accepted, is_alert_event, begins_alert, ship_does}
 use Rattle.exchange.specs.Sent.{sent_by}
-use Rattle.exchange.specs.WorldHistories.{Given, did, refuses, nothing, WorldEntry, WorldHistory, entry_of, with_entry, ship_what, ship_entry, ends_of}
+use Rattle.exchange.specs.WorldHistories.{Given, did, refuses, nothing, WorldEntry, WorldHistory, entry_of, with_entry, ship_what, ship_entry, histories_of}
 use Rattle.exchange.specs.WorldRules.{Parties, AreAnswered, IsLegal}
 use Rattle.exchange.proofs.Answered.{ship_there, ship_at, ship_history}
 use Rattle.exchange.proofs.Splits.{ship_part}
@@ -63,24 +63,24 @@ none_begins : (later w : WorldHistory) → list_any begins_alert later ≡ false
 none_begins [] w none = refl
 none_begins (e ∷ later) w none =
     let parts = or_parts (begins_alert e) (list_any begins_alert later) none in
-    none_with begins_at_ship (ship_entry (ends_of (later ++ w)) e) (ship_part later w)
-    (λ y. λ is. begins_not (sent_by (ends_of (later ++ w)).coast) e.event e.gave y is parts.0)
+    none_with begins_at_ship (ship_entry (histories_of (later ++ w)) e) (ship_part later w)
+    (λ y. λ is. begins_not (sent_by (histories_of (later ++ w)).coast) e.event e.gave y is parts.0)
     (none_begins later w parts.1)
 
 module _ (who : Parties) (is_such : Act → Bool) where
   one_silent : (e : WorldEntry) (w : WorldHistory) (h : History ShipWhat) (b : Bool) → ship_does is_such e ≡ b → AreAnswered who (e ∷ w)
-      → NoneIs (does is_such) (with_entry (ship_entry (ends_of w) e) h) → ship_does is_such e ≡ false
+      → NoneIs (does is_such) (with_entry (ship_entry (histories_of w) e) h) → ship_does is_such e ≡ false
   one_silent e w h false is answered none = is
   one_silent e w h true is answered none =
       let at = ship_there who is_such w e.event e.gave answered.1 is in
-      absurd (false≢true (sym (not_one (does is_such) (ship_entry (ends_of w) e) h at.entry at.is none) ∙ at.does_it))
+      absurd (false≢true (sym (not_one (does is_such) (ship_entry (histories_of w) e) h at.entry at.is none) ∙ at.does_it))
 
   all_silent : (later w : WorldHistory) → AreAnswered who (later ++ w) → NoneIs (does is_such) (ship_part later w) → list_any (ship_does is_such) later ≡ false
   all_silent [] w answered none = refl
   all_silent (e ∷ later) w answered none =
       or_from (ship_does is_such e) (list_any (ship_does is_such) later)
       (one_silent e (later ++ w) (ship_part later w) (ship_does is_such e) refl answered none)
-      (all_silent later w answered.2 (none_but (does is_such) (ship_entry (ends_of (later ++ w)) e) (ship_part later w) none))
+      (all_silent later w answered.2 (none_but (does is_such) (ship_entry (histories_of (later ++ w)) e) (ship_part later w) none))
 
 -- what the ship's law says after an end
 abbrev pub IsSilent : Type 0
@@ -95,5 +95,5 @@ silent_after_end silent who later earlier ended legal ending none =
     let order = ship_history who is_end later earlier ended at.entry at.is in
     let ships = subst (λ (h : History ShipWhat). Legal (ship_rules who.ship) h) order legal.ship in
     let part = ship_part later (ended ∷ earlier) in
-    let quiet = silent who.ship part (ends_of earlier).ship at.entry ships at.does_it (none_begins later (ended ∷ earlier) none) in
+    let quiet = silent who.ship part (histories_of earlier).ship at.entry ships at.does_it (none_begins later (ended ∷ earlier) none) in
     all_silent who (sends is_alert) later (ended ∷ earlier) legal.answered quiet

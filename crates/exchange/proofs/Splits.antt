@@ -15,7 +15,7 @@ use Rattle.exchange.specs.declared.events.WorldEvent.{WorldEvent}
 use Rattle.exchange.specs.declared.events.WorldEvent.TheVariants as world
 use Rattle.exchange.specs.AlertEnds.{is_accepted, is_accept_event, accepts_casualty}
 use Rattle.exchange.specs.Sent.{sent_by}
-use Rattle.exchange.specs.WorldHistories.{Given, did, refuses, nothing, WorldEntry, WorldHistory, entry_of, with_entry, coast_what, ship_entry, coast_entry, ends_of}
+use Rattle.exchange.specs.WorldHistories.{Given, did, refuses, nothing, WorldEntry, WorldHistory, entry_of, with_entry, coast_what, ship_entry, coast_entry, histories_of}
 
 -- a split of the coast station's history at an entry, in that of the exchange
 pub record Lifted (w : WorldHistory) (front back : History CoastWhat) (x : Entry CoastWhat) (mmsi : ℕ) : Type 0 where
@@ -23,8 +23,8 @@ pub record Lifted (w : WorldHistory) (front back : History CoastWhat) (x : Entry
   pub here : WorldEntry
   pub earlier : WorldHistory
   pub order : w ≡ later ++ here ∷ earlier
-  pub entry : coast_entry (ends_of earlier) here ≡ Some x
-  pub rest : (ends_of earlier).coast ≡ back
+  pub entry : coast_entry (histories_of earlier) here ≡ Some x
+  pub rest : (histories_of earlier).coast ≡ back
   pub accepted : list_any (λ (e : Entry CoastWhat). accepts mmsi e.what) front ≡ true → list_any (accepts_casualty mmsi) later ≡ true
 
 nil_is_split : {What : Type 0} (front back : History What) (x : Entry What) → [] ≡ front ++ x ∷ back → ⊥
@@ -52,8 +52,8 @@ accepted_there mmsi calls (world.Ship e) g y is h = absurd (none-some y is)
 accepted_there mmsi calls (world.ShipGets at number) g y is h = absurd (none-some y is)
 
 lift_by : (mmsi : ℕ) (e : WorldEntry) (w : WorldHistory) (back : History CoastWhat) (x : Entry CoastWhat) (o : Option (Entry CoastWhat))
-    → coast_entry (ends_of w) e ≡ o → (front : History CoastWhat) → with_entry o (ends_of w).coast ≡ front ++ x ∷ back
-    → ((rest : History CoastWhat) → (ends_of w).coast ≡ rest ++ x ∷ back → Lifted w rest back x mmsi) → Lifted (e ∷ w) front back x mmsi
+    → coast_entry (histories_of w) e ≡ o → (front : History CoastWhat) → with_entry o (histories_of w).coast ≡ front ++ x ∷ back
+    → ((rest : History CoastWhat) → (histories_of w).coast ≡ rest ++ x ∷ back → Lifted w rest back x mmsi) → Lifted (e ∷ w) front back x mmsi
 lift_by mmsi e w back x None entry front is rec =
     let r = rec front is in
     record {
@@ -88,26 +88,26 @@ lift_by mmsi e w back x (Some y) entry (f ∷ front) is rec =
       rest = r.rest;
       accepted = λ h. elim (or_cases (accepts mmsi f.what) (list_any accepting front) h) [
         | inl this ↦ or_left (accepts_casualty mmsi e) (list_any (accepts_casualty mmsi) r.later)
-            (accepted_there mmsi (sent_by (ends_of w).ship) e.event e.gave y entry (ap accepting same ∙ this))
+            (accepted_there mmsi (sent_by (histories_of w).ship) e.event e.gave y entry (ap accepting same ∙ this))
         | inr others ↦ or_right (accepts_casualty mmsi e) (list_any (accepts_casualty mmsi) r.later) (r.accepted others)
       ];
     }
 
-pub lift : (mmsi : ℕ) (w : WorldHistory) (front back : History CoastWhat) (x : Entry CoastWhat) → (ends_of w).coast ≡ front ++ x ∷ back
+pub lift : (mmsi : ℕ) (w : WorldHistory) (front back : History CoastWhat) (x : Entry CoastWhat) → (histories_of w).coast ≡ front ++ x ∷ back
     → Lifted w front back x mmsi
 lift mmsi [] front back x is = absurd (nil_is_split front back x is)
 lift mmsi (e ∷ w) front back x is =
-    lift_by mmsi e w back x (coast_entry (ends_of w) e) refl front is (λ rest. λ same. lift mmsi w rest back x same)
+    lift_by mmsi e w back x (coast_entry (histories_of w) e) refl front is (λ rest. λ same. lift mmsi w rest back x same)
 
 -- the ship's entries at the later events of a history
 abbrev pub ship_part : WorldHistory → WorldHistory → History ShipWhat
 ship_part [] w = []
-ship_part (e ∷ later) w = with_entry (ship_entry (ends_of (later ++ w)) e) (ship_part later w)
+ship_part (e ∷ later) w = with_entry (ship_entry (histories_of (later ++ w)) e) (ship_part later w)
 
 split_by : (o : Option (Entry ShipWhat)) (h front back : History ShipWhat) → h ≡ front ++ back → with_entry o h ≡ with_entry o front ++ back
 split_by None h front back is = is
 split_by (Some e) h front back is = ap (λ (l : History ShipWhat). e ∷ l) is
 
-pub ship_splits : (later w : WorldHistory) → (ends_of (later ++ w)).ship ≡ ship_part later w ++ (ends_of w).ship
+pub ship_splits : (later w : WorldHistory) → (histories_of (later ++ w)).ship ≡ ship_part later w ++ (histories_of w).ship
 ship_splits [] w = refl
-ship_splits (e ∷ later) w = split_by (ship_entry (ends_of (later ++ w)) e) (ends_of (later ++ w)).ship (ship_part later w) (ends_of w).ship (ship_splits later w)
+ship_splits (e ∷ later) w = split_by (ship_entry (histories_of (later ++ w)) e) (histories_of (later ++ w)).ship (ship_part later w) (histories_of w).ship (ship_splits later w)

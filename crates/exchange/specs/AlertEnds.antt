@@ -14,7 +14,7 @@ use Rattle.coast_station.specs.Acknowledged.{accepts}
 use Rattle.exchange.specs.declared.events.WorldEvent.{WorldEvent}
 use Rattle.exchange.specs.declared.events.WorldEvent.TheVariants as world
 use Rattle.exchange.specs.Sent.{sent_by}
-use Rattle.exchange.specs.WorldHistories.{Given, did, refuses, nothing, WorldEntry, WorldHistory, ends_of}
+use Rattle.exchange.specs.WorldHistories.{Given, did, refuses, nothing, WorldEntry, WorldHistory, histories_of}
 
 -- an event happens at the ship
 abbrev pub is_at_ship : WorldEvent → Bool
@@ -75,7 +75,7 @@ pub record IsGotByCoast (heard : Call) (e : WorldEntry) (before : WorldHistory) 
   pub at : ℕ
   pub number : ℕ
   pub event : e.event ≡ world.CoastGets at number
-  pub sent : slice_get (sent_by (ends_of before).ship) number ≡ Some heard
+  pub sent : slice_get (sent_by (histories_of before).ship) number ≡ Some heard
   pub accepted : is_accepted e.gave ≡ true
 
 -- the coast station sent an acknowledgement of an alert which the ship had sent, which had come to the coast station
@@ -96,7 +96,7 @@ pub record AcknowledgesSentAlert (acknowledgement : Call) (casualty : Casualty) 
 pub record IsAcknowledgement (own number : ℕ) (earlier : WorldHistory) : Type 0 where
   pub from : ℕ
   pub casualty : Casualty
-  pub delivered : slice_get (sent_by (ends_of earlier).coast) number ≡ Some (call.Ack from casualty)
+  pub delivered : slice_get (sent_by (histories_of earlier).coast) number ≡ Some (call.Ack from casualty)
   pub names : casualty.mmsi ≡ own
   pub goes_back : AcknowledgesSentAlert (call.Ack from casualty) casualty earlier
 

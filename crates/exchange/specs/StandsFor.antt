@@ -3,15 +3,15 @@ use Rattle.std.specs.Prelude.{◌≡◌, List}
 use Rattle.call_values.specs.declared.calls.Call.{Call}
 use Rattle.traffic_rules.specs.declared.acts.Act.{Act}
 use Rattle.ship_station.specs.declared.ships.Ship.{Ship}
-use Rattle.ship_station.specs.Stands.{Stands as ShipStands}
+use Rattle.ship_station.specs.StandsFor.{StandsFor as ShipStandsFor}
 use Rattle.coast_station.specs.declared.coasts.Coast.{Coast}
-use Rattle.coast_station.specs.Stands.{Stands as CoastStands}
+use Rattle.coast_station.specs.StandsFor.{StandsFor as CoastStandsFor}
 use Rattle.exchange.specs.declared.told.Outcome.{Outcome}
 use Rattle.exchange.specs.declared.told.Outcome.TheVariants as outcome
 use Rattle.exchange.specs.declared.told.Told.{Told}
 use Rattle.exchange.specs.declared.told.Told.TheVariants as told
 use Rattle.exchange.specs.Sent.{sent_by}
-use Rattle.exchange.specs.WorldHistories.{Given, did, refuses, nothing, WorldHistory, ends_of}
+use Rattle.exchange.specs.WorldHistories.{Given, did, refuses, nothing, WorldHistory, histories_of}
 use Rattle.exchange.specs.WorldRules.{Parties, IsLegal}
 
 -- what an exchange is made of: the two stations, and the calls that each has sent
@@ -22,12 +22,12 @@ pub record WorldParts : Type 0 where
   pub from_coast : List Call
 
 -- an exchange of these parties stands for a history: it is legal, and each part is what the history says
-pub record Stands (parts : WorldParts) (who : Parties) (w : WorldHistory) : Type 0 where
+pub record StandsFor (parts : WorldParts) (who : Parties) (w : WorldHistory) : Type 0 where
   pub legal : IsLegal who w
-  pub ship : ShipStands parts.ship who.ship (ends_of w).ship
-  pub coast : CoastStands parts.coast who.coast (ends_of w).coast
-  pub from_ship : parts.from_ship ≡ sent_by (ends_of w).ship
-  pub from_coast : parts.from_coast ≡ sent_by (ends_of w).coast
+  pub ship : ShipStandsFor parts.ship who.ship (histories_of w).ship
+  pub coast : CoastStandsFor parts.coast who.coast (histories_of w).coast
+  pub from_ship : parts.from_ship ≡ sent_by (histories_of w).ship
+  pub from_coast : parts.from_coast ≡ sent_by (histories_of w).coast
 
 -- what a step gave
 abbrev pub given_of : Told → Given

@@ -29,7 +29,7 @@ abbrev pub WorldHistory : Type 0
 WorldHistory = List WorldEntry
 
 -- the histories of both ends
-pub record Ends : Type 0 where
+pub record Histories : Type 0 where
   pub ship : History ShipWhat
   pub coast : History CoastWhat
 
@@ -56,14 +56,14 @@ with_entry (Some e) h = e ∷ h
 with_entry None h = h
 
 -- the entry of the ship's history that an event of the exchange gives, if it gives one
-abbrev pub ship_entry : Ends → WorldEntry → Option (Entry ShipWhat)
-ship_entry ends e = entry_of (ship_what (sent_by ends.coast) e.event) e.gave
+abbrev pub ship_entry : Histories → WorldEntry → Option (Entry ShipWhat)
+ship_entry both e = entry_of (ship_what (sent_by both.coast) e.event) e.gave
 
 -- the entry of the coast station's history that an event of the exchange gives, if it gives one
-abbrev pub coast_entry : Ends → WorldEntry → Option (Entry CoastWhat)
-coast_entry ends e = entry_of (coast_what (sent_by ends.ship) e.event) e.gave
+abbrev pub coast_entry : Histories → WorldEntry → Option (Entry CoastWhat)
+coast_entry both e = entry_of (coast_what (sent_by both.ship) e.event) e.gave
 
 -- the histories of both ends: a call that comes to an end is one that the other end had sent by then
-abbrev pub ends_of : WorldHistory → Ends
-ends_of [] = record { ship = []; coast = [] }
-ends_of (e ∷ w) = record { ship = with_entry (ship_entry (ends_of w) e) (ends_of w).ship; coast = with_entry (coast_entry (ends_of w) e) (ends_of w).coast }
+abbrev pub histories_of : WorldHistory → Histories
+histories_of [] = record { ship = []; coast = [] }
+histories_of (e ∷ w) = record { ship = with_entry (ship_entry (histories_of w) e) (histories_of w).ship; coast = with_entry (coast_entry (histories_of w) e) (histories_of w).coast }

@@ -16,7 +16,7 @@ use Rattle.coast_station.specs.CoastRules.{Station, coast_rules}
 use Rattle.exchange.specs.declared.events.WorldEvent.{WorldEvent}
 use Rattle.exchange.specs.declared.events.WorldEvent.TheVariants as world
 use Rattle.exchange.specs.Sent.{sent_by}
-use Rattle.exchange.specs.WorldHistories.{Given, did, refuses, nothing, WorldHistory, Ends, ends_of}
+use Rattle.exchange.specs.WorldHistories.{Given, did, refuses, nothing, WorldHistory, Histories, histories_of}
 
 -- the two ends of an exchange
 pub record Parties : Type 0 where
@@ -58,25 +58,25 @@ given_at rules h at number heard None = nothing number
 given_at rules h at number heard (Some call) = given_by (answer_to rules h at (heard call))
 
 -- what an event gives after the histories of the ends
-abbrev pub answer_behind : Parties → Ends → WorldEvent → Given
-answer_behind who ends (world.Ship e) = given_by (answer_to (ship_rules who.ship) ends.ship e.at e.what)
-answer_behind who ends (world.Coast e) = given_by (answer_to (coast_rules who.coast) ends.coast e.at e.what)
-answer_behind who ends (world.ShipGets at number) =
-    given_at (ship_rules who.ship) ends.ship at number at_ship.Heard (slice_get (sent_by ends.coast) number)
-answer_behind who ends (world.CoastGets at number) =
-    given_at (coast_rules who.coast) ends.coast at number at_coast.Heard (slice_get (sent_by ends.ship) number)
+abbrev pub answer_behind : Parties → Histories → WorldEvent → Given
+answer_behind who both (world.Ship e) = given_by (answer_to (ship_rules who.ship) both.ship e.at e.what)
+answer_behind who both (world.Coast e) = given_by (answer_to (coast_rules who.coast) both.coast e.at e.what)
+answer_behind who both (world.ShipGets at number) =
+    given_at (ship_rules who.ship) both.ship at number at_ship.Heard (slice_get (sent_by both.coast) number)
+answer_behind who both (world.CoastGets at number) =
+    given_at (coast_rules who.coast) both.coast at number at_coast.Heard (slice_get (sent_by both.ship) number)
 
 -- a history with an event more, and what it gives
 abbrev pub world_continued : Parties → WorldHistory → WorldEvent → WorldHistory
-world_continued who w event = record { event = event; gave = answer_behind who (ends_of w) event } ∷ w
+world_continued who w event = record { event = event; gave = answer_behind who (histories_of w) event } ∷ w
 
 -- each event is from outside, and gave what it gives after those before it
 abbrev pub AreAnswered : Parties → WorldHistory → Type 0
 AreAnswered who [] = Unit {0}
-AreAnswered who (e ∷ w) = IsFromOutside e.event × (e.gave ≡ answer_behind who (ends_of w) e.event) × AreAnswered who w
+AreAnswered who (e ∷ w) = IsFromOutside e.event × (e.gave ≡ answer_behind who (histories_of w) e.event) × AreAnswered who w
 
 -- a history of an exchange is legal: both ends' histories are, and each event gave what it gives
 pub record IsLegal (who : Parties) (w : WorldHistory) : Type 0 where
-  pub ship : Legal (ship_rules who.ship) (ends_of w).ship
-  pub coast : Legal (coast_rules who.coast) (ends_of w).coast
+  pub ship : Legal (ship_rules who.ship) (histories_of w).ship
+  pub coast : Legal (coast_rules who.coast) (histories_of w).coast
   pub answered : AreAnswered who w

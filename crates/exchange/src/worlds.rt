@@ -1,8 +1,8 @@
 //! An exchange: a ship, a coast station, and the calls that each has sent.
 ghost use Rattle.std.specs.Prelude.{◌≡◌, [], IfOk, OnOk, OnErr};
-ghost use Rattle.exchange.specs.WorldHistories.{WorldHistory, ends_of};
+ghost use Rattle.exchange.specs.WorldHistories.{WorldHistory, histories_of};
 ghost use Rattle.exchange.specs.WorldRules.{Parties, IsFromOutside, answer_behind, world_continued};
-ghost use Rattle.exchange.specs.StandsFor.{Stands, IsStill, given_of, given_with};
+ghost use Rattle.exchange.specs.StandsFor.{StandsFor, IsStill, given_of, given_with};
 
 use crate::events::WorldEvent;
 use crate::sent::MOST_SENT;
@@ -42,7 +42,7 @@ impl World {
     /// A ship without groups and a coast station that works in this band, before their first events. Nothing was sent.
     /// The two identities are to differ: no station hears calls of its own identity. It takes no memory.
     pub fn new(alloc: Global, ship: Mmsi, coast: Mmsi, band: Band) -> World
-        ensures { Stands result (record {
+        ensures { StandsFor result (record {
           ship = record { own = ship; groups = [] };
           coast = record { own = coast; band = band };
         }) [] }
@@ -62,10 +62,10 @@ impl World {
     /// puts its call into the list once, however often in a row it sends it.
     pub fn step(&mut self, event: &WorldEvent) -> Result<Told, AllocError>
         requires { IsFromOutside event.now }
-        ensures answer { IfOk result (λ told. (who : Parties) (w : WorldHistory) → Stands self.old who w
-            → given_of told ≡ answer_behind who (ends_of w) event.now) }
-        ensures stands { OnOk result ((who : Parties) (w : WorldHistory) → Stands self.old who w
-            → Stands self.new who (world_continued who w event.now)) }
+        ensures answer { IfOk result (λ told. (who : Parties) (w : WorldHistory) → StandsFor self.old who w
+            → given_of told ≡ answer_behind who (histories_of w) event.now) }
+        ensures stands { OnOk result ((who : Parties) (w : WorldHistory) → StandsFor self.old who w
+            → StandsFor self.new who (world_continued who w event.now)) }
         ensures still { IfOk result (λ told. IsStill (given_of told) → self.new ≡ self.old) }
         ensures unchanged { OnErr result (self.new ≡ self.old) }
     {
@@ -81,10 +81,10 @@ impl World {
     /// another one the list has no meaning.
     pub fn step_into(&mut self, event: &WorldEvent, acts: &mut Acts) -> Result<Outcome, AllocError>
         requires { IsFromOutside event.now }
-        ensures answer { IfOk result (λ outcome. (who : Parties) (w : WorldHistory) → Stands self.old who w
-            → given_with outcome acts.new.items ≡ answer_behind who (ends_of w) event.now) }
-        ensures stands { OnOk result ((who : Parties) (w : WorldHistory) → Stands self.old who w
-            → Stands self.new who (world_continued who w event.now)) }
+        ensures answer { IfOk result (λ outcome. (who : Parties) (w : WorldHistory) → StandsFor self.old who w
+            → given_with outcome acts.new.items ≡ answer_behind who (histories_of w) event.now) }
+        ensures stands { OnOk result ((who : Parties) (w : WorldHistory) → StandsFor self.old who w
+            → StandsFor self.new who (world_continued who w event.now)) }
         ensures still { IfOk result (λ outcome. IsStill (given_with outcome acts.new.items) → self.new ≡ self.old) }
         ensures unchanged { OnErr result (self.new ≡ self.old) }
     {

@@ -25,8 +25,7 @@ pub record IsApart (last : ℕ) : Type 0 where
 
 pub ends_apart : (e : End) → IsApart (end_symbol e)
 ends_apart Ask = record { enhanced = λ k. absurd (omega arith); speed = λ k. absurd (omega arith); course = λ k. absurd (omega arith) }
-ends_apart Reply = record { enhanced = λ k. absurd (omega arith); speed = λ k. absurd (omega arith); course = λ k. absurd (omega arith) }
-ends_apart Plain = record { enhanced = λ k. absurd (omega arith); speed = λ k. absurd (omega arith); course = λ k. absurd (omega arith) }
+ends_apart _ = record { enhanced = λ k. absurd (omega arith); speed = λ k. absurd (omega arith); course = λ k. absurd (omega arith) }
 
 -- a set that is there: its specifier, and what comes after it
 there : (specifier : ℕ) (digits : ℕ → List ℕ) (p : PartKind) → IsThere p → set_symbols specifier digits p ≡ specifier ∷ told_symbols digits p

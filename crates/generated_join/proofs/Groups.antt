@@ -8,7 +8,7 @@ use Rattle.std.proofs.Math.Bool.{or-false}
 use Rattle.slot_evidence.specs.Facts.{Facts, no_facts, facts_of, facts_of_all, union}
 use Rattle.slot_join.specs.Answer.{IsAnswer}
 use Rattle.ten_unit.specs.declared.character.Element.{Element}
-use Rattle.input_lines.specs.JoinLine.{reception}
+use Rattle.input_lines.specs.ReceiverLine.{reception}
 use Rattle.join_groups.specs.Groups.{names, is_named, is_among, facts_of_line, group_facts, AreGroups}
 use Rattle.join_groups.proofs.PublicLaws.{same_facts, unnamed_facts}
 use Rattle.generated_join.specs.Generator.{heard, generated, lines_of_group}

@@ -2,7 +2,7 @@
 use Rattle.std.proofs.Common.{◌≡◌, ℕ, Bool, ◌&&◌, cond, List, [], ◌∷◌, map, flat_map, refl, ap, subst}
 use Rattle.std.specs.List.{list_all, AllByRecursion}
 use Rattle.slot_join.specs.Answer.{IsAnswer, is_reported}
-use Rattle.input_lines.specs.JoinLine.{JoinLine}
+use Rattle.input_lines.specs.ReceiverLine.{ReceiverLine}
 use Rattle.join_groups.specs.Groups.{group_facts, AreGroups}
 use Rattle.join_groups.specs.Output.{GroupLine, TellsAnswer, IsJoinText}
 use Rattle.call_texts.specs.Texts.{answer_line}
@@ -17,7 +17,7 @@ groups_told : (all : List Answered) → map (λ (one : Answered). one.group) all
 groups_told [] = refl
 groups_told (one ∷ all) = ap (λ (l : List ℕ). one.group ∷ l) (groups_told all)
 
-each_told : (said : List JoinLine) (all : List Answered) → AllByRecursion (λ one. IsAnswer (group_facts said one.group) one.answer) all
+each_told : (said : List ReceiverLine) (all : List Answered) → AllByRecursion (λ one. IsAnswer (group_facts said one.group) one.answer) all
     → AllByRecursion (λ told. TellsAnswer (group_facts said told.group) told) (map told_of all)
 each_told said [] each = tt
 each_told said (one ∷ all) each = (record { answer = one.answer; is_answer = each.0; line_is = refl; well_is = refl }, each_told said all each.1)
@@ -26,7 +26,7 @@ well_told : (all : List Answered) → list_all (λ (one : Answered). is_reported
 well_told [] = refl
 well_told (one ∷ all) = ap (λ (b : Bool). is_reported one.answer && b) (well_told all)
 
-pub joined_so : (said : List JoinLine) (summary : Summary) (is : IsSummary said summary)
+pub joined_so : (said : List ReceiverLine) (summary : Summary) (is : IsSummary said summary)
     → (text : List ℕ) × IsJoinText said text (cond (list_all (λ (one : Answered). is_reported one.answer) is.all) 0 1)
 joined_so said summary is = (
   flat_map (λ (told : GroupLine). told.line) (map told_of is.all),

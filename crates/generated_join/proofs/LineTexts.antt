@@ -2,11 +2,11 @@
 use Rattle.std.proofs.Common.{ℕ, zero, suc, ◌+◌, ◌<◌, ◌≤◌, ◌^◌, List, [], ◌∷◌, ◌++◌, flat_map, map, true, refl, arith}
 use Rattle.std.specs.List.{range_with_len}
 use Rattle.line_engine.specs.Lines.{Lines}
-use Rattle.input_lines.specs.JoinLine.{JoinLine, reception, text_of_reception}
+use Rattle.input_lines.specs.ReceiverLine.{ReceiverLine, reception, text_of_reception}
 use Rattle.join_groups.specs.Groups.{AreLines}
 use Rattle.generated_join.specs.Generator.{heard, lines_of_group, generated, generated_texts}
 
-lines_append : (said other : List JoinLine) (texts others : Lines) → AreLines said texts → AreLines other others → AreLines (said ++ other) (texts ++ others)
+lines_append : (said other : List ReceiverLine) (texts others : Lines) → AreLines said texts → AreLines other others → AreLines (said ++ other) (texts ++ others)
 lines_append [] other [] others a b = b
 lines_append [] other (t ∷ texts) others a b = absurd a
 lines_append (line ∷ said) other [] others a b = absurd a

@@ -3,7 +3,7 @@ use Rattle.std.proofs.Common.{◌≡◌, ℕ, if◌then◌else◌, List, [], ◌
 use Rattle.std.specs.List.{list_all, AllByRecursion}
 use Rattle.slot_join.specs.Answer.{IsAnswer, is_reported}
 use Rattle.line_engine.specs.Lines.{Lines}
-use Rattle.input_lines.specs.JoinLine.{JoinLine}
+use Rattle.input_lines.specs.ReceiverLine.{ReceiverLine}
 use Rattle.join_groups.specs.Groups.{AreLines, group_facts, AreGroups}
 use Rattle.join_groups.proofs.PublicLaws.{groups_of, AreSome, some_lines, group_small, AnswerLaw}
 use Rattle.generated_join.specs.declared.summary.Summary.{Summary}
@@ -14,7 +14,7 @@ use Rattle.generated_join.specs.Summary.{is_reception, is_missing, Answered, IsS
 abbrev IsThere : Type 0 → Type 0
 IsThere A = (A → ⊥) → ⊥
 
-module _ (law : AnswerLaw) (said : List JoinLine) (are : AreSome said) where
+module _ (law : AnswerLaw) (said : List ReceiverLine) (are : AreSome said) where
   record AnsweredOf (groups : List ℕ) : Type 0 where
     all : List Answered
     groups_are : map (λ one. one.group) all ≡ groups

@@ -5,7 +5,7 @@ use mathlib.Core.List.{nil≢cons, cons-eq-cons}
 use Rattle.slot_evidence.specs.Facts.{Facts}
 use Rattle.slot_join.specs.declared.joined.Joined.{Joined}
 use Rattle.slot_join.specs.Answer.{IsAnswer, is_reported}
-use Rattle.input_lines.specs.JoinLine.{JoinLine}
+use Rattle.input_lines.specs.ReceiverLine.{ReceiverLine}
 use Rattle.join_groups.specs.Groups.{group_facts}
 use Rattle.join_groups.proofs.PublicLaws.{same_rising}
 use Rattle.generated_join.specs.declared.summary.Summary.{Summary}
@@ -23,7 +23,7 @@ same_parts : (a b : Answered) → a.group ≡ b.group → a.answer ≡ b.answer 
 unfolding answered
 same_parts a b group answer = ap (λ (k : ℕ). answered k a.answer) group ∙ ap (λ (j : Joined). answered b.group j) answer
 
-same_all : OneAnswer → (said : List JoinLine) (a b : List Answered) → map (λ (one : Answered). one.group) a ≡ map (λ (one : Answered). one.group) b
+same_all : OneAnswer → (said : List ReceiverLine) (a b : List Answered) → map (λ (one : Answered). one.group) a ≡ map (λ (one : Answered). one.group) b
     → AllByRecursion (λ one. IsAnswer (group_facts said one.group) one.answer) a → AllByRecursion (λ one. IsAnswer (group_facts said one.group) one.answer) b → a ≡ b
 same_all once said [] [] groups x y = refl
 same_all once said [] (t ∷ b) groups x y = absurd (nil≢cons groups)
@@ -34,7 +34,7 @@ same_all once said (s ∷ a) (t ∷ b) groups x y =
     let same : s ≡ t = same_parts s t heads.0 (once (group_facts said s.group) s.answer t.answer x.0 there) in
     ap (λ (u : Answered). u ∷ a) same ∙ ap (λ (l : List Answered). t ∷ l) (same_all once said a b heads.1 x.1 y.1)
 
-pub same_answers : OneAnswer → (said : List JoinLine) (s t : Summary) (x : IsSummary said s) (y : IsSummary said t) → x.all ≡ y.all
+pub same_answers : OneAnswer → (said : List ReceiverLine) (s t : Summary) (x : IsSummary said s) (y : IsSummary said t) → x.all ≡ y.all
 same_answers once said s t x y =
     same_all once said x.all y.all
     (same_rising (map (λ (one : Answered). one.group) x.all) (map (λ (one : Answered). one.group) y.all) x.are_groups.rising y.are_groups.rising
@@ -51,7 +51,7 @@ same_numbers s t groups receptions reported missing =
     ∙ ap (λ (n : ℕ). summary_with t.groups t.receptions n s.missing) reported
     ∙ ap (λ (n : ℕ). summary_with t.groups t.receptions t.reported n) missing
 
-same_summary : OneAnswer → (said : List JoinLine) (s t : Summary) → IsSummary said s → IsSummary said t → s ≡ t
+same_summary : OneAnswer → (said : List ReceiverLine) (s t : Summary) → IsSummary said s → IsSummary said t → s ≡ t
 same_summary once said s t x y =
     let all = same_answers once said s t x y in
     same_numbers s t

@@ -10,7 +10,7 @@ use Rattle.ten_unit.specs.Word.{word_of}
 use Rattle.ten_unit.specs.Signs.{element_of, is_sign}
 use Rattle.ten_unit.proofs.PublicLaws.{length-word}
 use Rattle.phasing.specs.Sent.{dot, dots, sent}
-use Rattle.input_lines.specs.JoinLine.{sign_of}
+use Rattle.input_lines.specs.ReceiverLine.{sign_of}
 use Rattle.input_lines.proofs.PublicLaws.{elements_again, all_signs, packed_some, packed_are}
 use Rattle.generated_join.specs.Generator.{heard_of, is_lost, slot_heard}
 use Rattle.generated_join.proofs.Ranges.{flat_more}

@@ -14,7 +14,7 @@ use Rattle.time_diversity.specs.Slots.{dx_slot, rx_slot}
 use Rattle.time_diversity.specs.OnAir.{on_air}
 use Rattle.phasing.specs.Sent.{dots}
 use Rattle.line_engine.specs.Lines.{Lines}
-use Rattle.input_lines.specs.JoinLine.{JoinLine, reception, text_of_reception}
+use Rattle.input_lines.specs.ReceiverLine.{ReceiverLine, reception, text_of_reception}
 
 -- the distress alert of group k, from 42 degrees 31 minutes north, 83 degrees 12 minutes west
 abbrev pub alert_of : ℕ → Call
@@ -46,11 +46,11 @@ abbrev pub heard : ℕ → ℕ → List Element
 heard k j = heard_of k j (on_air (spell (alert_of k)))
 
 -- the lines of a group: a reception of each of its four receivers
-unfoldable pub lines_of_group : ℕ → List JoinLine
+unfoldable pub lines_of_group : ℕ → List ReceiverLine
 lines_of_group k = map (λ j. reception k (heard k j)) (range_with_len 0 4)
 
 -- the lines of n groups, one group after another
-unfoldable pub generated : ℕ → List JoinLine
+unfoldable pub generated : ℕ → List ReceiverLine
 generated n = flat_map lines_of_group (range_with_len 0 n)
 
 -- the texts of the lines of n groups

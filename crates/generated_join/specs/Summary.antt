@@ -4,13 +4,13 @@ use Rattle.std.specs.List.{list_all, AllByRecursion}
 use Rattle.slot_join.specs.declared.joined.Joined.{Joined}
 use Rattle.slot_join.specs.declared.joined.Joined.TheVariants.{Reported, Missing, Differ, Outside, Check}
 use Rattle.slot_join.specs.Answer.{IsAnswer, is_reported}
-use Rattle.input_lines.specs.JoinLine.{JoinLine, nothing, reception, evidence}
+use Rattle.input_lines.specs.ReceiverLine.{ReceiverLine, nothing, reception, evidence}
 use Rattle.join_groups.specs.Groups.{group_facts, AreGroups}
 use Rattle.generated_join.specs.declared.summary.Summary.{Summary}
 use Rattle.generated_join.specs.Generator.{generated}
 
 -- the line is that of a reception
-abbrev pub is_reception : JoinLine → Bool
+abbrev pub is_reception : ReceiverLine → Bool
 is_reception nothing = false
 is_reception (reception group e) = true
 is_reception (evidence group pairs) = false
@@ -30,7 +30,7 @@ pub record Answered : Type 0 where
 
 -- the summary counts the groups that lines name, the receptions among the lines, and the answers to all facts of each
 -- group
-pub record IsSummary (said : List JoinLine) (summary : Summary) : Type 0 where
+pub record IsSummary (said : List ReceiverLine) (summary : Summary) : Type 0 where
   pub all : List Answered
   pub are_groups : AreGroups said (map (λ one. one.group) all)
   pub each : AllByRecursion (λ one. IsAnswer (group_facts said one.group) one.answer) all

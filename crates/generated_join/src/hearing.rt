@@ -2,7 +2,7 @@
 ghost use Rattle.std.specs.Prelude.{◌≡◌, ◌+◌, ◌*◌, ◌<◌, ◌≤◌, ◌++◌, false, IfOk, length, map, take, drop, replicate};
 ghost use Rattle.ten_unit.specs.declared.character.Element.TheVariants.{B};
 ghost use Rattle.phasing.specs.Sent.{sent};
-ghost use Rattle.input_lines.specs.JoinLine.{sign_of};
+ghost use Rattle.input_lines.specs.ReceiverLine.{sign_of};
 ghost use Rattle.generated_join.specs.Generator as generator;
 ghost use Rattle.generated_join.specs.Generator.{heard_of};
 

@@ -1,7 +1,7 @@
 //! Laws: each function here does nothing, and its contract is a theorem over definitions.
 ghost use Rattle.std.specs.Prelude.{◌≡◌, ℕ, ◌≤◌, ◌^◌, List, if◌then◌else◌};
 ghost use Rattle.std.specs.List.{list_all};
-ghost use Rattle.input_lines.specs.JoinLine.{JoinLine};
+ghost use Rattle.input_lines.specs.ReceiverLine.{ReceiverLine};
 ghost use Rattle.join_groups.specs.Groups.{AreLines};
 ghost use Rattle.join_groups.specs.Output.{IsJoinText};
 ghost use Rattle.slot_join.specs.Answer.{is_reported};
@@ -19,7 +19,7 @@ pub fn generated_lines_are_read()
 /// The law that `join` over lines of which this is the summary ends with status 0 where all groups were reported, and
 /// else with 1.
 pub fn joins_end_so()
-    ensures { (said : List JoinLine) (summary : Numbers) (is : IsSummary said summary)
+    ensures { (said : List ReceiverLine) (summary : Numbers) (is : IsSummary said summary)
         → (text : List ℕ) × IsJoinText said text (if list_all (λ one. is_reported one.answer) is.all then 0 else 1) }
 {}
 

@@ -2,7 +2,7 @@
 ghost use Rattle.std.specs.Prelude.{◌≡◌, ◌+◌, ◌<◌, ◌≤◌, ◌++◌, List, if◌then◌else◌, codes, decimal, length};
 ghost use Rattle.std.specs.List.{list_all};
 ghost use Rattle.arrayvec.specs.ArrayVec.{array_vec_len};
-ghost use Rattle.input_lines.specs.JoinLine.{JoinLine};
+ghost use Rattle.input_lines.specs.ReceiverLine.{ReceiverLine};
 ghost use Rattle.slot_join.specs.Answer.{is_reported as tells_call};
 ghost use Rattle.generated_join.specs.Summary.{IsSummary, summary_text, is_missing as names_missing};
 ghost use Rattle.generated_join.specs.inside.Counted.{HasCounted};
@@ -61,7 +61,7 @@ impl Summary {
 
     /// Whether a call was reported of every group.
     pub fn is_whole(&self) -> bool
-        ensures { (said : List JoinLine) (is : IsSummary said self.now)
+        ensures { (said : List ReceiverLine) (is : IsSummary said self.now)
             → result ≡ list_all (λ one. tells_call one.answer) is.all }
     {
         self.reported == self.groups

@@ -13,7 +13,7 @@ use Rattle.line_grammar.specs.inside.Reading.{after, ended, read_token, read}
 use Rattle.line_grammar.specs.inside.Soundness.{is_sound}
 use Rattle.line_grammar.proofs.Chains.{after_list, run_list, fault_within, both_miss, no_end, end_nil, finished}
 use Rattle.line_grammar.proofs.Fields.{field_of}
-use Rattle.input_lines.specs.JoinLine.{sign_of, signs, signs_parts, behind_blank, reception, text_of_reception, IsLine}
+use Rattle.input_lines.specs.ReceiverLine.{sign_of, signs, signs_parts, behind_blank, reception, text_of_reception, IsLine}
 use Rattle.input_lines.specs.StreamLine.{IsStreamLine}
 use Rattle.input_lines.specs.inside.Reading.{blank_and_signs, body_text, IsBehindBlank}
 
@@ -54,8 +54,7 @@ signs_again (b ∷ bytes) h =
 
 element_again : (e : Element) → element_of (sign_of e) ≡ e
 element_again Y = refl
-element_again B = refl
-element_again Lost = refl
+element_again _ = refl
 
 -- elements are read back from their signs
 pub elements_again : (e : List Element) → map element_of (map sign_of e) ≡ e
@@ -64,8 +63,7 @@ elements_again (x ∷ e) = ap (λ (y : Element). y ∷ map element_of (map sign_
 
 one_sign : (e : Element) → is_sign (sign_of e) ≡ true
 one_sign Y = refl
-one_sign B = refl
-one_sign Lost = refl
+one_sign _ = refl
 
 -- elements are written by signs alone
 pub all_signs : (e : List Element) → list_all is_sign (map sign_of e) ≡ true

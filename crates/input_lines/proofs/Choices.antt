@@ -1,6 +1,6 @@
 -- files whose lines are of one kind or another: each line says one thing, and a list of bytes is one or has a column
 use Rattle.std.proofs.Common.{◌≡◌, ◌≢◌, ℕ, suc, zero, ◌≤◌, ◌==◌, ◌⊎◌, true, false, Option, Some, None, inl, inr, refl, sym, ◌∙◌, ap, List, [], ◌∷◌, ◌++◌, take, codes, arith, ◌+◌, map, length, drop, append-nil, Err, subst, Ok}
-use Rattle.std.proofs.lemmas.Bool.{eqb-false}
+use Rattle.std.proofs.lemmas.Bool.{eqb-false, eqb-true, and_parts}
 use mathlib.Core.List.{head-eq_of_cons-eq}
 use Rattle.call_values.specs.declared.calls.Call.{Call}
 use Rattle.call_values.specs.declared.calls.Call.TheVariants as form
@@ -19,7 +19,7 @@ use Rattle.line_grammar.proofs.Stops.{IsChoice, left_le, IsColumn-stops}
 use Rattle.call_texts.specs.CallParts.{call_text}
 use Rattle.call_texts.specs.Texts.{IsCallText, IsWholeOrAbsent, reported_text}
 use Rattle.call_texts.proofs.PublicLaws.{with_expansion, with_expansion_sound, call_texts_alike}
-use Rattle.traffic_lines.specs.declared.worlds.Entry.TheVariants.{AtShip, AtCoast}
+use Rattle.traffic_lines.specs.declared.worlds.EndEvent.TheVariants.{AtShip, AtCoast}
 use Rattle.traffic_lines.specs.declared.worlds.ExchangePoint.{ExchangePoint}
 use Rattle.traffic_lines.specs.declared.worlds.WorldLine.{WorldLine}
 use Rattle.traffic_lines.specs.declared.worlds.WorldLine.TheVariants as world
@@ -34,7 +34,7 @@ use Rattle.input_lines.specs.declared.sentences.SentenceLine.TheVariants.{Said, 
 use Rattle.input_lines.specs.BookLine.{is_sentence, IsBookLine}
 use Rattle.input_lines.specs.CallLine.{extra_of, IsCallLine}
 use Rattle.input_lines.specs.SentenceLine.{IsSentenceLine, SayTheSame}
-use Rattle.input_lines.specs.JoinLine.{IsNothing, sign_of, signs_parts, JoinLine, nothing, reception, evidence, IsLine}
+use Rattle.input_lines.specs.ReceiverLine.{empty_or_comment, IsNothing, sign_of, signs_parts, ReceiverLine, nothing, reception, evidence, IsLine}
 use Rattle.input_lines.specs.WorldLine.{IsWorldFileLine}
 use Rattle.std.specs.List.{list_all}
 use Rattle.ten_unit.specs.declared.character.Element.{Element}
@@ -91,38 +91,47 @@ first_of : List ℕ → ℕ
 first_of [] = 35
 first_of (b ∷ rest) = b
 
+-- such a line is empty or a comment, and each of these is one
+nothing_is : (text : List ℕ) → IsNothing text → (text ≡ []) ⊎ ((comment : List ℕ) × (text ≡ codes "#" ++ comment))
+nothing_is text is =
+    elim (choice_back finish (word (codes "#") anything) is.0 text is.1) [ inl k ↦ inl (finished k.0 text k.1) | inr c ↦ inr (c.1.0, c.1.1) ]
+
+pub empty_says_nothing : (text : List ℕ) → text ≡ [] → IsNothing text
+empty_says_nothing text e = (grammars.first grammars.none, e)
+
+pub comment_says_nothing : (text rest : List ℕ) → text ≡ codes "#" ++ rest → IsNothing text
+comment_says_nothing text rest e = (grammars.second grammars.none, (rest, e, tt))
+
 nothing_first : (text : List ℕ) → IsNothing text → first_of text ≡ 35
 unfolding first_of
-nothing_first text (inl empty) = ap first_of empty
-nothing_first text (inr (comment, e)) = ap first_of e
+nothing_first text is = elim (nothing_is text is) [ inl empty ↦ ap first_of empty | inr comment ↦ ap first_of comment.1 ]
 
 nothing_byte : (b : ℕ) (rest : List ℕ) → IsNothing (b ∷ rest) → b ≡ 35
 unfolding first_of
 nothing_byte b rest is = nothing_first (b ∷ rest) is
 
+-- by the first byte of a line that isn't empty
+pub hash_says_nothing : (text rest : List ℕ) (b : ℕ) → text ≡ b ∷ rest → b ≡ 35 → IsNothing text
+hash_says_nothing text rest b e is = comment_says_nothing text rest (e ∙ ap (λ (c : ℕ). c ∷ rest) is)
+
+pub nothing_has_hash : (text rest : List ℕ) (b : ℕ) → text ≡ b ∷ rest → IsNothing text → b ≡ 35
+nothing_has_hash text rest b e none = nothing_byte b rest (subst IsNothing e none)
+
 pub Nothings : Unit {0} → List ℕ → Type 0
 Nothings _ text = IsNothing text
-
-abbrev nothing_grammar : Grammar
-nothing_grammar = either finish (word (codes "#") anything)
 
 nothing_lines : HasGrammar Nothings
 unfolding Nothings
 nothing_lines =
-    of_alike (Spells nothing_grammar) Nothings
-    (record {
-      to = λ parts bytes h. (tt, elim (choice_back finish (word (codes "#") anything) parts bytes h) [ inl k ↦ inl (finished k.0 bytes k.1) | inr c ↦ inr (c.1.0, c.1.1) ]);
-      back = λ _ bytes h. elim h [ inl empty ↦ (grammars.first grammars.none, empty) | inr comment ↦ (grammars.second grammars.none, (comment.0, comment.1, tt)) ];
-    })
-    (of_grammar nothing_grammar refl)
+    of_alike (Spells empty_or_comment) Nothings (record { to = λ parts bytes h. (tt, (parts, h)); back = λ _ bytes h. h }) (of_grammar empty_or_comment refl)
 
 -- a line that says something has the column of the other kind
 pub others_column : {V W : Type 0} {K : V → List ℕ → Type 0} {L : W → List ℕ → Type 0} → IsChoice Nothings K L
     → (text : List ℕ) (n : ℕ) → (IsNothing text → ⊥) → 1 ≤ n → IsColumn K text n → IsColumn L text n
 unfolding Nothings
-others_column choice [] n said some h = absurd (said (inl refl))
+others_column choice [] n said some h = absurd (said (empty_says_nothing [] refl))
 others_column choice (b ∷ rest) n said some h =
-    column_of_kind b choice (λ _ more is. said (inr (rest, ap (λ (c : ℕ). c ∷ rest) (nothing_byte b more is)))) rest n some h
+    column_of_kind b choice (λ _ more is. said (comment_says_nothing (b ∷ rest) rest (ap (λ (c : ℕ). c ∷ rest) (nothing_byte b more is)))) rest n some h
 
 -- ---- lines of calls
 
@@ -211,9 +220,9 @@ sentence_lines_judged =
     judged IsSentenceLine (of_choice (Spells dollar_grammar) IsCallLine IsSentenceLine sentences_choice (of_grammar dollar_grammar refl) call_lines)
 
 pub said_column : (text : List ℕ) (n : ℕ) → ((rest : List ℕ) → text ≡ 36 ∷ rest → ⊥) → IsColumn IsCallLine text n → IsColumn IsSentenceLine text n
-said_column [] n other h = absurd (h.is_none call_line.Nothing (inl refl))
+said_column [] n other h = absurd (h.is_none call_line.Nothing (empty_says_nothing [] refl))
 said_column (b ∷ rest) n other h =
-    column_of_kind b sentences_choice (λ parts more k. other rest (ap (λ (c : ℕ). c ∷ rest) (head-eq_of_cons-eq k.1))) rest n (counted IsCallLine call_line.Nothing (b ∷ rest) n (inl refl) h) h
+    column_of_kind b sentences_choice (λ parts more k. other rest (ap (λ (c : ℕ). c ∷ rest) (head-eq_of_cons-eq k.1))) rest n (counted IsCallLine call_line.Nothing (b ∷ rest) n (empty_says_nothing [] refl) h) h
 
 no_sentence : (a : CallLine) (text rest : List ℕ) → IsCallLine a text → text ≡ codes "$" ++ rest → ⊥
 unfolding first_of
@@ -229,8 +238,27 @@ one_sentence apart (Sentence bytes) (Sentence others) text h k = sym h.0 ∙ k.0
 -- ---- lines of logs of sentences
 
 no_book : (text : List ℕ) → IsNothing text → is_sentence text ≡ true → ⊥
-no_book text (inl empty) is = absurd (let at = ap is_sentence (sym empty) ∙ is in cc)
-no_book text (inr (comment, e)) is = absurd (let at = ap is_sentence (sym e) ∙ is in cc)
+no_book text none is =
+    elim (nothing_is text none) [
+      | inl empty ↦ absurd (let at = ap is_sentence (sym empty) ∙ is in cc)
+      | inr comment ↦ absurd (let at = ap is_sentence (sym comment.1) ∙ is in cc)
+    ]
+
+no_such_book : (b : ℕ) (rest : List ℕ) → (b ≡ 35 → ⊥) → (b ≡ 36 → ⊥) → (w : BookLine) → IsBookLine w (b ∷ rest) → ⊥
+no_such_book b rest no_comment no_dollar book.Nothing is = no_comment (nothing_byte b rest is)
+no_such_book b rest no_comment no_dollar book.Sentence is = no_dollar (sym (eqb-true 36 b (and_parts (36 == b) true is).0))
+
+pub other_book : (text rest : List ℕ) (b : ℕ) → text ≡ b ∷ rest → (b ≡ 35 → ⊥) → (b ≡ 36 → ⊥) → IsColumn IsBookLine text 1
+other_book text rest b e no_comment no_dollar =
+    subst (λ (l : List ℕ). IsColumn IsBookLine l 1) (sym e)
+    (record {
+      is_none = no_such_book b rest no_comment no_dollar;
+      before = λ k below.
+          let first : k ≡ 0 = omega (arith, below) in
+          subst (λ (j : ℕ). Begins IsBookLine (take j (b ∷ rest))) (sym first) (record { value = book.Nothing; rest = []; whole = empty_says_nothing [] refl });
+      at = λ within begins. no_such_book b begins.rest no_comment no_dollar begins.value begins.whole;
+      within = omega arith;
+    })
 
 pub one_book : (a b : BookLine) (text : List ℕ) → IsBookLine a text → IsBookLine b text → a ≡ b
 one_book book.Nothing book.Nothing text h k = refl
@@ -258,8 +286,8 @@ unfolding first_of
 world_first (world.Ship m) text h e = absurd (omega (arith, ap first_of h.1, e))
 world_first (world.Coast m b) text h e = absurd (omega (arith, ap first_of h.1, e))
 world_first (world.Base s) text h e = absurd (omega (arith, ap first_of h.1, e))
-world_first (world.Entry (AtShip at what)) text h e = absurd (omega (arith, ap first_of h.1, e))
-world_first (world.Entry (AtCoast at what)) text h e = absurd (omega (arith, ap first_of h.1, e))
+world_first (world.EndEvent (AtShip at what)) text h e = absurd (omega (arith, ap first_of h.1, e))
+world_first (world.EndEvent (AtCoast at what)) text h e = absurd (omega (arith, ap first_of h.1, e))
 
 pub one_exchange : ((a b : WorldLine) (text : List ℕ) → IsWorldLineText a text → IsWorldLineText b text → a ≡ b)
     → (point : ExchangePoint) (a b : Option WorldLine) (text : List ℕ) → IsWorldFileLine point a text → IsWorldFileLine point b text → a ≡ b
@@ -337,13 +365,12 @@ stations_byte (Base second) b first h = omega (arith, first, h)
 stations_byte (Group mmsi) b first h = omega (arith, first, h)
 stations_byte (Event at what) b first h = grind arith
 
-joined_byte : (line : JoinLine) (b : ℕ) (rest : List ℕ) → IsLine line (b ∷ rest) → (b ≡ 35) ⊎ ((b ≡ 114) ⊎ (b ≡ 101))
-joined_byte nothing b rest (inl empty) = absurd (cc)
-joined_byte nothing b rest (inr comment) = inl (head-eq_of_cons-eq comment.1)
+joined_byte : (line : ReceiverLine) (b : ℕ) (rest : List ℕ) → IsLine line (b ∷ rest) → (b ≡ 35) ⊎ ((b ≡ 114) ⊎ (b ≡ 101))
+joined_byte nothing b rest is = inl (nothing_byte b rest is)
 joined_byte (reception group e) b rest is = inr (inl (head-eq_of_cons-eq is.1.1))
 joined_byte (evidence group pairs) b rest is = inr (inr (head-eq_of_cons-eq is.1.1.1))
 
-station_apart : StationsBegin → (line : JoinLine) (station : TrafficLine) (text : List ℕ) → IsLine line text → IsLineText station text → ⊥
+station_apart : StationsBegin → (line : ReceiverLine) (station : TrafficLine) (text : List ℕ) → IsLine line text → IsLineText station text → ⊥
 station_apart begin line station text is said =
     let first = begin station text said in
     stations_byte station first.0 first.2 (joined_byte line first.0 first.1 (subst (IsLine line) first.3 is))
@@ -356,7 +383,7 @@ one_point one begin at (traffic a) (joined b) text x y = absurd (station_apart b
 one_point one begin at (traffic a) (traffic b) text x y = ap traffic (one a b text x.1 y.1)
 
 -- lines that begin with r or e in a body
-may_in_body : (at : Point) (line : JoinLine) → IsBody at → MayBeJoined at line
+may_in_body : (at : Point) (line : ReceiverLine) → IsBody at → MayBeJoined at line
 may_in_body at nothing body = tt
 may_in_body at (reception group e) body = body
 may_in_body at (evidence group pairs) body = body
@@ -380,7 +407,7 @@ joined_line point text read body h = (h.0, ((may_in_body point h.0 body, h.1.0),
 joined_fault_at : StationsBegin → (at : Point) (b : ℕ) (rest : List ℕ) (fault : LineFault) → IsBody at → (b ≡ 114) ⊎ (b ≡ 101)
     → ReadsJoin (b ∷ rest) (Err fault) → ReadsJoinedAt at (b ∷ rest) (Err fault)
 joined_fault_at begin at b rest (Column n) body which h =
-    column_of_kind b (joined_choice at body) (no_traffic begin at b which) rest n (counted IsLine nothing (b ∷ rest) n (inl refl) h) h
+    column_of_kind b (joined_choice at body) (no_traffic begin at b which) rest n (counted IsLine nothing (b ∷ rest) n (empty_says_nothing [] refl) h) h
 joined_fault_at begin at b rest NoMemory body which h = tt
 
 pub joined_fault : StationsBegin → (at : Point) (text : List ℕ) (fault : LineFault) → IsBody at
@@ -390,14 +417,14 @@ joined_fault begin at text fault body given h =
     (joined_fault_at begin at given.0 given.1 fault body given.3 (subst (λ (l : List ℕ). ReadsJoin l (Err fault)) given.2 h))
 
 -- other lines
-station_choice : (at : Point) → IsChoice (λ (l : JoinLine) text. MayBeJoined at l × IsLine l text) (IsTrafficLine at) (IsPointLine at)
+station_choice : (at : Point) → IsChoice (λ (l : ReceiverLine) text. MayBeJoined at l × IsLine l text) (IsTrafficLine at) (IsPointLine at)
 station_choice at = record {
   left = λ l text h. (joined l, h);
   right = λ l text h. (traffic l, h);
   back = elim [ joined l ↦ λ text h. inl (l, h) | traffic l ↦ λ text h. inr (l, h) ];
 }
 
-no_joined : (at : Point) (b : ℕ) → IsStationsByte at b → (line : JoinLine) (rest : List ℕ) → MayBeJoined at line × IsLine line (b ∷ rest) → ⊥
+no_joined : (at : Point) (b : ℕ) → IsStationsByte at b → (line : ReceiverLine) (rest : List ℕ) → MayBeJoined at line × IsLine line (b ∷ rest) → ⊥
 no_joined at b other nothing rest is = other.0 (nothing_byte b rest is.1)
 no_joined at b other (reception group e) rest is = other.1 (inl (head-eq_of_cons-eq is.1.1.1)) is.0
 no_joined at b other (evidence group pairs) rest is = other.1 (inr (head-eq_of_cons-eq is.1.1.1.1)) is.0

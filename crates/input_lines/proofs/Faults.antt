@@ -8,7 +8,7 @@ use Rattle.line_grammar.proofs.Stops.{Stops, IsColumn-stops}
 use Rattle.line_grammar.proofs.Repeats.{Stops-limit, reads_stop}
 use Rattle.line_grammar.proofs.Chains.{word_on, fault_within, both_miss, no_end, no_word}
 use Rattle.ten_unit.specs.declared.character.Element.{Element}
-use Rattle.input_lines.specs.JoinLine.{reception, behind_blank, signs, grouped, pair, reception_line, evidence_line, IsLine}
+use Rattle.input_lines.specs.ReceiverLine.{empty_or_comment, reception, behind_blank, signs, grouped, pair, reception_line, evidence_line, IsLine}
 use Rattle.input_lines.specs.inside.Reading.{join_lines}
 use Rattle.input_lines.proofs.WholeLines.{lines_limit, lines_sound}
 
@@ -18,8 +18,8 @@ lines_miss : (n b left m k : ℕ) (rest : List ℕ) → (b ≡ 35 → ⊥) → r
 lines_miss n b left m k rest other h e few_m few_k is =
     let all = suc (length rest) in
     let kinds = both_miss reception_line (evidence_line n) (b ∷ rest) m k left h e is in
-    let lines = both_miss (word (codes "#") anything) (either reception_line (evidence_line n)) (b ∷ rest) all left left (no_word 35 [] anything b rest other) kinds (omega (arith, is, few_m, few_k)) in
-    both_miss finish (either (word (codes "#") anything) (either reception_line (evidence_line n))) (b ∷ rest) all left left (no_end b rest) lines (omega (arith, is, few_m, few_k))
+    let nothings = both_miss finish (word (codes "#") anything) (b ∷ rest) all all all (no_end b rest) (no_word 35 [] anything b rest other) (omega arith) in
+    both_miss empty_or_comment (either reception_line (evidence_line n)) (b ∷ rest) all left left nothings kinds (omega (arith, is, few_m, few_k))
 
 stops_of : (text : List ℕ) (least left : ℕ) → ((n : ℕ) → least ≤ n → read (join_lines n) text ≡ Err left) → Stops IsLine text left
 stops_of text least left h = Stops-limit join_lines IsLine least text left lines_limit (reads_stop join_lines least text left lines_sound h)

@@ -6,7 +6,7 @@ use Rattle.line_grammar.specs.Grammar.{Grammar, finish, word, field, Parts, seco
 use Rattle.line_grammar.specs.inside.Reading.{after, ended, read_token, named, further, read}
 use Rattle.line_grammar.proofs.Chains.{after_list, word_missed, word_on, token_missed, token_on, fault_within, both_miss, no_end}
 use Rattle.line_grammar.proofs.Decimals.{number_read}
-use Rattle.input_lines.specs.JoinLine.{behind_blank, grouped, group_parts}
+use Rattle.input_lines.specs.ReceiverLine.{behind_blank, grouped, group_parts}
 use Rattle.input_lines.specs.inside.Reading.{IsBehindBlank, IsNamed, group_text}
 
 -- a group's digits miss

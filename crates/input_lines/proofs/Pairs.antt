@@ -17,7 +17,7 @@ use Rattle.line_grammar.specs.inside.Soundness.{is_sound}
 use Rattle.line_grammar.proofs.Repeats.{read_one_less}
 use Rattle.line_grammar.proofs.Chains.{after_list, word_on, token_on, fault_within}
 use Rattle.line_grammar.proofs.Decimals.{number_read}
-use Rattle.input_lines.specs.JoinLine.{IsPair, pair, behind_blank, grouped}
+use Rattle.input_lines.specs.ReceiverLine.{IsPair, pair, behind_blank, grouped}
 use Rattle.input_lines.specs.Lines.{facts_of_pairs}
 use Rattle.input_lines.specs.inside.Reading.{group_text, pairs_text, IsBehindBlank, IsNamed}
 

@@ -13,7 +13,7 @@ use Rattle.slot_evidence.specs.Facts.{Facts, Symbols}
 use Rattle.slot_evidence.specs.Seen.{IsSeen, IsLawful, symbols_in}
 use Rattle.slot_evidence.specs.Sheet.{IsSheet, IsEnds, seen_at, facts_in}
 use Rattle.slot_evidence.proofs.PublicLaws.{seen_by}
-use Rattle.input_lines.specs.JoinLine.{JoinLine, IsPair, IsLine, evidence}
+use Rattle.input_lines.specs.ReceiverLine.{ReceiverLine, IsPair, IsLine, evidence}
 use Rattle.input_lines.specs.declared.join.JoinLine.{JoinLine as Got}
 use Rattle.input_lines.specs.declared.join.JoinLine.TheVariants as got
 use Rattle.input_lines.specs.declared.fault.LineFault.{LineFault}
@@ -124,7 +124,7 @@ text_has_ends sheet h = record {
 
 -- what is read of the text
 abbrev pub OneLine : Type 0
-OneLine = (a b : JoinLine) (text : List ℕ) → IsLine a text → IsLine b text → a ≡ b
+OneLine = (a b : ReceiverLine) (text : List ℕ) → IsLine a text → IsLine b text → a ≡ b
 
 abbrev pub OneSheet : Type 0
 OneSheet = (F : Facts) (s t : List Seen) → IsEnds F s → IsEnds F t → s ≡ t
@@ -136,6 +136,6 @@ pub text_is_read : (group : ℕ) (sheet : List Seen) (answer : Result Got LineFa
     → ReadsJoin (evidence_text group sheet) answer → (answer ≡ Ok (got.Evidence group sheet)) ⊎ (answer ≡ Err fault.NoMemory)
 text_is_read group sheet (Ok read) one_line one_sheet small h reads =
     let same = one_line reads.0 (evidence group (pairs_below 64 sheet)) (evidence_text group sheet) reads.1.0 (text_is_line group sheet small h) in
-    inl (ap (λ (l : Got). Ok l) (said group sheet read one_sheet h (subst (λ (w : JoinLine). Says w read) same reads.1.1)))
+    inl (ap (λ (l : Got). Ok l) (said group sheet read one_sheet h (subst (λ (w : ReceiverLine). Says w read) same reads.1.1)))
 text_is_read group sheet (Err (fault.Column n)) one_line one_sheet small h reads = absurd (reads.is_none (evidence group (pairs_below 64 sheet)) (text_is_line group sheet small h))
 text_is_read group sheet (Err fault.NoMemory) one_line one_sheet small h reads = inr refl

@@ -6,7 +6,7 @@ use Rattle.std.proofs.lemmas.List.Elements.{All-append, All-cons, All-nil}
 use Rattle.ten_unit.specs.declared.character.Element.{Element}
 use Rattle.ten_unit.specs.Signs.{element_of}
 use Rattle.line_grammar.specs.Tokens.{free_number, value_after, IsNumber}
-use Rattle.line_grammar.specs.Grammar.{Grammar, finish, anything, word, field, either, Parts, none, part, first, second, Spells, written}
+use Rattle.line_grammar.specs.Grammar.{Grammar, finish, word, field, either, Parts, none, part, first, second, Spells, written}
 use Rattle.line_grammar.specs.Repeats.{repeated}
 use Rattle.line_grammar.specs.inside.Soundness.{is_sound, is_unambiguous}
 use Rattle.line_grammar.specs.Bytes.{letter_e, letter_r}
@@ -17,7 +17,7 @@ use Rattle.line_grammar.proofs.Apart.{one_reading}
 use Rattle.line_grammar.proofs.Repeats.{IsLimit}
 use Rattle.line_grammar.proofs.Decimals.{number_text, decimal_number, decimal_value}
 use Rattle.line_grammar.proofs.Chains.{finished}
-use Rattle.input_lines.specs.JoinLine.{JoinLine, nothing, reception, evidence, signs, behind_blank, body_parts, grouped, group_parts, IsGroup, pair, pairs_parts, IsPair, reception_line, evidence_line, IsLine}
+use Rattle.input_lines.specs.ReceiverLine.{empty_or_comment, ReceiverLine, nothing, reception, evidence, signs, behind_blank, body_parts, grouped, group_parts, IsGroup, pair, pairs_parts, IsPair, reception_line, evidence_line, IsLine}
 use Rattle.input_lines.specs.inside.Reading.{join_lines, body_text, pairs_text, IsNamed}
 use Rattle.input_lines.proofs.Bodies.{signs_are, some_body, signs_back, elements_again}
 use Rattle.input_lines.proofs.NamedGroups.{named_written}
@@ -41,9 +41,9 @@ abbrev pub pairs_in : Parts → List (ℕ × ℕ)
 pairs_in (second (part place (part symbol rest))) = (value_after 0 place, value_after 0 symbol) ∷ pairs_in rest
 pairs_in _ = []
 
-abbrev pub line_in : Parts → JoinLine
-line_in (second (second (first parts))) = reception (group_in parts) (elements_in (rest_in parts))
-line_in (second (second (second parts))) = evidence (group_in parts) (pairs_in (rest_in parts))
+abbrev pub line_in : Parts → ReceiverLine
+line_in (second (first parts)) = reception (group_in parts) (elements_in (rest_in parts))
+line_in (second (second parts)) = evidence (group_in parts) (pairs_in (rest_in parts))
 line_in _ = nothing
 
 -- a line is spelled by the grammars that allow as many pairs
@@ -95,18 +95,17 @@ group_spelled G H true group q rest is spelled = record {
 }
 
 -- how many pairs a line has
-abbrev pub pairs_of : JoinLine → List (ℕ × ℕ)
+abbrev pub pairs_of : ReceiverLine → List (ℕ × ℕ)
 pairs_of (evidence group pairs) = pairs
 pairs_of _ = []
 
-pub line_spelled : (w : JoinLine) (text : List ℕ) (n : ℕ) → IsLine w text → length (pairs_of w) < n → IsSpelled (join_lines n) text line_in w
-line_spelled nothing text n (inl e) few = record { parts = first none; spelled = e; is = refl }
-line_spelled nothing text n (inr h) few = record { parts = second (first none); spelled = (h.0, h.1, tt); is = refl }
+pub line_spelled : (w : ReceiverLine) (text : List ℕ) (n : ℕ) → IsLine w text → length (pairs_of w) < n → IsSpelled (join_lines n) text line_in w
+line_spelled nothing text n h few = record { parts = first h.0; spelled = h.1; is = refl }
 line_spelled (reception group e) text n h few =
     let body = body_spelled e in
     let g = group_spelled (behind_blank signs) (behind_blank signs) h.0 group (body_parts e) body.parts h.1.0 body.spelled in
     record {
-      parts = second (second (first g.parts));
+      parts = second (first g.parts);
       spelled = (written (grouped (behind_blank signs)) (group_parts h.0 group (body_parts e)), h.1.1, g.spelled);
       is = ap (λ (k : ℕ). reception k (elements_in (rest_in g.parts))) g.group_is ∙ ap (λ (p : Parts). reception group (elements_in p)) g.rest_is ∙ ap (reception group) body.is;
     }
@@ -114,7 +113,7 @@ line_spelled (evidence group pairs) text n h few =
     let all = pairs_spelled n pairs few h.1.1.0 in
     let g = group_spelled (repeated pair n) (repeated pair (length pairs)) h.0 group (pairs_parts pairs) all.parts h.1.0 all.spelled in
     record {
-      parts = second (second (second g.parts));
+      parts = second (second g.parts);
       spelled = (written (grouped (repeated pair (length pairs))) (group_parts h.0 group (pairs_parts pairs)), h.1.1.1, g.spelled);
       is = ap (λ (k : ℕ). evidence k (pairs_in (rest_in g.parts))) g.group_is ∙ ap (λ (p : Parts). evidence group (pairs_in p)) g.rest_is ∙ ap (evidence group) all.is;
     }
@@ -188,32 +187,29 @@ pub evidence_of : (group : ℕ) (pairs : List (ℕ × ℕ)) (bytes back : List �
 evidence_of group pairs bytes back name all is =
     (name.0, (name.1.0, (all, ap (λ (l : List ℕ). letter_e ∷ l) (named_written group bytes back name (repeated pair (length pairs)) (pairs_parts pairs) is))))
 
-reception_back : (parts : Parts) (bytes : List ℕ) → Spells reception_line parts bytes → (w : JoinLine) × IsLine w bytes
+reception_back : (parts : Parts) (bytes : List ℕ) → Spells reception_line parts bytes → (w : ReceiverLine) × IsLine w bytes
 reception_back parts bytes h =
     let g = group_back (behind_blank signs) parts h.0 h.2 in
     let body = body_back g.parts g.body g.spelled in
     (reception g.group body.0, subst (IsLine (reception g.group body.0)) (sym h.1) (reception_of g.group body.0 h.0 g.body g.name body.1))
 
-evidence_back : (n : ℕ) (parts : Parts) (bytes : List ℕ) → Spells (evidence_line n) parts bytes → (w : JoinLine) × IsLine w bytes
+evidence_back : (n : ℕ) (parts : Parts) (bytes : List ℕ) → Spells (evidence_line n) parts bytes → (w : ReceiverLine) × IsLine w bytes
 evidence_back n parts bytes h =
     let g = group_back (repeated pair n) parts h.0 h.2 in
     let all = pairs_back n g.parts g.body g.spelled in
     (evidence g.group all.0, subst (IsLine (evidence g.group all.0)) (sym h.1) (evidence_of g.group all.0 h.0 g.body g.name all.1.0 all.1.1))
 
-line_back : (n : ℕ) (parts : Parts) (bytes : List ℕ) → Spells (join_lines n) parts bytes → (w : JoinLine) × IsLine w bytes
+line_back : (n : ℕ) (parts : Parts) (bytes : List ℕ) → Spells (join_lines n) parts bytes → (w : ReceiverLine) × IsLine w bytes
 line_back n parts bytes h =
-    elim (choice_back finish (either (word (codes "#") anything) (either reception_line (evidence_line n))) parts bytes h) [
-      | inl k ↦ (nothing, inl (finished k.0 bytes k.1))
-      | inr k ↦ (elim (choice_back (word (codes "#") anything) (either reception_line (evidence_line n)) k.0 bytes k.1) [
-        | inl c ↦ (nothing, inr (c.1.0, c.1.1))
-        | inr c ↦ (elim (choice_back reception_line (evidence_line n) c.0 bytes c.1) [
-          | inl r ↦ reception_back r.0 bytes r.1
-          | inr e ↦ evidence_back n e.0 bytes e.1
-        ])
+    elim (choice_back empty_or_comment (either reception_line (evidence_line n)) parts bytes h) [
+      | inl k ↦ (nothing, k)
+      | inr k ↦ (elim (choice_back reception_line (evidence_line n) k.0 bytes k.1) [
+        | inl r ↦ reception_back r.0 bytes r.1
+        | inr e ↦ evidence_back n e.0 bytes e.1
       ])
     ]
 
-enough : (w : JoinLine) (text : List ℕ) → IsLine w text → (m : ℕ) × ((n : ℕ) → m ≤ n → (parts : Parts) × Spells (join_lines n) parts text)
+enough : (w : ReceiverLine) (text : List ℕ) → IsLine w text → (m : ℕ) × ((n : ℕ) → m ≤ n → (parts : Parts) × Spells (join_lines n) parts text)
 enough w text is = (suc (length (pairs_of w)), λ n large. let s = line_spelled w text n is (omega (arith, large)) in (s.parts, s.spelled))
 
 pub lines_limit : IsLimit join_lines IsLine
@@ -232,7 +228,7 @@ lines_plain : (n : ℕ) → is_unambiguous (join_lines (suc n)) ≡ true
 lines_plain n = and_from (is_unambiguous (repeated pair (suc n))) (is_unambiguous (repeated pair (suc n))) (pairs_plain (suc n)) (pairs_plain (suc n))
 
 -- a line of join's input says one thing
-pub one_line : (v w : JoinLine) (text : List ℕ) → IsLine v text → IsLine w text → v ≡ w
+pub one_line : (v w : ReceiverLine) (text : List ℕ) → IsLine v text → IsLine w text → v ≡ w
 one_line v w text is_v is_w =
     let m = length (pairs_of v) + length (pairs_of w) in
     let a = line_spelled v text (suc m) is_v (omega arith) in

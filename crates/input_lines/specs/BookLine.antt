@@ -3,7 +3,7 @@ use Rattle.std.specs.Prelude.{◌≡◌, nat_eq, ℕ, Bool, true, List, codes}
 use Rattle.std.specs.List.{starts_with}
 use Rattle.input_lines.specs.declared.books.BookLine.{BookLine}
 use Rattle.input_lines.specs.declared.books.BookLine.TheVariants.{Nothing, Sentence}
-use Rattle.input_lines.specs.JoinLine.{IsNothing}
+use Rattle.input_lines.specs.ReceiverLine.{IsNothing}
 
 -- the line is a sentence: it begins with $
 abbrev pub is_sentence : List ℕ → Bool

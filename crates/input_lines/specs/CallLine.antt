@@ -6,7 +6,7 @@ use Rattle.slot_join.specs.declared.joined.Extra.TheVariants.{Absent, Whole}
 use Rattle.call_texts.specs.Texts.{IsCallText}
 use Rattle.input_lines.specs.declared.calls.CallLine.{CallLine}
 use Rattle.input_lines.specs.declared.calls.CallLine.TheVariants.{Nothing, Call}
-use Rattle.input_lines.specs.JoinLine.{IsNothing}
+use Rattle.input_lines.specs.ReceiverLine.{IsNothing}
 
 -- what an answer says after a call that was sent with this expansion after it, or with none
 abbrev pub extra_of : Option Sets → Extra

@@ -3,7 +3,7 @@ use Rattle.std.specs.Prelude.{ℕ, zero, suc, true, List, [], ◌∷◌, ◌++�
 use Rattle.slot_evidence.specs.declared.places.Seen.{Seen}
 use Rattle.slot_evidence.specs.declared.places.Seen.TheVariants as seen
 use Rattle.slot_evidence.specs.Sheet.{seen_at}
-use Rattle.input_lines.specs.JoinLine.{text_of_evidence}
+use Rattle.input_lines.specs.ReceiverLine.{text_of_evidence}
 
 -- the pairs of a place: none, that of its one symbol, or those of the least and of the greatest
 abbrev pub pairs_at : ℕ → Seen → List (ℕ × ℕ)

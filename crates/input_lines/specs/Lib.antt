@@ -1,5 +1,5 @@
 pub mod Readings
-pub mod JoinLine
+pub mod ReceiverLine
 pub mod Evidence
 pub mod CallLine
 pub mod SentenceLine

@@ -4,11 +4,11 @@ use Rattle.traffic_lines.specs.declared.lines.Point.{Point}
 use Rattle.traffic_lines.specs.declared.lines.Point.TheVariants.{Station, Base, Groups, Ship, Coast}
 use Rattle.traffic_lines.specs.declared.lines.TrafficLine.{TrafficLine}
 use Rattle.traffic_lines.specs.Lines.{IsTrafficLine}
-use Rattle.input_lines.specs.JoinLine.{JoinLine, nothing, reception, evidence, IsLine}
+use Rattle.input_lines.specs.ReceiverLine.{ReceiverLine, nothing, reception, evidence, IsLine}
 
 -- what a line says: what a line of join's input says; or what is a station's, as its base, its groups and its events
 pub data PointLine : Type 0 where
-  joined : JoinLine → PointLine
+  joined : ReceiverLine → PointLine
   traffic : TrafficLine → PointLine
 
 -- the points after the base
@@ -20,7 +20,7 @@ IsBody Ship = Unit {0}
 IsBody Coast = Unit {0}
 
 -- receptions and evidence come after the base, and empty lines and comments everywhere
-abbrev pub MayBeJoined : Point → JoinLine → Type 0
+abbrev pub MayBeJoined : Point → ReceiverLine → Type 0
 MayBeJoined point nothing = Unit {0}
 MayBeJoined point (reception group e) = IsBody point
 MayBeJoined point (evidence group pairs) = IsBody point

@@ -2,7 +2,7 @@
 use Rattle.std.specs.Prelude.{◌≡◌, ◌≢◌, ℕ, List, [], ◌⊎◌, codes}
 use Rattle.ten_unit.specs.declared.character.Element.{Element}
 use Rattle.line_grammar.specs.Grammar.{Grammar, word, written}
-use Rattle.input_lines.specs.JoinLine.{signs, signs_parts, IsNothing}
+use Rattle.input_lines.specs.ReceiverLine.{signs, signs_parts, IsNothing}
 
 -- s YBY-
 abbrev pub elements_line : Grammar

@@ -2,6 +2,8 @@
 ghost use Rattle.input_lines.specs.BookLine.{IsBookLine};
 ghost use Rattle.input_lines.specs.Readings.{Reads};
 
+use line_grammar::Column;
+
 /// What a line of a log of sentences says.
 #[derive(Clone, Copy, Debug, PartialEq, Eq)]
 pub enum BookLine {
@@ -12,7 +14,7 @@ pub enum BookLine {
 }
 
 /// Reads one line of a log of sentences. An error is the column of bytes that are no such line.
-pub fn book_line(line: &[u8]) -> Result<BookLine, usize>
+pub fn book_line(line: &[u8]) -> Result<BookLine, Column>
     ensures { Reads IsBookLine line.now result }
 {
     let Some((first, _)) = line.split_first() else {

@@ -2,13 +2,14 @@
 ghost use Rattle.std.specs.Prelude.{◌≡◌};
 ghost use Rattle.call_texts.specs.Texts.{IsWholeOrAbsent};
 ghost use Rattle.input_lines.specs.CallLine.{extra_of, IsCallLine};
-ghost use Rattle.input_lines.specs.JoinLine.{IsNothing};
+ghost use Rattle.input_lines.specs.ReceiverLine.{IsNothing};
 ghost use Rattle.input_lines.specs.Readings.{Reads};
 
 use crate::worlds::says_nothing;
 use call_texts::read_call;
 use call_values::Call;
 use expansion::Expansion;
+use line_grammar::Column;
 use slot_join::Extra;
 
 /// What a line of a file of calls says.
@@ -35,21 +36,19 @@ fn expansion_in(extra: &Extra) -> Option<Expansion>
 }
 
 /// Reads a line that says something.
-fn whole_call(line: &[u8]) -> Result<CallLine, usize>
+fn whole_call(line: &[u8]) -> Result<CallLine, Column>
     requires { IsNothing line.now → ⊥ }
     ensures { Reads IsCallLine line.now result }
 {
-    match read_call(line) {
-        Ok((call, extra)) => Ok(CallLine::Call {
-            call,
-            expansion: expansion_in(&extra),
-        }),
-        Err(n) => Err(n),
-    }
+    let (call, extra) = read_call(line)?;
+    Ok(CallLine::Call {
+        call,
+        expansion: expansion_in(&extra),
+    })
 }
 
 /// Reads one line of a file of calls. An error is the column of bytes that are no such line.
-pub fn call_line(line: &[u8]) -> Result<CallLine, usize>
+pub fn call_line(line: &[u8]) -> Result<CallLine, Column>
     ensures { Reads IsCallLine line.now result }
 {
     if says_nothing(line) {

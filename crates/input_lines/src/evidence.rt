@@ -5,7 +5,7 @@ ghost use Rattle.slot_evidence.specs.Sheet.{IsEnds};
 ghost use Rattle.line_grammar.specs.Grammar.{Grammar, word as behind};
 ghost use Rattle.line_grammar.specs.Repeats.{repeated};
 ghost use Rattle.line_grammar.specs.inside.Reading.{read};
-ghost use Rattle.input_lines.specs.JoinLine.{JoinLine as Line, IsLine, IsPair, grouped, pair as pair_row};
+ghost use Rattle.input_lines.specs.ReceiverLine.{ReceiverLine as Line, IsLine, IsPair, grouped, pair as pair_row};
 ghost use Rattle.input_lines.specs.Lines.{ReadsJoin, Says, facts_of_pairs};
 ghost use Rattle.input_lines.specs.inside.Reading.{pairs_text};
 

@@ -1,24 +1,32 @@
 //! Why a line isn't read.
 ghost use Rattle.std.specs.Prelude.{◌≡◌};
-ghost use Rattle.input_lines.specs.declared.fault.LineFault.TheVariants.{NoMemory};
+ghost use Rattle.input_lines.specs.declared.fault.LineFault.TheVariants as fault;
 
+use line_grammar::Column;
 use std::alloc::AllocError;
 use thiserror::Error;
 
 /// Why a line was not read.
 #[derive(Clone, Copy, Debug, PartialEq, Eq, Error)]
 pub enum LineFault {
-    /// The line is ill-formed. The column is the least n for which its first n bytes begin no well-formed line, and its
-    /// length plus one where it ends too early.
+    /// The line is ill-formed at this column.
     #[error("ill-formed at column {0}")]
-    Column(usize),
+    Column(Column),
     /// There was no memory for the line's elements.
     #[error("out of memory")]
     NoMemory,
 }
 
+impl From<Column> for LineFault {
+    ghost from_gives = { λ n e. e ≡ fault.Column n };
+
+    fn from(n: Column) -> LineFault {
+        LineFault::Column(n)
+    }
+}
+
 impl From<AllocError> for LineFault {
-    ghost from_gives = { λ _ e. e ≡ NoMemory };
+    ghost from_gives = { λ _ e. e ≡ fault.NoMemory };
 
     fn from(_: AllocError) -> LineFault {
         LineFault::NoMemory

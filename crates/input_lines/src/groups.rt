@@ -2,7 +2,7 @@
 ghost use Rattle.std.specs.Prelude.{◌≡◌, ℕ, IfOk, IfErr, Err};
 ghost use Rattle.line_grammar.specs.Grammar.{Grammar};
 ghost use Rattle.line_grammar.specs.inside.Reading.{read};
-ghost use Rattle.input_lines.specs.JoinLine.{behind_blank, grouped};
+ghost use Rattle.input_lines.specs.ReceiverLine.{behind_blank, grouped};
 ghost use Rattle.input_lines.specs.inside.Reading.{IsBehindBlank, IsNamed};
 
 use line_grammar::{Left, free_number, word};

@@ -7,7 +7,7 @@ ghost use Rattle.input_lines.specs.declared.join.JoinLine.TheVariants.{Evidence}
 ghost use Rattle.input_lines.specs.declared.fault.LineFault.{LineFault};
 ghost use Rattle.input_lines.specs.declared.fault.LineFault.TheVariants.{NoMemory};
 ghost use Rattle.input_lines.specs.Evidence.{pairs_below, evidence_text};
-ghost use Rattle.input_lines.specs.JoinLine.{JoinLine, evidence, IsLine, IsNothing};
+ghost use Rattle.input_lines.specs.ReceiverLine.{ReceiverLine, evidence, IsLine, IsNothing};
 ghost use Rattle.input_lines.specs.Lines.{ReadsJoin, facts_of_pairs};
 ghost use Rattle.input_lines.specs.declared.calls.CallLine.{CallLine};
 ghost use Rattle.input_lines.specs.declared.sentences.SentenceLine.{SentenceLine};
@@ -32,7 +32,7 @@ use traffic_lines::{one_traffic_line, one_world_line, traffic_lines_begin};
 /// The law that a line of join's input says one thing.
 #[tactic(auto, using(crate::proofs::WholeLines::one_line))]
 pub fn one_line()
-    ensures { (a b : JoinLine) (text : List ℕ) → IsLine a text → IsLine b text → a ≡ b }
+    ensures { (a b : ReceiverLine) (text : List ℕ) → IsLine a text → IsLine b text → a ≡ b }
 {}
 
 /// The law that a line at a point of a traffic file says one thing.

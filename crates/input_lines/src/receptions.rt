@@ -6,8 +6,8 @@ ghost use Rattle.line_grammar.specs.Bytes.{letter_r};
 ghost use Rattle.line_grammar.specs.Tokens as tokens;
 ghost use Rattle.line_grammar.specs.Tokens.{is_one_of, IsToken};
 ghost use Rattle.line_grammar.specs.inside.Reading.{read};
-ghost use Rattle.input_lines.specs.JoinLine as lines;
-ghost use Rattle.input_lines.specs.JoinLine.{behind_blank, grouped, reception, IsLine};
+ghost use Rattle.input_lines.specs.ReceiverLine as lines;
+ghost use Rattle.input_lines.specs.ReceiverLine.{behind_blank, grouped, reception, IsLine};
 ghost use Rattle.input_lines.specs.Lines.{ReadsJoin};
 ghost use Rattle.input_lines.specs.inside.Reading.{blank_and_signs, body_text};
 

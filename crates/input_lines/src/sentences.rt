@@ -5,6 +5,7 @@ ghost use Rattle.input_lines.specs.Readings.{Reads};
 ghost use Rattle.input_lines.specs.SentenceLine.{IsSentenceLine};
 
 use crate::calls::{CallLine, call_line};
+use line_grammar::Column;
 
 /// What a line of a file of calls and sentences says.
 #[derive(Clone, Copy, Debug, PartialEq, Eq)]
@@ -16,18 +17,15 @@ pub enum SentenceLine<'a> {
 }
 
 /// Reads a line that doesn't begin with `$`.
-fn said_line(line: &[u8]) -> Result<SentenceLine<'_>, usize>
+fn said_line(line: &[u8]) -> Result<SentenceLine<'_>, Column>
     requires { (rest : List ℕ) → line.now ≢ dollar_sign ∷ rest }
     ensures { Reads IsSentenceLine line.now result }
 {
-    match call_line(line) {
-        Ok(says) => Ok(SentenceLine::Said(says)),
-        Err(n) => Err(n),
-    }
+    Ok(SentenceLine::Said(call_line(line)?))
 }
 
 /// Reads one line of a file of calls and sentences. An error is the column of bytes that are no such line.
-pub fn sentence_line(line: &[u8]) -> Result<SentenceLine<'_>, usize>
+pub fn sentence_line(line: &[u8]) -> Result<SentenceLine<'_>, Column>
     ensures { Reads IsSentenceLine line.now result }
 {
     let Some((first, _)) = line.split_first() else {

@@ -40,10 +40,7 @@ fn line_of_receivers(
 {
     if is_body(point) {
         traffic_lines_begin();
-        match join_line(alloc, line) {
-            Ok(says) => Ok(Some(says)),
-            Err(fault) => Err(fault),
-        }
+        Ok(Some(join_line(alloc, line)?))
     } else {
         stations_own(point, line)
     }

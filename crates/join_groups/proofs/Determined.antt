@@ -10,7 +10,7 @@ use Rattle.slot_join.specs.Answer.{IsAnswer, is_reported}
 use Rattle.input_lines.specs.Evidence.{evidence_text}
 use Rattle.line_engine.specs.Lines.{Lines}
 use Rattle.line_engine.specs.Determined.{IsDetermined}
-use Rattle.input_lines.specs.JoinLine.{JoinLine, IsLine}
+use Rattle.input_lines.specs.ReceiverLine.{ReceiverLine, IsLine}
 use Rattle.input_lines.proofs.PublicLaws.{one_column}
 use Rattle.line_engine.proofs.PublicLaws.{begins_empty}
 use Rattle.join_groups.specs.Groups.{group_facts}
@@ -52,7 +52,7 @@ same_parts a b group parts =
     ∙ ap (λ (l : List ℕ). told_of b.group l a.is_well) parts.0
     ∙ ap (λ (w : Bool). told_of b.group b.line w) parts.1
 
-same_all : (tells : Telling) → TellsOnce tells → (said : List JoinLine) (a b : List GroupLine) → map (λ (told : GroupLine). told.group) a ≡ map (λ (told : GroupLine). told.group) b
+same_all : (tells : Telling) → TellsOnce tells → (said : List ReceiverLine) (a b : List GroupLine) → map (λ (told : GroupLine). told.group) a ≡ map (λ (told : GroupLine). told.group) b
     → AllByRecursion (λ told. tells (group_facts said told.group) told) a → AllByRecursion (λ told. tells (group_facts said told.group) told) b → a ≡ b
 same_all tells once said [] [] groups x y = refl
 same_all tells once said [] (t ∷ b) groups x y = absurd (nil≢cons groups)
@@ -63,7 +63,7 @@ same_all tells once said (s ∷ a) (t ∷ b) groups x y =
     let same : s ≡ t = same_parts s t heads.0 (once (group_facts said s.group) s t heads.0 x.0 there) in
     ap (λ (u : GroupLine). u ∷ a) same ∙ ap (λ (l : List GroupLine). t ∷ l) (same_all tells once said a b heads.1 x.1 y.1)
 
-pub same_text : (tells : Telling) → TellsOnce tells → (said : List JoinLine) (a b : List ℕ) (s t : ℕ) → IsGroupsText tells said a s → IsGroupsText tells said b t → (a ≡ b) × (s ≡ t)
+pub same_text : (tells : Telling) → TellsOnce tells → (said : List ReceiverLine) (a b : List ℕ) (s t : ℕ) → IsGroupsText tells said a s → IsGroupsText tells said b t → (a ≡ b) × (s ≡ t)
 same_text tells once said a b s t x y =
     let groups =
     same_rising (map (λ (told : GroupLine). told.group) x.all) (map (λ (told : GroupLine). told.group) y.all) x.groups.rising y.groups.rising (λ k. x.groups.named k ∙ sym (y.groups.named k)) in
@@ -75,7 +75,7 @@ same_text tells once said a b s t x y =
 same_end : OneLine → (tells : Telling) → TellsOnce tells → (lines : Lines) (a b : List ℕ) (s t : ℕ) → EndsTelling tells lines a s → EndsTelling tells lines b t → (a ≡ b) × (s ≡ t)
 same_end one tells once lines a b s t x y =
     let said : y.said ≡ x.said = same_said one y.said x.said lines y.are_lines x.are_lines in
-    same_text tells once x.said a b s t x.is_text (subst (λ (w : List JoinLine). IsGroupsText tells w b t) said y.is_text)
+    same_text tells once x.said a b s t x.is_text (subst (λ (w : List ReceiverLine). IsGroupsText tells w b t) said y.is_text)
 
 pub groups_determined : OneLine → (tells : Telling) → TellsOnce tells → IsDetermined (groups_meaning tells)
 groups_determined one tells once = record {

@@ -5,7 +5,7 @@ use Rattle.slot_evidence.specs.declared.places.Seen.{Seen}
 use Rattle.slot_evidence.specs.Facts.{Facts, facts_of, no_facts}
 use Rattle.slot_evidence.specs.Sheet.{IsEnds}
 use Rattle.ten_unit.specs.declared.character.Element.{Element}
-use Rattle.input_lines.specs.JoinLine.{JoinLine, nothing, reception, evidence, IsLine}
+use Rattle.input_lines.specs.ReceiverLine.{ReceiverLine, nothing, reception, evidence, IsLine}
 use Rattle.input_lines.specs.Lines.{Says, facts_of_pairs}
 use Rattle.input_lines.proofs.PublicLaws.{reception_few}
 use Rattle.input_lines.specs.declared.join.JoinLine.{JoinLine as Got}
@@ -19,7 +19,7 @@ use Rattle.join_groups.proofs.Naming.{same_facts, named_push, facts_push, unname
 use Rattle.join_groups.proofs.Holding.{holds_same}
 
 -- a line of one group gives facts of this group alone
-pub line_of_one : (line : JoinLine) (group k p v : ℕ) → ((j : ℕ) → names j line ≡ (group == j)) → facts_of_line k line p v ≡ (group == k && facts_of_line group line p v)
+pub line_of_one : (line : ReceiverLine) (group k p v : ℕ) → ((j : ℕ) → names j line ≡ (group == j)) → facts_of_line k line p v ≡ (group == k && facts_of_line group line p v)
 line_of_one line group k p v named =
     elim (cases_eq group k) [
       | inl here ↦ ap (λ (j : ℕ). facts_of_line j line p v) (sym here) ∙ sym (ap (λ (b : Bool). b && facts_of_line group line p v) (eq-eqb group k here))
@@ -34,7 +34,7 @@ keeps_none groups h =
     holds_same (number_in groups) groups.sheets.items groups.batch.items (λ k. false) (is_named []) (λ k. no_facts) (group_facts []) (λ k. refl) (λ k p v. refl) h
 
 -- groups that hold what a line showed of its group keep what is said with it
-pub keeps_line : (groups : NamedGroups) (said : List JoinLine) (line : JoinLine) (group : ℕ) (G : Facts) → ((j : ℕ) → names j line ≡ (group == j)) → facts_of_line group line ≡ G
+pub keeps_line : (groups : NamedGroups) (said : List ReceiverLine) (line : ReceiverLine) (group : ℕ) (G : Facts) → ((j : ℕ) → names j line ≡ (group == j)) → facts_of_line group line ≡ G
     → Holds groups (named_with group (is_named said)) (facts_with group G (group_facts said)) → Keeps groups (said ++ line ∷ [])
 keeps_line groups said line group G named facts h =
     holds_same (number_in groups) groups.sheets.items groups.batch.items (named_with group (is_named said)) (is_named (said ++ line ∷ [])) (facts_with group G (group_facts said)) (group_facts (said ++ line ∷ []))
@@ -44,7 +44,7 @@ keeps_line groups said line group G named facts h =
     h
 
 -- groups are full exactly where this line brings one too many
-pub full_brings : (said : List JoinLine) (line : JoinLine) (group : ℕ) → ((j : ℕ) → names j line ≡ (group == j)) → IsFull (is_named said) group → BringsTooMany said line
+pub full_brings : (said : List ReceiverLine) (line : ReceiverLine) (group : ℕ) → ((j : ℕ) → names j line ≡ (group == j)) → IsFull (is_named said) group → BringsTooMany said line
 full_brings said line group named full = record {
   group = group;
   named = named group ∙ eq-eqb group group refl;
@@ -55,7 +55,7 @@ full_brings said line group named full = record {
 }
 
 -- the group that is one too many is this line's
-pub brings_full : (said : List JoinLine) (line : JoinLine) (group : ℕ) → ((j : ℕ) → names j line ≡ (group == j)) → BringsTooMany said line → IsFull (is_named said) group
+pub brings_full : (said : List ReceiverLine) (line : ReceiverLine) (group : ℕ) → ((j : ℕ) → names j line ≡ (group == j)) → BringsTooMany said line → IsFull (is_named said) group
 brings_full said line group named b =
     let same : group ≡ b.group = eqb-true group b.group (sym (named b.group) ∙ b.named) in
     record {
@@ -67,7 +67,7 @@ brings_full said line group named b =
     }
 
 -- a line of at most 4,200 bytes has no more elements
-pub short_read : (says : JoinLine) (read : Got) (text : List ℕ) → IsLine says text → Says says read → length text ≤ 4200 → IsShort read
+pub short_read : (says : ReceiverLine) (read : Got) (text : List ℕ) → IsLine says text → Says says read → length text ≤ 4200 → IsShort read
 short_read nothing read text is says few = λ group e this. absurd (two (sym says ∙ this))
   where
     two : {group : ℕ} {e : List Element} → got.Nothing ≡ got.Reception group e → ⊥
@@ -84,7 +84,7 @@ short_read (reception g heard) read text is says few = λ group e this.
     elements h = cc
 
 -- what a line says, once it is read
-pub says_reception : (line : JoinLine) (group : ℕ) (e : List Element) → Says line (got.Reception group e) → ((k : ℕ) → names k line ≡ (group == k)) × (facts_of_line group line ≡ facts_of e)
+pub says_reception : (line : ReceiverLine) (group : ℕ) (e : List Element) → Says line (got.Reception group e) → ((k : ℕ) → names k line ≡ (group == k)) × (facts_of_line group line ≡ facts_of e)
 says_reception nothing group e is = absurd (two is)
   where
     two : {group : ℕ} {e : List Element} → got.Reception group e ≡ got.Nothing → ⊥
@@ -105,7 +105,7 @@ says_reception (reception g heard) group e is =
     parts h = (cc, cc)
 
 -- a line of evidence names its group, and its sheet keeps the ends of what it says
-pub says_evidence : (line : JoinLine) (group : ℕ) (sheet : List Seen) → Says line (got.Evidence group sheet)
+pub says_evidence : (line : ReceiverLine) (group : ℕ) (sheet : List Seen) → Says line (got.Evidence group sheet)
     → ((k : ℕ) → names k line ≡ (group == k)) × IsEnds (facts_of_line group line) sheet
 says_evidence nothing group sheet is = absurd (two is)
   where
@@ -129,7 +129,7 @@ says_evidence (evidence g pairs) group sheet is =
     parts h = (cc, cc)
 
 -- a line of which nothing was read leaves all as it was
-pub says_nothing : (said : List JoinLine) (line : JoinLine) (groups : NamedGroups) → Keeps groups said → Says line got.Nothing → (BringsTooMany said line → ⊥) × Keeps groups (said ++ line ∷ [])
+pub says_nothing : (said : List ReceiverLine) (line : ReceiverLine) (groups : NamedGroups) → Keeps groups said → Says line got.Nothing → (BringsTooMany said line → ⊥) × Keeps groups (said ++ line ∷ [])
 says_nothing said (reception g heard) groups keeps is = absurd (cc)
 says_nothing said (evidence g pairs) groups keeps is = absurd (two is.1.0)
   where

@@ -10,7 +10,7 @@ use Rattle.line_engine.specs.Lines.{Lines}
 use Rattle.line_engine.specs.Faults.{IsFaultless}
 use Rattle.line_engine.specs.Determined.{IsNeverStuck}
 use Rattle.line_engine.proofs.PublicLaws.{sound_line_of}
-use Rattle.input_lines.specs.JoinLine.{JoinLine, nothing, reception, evidence, IsPair, IsLine}
+use Rattle.input_lines.specs.ReceiverLine.{ReceiverLine, nothing, reception, evidence, IsPair, IsLine}
 use Rattle.input_lines.specs.Lines.{facts_of_pairs}
 use Rattle.input_lines.proofs.PublicLaws.{line_there}
 use Rattle.join_groups.specs.Groups.{AreLines, is_named, facts_of_line, group_facts, AreAbove, IsRising, is_among, AreGroups}
@@ -78,13 +78,13 @@ with_number k (n ∷ numbers) rising =
     ]
 
 -- lines with one more that names this group
-with_group : (line : JoinLine) (said : List JoinLine) (group : ℕ) (groups : List ℕ) → ((j : ℕ) → is_named (line ∷ said) j ≡ ((group == j) || is_named said j)) → AreGroups said groups
+with_group : (line : ReceiverLine) (said : List ReceiverLine) (group : ℕ) (groups : List ℕ) → ((j : ℕ) → is_named (line ∷ said) j ≡ ((group == j) || is_named said j)) → AreGroups said groups
     → (new : List ℕ) × AreGroups (line ∷ said) new
 with_group line said group groups names are =
     let w = with_number group groups are.rising in
     (w.new, record { rising = w.rising; named = λ j. w.among j ∙ ap (λ (b : Bool). (group == j) || b) (are.named j) ∙ sym (names j) })
 
-pub groups_of : (said : List JoinLine) → (groups : List ℕ) × AreGroups said groups
+pub groups_of : (said : List ReceiverLine) → (groups : List ℕ) × AreGroups said groups
 unfolding is_named
 groups_of [] = ([], record { rising = tt; named = λ k. refl })
 groups_of (nothing ∷ said) = let g = groups_of said in (g.0, record { rising = g.1.rising; named = λ k. g.1.named k })
@@ -108,21 +108,21 @@ pair_small (x ∷ pairs) p v all h =
       | inr more ↦ pair_small pairs p v (λ k d inside. all (suc k) d (omega (arith, inside))) more
     ]
 
-line_small : (k : ℕ) (line : JoinLine) (text : List ℕ) (p v : ℕ) → IsLine line text → facts_of_line k line p v ≡ true → (p < 64) × (v < 128)
+line_small : (k : ℕ) (line : ReceiverLine) (text : List ℕ) (p v : ℕ) → IsLine line text → facts_of_line k line p v ≡ true → (p < 64) × (v < 128)
 line_small k nothing text p v is h = absurd (cc)
 line_small k (reception group e) text p v is h = fact_small e p v (and_parts (group == k) (facts_of e p v) h).1
 line_small k (evidence group pairs) text p v is h = pair_small pairs p v is.1.1.0 (and_parts (group == k) (facts_of_pairs pairs p v) h).1
 
 -- each is what some line says
-abbrev pub AreSome : List JoinLine → Type 0
+abbrev pub AreSome : List ReceiverLine → Type 0
 AreSome said = AllByRecursion (λ line. (text : List ℕ) × IsLine line text) said
 
-pub some_lines : (said : List JoinLine) (lines : Lines) → AreLines said lines → AreSome said
+pub some_lines : (said : List ReceiverLine) (lines : Lines) → AreLines said lines → AreSome said
 some_lines [] lines are = tt
 some_lines (line ∷ said) [] are = absurd are
 some_lines (line ∷ said) (text ∷ lines) are = ((text, are.0), some_lines said lines are.1)
 
-pub group_within : (said : List JoinLine) (k p v : ℕ) → AreSome said → group_facts said k p v ≡ true → (p < 64) × (v < 128)
+pub group_within : (said : List ReceiverLine) (k p v : ℕ) → AreSome said → group_facts said k p v ≡ true → (p < 64) × (v < 128)
 unfolding group_facts
 group_within [] k p v are h = absurd (cc)
 group_within (line ∷ said) k p v are h =
@@ -131,7 +131,7 @@ group_within (line ∷ said) k p v are h =
       | inr more ↦ group_within said k p v are.1 more
     ]
 
-pub group_small : (said : List JoinLine) (k p v : ℕ) → AreSome said → group_facts said k p v ≡ true → v < 128
+pub group_small : (said : List ReceiverLine) (k p v : ℕ) → AreSome said → group_facts said k p v ≡ true → v < 128
 group_small said k p v are h = (group_within said k p v are h).1
 
 -- ---- what is told of each group
@@ -140,7 +140,7 @@ group_small said k p v are h = (group_within said k p v are h).1
 abbrev pub AnswerLaw : Type 0
 AnswerLaw = (F : Facts) → ((p v : ℕ) → F p v ≡ true → v < 128) → ((answer : Joined) → IsAnswer F answer → ⊥) → ⊥
 
-module _ (law : AnswerLaw) (said : List JoinLine) (are : AreSome said) where
+module _ (law : AnswerLaw) (said : List ReceiverLine) (are : AreSome said) where
   record ToldOf (groups : List ℕ) : Type 0 where
     all : List GroupLine
     groups_are : map (λ told. told.group) all ≡ groups
@@ -173,7 +173,7 @@ module _ (law : AnswerLaw) (said : List JoinLine) (are : AreSome said) where
 
 -- ---- lines without a fault say something
 
-pub said_there : (tells : Telling) (earlier lines : Lines) → IsFaultless (groups_meaning tells) (earlier ++ lines) → IsThere ((said : List JoinLine) × AreLines said lines)
+pub said_there : (tells : Telling) (earlier lines : Lines) → IsFaultless (groups_meaning tells) (earlier ++ lines) → IsThere ((said : List ReceiverLine) × AreLines said lines)
 said_there tells earlier [] none k = k ([], tt)
 said_there tells earlier (line ∷ lines) none k =
     line_there IsLine line (sound_line_of (groups_meaning tells) (earlier ++ line ∷ lines) earlier line lines none refl) (λ w is.

@@ -10,7 +10,7 @@ use Rattle.slot_evidence.specs.Seen.{IsSeen}
 use Rattle.slot_evidence.specs.Sheet.{IsEnds, seen_at}
 use Rattle.input_lines.specs.Evidence.{evidence_text}
 use Rattle.line_engine.specs.Determined.{IsNeverStuck}
-use Rattle.input_lines.specs.JoinLine.{JoinLine}
+use Rattle.input_lines.specs.ReceiverLine.{ReceiverLine}
 use Rattle.join_groups.specs.Groups.{group_facts, AreGroups}
 use Rattle.join_groups.specs.Output.{GroupLine, TellsEvidence, IsGroupsText}
 use Rattle.join_groups.specs.Meanings.{groups_meaning}
@@ -128,7 +128,7 @@ module _ (F : Facts) (within : (p v : ℕ) → F p v ≡ true → (p < 64) × (v
 
 -- ---- what is told of each group
 
-module _ (said : List JoinLine) (are : AreSome said) where
+module _ (said : List ReceiverLine) (are : AreSome said) where
   record ToldOf (groups : List ℕ) : Type 0 where
     all : List GroupLine
     groups_are : map (λ told. told.group) all ≡ groups

@@ -12,7 +12,7 @@ use Rattle.slot_evidence.specs.declared.places.Seen.{Seen}
 use Rattle.slot_evidence.specs.Facts.{Facts}
 use Rattle.slot_evidence.specs.Sheet.{IsEnds}
 use Rattle.receiver_pool.specs.declared.group_entries.GroupReception.{GroupReception}
-use Rattle.input_lines.specs.JoinLine.{JoinLine}
+use Rattle.input_lines.specs.ReceiverLine.{ReceiverLine}
 use Rattle.join_groups.specs.Groups.{is_named, group_facts, AreGroups}
 use Rattle.join_groups.specs.Holds.{HoldsIn}
 use Rattle.join_groups.specs.Output.{GroupLine, Telling, IsGroupsText}
@@ -56,7 +56,7 @@ module _ (tells : Telling) (sheets : List (List Seen)) where
   groups_of (e ∷ numbers) [] of = absurd of
   groups_of (e ∷ numbers) (t ∷ all) of = ap (λ (k : ℕ). k ∷ map (λ told. told.group) all) of.0 ∙ ap (λ (l : List ℕ). e.0 ∷ l) (groups_of numbers all of.2)
 
-  each_told : (said : List JoinLine) (numbers : Numbers) (all : List GroupLine) → AreOf tells sheets numbers all → AllByRecursion (λ e. IsEnds (group_facts said e.0) (slice_index_or sheets e.1 [])) numbers
+  each_told : (said : List ReceiverLine) (numbers : Numbers) (all : List GroupLine) → AreOf tells sheets numbers all → AllByRecursion (λ e. IsEnds (group_facts said e.0) (slice_index_or sheets e.1 [])) numbers
       → AllByRecursion (λ told. tells (group_facts said told.group) told) all
   each_told said [] [] of ends = tt
   each_told said [] (t ∷ all) of ends = absurd of
@@ -65,7 +65,7 @@ module _ (tells : Telling) (sheets : List (List Seen)) where
       (subst (λ (k : ℕ). tells (group_facts said k) t) (sym of.0) (of.1 (group_facts said e.0) ends.0), each_told said numbers all of.2 ends.1)
 
   -- all that is told is what is told of the groups that lines named
-  pub groups_text : (said : List JoinLine) (numbers : Numbers) (batch : List GroupReception) (text : List ℕ) (is_well : Bool) → IsStrictlySortedBy nat_cmp (keys_of numbers) → batch ≡ []
+  pub groups_text : (said : List ReceiverLine) (numbers : Numbers) (batch : List GroupReception) (text : List ℕ) (is_well : Bool) → IsStrictlySortedBy nat_cmp (keys_of numbers) → batch ≡ []
       → HoldsIn (found numbers) sheets batch (is_named said) (group_facts said) → HasTold tells sheets numbers text is_well → IsGroupsText tells said text (cond is_well 0 1)
   groups_text said numbers batch text is_well ordered ended holds h =
       let same : map (λ told. told.group) h.all ≡ keys_of numbers = groups_of numbers h.all h.are_of in

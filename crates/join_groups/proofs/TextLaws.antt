@@ -14,7 +14,7 @@ use Rattle.slot_evidence.specs.Alike.{AreAlike}
 use Rattle.slot_evidence.proofs.PublicLaws.{same_alike, flip_alike}
 use Rattle.slot_join.specs.declared.joined.Joined.{Joined}
 use Rattle.slot_join.specs.Answer.{IsAnswer}
-use Rattle.input_lines.specs.JoinLine.{JoinLine, evidence}
+use Rattle.input_lines.specs.ReceiverLine.{ReceiverLine, evidence}
 use Rattle.input_lines.specs.Lines.{facts_of_pairs}
 use Rattle.input_lines.specs.Evidence.{pairs_below}
 use Rattle.join_groups.specs.Groups.{names, is_named, facts_of_line, group_facts}
@@ -48,14 +48,14 @@ evidence_goes_over laws F G told alike t = record {
   well_is = t.well_is;
 }
 
-all_over : (tells : Telling) → GoesOver tells → (said other : List JoinLine) → ((k p : ℕ) → AreAlike (group_facts said k p) (group_facts other k p)) → (all : List GroupLine)
+all_over : (tells : Telling) → GoesOver tells → (said other : List ReceiverLine) → ((k p : ℕ) → AreAlike (group_facts said k p) (group_facts other k p)) → (all : List GroupLine)
     → AllByRecursion (λ told. tells (group_facts said told.group) told) all → AllByRecursion (λ told. tells (group_facts other told.group) told) all
 all_over tells over said other alike [] each = tt
 all_over tells over said other alike (told ∷ all) each =
     (over (group_facts said told.group) (group_facts other told.group) told (alike told.group) each.0, all_over tells over said other alike all each.1)
 
 -- lines that name the same groups, with facts that are alike, have one text
-pub text_over : (tells : Telling) → GoesOver tells → (said other : List JoinLine) (text : List ℕ) (status : ℕ) → ((k : ℕ) → is_named said k ≡ is_named other k)
+pub text_over : (tells : Telling) → GoesOver tells → (said other : List ReceiverLine) (text : List ℕ) (status : ℕ) → ((k : ℕ) → is_named said k ≡ is_named other k)
     → ((k p : ℕ) → AreAlike (group_facts said k p) (group_facts other k p)) → IsGroupsText tells said text status → IsGroupsText tells other text status
 text_over tells over said other text status same alike t = record {
   all = t.all;
@@ -66,7 +66,7 @@ text_over tells over said other text status same alike t = record {
 }
 
 -- a test of lines that have the same members
-any_has : (f : JoinLine → Bool) (d : List JoinLine) → list_any f d ≡ true → (x : JoinLine) × Contains d x × (f x ≡ true)
+any_has : (f : ReceiverLine → Bool) (d : List ReceiverLine) → list_any f d ≡ true → (x : ReceiverLine) × Contains d x × (f x ≡ true)
 any_has f [] h = absurd (cc)
 any_has f (y ∷ d) h =
     elim (or_cases (f y) (list_any f d) h) [
@@ -74,17 +74,17 @@ any_has f (y ∷ d) h =
       | inr more ↦ (let x = any_has f d more in (x.0, (suc x.1.0, omega (arith, x.1.1), x.1.2), x.2))
     ]
 
-has_any : (f : JoinLine → Bool) (d : List JoinLine) (x : JoinLine) → Contains d x → f x ≡ true → list_any f d ≡ true
+has_any : (f : ReceiverLine → Bool) (d : List ReceiverLine) (x : ReceiverLine) → Contains d x → f x ≡ true → list_any f d ≡ true
 has_any f d x c h = list_any_at f d c.0 x c.1 (ap f c.2 ∙ h)
 
-same_any : (f : JoinLine → Bool) (d e : List JoinLine) → ((x : JoinLine) → Contains d x ↔ Contains e x) → list_any f d ≡ list_any f e
+same_any : (f : ReceiverLine → Bool) (d e : List ReceiverLine) → ((x : ReceiverLine) → Contains d x ↔ Contains e x) → list_any f d ≡ list_any f e
 same_any f d e same =
     same_from_decides {P = list_any f e ≡ true} (list_any f d) (list_any f e)
     (λ h. let x = any_has f d h in has_any f e x.0 ((same x.0).0 x.1) x.2, λ h. let x = any_has f e h in has_any f d x.0 ((same x.0).1 x.1) x.2)
     (λ h. h, λ h. h)
 
 -- neither order nor repetition of lines matters
-pub order_over : Laws → (tells : Telling) → GoesOver tells → (said other : List JoinLine) (text : List ℕ) (status : ℕ) → ((line : JoinLine) → Contains said line ↔ Contains other line)
+pub order_over : Laws → (tells : Telling) → GoesOver tells → (said other : List ReceiverLine) (text : List ℕ) (status : ℕ) → ((line : ReceiverLine) → Contains said line ↔ Contains other line)
     → IsGroupsText tells said text status → IsGroupsText tells other text status
 unfolding is_named group_facts
 order_over laws tells over said other text status same t =
@@ -92,8 +92,8 @@ order_over laws tells over said other text status same t =
     (λ k p. same_alike (group_facts said k p) (group_facts other k p) (λ v. same_any (λ line. facts_of_line k line p v) said other same)) t
 
 -- evidence stands for the lines of its group
-module _ (laws : Laws) (heard rest : List JoinLine) (k : ℕ) (sheet : List Seen) (lawful : IsSheet sheet) (of : AreOfGroup k heard) (ends : IsEnds (group_facts heard k) sheet) where
-  line : JoinLine
+module _ (laws : Laws) (heard rest : List ReceiverLine) (k : ℕ) (sheet : List Seen) (lawful : IsSheet sheet) (of : AreOfGroup k heard) (ends : IsEnds (group_facts heard k) sheet) where
+  line : ReceiverLine
   line = evidence k (pairs_below 64 sheet)
 
   pub names_same : (j : ℕ) → is_named (heard ++ rest) j ≡ is_named (evidence k (pairs_below 64 sheet) ∷ rest) j

@@ -3,13 +3,13 @@ use Rattle.std.specs.Prelude.{◌≡◌, ℕ, ◌≤◌, true, false, List, [], 
 use Rattle.line_grammar.specs.Columns.{IsColumn}
 use Rattle.line_engine.specs.Lines.{Lines}
 use Rattle.line_engine.specs.Meaning.{Meaning}
-use Rattle.input_lines.specs.JoinLine.{JoinLine, IsLine}
+use Rattle.input_lines.specs.ReceiverLine.{ReceiverLine, IsLine}
 use Rattle.join_groups.specs.declared.groups.TheConstants.{MOST_GROUPS}
 use Rattle.join_groups.specs.Groups.{AreLines, names, is_named, AreGroups}
 use Rattle.join_groups.specs.Output.{Telling, IsGroupsText}
 
 -- after what was said this line names a new group, though there are as many groups as an input may have
-pub record BringsTooMany (said : List JoinLine) (line : JoinLine) : Type 0 where
+pub record BringsTooMany (said : List ReceiverLine) (line : ReceiverLine) : Type 0 where
   pub group : ℕ
   pub named : names group line ≡ true
   pub is_new : is_named said group ≡ false
@@ -19,15 +19,15 @@ pub record BringsTooMany (said : List JoinLine) (line : JoinLine) : Type 0 where
 
 -- after these lines this one brings a group too many
 pub record IsOverfull (earlier : Lines) (text : List ℕ) : Type 0 where
-  pub said : List JoinLine
+  pub said : List ReceiverLine
   pub are_lines : AreLines said earlier
-  pub line : JoinLine
+  pub line : ReceiverLine
   pub is_line : IsLine line text
   pub brings : BringsTooMany said line
 
 -- an input of these lines has this text and status
 pub record EndsTelling (tells : Telling) (lines : Lines) (text : List ℕ) (status : ℕ) : Type 0 where
-  pub said : List JoinLine
+  pub said : List ReceiverLine
   pub are_lines : AreLines said lines
   pub is_text : IsGroupsText tells said text status
 

@@ -9,7 +9,7 @@ use Rattle.slot_join.specs.declared.joined.Joined.{Joined}
 use Rattle.slot_join.specs.Answer.{IsAnswer, is_reported}
 use Rattle.call_texts.specs.Texts.{answer_line}
 use Rattle.input_lines.specs.Evidence.{evidence_text}
-use Rattle.input_lines.specs.JoinLine.{JoinLine}
+use Rattle.input_lines.specs.ReceiverLine.{ReceiverLine}
 use Rattle.join_groups.specs.Groups.{group_facts, AreGroups}
 
 -- what is told of a group: its line, and whether the run may end with status 0
@@ -37,7 +37,7 @@ pub record TellsEvidence (F : Facts) (told : GroupLine) : Type 0 where
   pub well_is : told.is_well ≡ true
 
 -- the text and status of what is told of each group that lines name, by rising number
-pub record IsGroupsText (tells : Telling) (said : List JoinLine) (text : List ℕ) (status : ℕ) : Type 0 where
+pub record IsGroupsText (tells : Telling) (said : List ReceiverLine) (text : List ℕ) (status : ℕ) : Type 0 where
   pub all : List GroupLine
   pub groups : AreGroups said (map (λ told. told.group) all)
   pub each : AllByRecursion (λ told. tells (group_facts said told.group) told) all
@@ -45,9 +45,9 @@ pub record IsGroupsText (tells : Telling) (said : List JoinLine) (text : List �
   pub status_is : status ≡ (if list_all (λ told. told.is_well) all then 0 else 1)
 
 -- for each group the answer to all its facts
-abbrev pub IsJoinText : List JoinLine → List ℕ → ℕ → Type 0
+abbrev pub IsJoinText : List ReceiverLine → List ℕ → ℕ → Type 0
 IsJoinText = IsGroupsText TellsAnswer
 
 -- for each group the ends of all its facts
-abbrev pub IsEvidenceText : List JoinLine → List ℕ → ℕ → Type 0
+abbrev pub IsEvidenceText : List ReceiverLine → List ℕ → ℕ → Type 0
 IsEvidenceText = IsGroupsText TellsEvidence

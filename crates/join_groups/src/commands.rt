@@ -5,7 +5,7 @@ ghost use Rattle.join_groups.specs.inside.Kept.{StandsFor};
 
 use crate::groups::NamedGroups;
 use crate::taking::take_line;
-use crate::telling::{Teller, tell_all};
+use crate::telling::{GroupWriter, append_groups};
 use byte_streams::Status;
 use input_lines::one_line;
 use line_engine::{Command, Refusal};
@@ -15,20 +15,20 @@ use std::alloc::{AllocError, Global};
 /// The command that writes a line of each group once its lines are all known: `join` the group's answer, `evidence` its
 /// ends. Workers join its receptions.
 #[derive(Drop)]
-pub struct TellGroups<W: Joiner, T: Teller> {
+pub struct WriteGroups<W: Joiner, T: GroupWriter> {
     alloc: Global,
     workers: W,
     groups: NamedGroups,
     teller: T,
 }
 
-impl<W: Joiner, T: Teller> TellGroups<W, T> {
+impl<W: Joiner, T: GroupWriter> WriteGroups<W, T> {
     /// The command before its first line.
-    pub fn new(alloc: Global, workers: W, teller: T) -> TellGroups<W, T>
+    pub fn new(alloc: Global, workers: W, teller: T) -> WriteGroups<W, T>
         ensures groups { StandsFor result.groups [] [] }
         ensures workers { result.workers ≡ workers }
     {
-        TellGroups {
+        WriteGroups {
             alloc,
             workers,
             groups: NamedGroups::new(alloc),
@@ -37,7 +37,7 @@ impl<W: Joiner, T: Teller> TellGroups<W, T> {
     }
 }
 
-impl<W: Joiner, T: Teller> Command for TellGroups<W, T> {
+impl<W: Joiner, T: GroupWriter> Command for WriteGroups<W, T> {
     ghost meaning = { groups_meaning T.tells };
 
     ghost stands_for = { λ command lines text. W.can_join command.workers × StandsFor command.groups lines text };
@@ -49,7 +49,7 @@ impl<W: Joiner, T: Teller> Command for TellGroups<W, T> {
 
     fn finish(&mut self, out: &mut Vec<u8>) -> Result<Status, AllocError> {
         self.groups.close_batch(&self.workers)?;
-        Ok(Status::of(tell_all::<T>(&self.groups, out)?))
+        Ok(Status::of(append_groups::<T>(&self.groups, out)?))
     }
 
     ghost gives = { λ command lines text stands. stands.1.text_is };

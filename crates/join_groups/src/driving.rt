@@ -4,8 +4,8 @@ ghost use Rattle.line_engine.specs.Runs.{IsRun};
 ghost use Rattle.receiver_pool.specs.Groups.{facts_of_group, IsShort, Shows};
 ghost use Rattle.join_groups.specs.Meanings.{groups_meaning};
 
-use crate::commands::TellGroups;
-use crate::telling::Teller;
+use crate::commands::WriteGroups;
+use crate::telling::GroupWriter;
 use byte_streams::{Sink, Source, Status};
 use line_engine::drive;
 use receiver_pool::{Gate, GroupReception, GroupSheet, Workers, pool_groups};
@@ -26,7 +26,7 @@ use std::thread::Threads;
 /// | 6 | there was no memory: nothing was written |
 /// | 7 | a limit was passed, 65,536 lines, 4,200 bytes in one or 1,024 groups, and the line of this first fault was written |
 #[inline(never)]
-pub fn tell_groups<R: Threads + Sync, S: Source, K: Sink, G: Gate, T: Teller>(
+pub fn write_groups<R: Threads + Sync, S: Source, K: Sink, G: Gate, T: GroupWriter>(
     rt: &R,
     alloc: Global,
     source: &mut S,
@@ -43,6 +43,6 @@ pub fn tell_groups<R: Threads + Sync, S: Source, K: Sink, G: Gate, T: Teller>(
         ensures { IfOk result (λ v. Shows (facts_of_group batch.now) batch.now v.items) }
     { pool_groups(rt, alloc, batch, workers, gate) };
     let workers = Workers::new(workers, gate, join);
-    let mut command = TellGroups::new(alloc, workers, teller);
+    let mut command = WriteGroups::new(alloc, workers, teller);
     drive(alloc, &mut command, source, sink)
 }

@@ -124,16 +124,12 @@ impl NamedGroups {
         if let Some(shown) = workers.read_alone(&heard) {
             return self.meet(group, &shown);
         }
-        match self.number_of(group) {
-            Ok(number) => {
-                self.put(number, heard)?;
-                if self.is_full() {
-                    self.close_batch(workers)?;
-                }
-                Ok(())
-            }
-            Err(refusal) => Err(refusal),
+        let number = self.number_of(group)?;
+        self.put(number, heard)?;
+        if self.is_full() {
+            self.close_batch(workers)?;
         }
+        Ok(())
     }
 
     /// Takes what a receiver heard of a group, at most 1,000,000 elements, into the batch, and leaves the batch open.
@@ -160,13 +156,9 @@ impl NamedGroups {
         if let Some(read) = self.read_at_once(workers, is_watched, group, &heard) {
             return self.meet(group, &read);
         }
-        match self.number_of(group) {
-            Ok(number) => {
-                self.put(number, heard)?;
-                Ok(())
-            }
-            Err(refusal) => Err(refusal),
-        }
+        let number = self.number_of(group)?;
+        self.put(number, heard)?;
+        Ok(())
     }
 
     /// What a reception shows that waits for no batch, if it waits for none.

@@ -3,7 +3,7 @@ ghost use Rattle.std.specs.Prelude.{◌≡◌, ℕ, ◌<◌, ◌^◌, ◌↔◌,
 ghost use Rattle.slot_evidence.specs.declared.places.Seen.{Seen};
 ghost use Rattle.slot_evidence.specs.Sheet.{IsSheet, IsEnds};
 ghost use Rattle.line_engine.specs.Determined.{IsDetermined, LacksNoOutput};
-ghost use Rattle.input_lines.specs.JoinLine.{JoinLine, IsLine, evidence};
+ghost use Rattle.input_lines.specs.ReceiverLine.{ReceiverLine, IsLine, evidence};
 ghost use Rattle.input_lines.specs.Evidence.{pairs_below, evidence_text};
 ghost use Rattle.line_engine.specs.Lines.{Lines};
 ghost use Rattle.join_groups.specs.Groups.{AreLines, group_facts};
@@ -34,11 +34,11 @@ pub fn lines_determine_output()
 
 /// The law that texts depend on the set of lines alone, not on their order nor on how often one is there.
 pub fn texts_forget_order()
-    ensures join { (said other : List JoinLine) (text : List ℕ) (status : ℕ)
-        → ((line : JoinLine) → Contains said line ↔ Contains other line)
+    ensures join { (said other : List ReceiverLine) (text : List ℕ) (status : ℕ)
+        → ((line : ReceiverLine) → Contains said line ↔ Contains other line)
         → IsJoinText said text status → IsJoinText other text status }
-    ensures evidence { (said other : List JoinLine) (text : List ℕ) (status : ℕ)
-        → ((line : JoinLine) → Contains said line ↔ Contains other line)
+    ensures evidence { (said other : List ReceiverLine) (text : List ℕ) (status : ℕ)
+        → ((line : ReceiverLine) → Contains said line ↔ Contains other line)
         → IsEvidenceText said text status → IsEvidenceText other text status }
 {
     alike_facts_have_one_answer();
@@ -51,10 +51,10 @@ pub fn texts_forget_order()
 pub fn evidence_stands_for_lines()
     ensures line { (k : ℕ) (sheet : List Seen) → k < 2 ^ 32 → IsSheet sheet
         → IsLine (evidence k (pairs_below 64 sheet)) (evidence_text k sheet) }
-    ensures join { (heard rest : List JoinLine) (k : ℕ) (sheet : List Seen) (text : List ℕ) (status : ℕ) → IsSheet sheet
+    ensures join { (heard rest : List ReceiverLine) (k : ℕ) (sheet : List Seen) (text : List ℕ) (status : ℕ) → IsSheet sheet
         → AreOfGroup k heard → IsEnds (group_facts heard k) sheet
         → (IsJoinText (heard ++ rest) text status ↔ IsJoinText (evidence k (pairs_below 64 sheet) ∷ rest) text status) }
-    ensures evidence { (heard rest : List JoinLine) (k : ℕ) (sheet : List Seen) (text : List ℕ) (status : ℕ)
+    ensures evidence { (heard rest : List ReceiverLine) (k : ℕ) (sheet : List Seen) (text : List ℕ) (status : ℕ)
         → IsSheet sheet → AreOfGroup k heard → IsEnds (group_facts heard k) sheet
         → (IsEvidenceText (heard ++ rest) text status
         ↔ IsEvidenceText (evidence k (pairs_below 64 sheet) ∷ rest) text status) }
@@ -67,14 +67,14 @@ pub fn evidence_stands_for_lines()
 /// The law that facts determine texts: lines that name the same groups, each with alike facts, have one text and
 /// status, whatever else they say.
 pub fn facts_determine_texts()
-    ensures join { (said other : List JoinLine) (text : List ℕ) (status : ℕ) → HaveAlikeFacts said other
+    ensures join { (said other : List ReceiverLine) (text : List ℕ) (status : ℕ) → HaveAlikeFacts said other
         → IsJoinText said text status → IsJoinText other text status }
-    ensures evidence { (said other : List JoinLine) (text : List ℕ) (status : ℕ) → HaveAlikeFacts said other
+    ensures evidence { (said other : List ReceiverLine) (text : List ℕ) (status : ℕ) → HaveAlikeFacts said other
         → IsEvidenceText said text status → IsEvidenceText other text status }
-    ensures join_ends { (first second : Lines) (said other : List JoinLine) → AreLines said first → AreLines other second
+    ensures join_ends { (first second : Lines) (said other : List ReceiverLine) → AreLines said first → AreLines other second
         → HaveAlikeFacts said other → (a b : List ℕ) (s t : ℕ) → EndsTelling TellsAnswer first a s
         → EndsTelling TellsAnswer second b t → (a ≡ b) × (s ≡ t) }
-    ensures evidence_ends { (first second : Lines) (said other : List JoinLine) → AreLines said first → AreLines other second
+    ensures evidence_ends { (first second : Lines) (said other : List ReceiverLine) → AreLines said first → AreLines other second
         → HaveAlikeFacts said other → (a b : List ℕ) (s t : ℕ) → EndsTelling TellsEvidence first a s
         → EndsTelling TellsEvidence second b t → (a ≡ b) × (s ≡ t) }
 {

@@ -8,12 +8,12 @@ mod laws;
 mod taking;
 mod telling;
 
-pub use commands::TellGroups;
-pub use driving::tell_groups;
+pub use commands::WriteGroups;
+pub use driving::write_groups;
 pub use groups::{MOST_GROUPS, MOST_IN_BATCH, NamedGroups};
 pub use laws::{
     evidence_stands_for_lines, facts_determine_texts, limits, lines_determine_output,
     no_output_is_lacking, texts_forget_order,
 };
 pub use taking::{take_read, take_waiting};
-pub use telling::{Answers, Ends, Teller, tell_all};
+pub use telling::{GroupWriter, WriteAnswers, WriteEvidence, append_groups};

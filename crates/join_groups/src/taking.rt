@@ -1,6 +1,6 @@
 //! The lines of `join` and `evidence`, and what groups take of them.
 ghost use Rattle.std.specs.Prelude.{◌≡◌, ◌≢◌, ◌++◌, ◌∷◌, ◌<◌, ◌≤◌, length, [], List, IfErr, OnOk};
-ghost use Rattle.input_lines.specs.JoinLine.{JoinLine as Line, IsLine};
+ghost use Rattle.input_lines.specs.ReceiverLine.{ReceiverLine as Line, IsLine};
 ghost use Rattle.join_groups.specs.Holds.{HoldsSome};
 ghost use Rattle.join_groups.specs.Meanings.{BringsTooMany};
 ghost use Rattle.join_groups.specs.inside.Kept.{Keeps, IsRefused, IsShort, TakesRead, RefusesRead};

@@ -2,7 +2,7 @@
 ghost use Rattle.std.specs.Prelude.{◌≡◌, ℕ, ◌++◌, List, [], IfOk, if◌then◌else◌};
 ghost use Rattle.slot_evidence.specs.Facts.{Facts};
 ghost use Rattle.slot_evidence.specs.Sheet.{IsEnds};
-ghost use Rattle.input_lines.specs.JoinLine.{JoinLine};
+ghost use Rattle.input_lines.specs.ReceiverLine.{ReceiverLine};
 ghost use Rattle.join_groups.specs.Output.{Telling, TellsAnswer, TellsEvidence, IsGroupsText};
 ghost use Rattle.join_groups.specs.Holds.{HoldsSome};
 ghost use Rattle.join_groups.specs.inside.Kept.{Keeps};
@@ -15,12 +15,12 @@ use slot_join::{is_reported, report};
 use std::alloc::AllocError;
 
 /// A way to write the line of a group.
-pub trait Teller: Drop {
+pub trait GroupWriter: Drop {
     /// What is told of a group with these facts.
     ghost tells: { Telling };
 
     /// Appends the line of a group with this sheet, and answers whether all is well with it.
-    fn tell(group: u32, sheet: &Sheet, out: &mut Vec<u8>) -> Result<bool, AllocError>
+    fn append_group(group: u32, sheet: &Sheet, out: &mut Vec<u8>) -> Result<bool, AllocError>
         ensures { IfOk result (λ is_well. (line : List ℕ) × ((out.new.items ≡ out.old.items ++ line)
             × ((F : Facts) → IsEnds F sheet.now
             → tells F (record { group = group; line = line; is_well = is_well })))) };
@@ -28,12 +28,12 @@ pub trait Teller: Drop {
 
 /// Writes the answer to a group's facts; all is well where a call was reported.
 #[derive(Drop)]
-pub struct Answers;
+pub struct WriteAnswers;
 
-impl Teller for Answers {
+impl GroupWriter for WriteAnswers {
     ghost tells = { TellsAnswer };
 
-    fn tell(group: u32, sheet: &Sheet, out: &mut Vec<u8>) -> Result<bool, AllocError> {
+    fn append_group(group: u32, sheet: &Sheet, out: &mut Vec<u8>) -> Result<bool, AllocError> {
         let answer = report(sheet);
         out.extend_from_slice(&put_answer_line(group, &answer))?;
         Ok(is_reported(&answer))
@@ -42,12 +42,12 @@ impl Teller for Answers {
 
 /// Writes the ends of a group's facts; all is well.
 #[derive(Drop)]
-pub struct Ends;
+pub struct WriteEvidence;
 
-impl Teller for Ends {
+impl GroupWriter for WriteEvidence {
     ghost tells = { TellsEvidence };
 
-    fn tell(group: u32, sheet: &Sheet, out: &mut Vec<u8>) -> Result<bool, AllocError> {
+    fn append_group(group: u32, sheet: &Sheet, out: &mut Vec<u8>) -> Result<bool, AllocError> {
         out.extend_from_slice(&put_evidence_line(group, sheet))?;
         Ok(true)
     }
@@ -55,15 +55,18 @@ impl Teller for Ends {
 
 /// Writes the line of each group by rising number, and answers whether all is well with all of them. No reception waits
 /// any more.
-pub fn tell_all<T: Teller>(groups: &NamedGroups, out: &mut Vec<u8>) -> Result<bool, AllocError>
+pub fn append_groups<T: GroupWriter>(
+    groups: &NamedGroups,
+    out: &mut Vec<u8>,
+) -> Result<bool, AllocError>
     requires { HoldsSome groups.now }
-    ensures { IfOk result (λ is_well. (said : List JoinLine) → Keeps groups.now said → groups.now.batch.items ≡ []
+    ensures { IfOk result (λ is_well. (said : List ReceiverLine) → Keeps groups.now said → groups.now.batch.items ≡ []
         → (text : List ℕ) × ((out.new.items ≡ out.old.items ++ text)
         × IsGroupsText T.tells said text (if is_well then 0 else 1))) }
 {
     let mut is_well = true;
     for (group, number) in groups.numbers.iter() {
-        is_well &= T::tell(*group, &groups.sheets[*number], out)?;
+        is_well &= T::append_group(*group, &groups.sheets[*number], out)?;
     }
     Ok(is_well)
 }

@@ -117,8 +117,7 @@ stops_in_pause {rest = rest} {command = command} {before = before} after left gi
   wrote = on.wrote;
 }
 stops_in_pause after left gives on (halt.Fault first) is = absurd (cc)
-stops_in_pause after left gives on halt.Read is = absurd (cc)
-stops_in_pause after left gives on halt.Write is = absurd (cc)
+stops_in_pause after left gives on _ is = absurd (cc)
 
 -- a line stops a run
 pub stops_at_line : {Command Sink : Type 0} {meaning : Meaning} {stands_for : Command → Lines → List ℕ → Type 0} {written : Sink → Option (List ℕ)} {faults : Sink → ℕ} {start sink : Sink}
@@ -199,8 +198,7 @@ stops_open {rest = rest} {command = command} {pending = pending} left gives t so
   next = λ more is. open_fault (open_line rest more t some) (on.goes_on more) on.count_is p.1;
 }
 stops_open left gives t some on halt.Read p = absurd p
-stops_open left gives t some on halt.Write p = absurd p
-stops_open left gives t some on halt.Memory p = absurd p
+stops_open left gives t some on _ p = absurd p
 
 -- nothing follows an ended source
 pub no_rest : (left : Option (List ℕ)) (rest : List ℕ) → IsEnded left → IsRest left rest → rest ≡ []

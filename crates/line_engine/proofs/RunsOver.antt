@@ -26,15 +26,11 @@ module _ (M : Meaning) (G : Lines → List ℕ → Type 0) (E : Lines → List �
 
   forth : (earlier : Lines) (line : List ℕ) (fault : Fault) → IsFault M earlier line fault → IsFault N earlier line fault
   forth earlier line TooManyLines is = is
-  forth earlier line TooLong is = is
-  forth earlier line (Column n) is = is
-  forth earlier line TooManyGroups is = is
+  forth earlier line _ is = is
 
   back : (earlier : Lines) (line : List ℕ) (fault : Fault) → IsFault N earlier line fault → IsFault M earlier line fault
   back earlier line TooManyLines is = is
-  back earlier line TooLong is = is
-  back earlier line (Column n) is = is
-  back earlier line TooManyGroups is = is
+  back earlier line _ is = is
 
   faultless : (lines : Lines) → IsFaultless M lines → IsFaultless N lines
   faultless lines f = record { none = λ earlier line later fault list is. f.none earlier line later fault list (back earlier line fault is) }

@@ -1,6 +1,6 @@
 //! A command: what is made of the lines of an input.
 ghost use Rattle.std.specs.Prelude.{◌≡◌, ℕ, ◌+◌, ◌≤◌, ◌⊎◌, List, [], ◌∷◌, ◌++◌, length, IfOk, IfErr, OnOk};
-ghost use Rattle.line_engine.specs.declared.command.Refusal.TheVariants.{Memory as memory};
+ghost use Rattle.line_engine.specs.declared.command.Refusal.TheVariants.{Column as column, Memory as memory};
 ghost use Rattle.line_engine.specs.Lines.{Lines};
 ghost use Rattle.line_engine.specs.Meaning.{Meaning};
 ghost use Rattle.line_engine.specs.Commands.{IsTakenBehind, IsRefusedBehind, KeepsText, StandsBelow};
@@ -8,17 +8,26 @@ ghost use Rattle.line_engine.specs.Endings.{IsFinished};
 
 use crate::bounds::{LONGEST_LINE, MOST_LINES};
 use byte_streams::Status;
+use line_grammar::Column;
 use std::alloc::{AllocError, AllocFailed};
 
 /// Why a command doesn't take a line.
 #[derive(Clone, Copy, Debug, PartialEq, Eq)]
 pub enum Refusal {
     /// The line is ill-formed at this column, counted from 1.
-    Column(usize),
+    Column(Column),
     /// The line brings a group more than the command can hold.
     TooManyGroups,
     /// There was no memory.
     Memory,
+}
+
+impl From<Column> for Refusal {
+    ghost from_gives = { λ n e. e ≡ column n };
+
+    fn from(n: Column) -> Self {
+        Refusal::Column(n)
+    }
 }
 
 impl From<AllocError> for Refusal {

@@ -11,7 +11,7 @@ use crate::bounds::MOST_TAKEN;
 use crate::command::Command;
 use crate::faults::{fault_status, put_fault};
 use crate::halts::Halt;
-use crate::telling::{tell, write_pending};
+use crate::telling::{write_ending, write_pending};
 use crate::walk::{check_open, pause, take_last, take_lines};
 use crate::window::Window;
 use byte_streams::{Failed, Sink, Source, Status};
@@ -100,10 +100,15 @@ fn run_lines<C: Command, S: Source, K: Sink>(
     let mut out = Vec::new(alloc);
     match take_input(alloc, command, &mut out, source, sink) {
         Ok(()) => match command.finish(&mut out) {
-            Ok(status) => tell(sink, &out, b"", status),
+            Ok(status) => write_ending(sink, &out, b"", status),
             Err(AllocError) => Status::new(6),
         },
-        Err(Halt::Fault(first)) => tell(sink, &out, &put_fault(&first), fault_status(&first.fault)),
+        Err(Halt::Fault(first)) => write_ending(
+            sink,
+            &out,
+            &put_fault(&first),
+            fault_status(&first.fault),
+        ),
         Err(Halt::Read) => Status::new(4),
         Err(Halt::Write) => Status::new(5),
         Err(Halt::Memory) => Status::new(6),

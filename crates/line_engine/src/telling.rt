@@ -41,7 +41,12 @@ fn write_flushed<K: Sink>(sink: &mut K, text: &[u8], last: &[u8]) -> Result<(), 
 }
 
 /// Writes two texts, flushes the sink, and ends with a status, or with that of a write fault.
-pub(crate) fn tell<K: Sink>(sink: &mut K, text: &[u8], last: &[u8], status: Status) -> Status
+pub(crate) fn write_ending<K: Sink>(
+    sink: &mut K,
+    text: &[u8],
+    last: &[u8],
+    status: Status,
+) -> Status
     requires { status ≢ 5 }
     ensures which { (result ≡ status) ⊎ (result ≡ 5) }
     ensures done { result ≢ 5 → (start : K) (before : List ℕ) → HasWritten K.written K.faults start sink.old before

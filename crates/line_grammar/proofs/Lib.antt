@@ -5,6 +5,7 @@ pub mod Numbers
 pub mod DigitSteps
 pub mod ShapesNumerals
 pub mod Digits
+pub mod LastDigits
 pub mod ShapesReading
 pub mod ShapesPairs
 pub mod Shapes
@@ -22,5 +23,6 @@ pub mod Chains
 pub mod Sections
 pub mod Forms
 pub mod SectionSteps
+pub mod Fronts
 pub mod Rows
 pub mod Judged

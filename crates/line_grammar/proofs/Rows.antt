@@ -1,13 +1,14 @@
 -- the readers of rows, and what they answer of whole lines
-use Rattle.std.proofs.Common.{◌≡◌, ℕ, true, List, Result, Ok, Err, is_ok, IfOk, IsErrAnd, refl, sym, ◌∙◌, ap, subst, arith}
+use Rattle.std.proofs.Common.{◌≡◌, ℕ, true, false, List, ◌++◌, Result, Ok, Err, is_ok, IfOk, IsErrAnd, refl, sym, ◌∙◌, ap, subst, arith}
 use Rattle.line_grammar.specs.Grammar.{Grammar, finish, word, field, either, Parts, none, part, first, second, Spells, written}
-use Rattle.line_grammar.specs.Rows.{IsWritten, ReadsRow, ReadsWhole, ReadsAmong}
-use Rattle.line_grammar.specs.Sections.{ReadsForm, ReadsTail}
+use Rattle.line_grammar.specs.Rows.{IsWritten, ReadsRow, FindsRow, ReadsWhole, ReadsAmong}
+use Rattle.line_grammar.specs.Sections.{last, ReadsForm, FindsForm, ReadsTail}
 use Rattle.line_grammar.specs.Tokens.{Token}
 use Rattle.line_grammar.specs.inside.Reading.{ended, read_token, and_part, further, read}
 use Rattle.line_grammar.specs.inside.Soundness.{is_sound, is_unambiguous}
 use Rattle.line_grammar.proofs.Forms.{Texts, one_value, text_read, texts_alike}
 use Rattle.line_grammar.proofs.Grammars.{reads}
+use Rattle.line_grammar.proofs.Fronts.{IsMissed, is_first, not_first, fault_misses, rows_after, are_ruled_out, later}
 use Rattle.line_grammar.proofs.Judged.{HasGrammar, of_alike, of_texts}
 use Rattle.line_grammar.proofs.Sections.{Section, closed, renamed}
 use Rattle.line_grammar.proofs.SectionSteps.{IsRead, IsLeft, either_form, first_form, whole, no_tail}
@@ -101,6 +102,41 @@ module _ {V : Type 0} (place : Parts → Parts) (Lawful : V → Type 0) (parts :
       → ReadsRow (or G H) place Lawful parts bytes r
   first_row G H bytes (Ok v) ok h = (h.0, first_form (G finish) (H finish) place (λ v. parts v none) bytes (Ok v) ok h.1)
   first_row G H bytes (Err left) ok h = absurd (cc)
+
+  -- where the first wasn't read and the second was, the second is the answer
+  pub second_row : (G H : Grammar → Grammar) (bytes : List ℕ) (r s : Result V ℕ) → is_ok r ≡ false → is_ok s ≡ true → ReadsRow G (λ p. place (first p)) Lawful parts bytes r
+      → ReadsRow H (λ p. place (second p)) Lawful parts bytes s → ReadsRow (or G H) place Lawful parts bytes s
+  second_row G H bytes (Ok v) s fails ok h k = absurd (cc)
+  second_row G H bytes (Err m) (Ok v) fails ok h k = further_row G H bytes (Ok v) (Err m) (Ok v) refl h k
+  second_row G H bytes (Err m) (Err n) fails ok h k = absurd (cc)
+
+  -- a row that is found: the first one, one after a row that is missed, and one that was read
+  pub row_found : (rows : Grammar → Grammar) (bytes : List ℕ) (r : Result V ℕ) → ReadsRow rows place Lawful parts bytes r → FindsRow rows place Lawful parts bytes r
+  row_found rows bytes (Ok v) h = h
+  row_found rows bytes (Err left) h = tt
+
+  pub found_row : (rows : Grammar → Grammar) (bytes : List ℕ) (r : Result V ℕ) → is_ok r ≡ true → FindsRow rows place Lawful parts bytes r → ReadsRow rows place Lawful parts bytes r
+  found_row rows bytes (Ok v) ok h = h
+  found_row rows bytes (Err left) ok h = absurd (cc)
+
+  pub first_found : (G H : Grammar → Grammar) (bytes : List ℕ) (r : Result V ℕ) → FindsRow G (λ p. place (first p)) Lawful parts bytes r → FindsRow (or G H) place Lawful parts bytes r
+  first_found G H bytes (Ok v) h = (h.0, is_first (λ v. parts v none) bytes place (G finish) (H finish) (Ok v) h.1)
+  first_found G H bytes (Err left) h = tt
+
+  pub later_found : (G H : Grammar → Grammar) (bytes : List ℕ) (r : Result V ℕ) → IsMissed (G finish) bytes → FindsRow H (λ p. place (second p)) Lawful parts bytes r
+      → FindsRow (or G H) place Lawful parts bytes r
+  later_found G H bytes (Ok v) missed h = (h.0, not_first (λ v. parts v none) bytes place (G finish) (H finish) (Ok v) missed h.1)
+  later_found G H bytes (Err left) missed h = tt
+
+  pub row_misses : (rows : Grammar → Grammar) (bytes : List ℕ) (r : Result V ℕ) → is_ok r ≡ false → ReadsRow rows place Lawful parts bytes r → IsMissed (rows finish) bytes
+  row_misses rows bytes r fails h = fault_misses (rows finish) place (λ v. parts v none) bytes r fails (form_of rows place bytes r h)
+
+  -- a row that is found after so many that the front of the line rules out
+  pub later_row : (n : ℕ) (front back bytes : List ℕ) (r : Result V ℕ) (G H : Grammar → Grammar) → bytes ≡ front ++ back → are_ruled_out n front (G finish) ≡ true → rows_after n (G finish) ≡ H finish
+      → FindsRow H (λ p. place (last n p)) Lawful parts bytes r → FindsRow G place Lawful parts bytes r
+  later_row n front back bytes (Ok v) G H e out same h =
+      (h.0, later (λ v. parts v none) n front back bytes (Ok v) (G finish) place e out (subst (λ (K : Grammar). FindsForm K (λ p. place (last n p)) (λ v. parts v none) bytes (Ok v)) (sym same) h.1))
+  later_row n front back bytes (Err left) G H e out same h = tt
 
 -- rows that distinguish the values of a section, to the end of a line
 pub record WholeRows {V : Type 0} (rows : Grammar → Grammar) (Lawful : V → Type 0) (parts : V → Parts → Parts) : Type 0 where

@@ -139,7 +139,7 @@ part_step : (c d : ℕ) (text other r s : List ℕ) (t : Bool) → (c == d) ≡ 
 part_step c d text other r s true same h e go = go h (cc)
 part_step c d text other r s false differ h e go = let equal : c ≡ d = cc in eqb-false c d differ equal
 
-part_fronts : (text other r s : List ℕ) → part_ways text other ≡ true → text ++ r ≡ other ++ s → ⊥
+pub part_fronts : (text other r s : List ℕ) → part_ways text other ≡ true → text ++ r ≡ other ++ s → ⊥
 part_fronts [] other r s h e = absurd (cc)
 part_fronts (c ∷ text) [] r s h e = absurd (cc)
 part_fronts (c ∷ text) (d ∷ other) r s h e = part_step c d text other r s (c == d) refl h e (part_fronts text other r s)

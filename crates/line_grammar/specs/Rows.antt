@@ -14,7 +14,12 @@ abbrev pub ReadsRow : {V : Type 0} (rows : Grammar → Grammar) (place : Parts �
 ReadsRow rows place Lawful parts bytes (Ok v) = Lawful v × ((own : Parts) × (read (rows finish) bytes ≡ Ok own) × (parts v none ≡ place own))
 ReadsRow rows place Lawful parts bytes (Err left) = read (rows finish) bytes ≡ Err left
 
--- the same of a reader that counts the column of the byte at which it leaves them
+-- a reader of some of the rows: what it answers is read so, whatever the others are
+abbrev pub FindsRow : {V : Type 0} (rows : Grammar → Grammar) (place : Parts → Parts) (Lawful : V → Type 0) (parts : V → Parts → Parts) → (bytes : List ℕ) → Result V ℕ → Type 0
+FindsRow rows place Lawful parts bytes (Ok v) = ReadsRow rows place Lawful parts bytes (Ok v)
+FindsRow rows place Lawful parts bytes (Err left) = Unit {0}
+
+-- the same as `ReadsRow` of a reader that counts the column of the byte at which it leaves them
 abbrev pub ReadsWhole : {V : Type 0} (rows : Grammar → Grammar) (Lawful : V → Type 0) (parts : V → Parts → Parts) → (bytes : List ℕ) → Result V ℕ → Type 0
 ReadsWhole rows Lawful parts bytes (Ok v) = ReadsRow rows (λ p. p) Lawful parts bytes (Ok v)
 ReadsWhole rows Lawful parts bytes (Err n) = (left : ℕ) × (n + left ≡ length bytes + 1) × (read (rows finish) bytes ≡ Err left)

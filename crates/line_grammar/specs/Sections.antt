@@ -20,6 +20,11 @@ abbrev pub ReadsForm : {V : Type 0} (G : Grammar) (place : Parts → Parts) (par
 ReadsForm G place parts bytes (Ok v) = (own : Parts) × (read G bytes ≡ Ok own) × (parts v ≡ place own)
 ReadsForm G place parts bytes (Err left) = read G bytes ≡ Err left
 
+-- a reader of some of the forms: what it answers is read so, whatever the others are
+abbrev pub FindsForm : {V : Type 0} (G : Grammar) (place : Parts → Parts) (parts : V → Parts) → (bytes : List ℕ) → Result V ℕ → Type 0
+FindsForm G place parts bytes (Ok v) = ReadsForm G place parts bytes (Ok v)
+FindsForm G place parts bytes (Err left) = Unit {0}
+
 -- a reader of what comes from a place to the end of a line
 abbrev pub ReadsTail : {V : Type 0} (G : Grammar) (parts : V → Parts) → (bytes : List ℕ) → Result V ℕ → Type 0
 ReadsTail G parts bytes (Ok v) = read G bytes ≡ Ok (parts v)

@@ -13,4 +13,4 @@ pub use laws::{
 };
 pub use numerals::fixed_number;
 pub use pieces::{append, append_digits, append_number};
-pub use reading::{Left, column, end, further, run, whole_word, word};
+pub use reading::{Column, Left, begins_with, column, end, further, run, whole_word, word};

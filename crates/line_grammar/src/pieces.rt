@@ -25,15 +25,50 @@ pub fn append_number<const N: usize>(out: &mut ArrayVec<u8, N>, number: u64)
     append(out, buffer.format(number).as_bytes());
 }
 
-/// Appends the last `width` decimal digits of a number, zeros in front included.
+/// Appends the last `width` decimal digits of a number, zeros in front included, where these are few.
+#[inline(always)]
+fn append_few_digits<const N: usize>(out: &mut ArrayVec<u8, N>, width: usize, number: u64)
+    requires room { array_vec_len out.old + width ≤ N }
+    requires few { width ≤ 10 }
+    ensures items { out.new.items ≡ out.old.items ++ digits width number }
+    ensures len { array_vec_len out.new ≡ array_vec_len out.old + width }
+{
+    let mut text = [b'0'; 10];
+    let mut rest = number;
+    let mut at = width;
+    while at > 0 {
+        at -= 1;
+        text[at] = b'0' + (rest % 10) as u8;
+        rest /= 10;
+    }
+    append(out, &text[..width]);
+}
+
+/// Appends the last `width` decimal digits of a number, however many.
+#[inline(never)]
 #[tactic(auto, unfolding(crate::specs::Shapes::digits))]
-pub fn append_digits<const N: usize>(out: &mut ArrayVec<u8, N>, width: usize, number: u64)
+fn append_many_digits<const N: usize>(out: &mut ArrayVec<u8, N>, width: usize, number: u64)
     requires { array_vec_len out.old + width ≤ N }
     ensures items { out.new.items ≡ out.old.items ++ digits width number }
     ensures len { array_vec_len out.new ≡ array_vec_len out.old + width }
 {
     if width > 0 {
-        append_digits(out, width - 1, number / 10);
+        append_many_digits(out, width - 1, number / 10);
         out.push(b'0' + (number % 10) as u8);
+    }
+}
+
+/// Appends the last `width` decimal digits of a number, zeros in front included. Up to ten, a loop writes them from the
+/// last one on: it unrolls where the width is a constant.
+#[inline]
+pub fn append_digits<const N: usize>(out: &mut ArrayVec<u8, N>, width: usize, number: u64)
+    requires { array_vec_len out.old + width ≤ N }
+    ensures items { out.new.items ≡ out.old.items ++ digits width number }
+    ensures len { array_vec_len out.new ≡ array_vec_len out.old + width }
+{
+    if width <= 10 {
+        append_few_digits(out, width, number);
+    } else {
+        append_many_digits(out, width, number);
     }
 }

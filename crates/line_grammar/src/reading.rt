@@ -10,6 +10,10 @@ ghost use Rattle.line_grammar.specs.inside.Reading.{after, ended, read_token};
 /// too early.
 pub type Left = usize;
 
+/// Where a line is ill-formed: the least n for which its first n bytes begin no well-formed line, and its length plus one
+/// where it ends too early.
+pub type Column = usize;
+
 /// What follows a word at the front of these bytes.
 pub fn word<'a>(text: &[u8], bytes: &'a [u8]) -> Result<&'a [u8], Left>
     ensures rest { IfOk result (λ rest. after text.now bytes.now ≡ Ok rest.now) }
@@ -38,6 +42,16 @@ pub fn whole_word<'a>(text: &[u8], bytes: &'a [u8]) -> Result<&'a [u8], Left>
     match bytes.strip_prefix(text) {
         Some(rest) => Ok(rest),
         None => word(text, bytes),
+    }
+}
+
+/// Whether the first byte is one of these letters.
+pub fn begins_with(letters: &[u8], bytes: &[u8]) -> bool
+    ensures { result ≡ readers.begins_with letters.now bytes.now }
+{
+    match bytes.first() {
+        Some(first) => letters.contains(first),
+        None => false,
     }
 }
 
@@ -85,7 +99,7 @@ pub fn further<T: Copy>(first: &Result<T, Left>, second: &Result<T, Left>) -> Re
 }
 
 /// The column of a fault, by the bytes of its line.
-pub fn column(bytes: &[u8], left: Left) -> usize
+pub fn column(bytes: &[u8], left: Left) -> Column
     requires left { left ≤ length bytes.now }
     requires fits { length bytes.now < 2 ^ 63 }
     ensures { result + left ≡ length bytes.now + 1 }

@@ -64,9 +64,6 @@ module _ (alike : Alike) (tell : Tell) (facts : List (ℕ × ℕ)) (so_far : Lis
   pub all_may : MayAllBePosted facts list
   all_may p v is = (known p v).1 (or_right (facts_in so_far p v) _ is)
 
-  pub sheet_may : OnlyAllowed facts so_far
-  sheet_may p v is = (known p v).1 (or_left _ _ is)
-
   module _ (F : Facts) (ends : IsEnds F so_far) where
     among : (p v : ℕ) → known_facts so_far list p v ≡ true → union F (facts_of_all list) p v ≡ true
     among p v is = elim (or_cases (facts_in so_far p v) (facts_of_all list p v) is) [

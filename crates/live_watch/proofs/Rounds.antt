@@ -173,19 +173,6 @@ module _ (known : List (List Seen)) (groups : List ℕ) (begun : List WatchedGro
       (subst (λ (s : List Held). IsJudged known begun watched s (watched_at begun i).group j) (sym stays.seats_same)
       (judges (ap (λ (l : List WatchedGroup). (watched_at l i).board) (sym stays.watched_same) ∙ board)))
 
-  -- a board is one of so many
-  pub step_boards : IsStep known index watched seats more after → index < length watched → (i : ℕ) → (watched_at more i).board ≡ (watched_at watched i).board
-  step_boards (inl look) inside i = elim (cases_eq i index) [
-    | inl same ↦
-        ap (λ (j : ℕ). (watched_at more j).board) same
-        ∙ ap (λ (l : List WatchedGroup). (watched_at l index).board) look.changed
-        ∙ ap (λ (w : WatchedGroup). w.board) (get_or-set_same watched index look.one nothing_watched inside)
-        ∙ look.looks.board
-        ∙ sym (ap (λ (j : ℕ). (watched_at watched j).board) same)
-    | inr other ↦ ap (λ (l : List WatchedGroup). (watched_at l i).board) look.changed ∙ ap (λ (w : WatchedGroup). w.board) (get_or-set_other watched index i look.one nothing_watched other)
-  ]
-  step_boards (inr stays) inside i = ap (λ (l : List WatchedGroup). (watched_at l i).board) stays.watched_same
-
 -- a group that is done with is judged
 pub done_judged : (known : List (List Seen)) (groups : List ℕ) (begun watched : List WatchedGroup) (seats : List Held) → IsRound known groups begun watched seats
     → (i j : ℕ) → i < length begun → (watched_at watched i).board ≡ Some j → IsDone (watched_at watched i) → IsJudged known begun watched seats (watched_at begun i).group j

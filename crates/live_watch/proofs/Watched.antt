@@ -32,14 +32,6 @@ where_found watched s c =
     let is = sym (sight_at watched c.0 s below) ∙ c.2 in
     (c.0, below, ap (λ (x : Sight). x.group) is, ap (λ (x : Sight). x.seen) is)
 
--- what was seen of a group that is somewhere in the list, or nowhere
-sight_by : (watched : List WatchedGroup) (place group : ℕ) (one : WatchedGroup) (call : Option Call) → IsPlaceOf watched place group → one ≡ watched_at watched place → one.call ≡ call → IsSightOf (sights_of watched) group call
-sight_by watched place group one None at is call = inr (found watched place (record { group = group; seen = None }) at.0 at.1 (ap (λ (w : WatchedGroup). w.call) (sym is) ∙ call))
-sight_by watched place group one (Some c) at is call = found watched place (record { group = group; seen = Some c }) at.0 at.1 (ap (λ (w : WatchedGroup). w.call) (sym is) ∙ call)
-
-pub sight_there : (watched : List WatchedGroup) (place group : ℕ) (one : WatchedGroup) → IsPlaceOf watched place group → one ≡ watched_at watched place → IsSightOf (sights_of watched) group one.call
-sight_there watched place group one at is = sight_by watched place group one one.call at is refl
-
 pub none_there : (watched : List WatchedGroup) (group : ℕ) → IsNoneOf watched group → IsSightOf (sights_of watched) group None
 none_there watched group none = inl (λ under. let at = where_found watched (record { group = group; seen = under.0 }) under.1 in none at.0 at.1 at.2)
 
@@ -118,15 +110,6 @@ has_watched known batch before after gone =
         | inr s ↦ inr ((seat_at gone.seats s.0).view, saw group s.0 s.1 s.2, s.3)
       ];
     }
-
--- a watcher that watched nothing, or a batch of no receptions
-pub nothing_watched_yet : (known : List (List Seen)) (batch : List GroupReception) (sights : List Sight) → sights ≡ [] → HasWatched sights sights known batch
-nothing_watched_yet known batch sights none = record {
-  same = refl;
-  kept = λ group call seen. seen;
-  shown = λ group call seen. inl seen;
-  looked = λ group under among. absurd (omega (arith, under.1.1, ap (λ (l : List Sight). length l) none));
-}
 
 pub no_batch : (known : List (List Seen)) (batch : List GroupReception) (sights : List Sight) → batch ≡ [] → HasWatched sights sights known batch
 no_batch known batch sights none = record {

@@ -8,7 +8,7 @@ use Rattle.phasing.specs.inside.Places.{element_at}
 use Rattle.long_capture.specs.declared.scans.Scan.{Scan}
 use Rattle.long_capture.specs.declared.captures.Capture.{Capture}
 use Rattle.long_capture.specs.declared.starts.Start.{Start}
-use Rattle.long_capture.specs.Captures.{Stands, decided, reached}
+use Rattle.long_capture.specs.Captures.{StandsFor, decided, reached}
 use Rattle.long_capture.specs.Told.{AreQuiet, Tells}
 use Rattle.long_capture.specs.inside.Reads.{Reads}
 use Rattle.long_capture.proofs.Near.{at_index}
@@ -73,7 +73,7 @@ pub record IsSkip (old new : Scan) (xs : List Element) (count : ℕ) : Type 0 wh
 front_next : (e xs more : List Element) (count : ℕ) → count ≤ length xs → AreNext (e ++ (take count xs ++ more)) (length e) count xs
 front_next e xs more count front k below = next_block e (take count xs) more count (length-take-le count xs front) k below ∙ get_or-take count xs k Lost below
 
-pub skip_stands : (old new : Capture) (xs : List Element) (count : ℕ) → new.lost ≡ old.lost → IsSkip old.scan new.scan xs count → (e : List Element) → Stands old e → Stands new (e ++ take count xs)
+pub skip_stands : (old new : Capture) (xs : List Element) (count : ℕ) → new.lost ≡ old.lost → IsSkip old.scan new.scan xs count → (e : List Element) → StandsFor old e → StandsFor new (e ++ take count xs)
 skip_stands old new xs count lost skip e stands =
     let ys = take count xs in
     let size : length (e ++ ys) ≡ length e + count = omega (arith, length-append e ys, length-take-le count xs skip.front) in
@@ -88,7 +88,7 @@ skip_stands old new xs count lost skip e stands =
           (skip.reads (e ++ (ys ++ more)) (length e) (stands.reads (ys ++ more)) (front_next e xs more count skip.front)));
     }
 
-pub skip_tells : (old : Capture) (new : Scan) (xs : List Element) (count : ℕ) → IsSkip old.scan new xs count → (e more : List Element) → Stands old e → AreQuiet (e ++ (take count xs ++ more)) (reached old) (decided new.seen)
+pub skip_tells : (old : Capture) (new : Scan) (xs : List Element) (count : ℕ) → IsSkip old.scan new xs count → (e more : List Element) → StandsFor old e → AreQuiet (e ++ (take count xs ++ more)) (reached old) (decided new.seen)
 skip_tells old new xs count skip e more stands =
     let low : length e - 1449 ≡ old.scan.seen - 1449 = omega (arith, stands.count, stands.going) in
     let high : length e + count - 1449 ≡ new.seen - 1449 = omega (arith, stands.count, stands.going, skip.seen) in
@@ -110,10 +110,10 @@ pub record IsStepOf (x : Element) (old new : Scan) (answer : Option Start) : Typ
 
 -- the first element alone was taken, by a step
 pub step_stands : (old new : Capture) (middle : Scan) (xs : List Element) (x : Element) (answer : Option Start) → new.lost ≡ old.lost → IsSkip old.scan middle xs 0 → IsStepOf x middle new.scan answer
-    → take 1 xs ≡ x ∷ [] → (e : List Element) → Stands old e → Stands new (e ++ take 1 xs)
+    → take 1 xs ≡ x ∷ [] → (e : List Element) → StandsFor old e → StandsFor new (e ++ take 1 xs)
 step_stands old new middle xs x answer lost skip step first e stands =
     let one : length (e ++ x ∷ []) ≡ length e + 1 = length-append e (x ∷ []) in
-    subst (λ (l : List Element). Stands new (e ++ l)) (sym first)
+    subst (λ (l : List Element). StandsFor new (e ++ l)) (sym first)
     (record {
       going = lost ∙ stands.going;
       count = omega (arith, one, step.seen, skip.seen, stands.count, stands.going, lost);
@@ -126,7 +126,7 @@ step_stands old new middle xs x answer lost skip step first e stands =
     })
 
 pub step_tells : (old : Capture) (middle new : Scan) (xs : List Element) (x : Element) (answer : Option Start) → IsSkip old.scan middle xs 0 → IsStepOf x middle new answer → take 1 xs ≡ x ∷ []
-    → (e more : List Element) → Stands old e → Tells (e ++ (take 1 xs ++ more)) (reached old) (decided new.seen) answer
+    → (e more : List Element) → StandsFor old e → Tells (e ++ (take 1 xs ++ more)) (reached old) (decided new.seen) answer
 step_tells old middle new xs x answer skip step first e more stands =
     let low : length e - 1449 ≡ old.scan.seen - 1449 = omega (arith, stands.count, stands.going) in
     let high : length e + 1 - 1449 ≡ new.seen - 1449 = omega (arith, stands.count, stands.going, step.seen, skip.seen) in
@@ -135,9 +135,9 @@ step_tells old middle new xs x answer skip step first e more stands =
     (subst (λ (n : ℕ). Tells (e ++ x ∷ more) (length e - 1449) n answer) high
     (step.tells (e ++ x ∷ more) (length e) (none_skipped old.scan middle xs (e ++ x ∷ more) (length e) skip (stands.reads (x ∷ more))) (at_end e x more))))
 
--- the first of some elements
-pub first_one : (xs : List Element) (x : Element) → Some x ≡ slice_get xs 0 → take 1 xs ≡ x ∷ []
+-- the first of some items
+pub first_one : {X : Type 0} (xs : List X) (x : X) → Some x ≡ slice_get xs 0 → take 1 xs ≡ x ∷ []
 first_one [] x is = absurd (cc)
-first_one (y ∷ xs) x is =
+first_one {X} (y ∷ xs) x is =
     let same : y ≡ x = cc in
-    ap (λ (z : Element). z ∷ []) same
+    ap (λ (z : X). z ∷ []) same

@@ -1,7 +1,7 @@
 -- a window that begins at a start and is cut at the next one shows the start's facts
 use Rattle.std.proofs.Common.{◌≡◌, ℕ, ◌+◌, ◌-◌, ◌<◌, ◌≤◌, true, false, List, length, take, drop, get_or, Option, Some, None, inl, inr, refl, arith, ap, sym, ◌∙◌}
 use Rattle.std.proofs.lemmas.Bool.{cases_lt, both_ways}
-use Rattle.std.proofs.lemmas.List.{get_or_past, get_or-take, get_or-drop, length-take, length-drop}
+use Rattle.std.proofs.lemmas.List.{get_or_past, get_or-take, get_or-drop, length-take}
 use Rattle.plain_laws.proofs.Searches.{find_least, find_none}
 use Rattle.ten_unit.specs.declared.character.Element.{Element}
 use Rattle.ten_unit.specs.declared.character.Element.TheVariants.{Lost}
@@ -10,7 +10,7 @@ use Rattle.phasing.specs.inside.Places.{element_at}
 use Rattle.phasing.proofs.PublicLaws.{element_at-inside, element_at-before}
 use Rattle.slot_evidence.specs.Facts.{facts_at}
 use Rattle.long_capture.specs.Starts.{next_start, before, facts_from}
-use Rattle.long_capture.specs.inside.Reads.{IsWindow}
+use Rattle.long_capture.specs.inside.Reads.{IsNextIndex, IsWindow}
 use Rattle.long_capture.proofs.Near.{Laws, at_index, facts_alike}
 
 -- the leads of a window up to index 1,440 are phased as those of the stream
@@ -21,33 +21,6 @@ window_phased laws w e q k window few =
     let here : k + 150 + i ≡ 150 + (k + i) = omega arith in
     let there : q + (k + i) ≡ q + k + i = omega arith in
     ap (element_at w) here ∙ at_index w (k + i) ∙ window.same (k + i) (omega arith) ∙ ap (element_at e) there)
-
--- the window without its first element
-abbrev pub rest_of : List Element → List Element
-rest_of w = take (length w - 1) (drop 1 w)
-
-pub length-rest : (w : List Element) → length w ≡ 1600 → length (rest_of w) ≡ 1599
-length-rest w long = omega (arith, length-take (length w - 1) (drop 1 w), length-drop 1 w)
-
-at_rest : (w : List Element) (i : ℕ) → length w ≡ 1600 → i < 1599 → get_or (rest_of w) i Lost ≡ get_or w (1 + i) Lost
-at_rest w i long below = get_or-take (length w - 1) (drop 1 w) i Lost (omega arith) ∙ get_or-drop 1 w i Lost
-
-pub rest_phased : Laws → (w e : List Element) (q k : ℕ) → IsWindow w e q → k < 1440 → is_phased (rest_of w) (k + 150) ≡ is_phased e (q + 1 + k)
-rest_phased laws w e q k window few =
-    laws.lead (rest_of w) e (k + 150) (q + 1 + k)
-    (λ i below.
-    let long : length w ≡ 1600 = window.long in
-    let here : k + 150 + i ≡ 150 + (k + i) = omega arith in
-    let there : q + (1 + (k + i)) ≡ q + 1 + k + i = omega arith in
-    ap (element_at (rest_of w)) here ∙ at_index (rest_of w) (k + i) ∙ at_rest w (k + i) long (omega arith)
-    ∙ window.same (1 + (k + i)) (omega arith)
-    ∙ ap (element_at e) there)
-
--- the first phased index after a window's first one, or none
-pub record IsAfter (w : List Element) (after : ℕ) : Type 0 where
-  pub within : after ≤ 1599
-  pub phased : after < 1599 → is_phased (rest_of w) (after + 150) ≡ true
-  pub none : (k : ℕ) → k < after → is_phased (rest_of w) (k + 150) ≡ false
 
 -- a cut of the stream that agrees with the window's on 1,440 elements
 cut_at : (w e : List Element) (q end next j : ℕ) → IsWindow w e q → j < 1440 → (j < end → q + j < next) → (q + j < next → j < end) → element_at (take end w) (150 + j) ≡ element_at (take (next - 150) e) (q + j)
@@ -78,53 +51,68 @@ whole_at : (w e : List Element) (q end j : ℕ) → IsWindow w e q → j < 1440 
 whole_at w e q end j window few below = at_index (take end w) j ∙ get_or-take end w j Lost below ∙ window.same j (omega arith)
 
 -- where the leads of the stream after a start aren't phased, the window has none among the first 1,440
-far_after : Laws → (w e : List Element) (q after : ℕ) → IsWindow w e q → IsAfter w after → ((k : ℕ) → k < 1440 → is_phased e (q + 1 + k) ≡ false) → 1440 ≤ after
-far_after laws w e q after window is none =
-    elim (cases_lt after 1440) [
-      | inl few ↦ absurd (both_ways (is_phased e (q + 1 + after)) (none after few) (sym (rest_phased laws w e q after window few) ∙ is.phased (omega arith)))
+far_next : Laws → (w e : List Element) (q next : ℕ) → IsWindow w e q → IsNextIndex w next → ((k : ℕ) → 1 ≤ k → k < 1440 → is_phased e (q + k) ≡ false) → 1440 ≤ next
+far_next laws w e q next window is none =
+    elim (cases_lt next 1440) [
+      | inl few ↦ absurd (both_ways (is_phased e (q + next)) (none next is.from few) (sym (window_phased laws w e q next window (omega arith)) ∙ is.phased few))
       | inr far ↦ far
     ]
 
 -- where the next start is among them, it is the window's
-near_after : Laws → (w e : List Element) (q after k : ℕ) → IsWindow w e q → IsAfter w after → k < 1440 → is_phased e (q + 1 + k) ≡ true → ((j : ℕ) → j < k → is_phased e (q + 1 + j) ≡ false) → after ≡ k
-near_after laws w e q after k window is few phased none =
-    let not_before : after ≤ k =
-    elim (cases_lt k after) [
-      | inl early ↦ absurd (both_ways (is_phased (rest_of w) (k + 150)) (is.none k early) (rest_phased laws w e q k window few ∙ phased))
+near_next : Laws → (w e : List Element) (q next k : ℕ) → IsWindow w e q → IsNextIndex w next → 1 ≤ k → k < 1440 → is_phased e (q + k) ≡ true → ((j : ℕ) → 1 ≤ j → j < k → is_phased e (q + j) ≡ false) → next ≡ k
+near_next laws w e q next k window is from few phased none =
+    let not_before : next ≤ k =
+    elim (cases_lt k next) [
+      | inl early ↦ absurd (both_ways (is_phased w (k + 150)) (is.none k from early few) (window_phased laws w e q k window (omega arith) ∙ phased))
       | inr late ↦ late
     ] in
-    let not_after : k ≤ after =
-    elim (cases_lt after k) [
-      | inl early ↦ absurd (both_ways (is_phased e (q + 1 + after)) (none after early) (sym (rest_phased laws w e q after window (omega arith)) ∙ is.phased (omega arith)))
+    let not_after : k ≤ next =
+    elim (cases_lt next k) [
+      | inl early ↦ absurd (both_ways (is_phased e (q + next)) (none next is.from early) (sym (window_phased laws w e q next window (omega arith)) ∙ is.phased (omega arith)))
       | inr late ↦ late
     ] in
     omega arith
 
 -- the elements up to the cut
-cut_alike : Laws → (w e : List Element) (q after : ℕ) (next : Option ℕ) → next_start e q ≡ next → IsWindow w e q → IsAfter w after → (j : ℕ) → j < 1440 → element_at (take (after + 1) w) (150 + j) ≡ element_at (before e next) (q + j)
-cut_alike laws w e q after None found window is j few =
-    let far = far_after laws w e q after window is
-    (λ k below.
-    elim (cases_lt (q + 1 + k) (q + 1 + (length e + 150))) [
-      | inl inside ↦ find_none (is_phased e) (q + 1) (length e + 150) found (q + 1 + k) (omega arith) inside
-      | inr past ↦ laws.past e (q + 1 + k) (omega arith)
+cut_alike : Laws → (w e : List Element) (q index : ℕ) (next : Option ℕ) → next_start e q ≡ next → IsWindow w e q → IsNextIndex w index → (j : ℕ) → j < 1440 → element_at (take index w) (150 + j) ≡ element_at (before e next) (q + j)
+cut_alike laws w e q index None found window is j few =
+    let far = far_next laws w e q index window is
+    (λ k from below.
+    elim (cases_lt (q + k) (q + 1 + (length e + 150))) [
+      | inl inside ↦ find_none (is_phased e) (q + 1) (length e + 150) found (q + k) (omega arith) inside
+      | inr past ↦ laws.past e (q + k) (omega arith)
     ]) in
-    whole_at w e q (after + 1) j window few (omega arith)
-cut_alike laws w e q after (Some next) found window is j few =
+    whole_at w e q index j window few (omega arith)
+cut_alike laws w e q index (Some next) found window is j few =
     let least = find_least (is_phased e) (q + 1) (length e + 150) next found in
     let from : q + 1 ≤ next = least.from in
-    elim (cases_lt next (q + 1441)) [
+    elim (cases_lt next (q + 1440)) [
       | inl near ↦
-          let index : q + 1 + (next - (q + 1)) ≡ next = omega arith in
-          let same = near_after laws w e q after (next - (q + 1)) window is (omega arith) (ap (is_phased e) index ∙ least.passes) (λ k below. least.least (q + 1 + k) (omega arith) (omega arith)) in
-          cut_at w e q (after + 1) next j window few (λ inside. omega arith) (λ inside. omega arith)
+          let there : q + (next - q) ≡ next = omega arith in
+          let same = near_next laws w e q index (next - q) window is (omega arith) (omega arith) (ap (is_phased e) there ∙ least.passes) (λ k low below. least.least (q + k) (omega arith) (omega arith)) in
+          cut_at w e q index next j window few (λ inside. omega arith) (λ inside. omega arith)
       | inr past ↦
-          let far = far_after laws w e q after window is (λ k below. least.least (q + 1 + k) (omega arith) (omega arith)) in
-          cut_at w e q (after + 1) next j window few (λ inside. omega arith) (λ inside. omega arith)
+          let far = far_next laws w e q index window is (λ k low below. least.least (q + k) (omega arith) (omega arith)) in
+          cut_at w e q index next j window few (λ inside. omega arith) (λ inside. omega arith)
     ]
 
 -- the facts of the cut window
-pub facts_cut : Laws → (w e : List Element) (q after : ℕ) → IsWindow w e q → IsAfter w after → (p v : ℕ) → facts_at (take (after + 1) w) (Some 150) p v ≡ facts_from e q p v
+pub facts_cut : Laws → (w e : List Element) (q next : ℕ) → IsWindow w e q → IsNextIndex w next → (p v : ℕ) → facts_at (take next w) (Some 150) p v ≡ facts_from e q p v
 unfolding facts_from
-facts_cut laws w e q after window is =
-    facts_alike laws (take (after + 1) w) (before e (next_start e q)) 150 q (cut_alike laws w e q after (next_start e q) refl window is)
+facts_cut laws w e q next window is =
+    facts_alike laws (take next w) (before e (next_start e q)) 150 q (cut_alike laws w e q next (next_start e q) refl window is)
+
+-- ---- the window from an index on
+
+-- a lead that is phased there is phased in the window
+pub later_phased : Laws → (w : List Element) (n k : ℕ) → n + k + 160 ≤ length w → is_phased (take (length w - n) (drop n w)) (k + 150) ≡ is_phased w (n + k + 150)
+later_phased laws w n k inside =
+    let rest = take (length w - n) (drop n w) in
+    laws.lead rest w (k + 150) (n + k + 150)
+    (λ i below.
+    let here : k + 150 + i ≡ 150 + (k + i) = omega arith in
+    let there : 150 + (n + (k + i)) ≡ n + k + 150 + i = omega arith in
+    ap (element_at rest) here ∙ at_index rest (k + i)
+    ∙ get_or-take (length w - n) (drop n w) (k + i) Lost (omega arith) ∙ get_or-drop n w (k + i) Lost
+    ∙ sym (at_index w (n + (k + i)))
+    ∙ ap (element_at w) there)

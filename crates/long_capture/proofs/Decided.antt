@@ -11,8 +11,8 @@ use Rattle.phasing.specs.Origin.{is_phased}
 use Rattle.phasing.specs.inside.Places.{element_at}
 use Rattle.phasing.proofs.PublicLaws.{element_at-inside, element_at-before}
 use Rattle.long_capture.specs.Starts.{starts_below, facts_from}
-use Rattle.long_capture.specs.inside.Reads.{IsWindow}
-use Rattle.long_capture.proofs.Cuts.{IsAfter, rest_of, facts_cut}
+use Rattle.long_capture.specs.inside.Reads.{IsNextIndex, IsWindow}
+use Rattle.long_capture.proofs.Cuts.{facts_cut}
 use Rattle.long_capture.proofs.Lists.{none_below, below_more}
 use Rattle.long_capture.proofs.Near.{Laws}
 
@@ -48,33 +48,35 @@ more_window e more lead inside = record {
 }
 
 -- a window has a first phased index after its first one, or none
-abbrev is_after : List Element → ℕ → Bool
-is_after w k = is_phased (rest_of w) (k + 150)
+abbrev is_start_at : List Element → ℕ → Bool
+is_start_at w k = is_phased w (k + 150)
 
-after_of : (w : List Element) (found : Option ℕ) → find (is_after w) (range_with_len 0 1599) ≡ found → (after : ℕ) × IsAfter w after
-after_of w None is = (
-  1599,
+next_of : (w : List Element) (found : Option ℕ) → find (is_start_at w) (range_with_len 1 1439) ≡ found → (next : ℕ) × IsNextIndex w next
+next_of w None is = (
+  1440,
   record {
+    from = omega arith;
     within = omega arith;
-    phased = λ short. absurd (omega arith);
-    none = λ k below. find_none (is_after w) 0 1599 is k (omega arith) below;
+    phased = λ few. absurd (omega arith);
+    none = λ k low below few. find_none (is_start_at w) 1 1439 is k low (omega arith);
   },
 )
-after_of w (Some after) is =
-    let least = find_least (is_after w) 0 1599 after is in (
-      after,
+next_of w (Some next) is =
+    let least = find_least (is_start_at w) 1 1439 next is in (
+      next,
       record {
+        from = least.from;
         within = omega (arith, least.within);
-        phased = λ short. least.passes;
-        none = λ k below. least.least k (omega arith) below;
+        phased = λ few. least.passes;
+        none = λ k low below few. least.least k low below;
       },
     )
 
 pub facts_stay : Laws → (e more : List Element) (lead p v : ℕ) → lead + 1450 ≤ length e → facts_from (e ++ more) lead p v ≡ facts_from e lead p v
 facts_stay laws e more lead p v inside =
-    let after = after_of (window_of e lead) (find (is_after (window_of e lead)) (range_with_len 0 1599)) refl in
-    sym (facts_cut laws (window_of e lead) (e ++ more) lead after.0 (more_window e more lead inside) after.1 p v)
-    ∙ facts_cut laws (window_of e lead) e lead after.0 (own_window e lead) after.1 p v
+    let next = next_of (window_of e lead) (find (is_start_at (window_of e lead)) (range_with_len 1 1439)) refl in
+    sym (facts_cut laws (window_of e lead) (e ++ more) lead next.0 (more_window e more lead inside) next.1 p v)
+    ∙ facts_cut laws (window_of e lead) e lead next.0 (own_window e lead) next.1 p v
 
 pub starts_stay : Laws → (e more : List Element) (bound : ℕ) → bound ≤ length e - 1449 → starts_below (e ++ more) bound ≡ starts_below e bound
 starts_stay laws e more zero inside = none_below (e ++ more) ∙ sym (none_below e)

@@ -34,11 +34,11 @@ window_step was window x e n pushed reads here k place below is =
     let long : length was.window ≡ 1600 = reads.long in
     ap (λ (w : List Element). get_or w k Lost) pushed
     ∙ elim (cases_lt k 1599) as (λ _. get_or (drop 1 was.window ++ x ∷ []) k Lost ≡ element_at e place) [
-      | inl before ↦ pushed_before was.window x k long before ∙ reads.window (1 + k) place (omega arith) (omega arith)
+      | inl before ↦ pushed_before Lost was.window x k long before ∙ reads.window (1 + k) place (omega arith) (omega arith)
       | inr last ↦
           let at : k ≡ 1599 = omega arith in
           let there : n + 150 ≡ place = omega arith in
-          ap (λ (i : ℕ). get_or (drop 1 was.window ++ x ∷ []) i Lost) at ∙ pushed_last was.window x long ∙ sym here ∙ ap (element_at e) there
+          ap (λ (i : ℕ). get_or (drop 1 was.window ++ x ∷ []) i Lost) at ∙ pushed_last Lost was.window x long ∙ sym here ∙ ap (element_at e) there
     ]
 
 pub long_step : (was : Scan) (window : List Element) (x : Element) (e : List Element) (n : ℕ) → window ≡ drop 1 was.window ++ x ∷ [] → Reads was e n → length window ≡ 1600

@@ -27,7 +27,7 @@ abbrev pub IsOpen : Capture → Type 0
 IsOpen capture = capture.lost ≡ 0
 
 -- it has taken these elements, and its stream may go on with any others
-pub record Stands (capture : Capture) (e : List Element) : Type 0 where
+pub record StandsFor (capture : Capture) (e : List Element) : Type 0 where
   pub going : IsOpen capture
   pub count : taken capture ≡ length e
   pub far : reached capture ≡ decided (length e)

@@ -4,7 +4,7 @@ use ten_unit::ELEMENTS;
 use time_diversity::SLOTS;
 
 /// The elements from an origin on that its facts may rest on: those of the slots of all places. So many origins after
-/// the first one of a window are searched.
+/// the first one of a window may matter to them.
 pub const SEARCHED_AHEAD: u32 = SLOTS as u32 * ELEMENTS as u32;
 
 /// So many elements decide the origin at the first of them: its slots are among them, and a start inside of these slots

@@ -6,7 +6,7 @@ use crate::bounds::TAIL;
 use crate::scans::Scan;
 use crate::starts::Start;
 use phasing::LEAD_OF_FIRST;
-use ten_unit::Element;
+use ten_unit::{Element, element_of};
 
 /// The starts of a long stream, element by element. It holds a fixed number of elements and takes no memory.
 #[derive(Drop)]
@@ -17,7 +17,7 @@ pub struct Capture {
     ghost most: { lost ≤ TAIL },
 }
 
-/// What `take_block` took: how many elements, and the start that the last of them decides, if there is one.
+/// What `take_signs` took: how many elements, and the start that the last of them decides, if there is one.
 #[derive(Clone, Copy, Debug, PartialEq, Eq)]
 pub struct Taken {
     pub count: usize,
@@ -25,14 +25,15 @@ pub struct Taken {
 }
 
 impl Capture {
-    ghost use Rattle.std.specs.Prelude.{◌≡◌, [], ◌∷◌, ◌++◌, ◌<◌, ◌≤◌, ◌^◌, List, length, take, IsSome, IsNone};
+    ghost use Rattle.std.specs.Prelude.{◌≡◌, [], ◌∷◌, ◌++◌, ◌<◌, ◌≤◌, ◌^◌, List, length, map, take, IsSome, IsNone};
     ghost use Rattle.ten_unit.specs.declared.character.Element.{Element};
-    ghost use Rattle.long_capture.specs.Captures.{taken, reached, left, IsOpen, Stands, Ending};
+    ghost use Rattle.ten_unit.specs.Signs.{element_of};
+    ghost use Rattle.long_capture.specs.Captures.{taken, reached, left, IsOpen, StandsFor, Ending};
     ghost use Rattle.long_capture.specs.Told.{Tells};
 
     /// It stands for the empty stream and has decided nothing.
     pub fn new() -> Capture
-        ensures stands { Stands result [] }
+        ensures stands { StandsFor result [] }
     {
         Capture {
             scan: Scan::new(),
@@ -49,33 +50,35 @@ impl Capture {
     pub fn take(&mut self, x: Element) -> Option<Start>
         requires few { taken self.old < 2 ^ 40 }
         requires going { IsOpen self.old }
-        ensures stands { (e : List Element) → Stands self.old e → Stands self.new (e ++ x ∷ []) }
-        ensures tells { (e more : List Element) → Stands self.old e
+        ensures stands { (e : List Element) → StandsFor self.old e → StandsFor self.new (e ++ x ∷ []) }
+        ensures tells { (e more : List Element) → StandsFor self.old e
             → Tells (e ++ x ∷ more) (reached self.old) (reached self.new) result }
     {
         self.scan.step(x)
     }
 
-    /// Takes a front of the next elements, at least one if there is one: as many as decide that no origin is a start,
-    /// in one copy, or the one that wants a search. It is as if `take` had taken them one by one, and only the last of
-    /// them can decide a start.
-    pub fn take_block(&mut self, xs: &[Element]) -> Taken
-        requires few { taken self.old + length xs.now ≤ 2 ^ 40 }
+    /// Takes a front of the next elements, of which these are signs (`Y`, `B`, and any other byte for a lost one), at
+    /// least one if there is one: as many as decide that no origin is a start, in one copy, or the one that wants a
+    /// search. It is as if `take` had taken them one by one, and only the last of them can decide a start.
+    pub fn take_signs(&mut self, signs: &[u8]) -> Taken
+        requires few { taken self.old + length signs.now ≤ 2 ^ 40 }
         requires going { IsOpen self.old }
-        ensures front { result.count ≤ length xs.now }
-        ensures some { 0 < length xs.now → 0 < result.count }
-        ensures stands { (e : List Element) → Stands self.old e → Stands self.new (e ++ take result.count xs.now) }
-        ensures tells { (e more : List Element) → Stands self.old e
-            → Tells (e ++ (take result.count xs.now ++ more)) (reached self.old) (reached self.new) result.start }
+        ensures front { result.count ≤ length signs.now }
+        ensures some { 0 < length signs.now → 0 < result.count }
+        ensures stands { (e : List Element) → StandsFor self.old e
+            → StandsFor self.new (e ++ take result.count (map element_of signs.now)) }
+        ensures tells { (e more : List Element) → StandsFor self.old e
+            → Tells (e ++ (take result.count (map element_of signs.now) ++ more)) (reached self.old) (reached self.new)
+            result.start }
     {
-        let count = self.scan.skip(xs);
+        let count = self.scan.skip(signs);
         if count > 0 {
             return Taken { count, start: None };
         }
-        match xs.first() {
-            Some(x) => Taken {
+        match signs.first() {
+            Some(sign) => Taken {
                 count: 1,
-                start: self.scan.step(*x),
+                start: self.scan.step(element_of(*sign)),
             },
             None => Taken { count, start: None },
         }

@@ -12,7 +12,7 @@ ghost use Rattle.slot_join.specs.Heard.{IsOneWayAt};
 ghost use Rattle.slot_join.specs.OneCall.{IsCallOrMissing};
 ghost use Rattle.long_capture.specs.declared.captures.Capture.{Capture};
 ghost use Rattle.long_capture.specs.declared.starts.Start.{Start};
-ghost use Rattle.long_capture.specs.Captures.{decided, Stands, Ending};
+ghost use Rattle.long_capture.specs.Captures.{decided, StandsFor, Ending};
 ghost use Rattle.long_capture.specs.Starts.{before, facts_from, starts_below, starts};
 ghost use Rattle.long_capture.specs.Told.{AreQuiet, AreStarts, IsNextStart, Tells};
 
@@ -35,7 +35,7 @@ pub fn numbers_of_elements()
 
 /// The law that a stream may end after any of its elements.
 pub fn taking_ends()
-    ensures { (capture : Capture) (e : List Element) → Stands capture e → Ending capture e }
+    ensures { (capture : Capture) (e : List Element) → StandsFor capture e → Ending capture e }
 {}
 
 /// The law that the answers of `take` and `finish`, one after another, are the starts of the stream in their order.

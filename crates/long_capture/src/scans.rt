@@ -1,14 +1,18 @@
 //! The search for starts, element by element.
-ghost use Rattle.std.specs.Prelude.{◌≡◌, ℕ, ◌+◌, ◌-◌, ◌<◌, ◌≤◌, ◌^◌, List, length, slice_index_or};
+ghost use Rattle.std.specs.Prelude.{◌≡◌, ℕ, ◌+◌, ◌-◌, ◌<◌, ◌≤◌, ◌^◌, true, false, List, length, map, slice_index_or};
 ghost use Rattle.ten_unit.specs.declared.character.Element.{Element};
+ghost use Rattle.ten_unit.specs.Signs.{element_of};
+ghost use Rattle.phasing.specs.Origin.{is_phased};
 ghost use Rattle.phasing.specs.inside.Places.{element_at};
 ghost use Rattle.long_capture.specs.Told.{AreQuiet, Tells};
-ghost use Rattle.long_capture.specs.inside.Reads.{IsWindow, Looks, Reads};
+ghost use Rattle.long_capture.specs.inside.Reads.{IsNextIndex, IsWindow, Looks, Reads};
 
-use crate::bounds::{DECIDING, SEARCHED_AHEAD, UNDECIDED, WINDOW};
+use crate::bounds::{DECIDING, UNDECIDED, WINDOW};
 use crate::starts::Start;
 use crate::windows::Window;
-use phasing::{LEAD_OF_FIRST, elements_decide, first_phased, none_past_the_end, phased};
+use phasing::{
+    FRONT_INDICES, LEAD_OF_FIRST, elements_decide, first_phased, none_past_the_end, search_front,
+};
 use slot_evidence::sheet_at;
 use ten_unit::Element;
 
@@ -52,19 +56,20 @@ impl Scan {
         self.look()
     }
 
-    /// Takes a front of the next elements, which decide that no origin is a start, and answers how many they are. It
-    /// takes none only where there is none, or where the next one wants a search.
-    pub fn skip(&mut self, xs: &[Element]) -> usize
-        requires { self.old.seen + length xs.now < 2 ^ 62 }
-        ensures front { result ≤ length xs.now }
+    /// Takes a front of the next elements, of which these are signs, that decide that no origin is a start, and answers
+    /// how many they are. It takes none only where there is none, or where the next one wants a search.
+    pub fn skip(&mut self, signs: &[u8]) -> usize
+        requires { self.old.seen + length signs.now < 2 ^ 62 }
+        ensures front { result ≤ length signs.now }
         ensures seen { self.new.seen ≡ self.old.seen + result }
         ensures reads { (e : List Element) (n : ℕ) → Reads self.old e n
-            → ((k : ℕ) → k < result → element_at e (n + LEAD_OF_FIRST + k) ≡ slice_index_or xs.now k Element.Lost)
+            → ((k : ℕ) → k < result
+            → element_at e (n + LEAD_OF_FIRST + k) ≡ slice_index_or (map element_of signs.now) k Element.Lost)
             → Reads self.new e (n + result) }
         ensures quiet { (e : List Element) (n : ℕ) → Reads self.old e n → AreQuiet e (n - UNDECIDED) (n + result - UNDECIDED) }
     {
-        let most = xs.len().min(self.quiet as usize);
-        let count = self.window.push_front(&xs[..most]);
+        let most = signs.len().min(self.quiet as usize);
+        let count = self.window.push_front(&signs[..most]);
         self.seen += count as u64;
         self.quiet -= count as u32;
         count
@@ -81,16 +86,38 @@ impl Scan {
     {
         elements_decide();
         none_past_the_end();
-        let window = self.window.elements();
-        let after = first_phased(&window[1..]);
-        self.quiet = after.min(SEARCHED_AHEAD);
-        if !phased(window, 0) {
+        let window = self.window.signs();
+        let front = search_front(window);
+        self.quiet = front.next - 1;
+        if !front.begins {
             return None;
         }
-        let sheet = sheet_at(&window[..after as usize + 1], LEAD_OF_FIRST);
+        let next = next_index(window, front.next);
+        let sheet = sheet_at(&window[..next], LEAD_OF_FIRST);
         Some(Start {
             at: self.seen as i64 - WINDOW as i64,
             sheet,
         })
     }
+}
+
+/// The window's first index after 0 that is a phased origin, by what a search of its front found. Indices from 1,440 on
+/// matter to no fact.
+fn next_index(window: &[u8], found: u32) -> usize
+    requires long { length window.now ≡ WINDOW }
+    requires from { 1 ≤ found }
+    requires within { found ≤ FRONT_INDICES }
+    requires phased { found < FRONT_INDICES
+        → is_phased (map element_of window.now) (found + LEAD_OF_FIRST) ≡ true }
+    requires none { (k : ℕ) → 1 ≤ k → k < found
+        → is_phased (map element_of window.now) (k + LEAD_OF_FIRST) ≡ false }
+    ensures { IsNextIndex (map element_of window.now) result }
+{
+    elements_decide();
+    none_past_the_end();
+    if found < FRONT_INDICES {
+        return found as usize;
+    }
+    let rest = &window[FRONT_INDICES as usize..];
+    (FRONT_INDICES + first_phased(rest)) as usize
 }

@@ -1,9 +1,9 @@
 -- words of bits as tests of 64 places: from the tests of some words those of others
-use Rattle.std.proofs.Common.{◌≡◌, ℕ, zero, suc, ◌+◌, ◌-◌, ◌/◌, ◌^◌, ◌<◌, min, max, Bool, true, false, not, ◌&&◌, ◌||◌, cond, bit_and, bit_or, [], ◌∷◌, get_or, inl, inr, refl, arith, ap, sym, lit<, ◌∙◌}
+use Rattle.std.proofs.Common.{◌≡◌, ℕ, zero, suc, ◌+◌, ◌-◌, ◌/◌, ◌%◌, ◌^◌, ◌<◌, ◌==◌, min, max, Bool, true, false, not, ◌&&◌, ◌||◌, cond, bit_and, bit_or, [], ◌∷◌, get_or, inl, inr, refl, arith, ap, sym, lit<, ◌∙◌}
 use Rattle.std.specs.Int.{bit_at, bit_not, trailing_zeros, w64}
 use Rattle.std.proofs.lemmas.Bool.{cases_lt}
 use Rattle.std.proofs.lemmas.Nat.{and_le_l, or_lt, shr_le}
-use Rattle.std.proofs.lemmas.Nat.Bits.{bit_at-zero, bit_at_and, bit_at_or, bit_at_not, bit_at_above, bit_at_ones, bit_at-trailing_zeros}
+use Rattle.std.proofs.lemmas.Nat.Bits.{bit_at-zero, bit_at_and, bit_at_or, bit_at_not, bit_at_above, bit_at_ones, bit_at-suc, bit_at_lowest, bit_at-trailing_zeros}
 use Rattle.ten_unit.specs.inside.Marks.{IsMarks}
 use Rattle.ten_unit.proofs.PublicLaws.{bit_at-shr}
 use Rattle.phasing.proofs.Bits.{moved_up, moved_up-low, moved_up-high}
@@ -139,6 +139,45 @@ first_marked w base f a some =
       within = within;
       holds = is_true (f (base + trailing_zeros w64 w)) (sym (a.each (trailing_zeros w64 w) within) ∙ first.1);
       none = λ k below. is_false (f (base + k)) (sym (a.each k (omega arith)) ∙ first.2 k below);
+    }
+
+-- the last bit alone: the first place
+test_of : (b : Bool) (n : ℕ) → n ≡ cond b 1 0 → (n == 1) ≡ b
+test_of true n h = ap (λ (k : ℕ). k == 1) h
+test_of false n h = ap (λ (k : ℕ). k == 1) h
+
+pub first_bit : (w base : ℕ) (f : ℕ → Bool) → IsMarks w base f → (w % 2 == 1) ≡ f base
+first_bit w base f a =
+    let place : base + 0 ≡ base = omega arith in
+    test_of (f base) (w % 2) (sym (bit_at_lowest w) ∙ a.each 0 (lit< tt) ∙ ap (λ (p : ℕ). cond (f p) 1 0) place)
+
+-- the other bits: the places after it
+later_bit : (w k : ℕ) → bit_at w (1 + k) ≡ bit_at (w / 2) k
+later_bit w k =
+    let index : 1 + k ≡ suc k = omega arith in
+    ap (bit_at w) index ∙ bit_at-suc w k
+
+pub none_later : (w base : ℕ) (f : ℕ → Bool) → IsMarks w base f → w / 2 ≡ 0 → (i : ℕ) → 1 + i < 64 → f (base + (1 + i)) ≡ false
+none_later w base f a empty i below =
+    is_false (f (base + (1 + i))) (sym (a.each (1 + i) below) ∙ later_bit w i ∙ ap (λ (n : ℕ). bit_at n i) empty ∙ bit_at-zero i)
+
+pub record IsLater (f : ℕ → Bool) (base i : ℕ) : Type 0 where
+  pub within : 1 + i < 64
+  pub holds : f (base + (1 + i)) ≡ true
+  pub none : (k : ℕ) → k < i → f (base + (1 + k)) ≡ false
+
+pub first_later : (w base : ℕ) (f : ℕ → Bool) → IsMarks w base f → 0 < w / 2 → IsLater f base (trailing_zeros w64 (w / 2))
+first_later w base f a some =
+    let fits : w < 2 ^ 64 = a.fits in
+    let i = trailing_zeros w64 (w / 2) in
+    let first = bit_at-trailing_zeros w64 (w / 2) some (omega (arith, fits)) in
+    let at : bit_at w (1 + i) ≡ 1 = later_bit w i ∙ first.1 in
+    let within : 1 + i < 64 =
+    elim (cases_lt (1 + i) 64) [ inl inside ↦ inside | inr past ↦ absurd (omega (arith, at, bit_at_above w 64 (1 + i) fits past)) ] in
+    record {
+      within = within;
+      holds = is_true (f (base + (1 + i))) (sym (a.each (1 + i) within) ∙ at);
+      none = λ k below. is_false (f (base + (1 + k))) (sym (a.each (1 + k) (omega arith)) ∙ later_bit w k ∙ first.2 k below);
     }
 
 -- a fact on each of eight numbers in a row

@@ -20,7 +20,7 @@ pub use laws::{
 };
 pub use one_lead::phased;
 pub use packed::Reception;
-pub use phase::{first_phased, lead, origin};
+pub use phase::{FRONT_INDICES, Front, first_phased, lead, origin, search_front};
 pub use reception::{LAST_LEAD, LEAD_OF_FIRST, LONGEST, PHASING_ELEMENTS, slot_symbol};
 pub use sending::transmission;
 pub use window::Elements;

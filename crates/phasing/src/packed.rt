@@ -180,7 +180,7 @@ fn with_element(here: Planes, at: u32, element: Element) -> Planes
 }
 
 /// These signs, fewer than 64, and after them those of lost elements.
-fn padded(signs: &[u8]) -> [u8; 64]
+pub(crate) fn padded_signs(signs: &[u8]) -> [u8; 64]
     requires { length signs.now < 64 }
     ensures { result ≡ signs.now ++ drop (length signs.now) (replicate 64 45) }
 {
@@ -202,6 +202,6 @@ fn signs_packed(signs: &[u8], begin: usize) -> Option<Planes>
     let rest = &signs[begin..];
     match rest.first_chunk::<64>() {
         Some(block) => pack_signs(block),
-        None => pack_signs(&padded(rest)),
+        None => pack_signs(&padded_signs(rest)),
     }
 }

@@ -1,5 +1,5 @@
 //! The origin of a reception, found 64 leads at once.
-ghost use Rattle.std.specs.Prelude.{◌≡◌, ℕ, ◌+◌, ◌<◌, ◌≤◌, true, false, List, length, IfSome, IsNone};
+ghost use Rattle.std.specs.Prelude.{◌≡◌, ℕ, ◌+◌, ◌*◌, ◌<◌, ◌≤◌, true, false, List, length, IfSome, IsNone};
 ghost use Rattle.ten_unit.specs.declared.character.Element.{Element};
 ghost use Rattle.ten_unit.specs.inside.Marks.{IsMarks, IsPlanes};
 ghost use Rattle.phasing.specs.inside.Marked.{ArePhasing, IsCount, IsFirstPhased};
@@ -91,7 +91,7 @@ fn search_block<E: Elements>(
     third: &Phasing,
     next: Planes,
 ) -> Searched
-    requires from { from ≤ length (E.list e) + 512 }
+    requires from { from ≤ LONGEST + 512 }
     requires length { length (E.list e) ≤ LONGEST }
     requires first { ArePhasing first.now (from + 22) (element_at (E.list e)) }
     requires second { ArePhasing second.now (from + 86) (element_at (E.list e)) }
@@ -110,28 +110,30 @@ fn search_block<E: Elements>(
     }
 }
 
-/// The first phased lead from the first block on, which begins 128 elements before this one. The marks are of three
-/// blocks of 64 places, the planes of the elements after them. The first bit of a block that is enough is the lead.
-/// Three blocks are one turn, so that three marks move to the place of three only once.
+/// The first phased lead in so many turns of three blocks, of which the first begins 128 elements before this one. The
+/// marks are of three blocks of 64 places, the planes of the elements after them. The first bit of a block that is
+/// enough is the lead. Three blocks are one turn, so that three marks move to the place of three only once.
 #[inline(always)]
-fn first_from<E: Elements>(
+fn first_within<E: Elements>(
     e: E,
     begin: u32,
+    turns: u32,
     mut first: Phasing,
     mut second: Phasing,
     mut third: Phasing,
     mut next: Planes,
 ) -> Option<u32>
     requires length { length (E.list e) ≤ LONGEST }
-    requires begin { begin ≤ 128 }
+    requires turns { begin + 192 * turns ≤ LONGEST + 512 }
     requires first { ArePhasing first (begin + 22) (element_at (E.list e)) }
     requires second { ArePhasing second (begin + 86) (element_at (E.list e)) }
     requires third { ArePhasing third (begin + LEAD_OF_FIRST) (element_at (E.list e)) }
     requires next { IsPlanes next.y next.b (begin + 214) (element_at (E.list e)) }
     ensures first { IfSome result (IsFirstPhased (E.list e) (begin + 22)) }
-    ensures none { IsNone result → (lead : ℕ) → begin + 22 ≤ lead → sequence.is_phased (E.list e) lead ≡ false }
+    ensures none { IsNone result → (lead : ℕ) → begin + 22 ≤ lead → lead < begin + 192 * turns + 22
+        → sequence.is_phased (E.list e) lead ≡ false }
 {
-    for turn in 0..(e.count() as u32 + 319).saturating_sub(begin) / 192 {
+    for turn in 0..turns {
         let from = begin + 192 * turn;
         let fourth = search_block(e, from, &first, &second, &third, next);
         if fourth.phased != 0 {
@@ -158,6 +160,30 @@ fn first_from<E: Elements>(
         next = sixth.behind;
     }
     None
+}
+
+/// The first phased lead from the first block on, which begins 128 elements before this one. The marks are of three
+/// blocks of 64 places, the planes of the elements after them.
+#[inline(always)]
+fn first_from<E: Elements>(
+    e: E,
+    begin: u32,
+    first: Phasing,
+    second: Phasing,
+    third: Phasing,
+    next: Planes,
+) -> Option<u32>
+    requires length { length (E.list e) ≤ LONGEST }
+    requires begin { begin ≤ 128 }
+    requires first { ArePhasing first (begin + 22) (element_at (E.list e)) }
+    requires second { ArePhasing second (begin + 86) (element_at (E.list e)) }
+    requires third { ArePhasing third (begin + LEAD_OF_FIRST) (element_at (E.list e)) }
+    requires next { IsPlanes next.y next.b (begin + 214) (element_at (E.list e)) }
+    ensures first { IfSome result (IsFirstPhased (E.list e) (begin + 22)) }
+    ensures none { IsNone result → (lead : ℕ) → begin + 22 ≤ lead → sequence.is_phased (E.list e) lead ≡ false }
+{
+    let turns = (e.count() as u32 + 319).saturating_sub(begin) / 192;
+    first_within(e, begin, turns, first, second, third, next)
 }
 
 /// The lead of a reception's origin (ITU-R M.493, phasing sequence): the origin, counted from 150 elements before the
@@ -199,6 +225,53 @@ pub fn first_phased<E: Elements>(e: E) -> u32
     match first_from(e, 128, first, second, third, next) {
         Some(lead) => lead - LEAD_OF_FIRST,
         None => e.count() as u32,
+    }
+}
+
+/// So many indices of a front are searched at once: 22 blocks of 64.
+pub const FRONT_INDICES: u32 = 22 * 64;
+
+/// What a search of a reception's front finds: whether its first element is a phased origin, and the next index that is
+/// one, or `FRONT_INDICES` where none before it is.
+#[derive(Clone, Copy, Debug, PartialEq, Eq)]
+pub struct Front {
+    pub begins: bool,
+    pub next: u32,
+}
+
+/// Which of the first 1,408 indices of a reception are the first two phased origins, if index 0 is one, and else which
+/// is the first (ITU-R M.493, phasing sequence). It searches as `first_phased` does, and looks no further, whatever the
+/// length: so many indices take whole turns, and the first block's marks say both.
+pub fn search_front<E: Elements>(e: E) -> Front
+    requires { length (E.list e) ≤ LONGEST }
+    ensures begins { result.begins ≡ sequence.is_phased (E.list e) LEAD_OF_FIRST }
+    ensures from { 1 ≤ result.next }
+    ensures within { result.next ≤ FRONT_INDICES }
+    ensures phased { result.next < FRONT_INDICES → sequence.is_phased (E.list e) (result.next + LEAD_OF_FIRST) ≡ true }
+    ensures none { (k : ℕ) → 1 ≤ k → k < result.next → sequence.is_phased (E.list e) (k + LEAD_OF_FIRST) ≡ false }
+{
+    let middle = e.planes_from(64);
+    let last = e.planes_from(128);
+    let behind = e.planes_from(192);
+    let first = phasing_marked(e.planes_from(0), middle);
+    let second = phasing_marked(middle, last);
+    let third = phasing_marked(last, behind);
+    let fourth = search_block(e, 128, &first, &second, &third, behind);
+    let begins = fourth.phased % 2 == 1;
+    let later = fourth.phased / 2;
+    if later != 0 {
+        let next = 1 + later.trailing_zeros();
+        return Front { begins, next };
+    }
+    match first_within(e, 192, 7, second, third, fourth.marks, fourth.behind) {
+        Some(lead) => Front {
+            begins,
+            next: (lead - LEAD_OF_FIRST).min(FRONT_INDICES),
+        },
+        None => Front {
+            begins,
+            next: FRONT_INDICES,
+        },
     }
 }
 

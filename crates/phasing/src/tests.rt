@@ -1,7 +1,7 @@
 //! Origins by hand, and the fast search compared with the plain one.
 use crate::{
-    Elements, LONGEST, Reception, first_phased, lead, origin, phased, plain, slot_symbol,
-    transmission,
+    Elements, FRONT_INDICES, LONGEST, Reception, first_phased, lead, origin, phased, plain,
+    search_front, slot_symbol, transmission,
 };
 use dsc_symbols::worked::ALERT_SLOTS;
 use std::alloc::{AllocError, Global};
@@ -122,6 +122,17 @@ fn is_first_alike(e: &[Element]) -> bool {
     (0..e.len() as i32).all(|o| o > first || phased(e, o) == (o == first))
 }
 
+/// Whether the search of a front and the test of one origin after another find the same.
+fn is_front_alike(e: &[Element]) -> bool {
+    if e.len() > LONGEST {
+        return false;
+    }
+    let front = search_front(e);
+    front.begins == phased(e, 0)
+        && (1..FRONT_INDICES as i32).all(|o| o > front.next as i32
+            || phased(e, o) == (o == front.next as i32))
+}
+
 /// An alert after dots, which begins later and later: its lead is each from 350 down to 0, and so at each edge of a
 /// block. Then one that ends earlier and earlier, from 720 elements down to none.
 #[test]
@@ -130,6 +141,7 @@ fn each_lead_and_each_length(rt: HostRuntime) -> Result<(), Fail> {
     for begin in 0..=350 {
         let late = elements.get(begin..).ok_or("short")?;
         assert!(rt; is_found_alike(late), "from {begin} on");
+        assert!(rt; is_front_alike(late), "from {begin} on");
     }
     for end in 0..=elements.len() {
         assert!(rt; is_found_alike(&elements[..end]), "up to {end}");

@@ -1,11 +1,13 @@
 //! Elements that are read 64 at once from any place on.
-ghost use Rattle.std.specs.Prelude.{◌≡◌, ℕ, ◌+◌, ◌<◌, List, length, slice_index_or};
+ghost use Rattle.std.specs.Prelude.{◌≡◌, ℕ, ◌+◌, ◌<◌, List, length, map, slice_index_or};
 ghost use Rattle.ten_unit.specs.declared.character.Element.{Element as AnElement};
+ghost use Rattle.ten_unit.specs.Signs.{element_of};
 ghost use Rattle.ten_unit.specs.inside.Marks.{IsPlanes};
 ghost use Rattle.phasing.specs.inside.Places.{element_at};
 
+use crate::packed::padded_signs;
 use crate::reception::LEAD_OF_FIRST;
-use ten_unit::{Element, Planes, pack_elements};
+use ten_unit::{Element, Planes, pack_elements, sign_planes};
 
 /// These elements, fewer than 64, and lost ones after them.
 fn padded(e: &[Element]) -> [Element; 64]
@@ -45,6 +47,24 @@ impl Elements for &[Element] {
         match rest.first_chunk::<64>() {
             Some(block) => pack_elements(block),
             None => pack_elements(&padded(rest)),
+        }
+    }
+}
+
+/// The elements of signs: of `Y`, of `B`, and lost ones of all other bytes (this project's profile).
+impl Elements for &[u8] {
+    ghost list = { λ signs. map element_of signs.now };
+
+    fn count(self) -> usize {
+        self.len()
+    }
+
+    #[inline(always)]
+    fn planes_from(self, begin: usize) -> Planes {
+        let rest = &self[begin.min(self.len())..];
+        match rest.first_chunk::<64>() {
+            Some(block) => sign_planes(block),
+            None => sign_planes(&padded_signs(rest)),
         }
     }
 }

@@ -10,11 +10,6 @@ use Rattle.receiver_pool.specs.declared.group_entries.GroupSheet.{GroupSheet}
 use Rattle.receiver_pool.specs.Groups.{AreSheets, AreShown}
 use Rattle.receiver_pool.proofs.Parts.{same_sheets}
 
-and_nothing : (a b : Bool) → (a && (b && false)) ≡ false
-and_nothing true true = refl
-and_nothing true false = refl
-and_nothing false b = refl
-
 -- the same facts
 pub shown_same : (F G : ℕ → Facts) (entries : List GroupSheet) → ((k p v : ℕ) → F k p v ≡ G k p v) → AreShown F entries → AreShown G entries
 shown_same F G [] same are = λ k p v. sym (same k p v) ∙ are k p v

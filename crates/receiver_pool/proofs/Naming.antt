@@ -105,10 +105,3 @@ apart_push groups g none apart i j inside_i inside_j same =
 pub apart_with : (groups : List ℕ) (g : ℕ) (b : Bool) → is_listed groups g ≡ b → AreApart groups → AreApart (cond b groups (groups ++ g ∷ []))
 apart_with groups g true is apart = apart
 apart_with groups g false is apart = apart_push groups g is apart
-
--- what is known of a group that is in the list, and of one that isn't
-pub list_known : (groups : List ℕ) (g i : ℕ) → i < length groups → slice_index groups i ≡ g → groups ≡ with_group groups g
-list_known groups g i inside is = sym (ap (λ (b : Bool). cond b groups (groups ++ g ∷ [])) (listed_at groups g i inside is))
-
-pub list_new : (groups : List ℕ) (g : ℕ) → is_listed groups g ≡ false → ◌≡◌ {A = List ℕ} (groups ++ g ∷ []) (with_group groups g)
-list_new groups g none = sym (ap (λ (b : Bool). cond b groups (groups ++ g ∷ [])) none)

@@ -48,9 +48,6 @@ Covers seats j seat = (p : ℕ) → p < 64 → IsWithin (place_at (seat_at seats
 abbrev pub SheetCovers : List Held → ℕ → List Seen → Type 0
 SheetCovers seats j sheet = (p : ℕ) → p < 64 → IsWithin (place_at (seat_at seats j).view p).seen (reach_of (seen_at sheet p))
 
-pub same_row : (seats : List Held) → Row (Same seats) no_seat seats (length seats)
-same_row seats = record { count = refl; each = λ j small. refl }
-
 united_right : (a b : Reach) → IsWithin b (united a b)
 united_right a b = record { least = omega arith; past = omega arith }
 

@@ -51,16 +51,10 @@ module _ {X : Type 0} (P Q : ℕ → X → Type 0) (d : X) where
   pub all_turned_up : (xs : List X) (k n : ℕ) → n ≤ k → Turned P Q d xs k n → Row P d xs n
   all_turned_up xs k n over was = record { count = was.count; each = λ j small. was.below j (omega arith) small }
 
-  pub none_turned_down : (xs : List X) (k n : ℕ) → n ≤ k → Row P d xs n → Turned P Q d xs k n
-  none_turned_down xs k n over row = record { count = row.count; below = λ j low small. row.each j small; above = λ j high small. absurd (omega arith) }
-
   pub all_turned_down : (xs : List X) (k n : ℕ) → k ≡ 0 → Turned P Q d xs k n → Row Q d xs n
   all_turned_down xs k n none was = record { count = was.count; each = λ j small. was.above j (omega arith) small }
 
 module _ {X : Type 0} (P : ℕ → X → Type 0) (d : X) where
-  pub no_row : Row P d [] 0
-  no_row = record { count = refl; each = λ j small. absurd (omega arith) }
-
   -- one element more
   pub row_longer : (xs : List X) (n : ℕ) (x : X) → Row P d xs n → P n x → Row P d (xs ++ x ∷ []) (n + 1)
   row_longer xs n x row held = record {

@@ -62,7 +62,11 @@ impl Sentences {
     }
 
     /// Appends what a line gives.
-    fn tell(&mut self, says: &SentenceLine<'_>, out: &mut Vec<u8>) -> Result<(), AllocError>
+    fn append_answer(
+        &mut self,
+        says: &SentenceLine<'_>,
+        out: &mut Vec<u8>,
+    ) -> Result<(), AllocError>
         ensures text { OnOk result (out.new.items ≡ out.old.items ++ line_text says.now) }
         ensures refused { OnOk result (self.new.refused ≡ (self.old.refused || not (is_well says.now))) }
     {
@@ -81,7 +85,7 @@ impl Command for Sentences {
     fn take(&mut self, line: &[u8], out: &mut Vec<u8>) -> Result<(), Refusal> {
         match sentence_line(line) {
             Ok(says) => {
-                self.tell(&says, out)?;
+                self.append_answer(&says, out)?;
                 Ok(())
             }
             Err(n) => Err(Refusal::Column(n)),

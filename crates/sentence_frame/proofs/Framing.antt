@@ -9,14 +9,14 @@ use Rattle.std.proofs.lemmas.Slice.Eq.{starts_is}
 use Rattle.std.proofs.lemmas.Bool.Decides.{Decides-eqb}
 use Rattle.std.proofs.Math.Seq.{take-append_seam, drop-append_seam, get_or-append_seam}
 use Rattle.sentence_frame.specs.Frames.{checksum, ending, closed}
-use Rattle.sentence_frame.specs.Refusals.{framed, begins, ends, body, last_five, inner, written, is_ending, is_clean, is_head}
+use Rattle.sentence_frame.specs.Refusals.{framed, begins, is_ended, body, last_five, inner, written, is_ending, is_clean, is_head}
 use Rattle.sentence_frame.proofs.Heads.{head_facts, begins_facts, ending_facts, head_fits}
 use Rattle.sentence_frame.proofs.Endings.{ending_text, written_ending, ending_is, checksum_small}
 
 record Passes (head bytes fields : List ℕ) : Type 0 where
   short : nat_lt 82 (length bytes) ≡ false
   start : begins head bytes ≡ true
-  end : ends bytes ≡ true
+  end : is_ended bytes ≡ true
   sum : nat_eq (checksum (inner bytes)) (written (last_five bytes)) ≡ true
   value : drop (length head) (body bytes) ≡ fields
 
@@ -31,7 +31,7 @@ passes head bytes fields h =
             | inr other ↦ absurd (let k = rw other at h1 in cc)
             | inl start ↦
                 (let h2 = rw start at h1 in
-                elim (cases_Bool (ends bytes)) [
+                elim (cases_Bool (is_ended bytes)) [
                   | inr loose ↦ absurd (let k = rw loose at h2 in cc)
                   | inl end ↦
                       (let h3 = rw end at h2 in
@@ -97,7 +97,7 @@ unfolding framed
 framed_is head bytes fields p =
     let short : nat_lt 82 (length bytes) ≡ false = p.short in
     let start : begins head bytes ≡ true = p.start in
-    let end : ends bytes ≡ true = p.end in
+    let end : is_ended bytes ≡ true = p.end in
     let sum : nat_eq (checksum (inner bytes)) (written (last_five bytes)) ≡ true = p.sum in
     let value : drop (length head) (body bytes) ≡ fields = p.value in
     rw (short, start, end, sum, value) refl
@@ -122,7 +122,7 @@ framed_back head rest h clean short =
     let starts : starts_with nat_eq bytes head ≡ true =
     (starts_is Decides-eqb bytes head (starts_with nat_eq bytes head) refl).1 (fields ++ ending sum) chain in
     let comma : get_or bytes (length head) 0 ≡ 44 = ap (λ (l : List ℕ). get_or l (length head) 0) chain ∙ get_or-append_seam head 44 (rest ++ ending sum) 0 in
-    let test : ends bytes ≡ true =
+    let test : is_ended bytes ≡ true =
     and_from (is_ending (last_five bytes)) (list_all is_clean (inner bytes))
     (ap is_ending last ∙ ending_is sum small) (ap (λ (l : List ℕ). list_all is_clean l) between ∙ all) in
     let same : checksum (inner bytes) ≡ written (last_five bytes) = ap checksum between ∙ sym (ap written last ∙ written_ending sum small) in

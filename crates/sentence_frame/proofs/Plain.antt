@@ -30,7 +30,7 @@ digit_plain b h =
     (not_from_false (nat_eq b 42) (ne_eqb b 42 (λ e. omega (arith, e, low))))))
     (not_from_false (is_comma b) (ne_eqb b 44 (λ e. omega (arith, e, low))))
 
-digits_plain : (t : List ℕ) → list_all is_digit t ≡ true → are_plain t ≡ true
+pub digits_plain : (t : List ℕ) → list_all is_digit t ≡ true → are_plain t ≡ true
 digits_plain [] h = refl
 digits_plain (b ∷ t) h =
     let k = and_parts (is_digit b) (list_all is_digit t) h in
@@ -71,7 +71,7 @@ plain_clean (b ∷ t) h =
     let k = and_parts (is_plain b) (are_plain t) h in
     and_from (is_clean b) (list_all is_clean t) (and_parts (is_clean b) (not (is_comma b)) k.0).0 (plain_clean t k.1)
 
-plain_free : (t : List ℕ) → are_plain t ≡ true → has_no_comma t ≡ true
+pub plain_free : (t : List ℕ) → are_plain t ≡ true → has_no_comma t ≡ true
 plain_free [] h = refl
 plain_free (b ∷ t) h =
     let k = and_parts (is_plain b) (are_plain t) h in

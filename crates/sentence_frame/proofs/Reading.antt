@@ -1,14 +1,17 @@
 -- how fields are read one after another
-use Rattle.std.proofs.Common.{◌≡◌, ℕ, Bool, true, not, cond, List, [], ◌∷◌, ◌++◌, length, take, drop, refl, ◌∙◌, ap, arith, inl, inr, Result, Ok, Err, MatchResult, zero, suc}
+use Rattle.std.proofs.Common.{◌≡◌, ℕ, ◌≤◌, Bool, true, not, cond, List, [], ◌∷◌, ◌++◌, length, take, drop, refl, sym, ◌∙◌, ap, arith, inl, inr, Result, Ok, Err, MatchResult, zero, suc}
 use Rattle.std.specs.List.{list_all, prefix_len}
 use Rattle.std.proofs.lemmas.Bool.{and_parts, cases_Bool}
-use Rattle.std.proofs.Math.Seq.{take-append_seam, drop-append_seam}
+use Rattle.std.proofs.lemmas.List.{take-append-drop, drop_all, length-take-le}
+use Rattle.std.proofs.Math.Seq.{take-append_seam, drop-append_seam, drop-cons}
+use Rattle.line_grammar.specs.Tokens.{is_digit}
 use Rattle.sentence_frame.specs.declared.refusals.SentenceRefusal.{SentenceRefusal}
 use Rattle.sentence_frame.specs.declared.refusals.SentenceRefusal.TheVariants.{Field}
 use Rattle.sentence_frame.specs.Frames.{behind_commas}
 use Rattle.sentence_frame.specs.Shapes.{Shape, accepts}
-use Rattle.sentence_frame.specs.inside.Fields.{first_of, rest_of, field, and_then}
+use Rattle.sentence_frame.specs.inside.Fields.{first_of, rest_of, field, and_then, ends_at}
 use Rattle.sentence_frame.proofs.Cuts.{is_comma, has_no_comma}
+use Rattle.sentence_frame.proofs.Plain.{digits_plain, plain_free}
 
 abbrev goes_on : ℕ → Bool
 goes_on b = not (is_comma b)
@@ -66,3 +69,28 @@ firsts_behind (t ∷ ts) h =
     ap (λ (l : List ℕ). l ∷ firsts (length ts) (rest_of (behind_commas (t ∷ ts)))) first
     ∙ ap (λ (l : List ℕ). t ∷ firsts (length ts) l) rest
     ∙ ap (λ (l : List (List ℕ)). t ∷ l) (firsts_behind ts both.1)
+
+pub ends_within : (width : ℕ) (bytes : List ℕ) → ends_at width bytes → width ≤ length bytes
+ends_within width bytes ends = elim ends [ inl all ↦ omega (arith, all) | inr comma ↦ omega (arith, comma.0) ]
+
+-- digits that reach to a comma or to the end are the first text
+digits_first : (width : ℕ) (behind : List ℕ) → ends_at width behind → list_all is_digit (take width behind) ≡ true → prefix_len goes_on behind ≡ width
+digits_first width behind ends h =
+    let free = plain_free (take width behind) (digits_plain (take width behind) h) in
+    let stops : prefix_len goes_on (drop width behind) ≡ 0 =
+    elim ends [
+      | inl all ↦ ap (prefix_len goes_on) (drop_all width behind (omega (arith, all)))
+      | inr comma ↦ ap (prefix_len goes_on) (drop-cons behind width 0 comma.0) ∙ ap (λ (b : ℕ). prefix_len goes_on (b ∷ drop (suc width) behind)) comma.1
+    ] in
+    ap (prefix_len goes_on) (sym (take-append-drop width behind))
+    ∙ length_text (take width behind) (drop width behind) free stops
+    ∙ length-take-le width behind (ends_within width behind ends)
+
+pub digits_taken : (width b : ℕ) (fields behind : List ℕ) → fields ≡ b ∷ behind → ends_at width behind → list_all is_digit (take width behind) ≡ true
+    → (first_of fields ≡ take width behind) × (rest_of fields ≡ drop width behind)
+unfolding first_of rest_of
+digits_taken width b fields behind e ends h =
+    let k = digits_first width behind ends h in (
+      ap (λ (l : List ℕ). take (prefix_len goes_on (drop 1 l)) (drop 1 l)) e ∙ ap (λ (n : ℕ). take n behind) k,
+      ap (λ (l : List ℕ). drop (prefix_len goes_on (drop 1 l)) (drop 1 l)) e ∙ ap (λ (n : ℕ). drop n behind) k,
+    )

@@ -54,15 +54,15 @@ abbrev pub is_clean : ℕ → Bool
 is_clean b = (nat_le 32 b && nat_le b 126) && (not (b == 36) && not (b == 42))
 
 -- a test of bytes: whether they end as sentences do, and what is between the `$` and that `*` is clean
-abbrev pub ends : List ℕ → Bool
-ends bytes = is_ending (last_five bytes) && list_all is_clean (inner bytes)
+abbrev pub is_ended : List ℕ → Bool
+is_ended bytes = is_ending (last_five bytes) && list_all is_clean (inner bytes)
 
 -- the fields, each after its comma, of bytes in the frame of sentences with this head
 unfoldable pub framed : List ℕ → List ℕ → Result (List ℕ) SentenceRefusal
 framed head bytes =
     if nat_lt 82 (length bytes) then Err (TooLong (length bytes)) else
     if not (begins head bytes) then Err Start else
-    if not (ends bytes) then Err End else
+    if not (is_ended bytes) then Err End else
     if not (checksum (inner bytes) == written (last_five bytes)) then Err (Checksum (checksum (inner bytes)) (written (last_five bytes))) else
     Ok (drop (length head) (body bytes))
 

@@ -1,19 +1,24 @@
 //! The values of the fields of a sentence.
-ghost use Rattle.std.specs.Prelude.{[], ◌∷◌, not, ◌≡◌, ◌-◌, ◌≤◌, ◌<◌, ◌^◌, IsTrue, IfOk, IfSome, length, map, slice_index};
+ghost use Rattle.std.specs.Prelude.{[], ◌∷◌, not, ◌≡◌, ◌-◌, ◌≤◌, ◌<◌, ◌^◌, true, IsTrue, IfOk, IfSome, MatchOption, length, map, slice_index};
 ghost use Rattle.std.specs.List.{list_all};
 ghost use Rattle.line_grammar.specs.Tokens.{is_digit};
 ghost use Rattle.sentence_frame.specs.Shapes as shape;
 ghost use Rattle.sentence_frame.specs.Shapes.{number_of, digits_of};
-ghost use Rattle.sentence_frame.specs.inside.Fields.{field, perhaps};
+ghost use Rattle.sentence_frame.specs.inside.Fields.{field, perhaps, first_of, rest_of, ends_at};
 
 use crate::SentenceRefusal;
 use arrayvec::ArrayVec;
+use cursor::Cursor;
 
-/// Whether all bytes are decimal digits.
+/// Whether all bytes are decimal digits. None ends the loop, which unrolls where the number of bytes is a constant.
 fn all_digits(text: &[u8]) -> bool
     ensures { result ≡ list_all is_digit text.now }
 {
-    text.iter().all(|byte| byte.is_ascii_digit())
+    let mut all = true;
+    for byte in text {
+        all &= byte.is_ascii_digit();
+    }
+    all
 }
 
 /// Whether a text is so many decimal digits.
@@ -133,6 +138,36 @@ fn digit_values<const N: usize>(text: &[u8]) -> [u8; N]
         digits[n] = *byte - b'0';
     }
     digits
+}
+
+/// Whether a text of so many bytes may end there: no byte follows, or a comma.
+fn may_end(width: usize, bytes: &[u8]) -> bool
+    ensures { IsTrue result → ends_at width bytes.now }
+{
+    match bytes.get(width) {
+        Some(byte) => *byte == b',',
+        None => bytes.len() == width,
+    }
+}
+
+/// Takes the text of the next field where it is N digits, and gives their values; else it takes nothing. It looks for
+/// no comma, since digits are none.
+#[inline(always)]
+pub fn next_digits<const N: usize>(fields: &mut Cursor<'_>) -> Option<[u8; N]>
+    ensures { MatchOption result (fields.new ≡ fields.old)
+        (λ digits. (shape.are_digits N (first_of fields.old) ≡ true) × (digits ≡ digits_of (first_of fields.old))
+        × (fields.new ≡ rest_of fields.old)) }
+{
+    let (_, behind) = fields.rest().split_first()?;
+    if !may_end(N, behind) {
+        return None;
+    }
+    let text = &behind[..N];
+    if !all_digits(text) {
+        return None;
+    }
+    fields.go_on(&behind[N..]);
+    Some(digit_values(text))
 }
 
 /// Field k, where its text is N digits.

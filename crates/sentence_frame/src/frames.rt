@@ -37,6 +37,7 @@ pub fn fields_of<'a>(
 
 /// How many texts these fields have, each after its comma.
 fn text_count(fields: &[u8]) -> usize
+    requires { length fields.now ≤ 82 }
     ensures { result ≡ length (refusal.texts fields.now) }
 {
     match fields.split_first() {
@@ -45,12 +46,20 @@ fn text_count(fields: &[u8]) -> usize
     }
 }
 
-/// How many commas there are.
+/// How many commas there are. They are counted in a byte and none ends the loop, so that sixteen bytes are looked at at
+/// once.
 fn commas(bytes: &[u8]) -> usize
+    requires { length bytes.now ≤ 82 }
     ensures count { result ≡ count_by (λ b. b == 44) bytes.now }
     ensures most { result ≤ length bytes.now }
 {
-    bytes.iter().filter(|byte| **byte == b',').count()
+    let mut count: u8 = 0;
+    for byte in bytes {
+        if *byte == b',' {
+            count += 1;
+        }
+    }
+    usize::from(count)
 }
 
 /// The fields, each after its comma, of bytes in the frame of sentences with this head.
@@ -58,6 +67,7 @@ fn commas(bytes: &[u8]) -> usize
 fn framed<'a>(head: &[u8], bytes: &'a [u8]) -> Result<&'a [u8], SentenceRefusal>
     requires { IsTrue (refusal.is_head head.now) }
     ensures ok { IfOk result (λ fields. refusal.framed head.now bytes.now ≡ Ok fields.now) }
+    ensures short { IfOk result (λ fields. length fields.now ≤ 82) }
     ensures err { IfErr result (λ e. refusal.framed head.now bytes.now ≡ Err e) }
 {
     if bytes.len() > LONGEST_SENTENCE {
@@ -66,10 +76,10 @@ fn framed<'a>(head: &[u8], bytes: &'a [u8]) -> Result<&'a [u8], SentenceRefusal>
     if !begins(head, bytes) {
         return Err(SentenceRefusal::Start);
     }
-    if !ends(bytes) {
+    let (clean, want) = clean_sum(inner(bytes));
+    if !is_ended(bytes, clean) {
         return Err(SentenceRefusal::End);
     }
-    let want = checksum(inner(bytes));
     let got = written(last_five(bytes));
     if want == got {
         Ok(behind(head, bytes))
@@ -81,7 +91,8 @@ fn framed<'a>(head: &[u8], bytes: &'a [u8]) -> Result<&'a [u8], SentenceRefusal>
 /// What comes after the head and before the last five bytes.
 fn behind<'a>(head: &[u8], bytes: &'a [u8]) -> &'a [u8]
     requires { length head.now < length bytes.now - 5 }
-    ensures { result.now ≡ drop (length head.now) (refusal.body bytes.now) }
+    ensures value { result.now ≡ drop (length head.now) (refusal.body bytes.now) }
+    ensures short { length result.now ≤ length bytes.now }
 {
     let body = body(bytes);
     &body[head.len()..]
@@ -109,11 +120,12 @@ fn inner(bytes: &[u8]) -> &[u8]
     &body[body.len().min(1)..]
 }
 
-/// Whether bytes end as sentences do, and what comes before is clean.
-fn ends(bytes: &[u8]) -> bool
-    ensures { result ≡ refusal.ends bytes.now }
+/// Whether bytes end as sentences do, and what comes before is clean, as is known.
+fn is_ended(bytes: &[u8], clean: bool) -> bool
+    requires { clean ≡ list_all refusal.is_clean (refusal.inner bytes.now) }
+    ensures { result ≡ refusal.is_ended bytes.now }
 {
-    is_ending(last_five(bytes)) && are_clean(inner(bytes))
+    is_ending(last_five(bytes)) && clean
 }
 
 /// Whether bytes begin with this head and a comma.
@@ -171,11 +183,20 @@ fn is_clean(byte: u8) -> bool
     (32..=126).contains(&byte) && byte != b'$' && byte != b'*'
 }
 
-/// Whether all bytes may come between the `$` and the `*`.
-fn are_clean(bytes: &[u8]) -> bool
-    ensures { result ≡ list_all refusal.is_clean bytes.now }
+/// Whether all bytes may come between the `$` and the `*`, and their exclusive or. None ends the loop, so that sixteen
+/// are looked at at once.
+#[tactic(auto, unfolding(crate::specs::Frames::checksum))]
+fn clean_sum(bytes: &[u8]) -> (bool, u8)
+    ensures clean { result.0 ≡ list_all refusal.is_clean bytes.now }
+    ensures sum { result.1 ≡ frame.checksum bytes.now }
 {
-    bytes.iter().all(|byte| is_clean(*byte))
+    let mut clean = true;
+    let mut sum = 0;
+    for byte in bytes {
+        clean &= is_clean(*byte);
+        sum ^= *byte;
+    }
+    (clean, sum)
 }
 
 /// The exclusive or of bytes.

@@ -9,8 +9,8 @@ mod refusals;
 mod writing;
 
 pub use fields::{
-    code, digits, digits_up_to, letter, number, perhaps_code, perhaps_digits, perhaps_letter,
-    perhaps_number,
+    code, digits, digits_up_to, letter, next_digits, number, perhaps_code, perhaps_digits,
+    perhaps_letter, perhaps_number,
 };
 pub use frames::{LONGEST_SENTENCE, fields_of, next_text};
 pub use refusals::SentenceRefusal;

@@ -33,11 +33,7 @@ delay_in : (what : ShipWhat) → IsShipWhat what → AllByRecursion IsAlertDelay
 delay_in (Position position time) h = tt
 delay_in (Delay delay) h = (h, tt)
 delay_in (Alert nature comm) h = tt
-delay_in Cancel h = tt
-delay_in Tick h = tt
-delay_in (Send c) h = tt
-delay_in (Answer number accepts) h = tt
-delay_in (Heard c) h = tt
+delay_in _ h = tt
 
 given_in_range : (who : Identities) (h : History ShipWhat) → Legal (ship_rules who) h → AllByRecursion IsAlertDelay (delays_given h)
 given_in_range who [] legal = tt

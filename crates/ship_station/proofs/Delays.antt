@@ -27,12 +27,7 @@ tick_needs_delay who h at Tick tick attempt =
     attempt_needs_delay who.own (kept h) (open_alert h) (delays_left h) (last_attempt h) at
     (sym (tick_test is_attempt attempts_missed (at_tick who.own (kept h) (open_alert h) (delays_left h) (last_attempt h) at) at (held h)) ∙ attempt)
 tick_needs_delay who h at (Position position time) tick attempt = absurd (false≢true tick)
-tick_needs_delay who h at (Delay delay) tick attempt = absurd (false≢true tick)
-tick_needs_delay who h at (Alert nature comm) tick attempt = absurd (false≢true tick)
-tick_needs_delay who h at Cancel tick attempt = absurd (false≢true tick)
-tick_needs_delay who h at (Send call) tick attempt = absurd (false≢true tick)
-tick_needs_delay who h at (Answer number accepts) tick attempt = absurd (false≢true tick)
-tick_needs_delay who h at (Heard call) tick attempt = absurd (false≢true tick)
+tick_needs_delay who h at _ tick attempt = absurd (false≢true tick)
 
 used_by : (used given more : ℕ) (b : Bool) → used ≤ given → (b ≡ true → 0 < given - used) → (if b then suc used else used) ≤ given + more
 used_by used given more true few left = let l = left refl in omega arith

@@ -12,7 +12,7 @@ use Rattle.ship_station.specs.declared.events.ShipWhat.TheVariants.{Heard}
 use Rattle.ship_station.specs.declared.ships.Ship.{Ship}
 use Rattle.ship_station.specs.Past.{kept, open_alert}
 use Rattle.ship_station.specs.ShipRules.{Identities, held, is_for, at_call, due_at, refusal_at}
-use Rattle.ship_station.specs.Stands.{Keeps}
+use Rattle.ship_station.specs.StandsFor.{Keeps}
 
 -- a ship judges who a call is for as its history does
 pub is_for_by : (who : Identities) (h : History ShipWhat) (ship : Ship) (c : Call) → Keeps ship who h

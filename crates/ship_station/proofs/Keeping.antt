@@ -9,7 +9,7 @@ use Rattle.ship_station.specs.declared.ships.Ship.{Ship}
 use Rattle.ship_station.specs.Events.{whereabouts_of, delay_of, alert_of}
 use Rattle.ship_station.specs.Past.{is_attempt, is_end, is_tick, attempt_moment, kept, open_alert, last_attempt, delays_given, delays_used, delays_left}
 use Rattle.ship_station.specs.ShipRules.{Identities, held}
-use Rattle.ship_station.specs.Stands.{Keeps}
+use Rattle.ship_station.specs.StandsFor.{Keeps}
 use Rattle.ship_station.proofs.Delays.{first_delay_used, none_given_none_used}
 
 -- an event that gives no position and no delay, and begins no alert

@@ -17,12 +17,12 @@ use Rattle.ship_station.specs.declared.ships.Ship.{Ship}
 use Rattle.ship_station.specs.Events.{IsShipWhat, ship_occurs}
 use Rattle.ship_station.specs.Past.{open_alert, delays_left}
 use Rattle.ship_station.specs.ShipRules.{Identities, held, refused_where, refusal_at, due_at, ship_rules}
-use Rattle.ship_station.specs.Stands.{Keeps, Stands}
+use Rattle.ship_station.specs.StandsFor.{Keeps, StandsFor}
 
 -- after an accepted event the ship stands for the history that goes on
 pub accepted : (who : Identities) (h : History ShipWhat) (at : ℕ) (what : ShipWhat) (acts : List Act) (new : Ship) → last_moment h ≤ at → IsShipWhat what
     → Legal (ship_rules who) h → refusal_at who h what ≡ None → due_at who h at what ≡ acts
-    → Keeps new who (record { at = at; what = what; acts = acts } ∷ h) → Stands new who (continued (ship_rules who) h at what)
+    → Keeps new who (record { at = at; what = what; acts = acts } ∷ h) → StandsFor new who (continued (ship_rules who) h at what)
 accepted who h at what acts new late event legal none due keeps =
     let goes = continued_accepted (ship_rules who) h at what (refused_on_time (ship_rules who) h at what late ∙ none) in
     let here = subst (λ (some : List Act). Keeps new who (record { at = at; what = what; acts = some } ∷ h)) (sym due) keeps in
@@ -41,10 +41,10 @@ answered who h at what acts late none due =
 -- a ship that is as it was after a refusal, and keeps what its history says after an accepted event, goes on as its
 -- history does
 pub goes : (who : Identities) (h : History ShipWhat) (at : ℕ) (what : ShipWhat) (old new : Ship) (result : Result (Unit {0}) StationRefusal) (acts : List Act)
-    → last_moment h ≤ at → IsShipWhat what → Stands old who h → answer_with result acts ≡ refusal_or (refusal_at who h what) (due_at who h at what)
+    → last_moment h ≤ at → IsShipWhat what → StandsFor old who h → answer_with result acts ≡ refusal_or (refusal_at who h what) (due_at who h at what)
     → OnErr result (new ≡ old)
     → (refusal_at who h what ≡ None → OnOk result (Keeps new who (record { at = at; what = what; acts = due_at who h at what } ∷ h)))
-    → Stands new who (continued (ship_rules who) h at what)
+    → StandsFor new who (continued (ship_rules who) h at what)
 goes who h at what old new result acts late event stands answer same keeps =
     goes_on (ship_rules who) h at what (λ (g : History ShipWhat). Keeps new who g) result acts late event stands.0 answer
     (on_err_weaker result (λ is. subst (λ (ship : Ship). Keeps ship who h) (sym is) stands.1) same) keeps

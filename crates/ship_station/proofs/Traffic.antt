@@ -19,7 +19,7 @@ use Rattle.ship_station.specs.declared.events.ShipWhat.{ShipWhat}
 use Rattle.ship_station.specs.declared.ships.Ship.{Ship}
 use Rattle.ship_station.specs.Past.{is_attempt, is_end, kept, open_alert, last_attempt, delays_left}
 use Rattle.ship_station.specs.ShipRules.{Identities, attempt, at_tick, at_call}
-use Rattle.ship_station.specs.Stands.{Keeps}
+use Rattle.ship_station.specs.StandsFor.{Keeps}
 
 -- acts of traffic are no attempts of an alert
 pub attempts_missed : Misses is_attempt
@@ -35,12 +35,7 @@ pub traffic_due : (own : ℕ) (place : Whereabouts) (is_on : Bool) (places : Pla
 traffic_due own place is_on places (call.Alert casualty) no_alert no_ack = absurd (no_alert casualty refl)
 traffic_due own place is_on places (call.Ack from casualty) no_alert no_ack = absurd (no_ack from casualty refl)
 traffic_due own place is_on places (call.Relay to from casualty ask) no_alert no_ack = refl
-traffic_due own place is_on places (call.RelayAck to from casualty) no_alert no_ack = refl
-traffic_due own place is_on places (call.AllShips category from first second f1 f2) no_alert no_ack = refl
-traffic_due own place is_on places (call.AreaCall area category from first second f1 f2) no_alert no_ack = refl
-traffic_due own place is_on places (call.GroupCall group category from first second f1 f2) no_alert no_ack = refl
-traffic_due own place is_on places (call.Individual to category from first second message end) no_alert no_ack = refl
-traffic_due own place is_on places (call.Service to category from kind) no_alert no_ack = refl
+traffic_due own place is_on places _ no_alert no_ack = refl
 
 -- an attempt at a tick mentions no number of a held call
 passed_quiet : (own : ℕ) (place : Whereabouts) (alert : OwnAlert) (passed : Bool) → AreQuiet (if passed then attempt own place alert ∷ [] else [])

@@ -2,5 +2,5 @@ pub mod Events
 pub mod Past
 pub mod ShipRules
 pub mod Attempted
-pub mod Stands
+pub mod StandsFor
 pub mod inside

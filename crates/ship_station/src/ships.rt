@@ -12,7 +12,7 @@ ghost use Rattle.traffic_rules.specs.Giving.{answer_with};
 ghost use Rattle.traffic_rules.specs.Stepping.{IsStep, AnswersByRules, GoesOnByRules};
 ghost use Rattle.ship_station.specs.declared.events.ShipWhat.{ShipWhat as What};
 ghost use Rattle.ship_station.specs.ShipRules.{attempt, at_tick, ship_rules};
-ghost use Rattle.ship_station.specs.Stands.{Stands};
+ghost use Rattle.ship_station.specs.StandsFor.{StandsFor};
 ghost use Rattle.ship_station.specs.inside.Handling.{AnswersEvent, GoesOn};
 
 use crate::alerts::OwnAlert;
@@ -52,7 +52,7 @@ impl Ship {
     /// and holds no delay, and its last moment is 0.
     pub fn new(own: Mmsi, groups: &[Mmsi]) -> Ship
         requires { length groups.now ≤ 16 }
-        ensures { Stands result (record { own = own; groups = groups.now }) [] }
+        ensures { StandsFor result (record { own = own; groups = groups.now }) [] }
     {
         Ship {
             own,
@@ -75,8 +75,8 @@ impl Ship {
     /// that the operator may not send (`NotSendable`); an answer to a number under which no call that was got is held
     /// (`NoSuchCall`); a sent or heard call that must be held where no number is free (`Full`).
     pub fn step_into(&mut self, event: &ShipEvent, acts: &mut Acts) -> Result<(), StationRefusal>
-        ensures answers { AnswersByRules ship_rules Stands self.old event.now.at event.now.what (answer_with result acts.new.items) }
-        ensures goes_on { GoesOnByRules ship_rules Stands self.old event.now.at event.now.what self.new }
+        ensures answers { AnswersByRules ship_rules StandsFor self.old event.now.at event.now.what (answer_with result acts.new.items) }
+        ensures goes_on { GoesOnByRules ship_rules StandsFor self.old event.now.at event.now.what self.new }
         ensures none { OnErr result (acts.new.items ≡ []) }
         ensures unchanged { OnErr result (self.new ≡ self.old) }
     {
@@ -102,7 +102,7 @@ impl Ship {
 
     /// The same as `step_into`, with the acts in a list of its own.
     pub fn step(&mut self, event: &ShipEvent) -> Result<Acts, StationRefusal>
-        ensures { IsStep ship_rules Stands self.old event.now.at event.now.what (listed result) self.new }
+        ensures { IsStep ship_rules StandsFor self.old event.now.at event.now.what (listed result) self.new }
     {
         let mut acts = ArrayVec::new();
         self.step_into(event, &mut acts)?;

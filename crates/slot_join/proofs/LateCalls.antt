@@ -12,9 +12,7 @@ use Rattle.phasing.specs.Start.{start_symbols, formats}
 
 to_listed : (t : To) → list_any (λ f. f == format_to t) formats ≡ true
 to_listed to.All = refl
-to_listed (to.Area area) = refl
-to_listed (to.Group mmsi) = refl
-to_listed (to.One mmsi) = refl
+to_listed _ = refl
 
 -- a call's format specifier is one of those that phasing looks for
 pub format_listed : (c : Call) → list_any (λ f. f == format_of c) formats ≡ true
@@ -23,10 +21,7 @@ format_listed (Ack from casualty) = refl
 format_listed (Relay t from casualty ask) = to_listed t
 format_listed (RelayAck t from casualty) = to_listed t
 format_listed (AllShips category from first second f1 f2) = refl
-format_listed (AreaCall area category from first second f1 f2) = refl
-format_listed (GroupCall group category from first second f1 f2) = refl
-format_listed (Individual t category from first second message end) = refl
-format_listed (Service t category from kind) = refl
+format_listed _ = refl
 
 list_start : (format : ℕ) (rest : List ℕ) → take 16 (on_air (format ∷ format ∷ rest)) ≡ start_symbols format
 unfolding on_air sent_symbol

@@ -37,9 +37,6 @@ IsThere A = (A → ⊥) → ⊥
 pub either_way : (A : Type 0) → IsThere (A ⊎ (A → ⊥))
 either_way A k = k (inr (λ a. k (inl a)))
 
-pub then_there : {A B : Type 0} → IsThere A → (A → IsThere B) → IsThere B
-then_there m f k = m (λ a. f a k)
-
 -- of bounded lists one is the longest
 module _ (Q : List ℕ → Type 0) (bound : ℕ) (within : (l : List ℕ) → Q l → length l ≤ bound) where
   abbrev Longest : Type 0

@@ -4,7 +4,7 @@ use Rattle.line_engine.specs.Lines.{Lines}
 use Rattle.line_engine.specs.Faults.{IsFaultless}
 use Rattle.line_engine.specs.Determined.{HasOutputs}
 use Rattle.line_engine.proofs.PublicLaws.{has_outputs, sound_line_of}
-use Rattle.traffic_lines.specs.declared.worlds.WorldLine.TheVariants.{Ship, Coast, Base, Entry}
+use Rattle.traffic_lines.specs.declared.worlds.WorldLine.TheVariants.{Ship, Coast, Base, EndEvent}
 use Rattle.traffic_lines.proofs.PublicLaws.{IsExchangePoint}
 use Rattle.input_lines.proofs.PublicLaws.{world_lines_judged}
 use Rattle.station_exchange.specs.Said.{Said, point_of, world_of, AreSaid}
@@ -19,7 +19,7 @@ point_lawful (None ∷ said) lines are = point_lawful said are.0 are.4
 point_lawful (Some (Ship mmsi) ∷ said) lines are = are.3.1.0
 point_lawful (Some (Coast mmsi band) ∷ said) lines are = tt
 point_lawful (Some (Base second) ∷ said) lines are = tt
-point_lawful (Some (Entry entry) ∷ said) lines are = tt
+point_lawful (Some (EndEvent entry) ∷ said) lines are = tt
 
 -- lines without a fault say something
 said_of : (earlier : Lines) (said : Said) → AreSaid said earlier → (lines : Lines) → IsFaultless exchange_meaning (earlier ++ lines) → (all : Said) × AreSaid all (earlier ++ lines)

@@ -1,11 +1,11 @@
 -- The text of lines begins with that of the first of them.
 use Rattle.std.proofs.Common.{◌≡◌, inl, inr, ℕ, Option, Some, None, List, [], ◌∷◌, ◌++◌, refl, sym, ap, subst, ◌∙◌, append-nil}
 use Rattle.traffic_lines.specs.declared.worlds.WorldLine.{WorldLine}
-use Rattle.traffic_lines.specs.declared.worlds.WorldLine.TheVariants.{Ship, Coast, Base, Entry}
+use Rattle.traffic_lines.specs.declared.worlds.WorldLine.TheVariants.{Ship, Coast, Base, EndEvent}
 use Rattle.line_engine.specs.Lines.{Lines}
 use Rattle.line_engine.specs.Determined.{BeginsWith}
 use Rattle.station_lines.proofs.PublicLaws.{no_more, last_of, begins_itself, begins_further}
-use Rattle.exchange.specs.WorldHistories.{ends_of}
+use Rattle.exchange.specs.WorldHistories.{histories_of}
 use Rattle.exchange.specs.WorldRules.{answer_behind}
 use Rattle.station_exchange.specs.Events.{event_of}
 use Rattle.station_exchange.specs.Said.{Said, base_of, parties_of, world_of, AreSaid}
@@ -17,9 +17,9 @@ one_more None said = begins_itself (text_of (world_of said))
 one_more (Some (Ship mmsi)) said = begins_itself (text_of (world_of said))
 one_more (Some (Coast mmsi band)) said = begins_itself (text_of (world_of said))
 one_more (Some (Base second)) said = begins_itself (text_of (world_of said))
-one_more (Some (Entry entry)) said =
+one_more (Some (EndEvent entry)) said =
     let event = event_of (base_of said) entry in
-    (entry_lines (record { event = event; gave = answer_behind (parties_of said) (ends_of (world_of said)) event }), refl)
+    (entry_lines (record { event = event; gave = answer_behind (parties_of said) (histories_of (world_of said)) event }), refl)
 
 -- what the first lines said
 pub record IsFront (first : Lines) (whole : List ℕ) : Type 0 where

@@ -4,14 +4,14 @@ use Rattle.call_values.specs.declared.choices.Band.{Band}
 use Rattle.call_values.specs.declared.bounds.TheConstants.{LAST_BASE}
 use Rattle.traffic_lines.specs.declared.worlds.ExchangePoint.{ExchangePoint}
 use Rattle.traffic_lines.specs.declared.worlds.ExchangePoint.TheVariants as point
-use Rattle.traffic_lines.specs.declared.worlds.Entry as entries
-use Rattle.traffic_lines.specs.declared.worlds.WorldLine.TheVariants.{Ship, Coast, Base, Entry}
+use Rattle.traffic_lines.specs.declared.worlds.EndEvent as entries
+use Rattle.traffic_lines.specs.declared.worlds.WorldLine.TheVariants.{Ship, Coast, Base, EndEvent}
 use Rattle.line_engine.specs.Lines.{Lines}
-use Rattle.input_lines.specs.JoinLine.{IsNothing}
+use Rattle.input_lines.specs.ReceiverLine.{IsNothing}
 use Rattle.input_lines.specs.WorldLine.{IsWorldFileLine}
-use Rattle.exchange.specs.StandsFor.{Stands}
+use Rattle.exchange.specs.StandsFor.{StandsFor as WorldStandsFor}
 use Rattle.exchange.specs.WorldRules.{Parties, answer_behind}
-use Rattle.exchange.specs.WorldHistories.{WorldHistory, ends_of}
+use Rattle.exchange.specs.WorldHistories.{WorldHistory, histories_of}
 use Rattle.station_exchange.specs.declared.command.Exchanging.{Exchanging}
 use Rattle.station_exchange.specs.declared.stages.Stage.{Stage}
 use Rattle.station_exchange.specs.declared.stages.Stage.TheVariants as at
@@ -27,9 +27,7 @@ use Rattle.station_exchange.specs.inside.Progress.{Keeps, KeepsEnds, LeadsTo, St
 -- a line that says nothing
 silent_ends : (stage : Stage) (said : Said) → KeepsEnds stage said → KeepsEnds stage (None ∷ said)
 silent_ends at.Ship said h = h
-silent_ends (at.Coast ship) said h = h
-silent_ends (at.Base ship coast band) said h = h
-silent_ends (at.Events events) said h = h
+silent_ends _ said h = h
 
 silent : (stage : Stage) (said : Said) (text : List ℕ) → Keeps stage said text → Keeps stage (None ∷ said) text
 silent stage said text k =
@@ -67,7 +65,7 @@ names_coast ship mmsi band line is said text k = record {
 -- the base is named, and the exchange begins
 pub names_base : (ship coast : ℕ) (band : Band) (events : Events) (line : List ℕ) → IsWorldFileLine point.Base (Some (Base events.base)) line
     → events.base ≤ LAST_BASE → events.is_well ≡ true
-    → Stands events.world (record { ship = record { own = ship; groups = [] }; coast = record { own = coast; band = band } }) []
+    → WorldStandsFor events.world (record { ship = record { own = ship; groups = [] }; coast = record { own = coast; band = band } }) []
     → LeadsTo (at.Base ship coast band) line (at.Events events)
 names_base ship coast band events line is within well stands said text k = record {
   says = Some (Base events.base);
@@ -77,7 +75,7 @@ names_base ship coast band events line is within well stands said text k = recor
     ready = within;
     ends = (
       refl,
-      subst (λ (w : WorldHistory). Stands events.world (parties_of said) w) (sym k.ends.1) (subst (λ (who : Parties). Stands events.world who []) (sym k.ends.0) stands),
+      subst (λ (w : WorldHistory). WorldStandsFor events.world (parties_of said) w) (sym k.ends.1) (subst (λ (who : Parties). WorldStandsFor events.world who []) (sym k.ends.0) stands),
     );
     text_is = k.text_is;
     well_is = well ∙ ap all_accepted (sym k.ends.1);
@@ -85,18 +83,18 @@ names_base ship coast band events line is within well stands said text k = recor
 }
 
 -- an event happens
-pub takes_event : (old new : Events) (entry : entries.Entry) (line text before after : List ℕ) (said : Said) (accepted : Bool)
-    → IsWorldFileLine point.Events (Some (Entry entry)) line → new.base ≡ old.base → new.is_well ≡ (old.is_well && accepted)
-    → ((who : Parties) (w : WorldHistory) → Stands old.world who w → Happens who w (event_of old.base entry) new.world before after accepted)
+pub takes_event : (old new : Events) (entry : entries.EndEvent) (line text before after : List ℕ) (said : Said) (accepted : Bool)
+    → IsWorldFileLine point.Events (Some (EndEvent entry)) line → new.base ≡ old.base → new.is_well ≡ (old.is_well && accepted)
+    → ((who : Parties) (w : WorldHistory) → WorldStandsFor old.world who w → Happens who w (event_of old.base entry) new.world before after accepted)
     → Keeps (at.Events old) said (text ++ before) → Takes (at.Events new) said line (text ++ after)
 takes_event old new entry line text before after said accepted is base well happens k =
     let happened : Happens (parties_of said) (world_of said) (event_of (base_of said) entry) new.world before after accepted =
     subst (λ (b : ℕ). Happens (parties_of said) (world_of said) (event_of b entry) new.world before after accepted) k.ends.0 (happens (parties_of said) (world_of said) k.ends.1) in
     let event = event_of (base_of said) entry in
-    let lines = entry_lines (record { event = event; gave = answer_behind (parties_of said) (ends_of (world_of said)) event }) in
+    let lines = entry_lines (record { event = event; gave = answer_behind (parties_of said) (histories_of (world_of said)) event }) in
     record {
-      says = Some (Entry entry);
-      is_line = subst (λ (p : ExchangePoint). IsWorldFileLine p (Some (Entry entry)) line) k.point is;
+      says = Some (EndEvent entry);
+      is_line = subst (λ (p : ExchangePoint). IsWorldFileLine p (Some (EndEvent entry)) line) k.point is;
       keeps = record {
         point = refl;
         ready = subst (λ (b : ℕ). b ≤ LAST_BASE) (sym base) k.ready;

@@ -4,8 +4,8 @@ use Rattle.traffic_lines.specs.declared.lines.ShipOwn.{ShipOwn}
 use Rattle.traffic_lines.specs.declared.lines.CoastOwn.{CoastOwn}
 use Rattle.traffic_lines.specs.declared.lines.Event.{Event}
 use Rattle.traffic_lines.specs.declared.lines.Event.TheVariants.{Does, Comes}
-use Rattle.traffic_lines.specs.declared.worlds.Entry.{Entry}
-use Rattle.traffic_lines.specs.declared.worlds.Entry.TheVariants.{AtShip, AtCoast}
+use Rattle.traffic_lines.specs.declared.worlds.EndEvent.{EndEvent}
+use Rattle.traffic_lines.specs.declared.worlds.EndEvent.TheVariants.{AtShip, AtCoast}
 use Rattle.station_lines.specs.Events.{ship_deed, coast_deed}
 use Rattle.exchange.specs.declared.events.WorldEvent.{WorldEvent}
 use Rattle.exchange.specs.declared.events.WorldEvent.TheVariants as world
@@ -21,6 +21,6 @@ event_at_coast at (Does deed) = world.Coast (record { at = at; what = coast_deed
 event_at_coast at (Comes number) = world.CoastGets at number
 
 -- the event of a line, where moments count from this second
-abbrev pub event_of : (base : ℕ) → Entry → WorldEvent
+abbrev pub event_of : (base : ℕ) → EndEvent → WorldEvent
 event_of base (AtShip at what) = event_at_ship base at what
 event_of base (AtCoast at what) = event_at_coast at what

@@ -5,7 +5,7 @@ use Rattle.coast_station.specs.CoastRules.{Station}
 use Rattle.traffic_lines.specs.declared.worlds.ExchangePoint.{ExchangePoint}
 use Rattle.traffic_lines.specs.declared.worlds.ExchangePoint.TheVariants as point
 use Rattle.traffic_lines.specs.declared.worlds.WorldLine.{WorldLine}
-use Rattle.traffic_lines.specs.declared.worlds.WorldLine.TheVariants.{Ship, Coast, Base, Entry}
+use Rattle.traffic_lines.specs.declared.worlds.WorldLine.TheVariants.{Ship, Coast, Base, EndEvent}
 use Rattle.input_lines.specs.WorldLine.{IsWorldFileLine}
 use Rattle.line_engine.specs.Lines.{Lines}
 use Rattle.exchange.specs.WorldHistories.{WorldHistory}
@@ -23,7 +23,7 @@ point_of (None ∷ earlier) = point_of earlier
 point_of (Some (Ship mmsi) ∷ earlier) = point.Coast mmsi
 point_of (Some (Coast mmsi band) ∷ earlier) = point.Base
 point_of (Some (Base second) ∷ earlier) = point.Events
-point_of (Some (Entry entry) ∷ earlier) = point.Events
+point_of (Some (EndEvent entry) ∷ earlier) = point.Events
 
 -- the identity of the ship that a line names, and 0 where none does
 abbrev pub ship_of : Said → ℕ
@@ -50,7 +50,7 @@ parties_of said = record { ship = record { own = ship_of said; groups = [] }; co
 -- the history of the exchange: the event of each event line, with what it gives after those before it
 abbrev pub world_of : Said → WorldHistory
 world_of [] = []
-world_of (Some (Entry entry) ∷ earlier) = world_continued (parties_of earlier) (world_of earlier) (event_of (base_of earlier) entry)
+world_of (Some (EndEvent entry) ∷ earlier) = world_continued (parties_of earlier) (world_of earlier) (event_of (base_of earlier) entry)
 world_of (line ∷ earlier) = world_of earlier
 
 -- the lines say this, each of them at the point after the lines before it

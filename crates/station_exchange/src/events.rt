@@ -7,7 +7,7 @@ use coast_station::{Coast, CoastEvent};
 use exchange::WorldEvent;
 use ship_station::{Ship, ShipEvent};
 use station_lines::OfLines;
-use traffic_lines::{CoastOwn, Entry, Event, ShipOwn};
+use traffic_lines::{CoastOwn, EndEvent, Event, ShipOwn};
 
 /// What happens at the ship.
 fn event_at_ship(base: u64, at: u32, what: &Event<ShipOwn, u32>) -> WorldEvent
@@ -44,12 +44,12 @@ fn event_at_coast(base: u64, at: u32, what: &Event<CoastOwn, u32>) -> WorldEvent
 }
 
 /// The event of an event line, where moments count from this second.
-pub(crate) fn event_of(base: u64, entry: &Entry) -> WorldEvent
+pub(crate) fn event_of(base: u64, entry: &EndEvent) -> WorldEvent
     requires { base ≤ LAST_BASE }
     ensures { result ≡ events.event_of base entry.now }
 {
     match *entry {
-        Entry::AtShip { at, what } => event_at_ship(base, at, &what),
-        Entry::AtCoast { at, what } => event_at_coast(base, at, &what),
+        EndEvent::AtShip { at, what } => event_at_ship(base, at, &what),
+        EndEvent::AtCoast { at, what } => event_at_coast(base, at, &what),
     }
 }

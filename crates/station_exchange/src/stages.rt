@@ -12,7 +12,7 @@ use call_values::{Band, Mmsi};
 use exchange::World;
 use line_engine::Refusal;
 use std::alloc::Global;
-use traffic_lines::{read_entry, read_exchange_base, read_exchange_coast, read_exchange_ship};
+use traffic_lines::{read_end_event, read_exchange_base, read_exchange_coast, read_exchange_ship};
 use traffic_rules::Acts;
 
 /// An exchange whose ends and base are named, at its events.
@@ -115,7 +115,7 @@ impl Events {
         ensures err { IfErr result (λ refusal. IsRefusedAt (stage.Events self.old) line.now refusal) }
         ensures unsaid { IfErr result (λ refusal. KeepsText refusal out.old.items out.new.items) }
     {
-        match read_entry(line) {
+        match read_end_event(line) {
             Ok(entry) => {
                 self.is_well &= happen(&mut self.world, self.base, &entry, acts, out)?;
                 Ok(())

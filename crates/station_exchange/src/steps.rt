@@ -1,6 +1,6 @@
 //! Steps of an exchange, and what is written of them.
 ghost use Rattle.std.specs.Prelude.{◌≡◌, ◌≤◌, IfOk};
-ghost use Rattle.exchange.specs.StandsFor.{Stands};
+ghost use Rattle.exchange.specs.StandsFor.{StandsFor as WorldStandsFor};
 ghost use Rattle.exchange.specs.WorldHistories.{WorldHistory};
 ghost use Rattle.exchange.specs.WorldRules.{Parties, IsFromOutside};
 ghost use Rattle.station_exchange.specs.Events as events;
@@ -13,7 +13,7 @@ use call_values::bounds::LAST_BASE;
 use exchange::{Outcome, World, WorldEvent};
 use station_lines::{append_acts, append_refusal};
 use std::alloc::AllocError;
-use traffic_lines::Entry;
+use traffic_lines::EndEvent;
 use traffic_rules::Acts;
 
 /// Does what is due at an event, appends the lines of what it gives, each after what names its end, and answers whether
@@ -29,7 +29,7 @@ fn step(
     requires outside { IsFromOutside event.now }
     requires end { end.now ≡ end_text event.now }
     requires moment { at ≡ moment_of event.now }
-    ensures { IfOk result (λ accepted. (who : Parties) (w : WorldHistory) → Stands world.old who w
+    ensures { IfOk result (λ accepted. (who : Parties) (w : WorldHistory) → WorldStandsFor world.old who w
         → Happens who w event.now world.new out.old.items out.new.items accepted) }
 {
     match world.step_into(event, acts)? {
@@ -54,17 +54,17 @@ fn step(
 pub(crate) fn happen(
     world: &mut World,
     base: u64,
-    entry: &Entry,
+    entry: &EndEvent,
     acts: &mut Acts,
     out: &mut Vec<u8>,
 ) -> Result<bool, AllocError>
     requires { base ≤ LAST_BASE }
-    ensures { IfOk result (λ accepted. (who : Parties) (w : WorldHistory) → Stands world.old who w
+    ensures { IfOk result (λ accepted. (who : Parties) (w : WorldHistory) → WorldStandsFor world.old who w
         → Happens who w (events.event_of base entry.now) world.new out.old.items out.new.items accepted) }
 {
     let event = event_of(base, entry);
     match *entry {
-        Entry::AtShip { at, .. } => step(world, &event, b"s ", at, acts, out),
-        Entry::AtCoast { at, .. } => step(world, &event, b"c ", at, acts, out),
+        EndEvent::AtShip { at, .. } => step(world, &event, b"s ", at, acts, out),
+        EndEvent::AtCoast { at, .. } => step(world, &event, b"c ", at, acts, out),
     }
 }

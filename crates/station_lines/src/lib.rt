@@ -14,6 +14,3 @@ pub use answers::{append_acts, append_answer, append_refusal};
 pub use events::OfLines;
 pub use minutes::civil_minute;
 pub use refusals::{append_refusal_text, put_refused};
-
-#[cfg(test)]
-mod tests;

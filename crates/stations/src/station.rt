@@ -6,10 +6,10 @@ ghost use Rattle.traffic_rules.specs.Giving.{answer_with};
 ghost use Rattle.traffic_rules.specs.Stepping.{AnswersByRules, GoesOnByRules};
 ghost use Rattle.ship_station.specs.declared.events.ShipWhat.TheVariants as at_ship;
 ghost use Rattle.ship_station.specs.ShipRules.{Identities, ship_rules};
-ghost use Rattle.ship_station.specs.Stands.{Stands as ShipStands};
+ghost use Rattle.ship_station.specs.StandsFor.{StandsFor as ShipStandsFor};
 ghost use Rattle.coast_station.specs.declared.events.CoastWhat.TheVariants as at_coast;
 ghost use Rattle.coast_station.specs.CoastRules.{Station as CoastIdentity, coast_rules};
-ghost use Rattle.coast_station.specs.Stands.{Stands as CoastStands};
+ghost use Rattle.coast_station.specs.StandsFor.{StandsFor as CoastStandsFor};
 ghost use Rattle.call_values.specs.declared.calls.Call.{Call as AnyCall};
 
 use call_values::Call;
@@ -54,7 +54,7 @@ impl Station for Ship {
 
     ghost rules = { ship_rules };
 
-    ghost stands = { ShipStands };
+    ghost stands = { ShipStandsFor };
 
     ghost hears = { at_ship.Heard };
 
@@ -74,7 +74,7 @@ impl Station for Coast {
 
     ghost rules = { coast_rules };
 
-    ghost stands = { CoastStands };
+    ghost stands = { CoastStandsFor };
 
     ghost hears = { at_coast.Heard };
 

@@ -9,7 +9,7 @@ use Rattle.ten_unit.specs.declared.character.Element.{Element}
 use Rattle.phasing.specs.Origin.{is_phased}
 use Rattle.long_capture.specs.declared.captures.Capture.{Capture}
 use Rattle.long_capture.specs.Starts.{starts_below}
-use Rattle.long_capture.specs.Captures.{Stands, IsOpen, taken, left, decided}
+use Rattle.long_capture.specs.Captures.{StandsFor as CaptureStandsFor, IsOpen, taken, left, decided}
 use Rattle.stream_capture.specs.declared.command.Capturing.{Capturing}
 use Rattle.stream_capture.specs.Telling.{AnsweredStart, AreAnsweredStarts, told_text}
 use Rattle.stream_capture.specs.inside.Progress.{HasTold, StandsFor}
@@ -18,7 +18,7 @@ none_told : (e : List Element) → AreAnsweredStarts e 0 []
 unfolding starts_below
 none_told e = record { leads = refl; answers = tt }
 
-pub stands_new : (capture : Capture) → Stands capture [] → StandsFor (record { capture = capture; count = 0; is_well = true }) [] []
+pub stands_new : (capture : Capture) → CaptureStandsFor capture [] → StandsFor (record { capture = capture; count = 0; is_well = true }) [] []
 unfolding told_text
 stands_new capture stands = record {
   said = [];

@@ -10,7 +10,7 @@ use Rattle.slot_join.specs.Answer.{IsAnswer, is_reported}
 use Rattle.long_capture.specs.declared.starts.Start.{Start}
 use Rattle.long_capture.specs.Starts.{starts_below, facts_from}
 use Rattle.long_capture.specs.Told.{IsStart, AreQuiet, IsNextStart}
-use Rattle.long_capture.specs.Captures.{Stands, Ending, decided, reached}
+use Rattle.long_capture.specs.Captures.{StandsFor as CaptureStandsFor, Ending, decided, reached}
 use Rattle.stream_capture.specs.declared.command.Capturing.{Capturing}
 use Rattle.stream_capture.specs.Telling.{AnsweredStart, AreAnsweredStarts, start_line, told_text}
 use Rattle.stream_capture.specs.inside.Progress.{Counts, HasTold, EndsTold, HasToldAll, TellsOne}
@@ -82,7 +82,7 @@ module _ (laws : Laws) where
   so_far : (old : Capturing) (e xs : List Element) (text : List ℕ) (h : HasTold old e text) (more : List Element) → AreAnsweredStarts (e ++ (xs ++ more)) (reached old.capture) h.told
   so_far old e xs text h more = subst (λ (n : ℕ). AreAnsweredStarts (e ++ (xs ++ more)) n h.told) (sym h.stands.far) (h.are_told (xs ++ more))
 
-  pub quiet_taken : (old new : Capturing) (e xs : List Element) (text : List ℕ) → HasTold old e text → Stands new.capture (e ++ xs)
+  pub quiet_taken : (old new : Capturing) (e xs : List Element) (text : List ℕ) → HasTold old e text → CaptureStandsFor new.capture (e ++ xs)
       → ((more : List Element) → AreQuiet (e ++ (xs ++ more)) (reached old.capture) (reached new.capture)) → new.count ≡ old.count → new.is_well ≡ old.is_well → HasTold new (e ++ xs) text
   quiet_taken old new e xs text h stands quiet count well =
       let counted = recounted old new h.told text count well h.text_is h.counts in
@@ -98,13 +98,13 @@ module _ (laws : Laws) where
       }
 
   pub start_taken : (old taken new : Capturing) (e xs : List Element) (start : Start) (text before after : List ℕ) → HasTold old e (text ++ before)
-      → Stands taken.capture (e ++ xs) → ((more : List Element) → IsNextStart (e ++ (xs ++ more)) (reached old.capture) (reached taken.capture) start)
+      → CaptureStandsFor taken.capture (e ++ xs) → ((more : List Element) → IsNextStart (e ++ (xs ++ more)) (reached old.capture) (reached taken.capture) start)
       → taken.count ≡ old.count → taken.is_well ≡ old.is_well → TellsOne taken new start before after → HasTold new (e ++ xs) (text ++ after)
   start_taken old taken new e xs start text before after h stands next count well one =
       let here = next [] in
       let counted = one_counted taken new start h.told here.lead text before after (recounted old taken h.told (text ++ before) count well h.text_is h.counts) one here.is.origin in
       record {
-        stands = subst (λ c. Stands c (e ++ xs)) (sym one.capture_is) stands;
+        stands = subst (λ c. CaptureStandsFor c (e ++ xs)) (sym one.capture_is) stands;
         told = h.told ++ one_at here.lead one.answer ∷ [];
         are_told = λ more.
             subst (λ (s : List Element). AreAnsweredStarts s (decided (length (e ++ xs))) (h.told ++ one_at here.lead one.answer ∷ [])) (sym (append_assoc e xs more))

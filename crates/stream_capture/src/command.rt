@@ -7,14 +7,12 @@ ghost use Rattle.stream_capture.specs.Telling.{capture_meaning};
 ghost use Rattle.stream_capture.specs.inside.Progress.{HasTold, EndsTold, HasToldAll, TellsOne, HasRoom, StandsFor};
 ghost use Rattle.stream_capture.specs.inside.Gives.{gives_text};
 
-use crate::elements::elements_of;
 use crate::lines::append_start;
 use byte_streams::Status;
 use input_lines::{one_stream_line, stream_line};
-use line_engine::{Command, LONGEST_LINE, Refusal};
+use line_engine::{Command, Refusal};
 use long_capture::{Capture, Start, starts_go_on, taking_ends};
 use std::alloc::AllocError;
-use ten_unit::Element;
 
 /// The command that writes a line of each start of a stream as soon as it is decided.
 #[derive(Drop)]
@@ -41,7 +39,7 @@ impl Capturing {
     /// Appends the line of a start.
     // In a frame and a body of its own: nearly all elements begin nothing.
     #[inline(never)]
-    fn tell(&mut self, start: &Start, out: &mut Vec<u8>) -> Result<(), AllocError>
+    fn append_start(&mut self, start: &Start, out: &mut Vec<u8>) -> Result<(), AllocError>
         requires { self.old.count < 2 ^ 32 - 1 }
         ensures { OnOk result (TellsOne self.old self.new start.now out.old.items out.new.items) }
     {
@@ -50,52 +48,42 @@ impl Capturing {
         Ok(())
     }
 
-    /// Takes a front of the stream's next elements, at least one if there is one, and answers how many.
-    fn take_front(&mut self, elements: &[Element], out: &mut Vec<u8>) -> Result<usize, AllocError>
+    /// Takes a front of the stream's next elements, of which these are the signs, at least one if there is one, and
+    /// answers how many.
+    fn take_front(&mut self, signs: &[u8], out: &mut Vec<u8>) -> Result<usize, AllocError>
         requires few { self.old.count < 2 ^ 32 - 1 }
-        requires short { taken self.old.capture + length elements.now ≤ 2 ^ 40 }
+        requires short { taken self.old.capture + length signs.now ≤ 2 ^ 40 }
         requires going { IsOpen self.old.capture }
-        ensures front { IfOk result (λ count. count ≤ length elements.now) }
-        ensures some { IfOk result (λ count. 0 < length elements.now → 0 < count) }
+        ensures front { IfOk result (λ count. count ≤ length signs.now) }
+        ensures some { IfOk result (λ count. 0 < length signs.now → 0 < count) }
         ensures told { IfOk result (λ count. (e : List Taken) (text : List ℕ)
             → HasTold self.old e (text ++ out.old.items)
-            → HasTold self.new (e ++ take count elements.now) (text ++ out.new.items)) }
+            → HasTold self.new (e ++ take count (map element_at signs.now)) (text ++ out.new.items)) }
     {
         starts_go_on();
-        let block = self.capture.take_block(elements);
+        let block = self.capture.take_signs(signs);
         let count = block.count;
         let start = block.start;
         match start {
             Some(start) => {
-                self.tell(&start, out)?;
+                self.append_start(&start, out)?;
                 Ok(count)
             }
             None => Ok(count),
         }
     }
 
-    /// Takes the stream's next elements.
-    fn take_elements(&mut self, elements: &[Element], out: &mut Vec<u8>) -> Result<(), AllocError>
-        requires { HasRoom self.old out.old.items (length elements.now) }
-        ensures { OnOk result ((e : List Taken) (text : List ℕ) → HasTold self.old e (text ++ out.old.items)
-            → HasTold self.new (e ++ elements.now) (text ++ out.new.items)) }
-    {
-        let mut count = 0;
-        while count < elements.len() {
-            count += self.take_front(&elements[count..], out)?;
-        }
-        Ok(())
-    }
-
-    /// Takes the elements of a line.
+    /// Takes the elements of a line, as its signs.
     fn take_signs(&mut self, signs: &[u8], out: &mut Vec<u8>) -> Result<(), AllocError>
-        requires short { length signs.now ≤ LONGEST_LINE }
-        requires room { HasRoom self.old out.old.items (length signs.now) }
+        requires { HasRoom self.old out.old.items (length signs.now) }
         ensures { OnOk result ((e : List Taken) (text : List ℕ) → HasTold self.old e (text ++ out.old.items)
             → HasTold self.new (e ++ map element_at signs.now) (text ++ out.new.items)) }
     {
-        let elements = elements_of(signs);
-        self.take_elements(&elements[..signs.len()], out)
+        let mut count = 0;
+        while count < signs.len() {
+            count += self.take_front(&signs[count..], out)?;
+        }
+        Ok(())
     }
 
     /// Appends the lines of the starts that the stream's end decides.
@@ -106,7 +94,7 @@ impl Capturing {
     {
         starts_go_on();
         while let Some(start) = self.capture.finish() {
-            self.tell(&start, out)?;
+            self.append_start(&start, out)?;
         }
         Ok(())
     }

@@ -2,7 +2,6 @@
 #![tactic(auto)]
 
 mod command;
-mod elements;
 mod laws;
 mod lines;
 

@@ -32,6 +32,7 @@ fn codes(block: &[Element; 64]) -> [u8; 64]
 }
 
 /// Bit i says whether code i is this one.
+#[inline(always)]
 fn equal_to(codes: &[u8; 64], code: u8) -> u64
     ensures { (i : ℕ) → i < 64 → bit_at result i ≡ cond (slice_index codes.now i == code) 1 0 }
 {
@@ -49,6 +50,18 @@ pub fn pack_elements(block: &[Element; 64]) -> Planes
     Planes {
         y: equal_to(&codes, Element::Y as u8),
         b: equal_to(&codes, Element::B as u8),
+    }
+}
+
+/// The elements of 64 signs as bits: `Y`, `B`, and any other byte for a lost one (this project's profile).
+#[inline(always)]
+pub fn sign_planes(block: &[u8; 64]) -> Planes
+    ensures { (base : ℕ) (e : ℕ → Element) → ((i : ℕ) → i < 64 → e (base + i) ≡ element_of (slice_index block.now i))
+        → IsPlanes result.y result.b base e }
+{
+    Planes {
+        y: equal_to(block, b'Y'),
+        b: equal_to(block, b'B'),
     }
 }
 
@@ -73,6 +86,7 @@ pub fn pack_signs(block: &[u8; 64]) -> Option<Planes>
 
 /// The symbol whose word the ten elements from a place on are, and 128 where they are no symbol's word (ITU-R M.493,
 /// the ten-unit code). The place counts from the first of the 64 elements. It looks into a table by the ten bits.
+#[inline(always)]
 pub fn symbol_at(planes: &Planes, first: u32) -> u8
     requires { first + 10 ≤ 64 }
     ensures { (base : ℕ) (e : ℕ → Element) → IsPlanes planes.now.y planes.now.b base e

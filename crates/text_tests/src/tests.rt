@@ -6,6 +6,7 @@ mod calls;
 mod evidence;
 mod fields;
 mod files;
+mod minutes;
 mod numbers;
 mod sentences;
 mod traffic;

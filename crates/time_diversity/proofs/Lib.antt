@@ -1,2 +1,3 @@
 pub mod PublicLaws
 mod Shows
+mod Copies

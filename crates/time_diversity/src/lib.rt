@@ -6,7 +6,7 @@ mod sending;
 mod slots;
 
 pub use laws::{both_slots_show_the_character, slot_numbers, slots_of_a_place};
-pub use sending::on_air;
+pub use sending::{on_air, write_on_air};
 pub use slots::{SLOTS, dx_slot, place_of, rx_slot};
 
 #[cfg(test)]

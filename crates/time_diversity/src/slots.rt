@@ -7,10 +7,10 @@ ghost use Rattle.time_diversity.specs.Slots.{IsSlotOf, IsNoPlace};
 const PLACES: u16 = 64;
 
 /// The slot of the DX copy of place 0 (ITU-R M.493, time diversity).
-const FIRST_DX: u16 = 12;
+pub(crate) const FIRST_DX: u16 = 12;
 
 /// The slot of the RX copy of place 0 (ITU-R M.493, time diversity).
-const FIRST_RX: u16 = 17;
+pub(crate) const FIRST_RX: u16 = 17;
 
 /// The slots up to the RX copy of the last place, from 0 on.
 pub const SLOTS: u16 = FIRST_RX + 2 * PLACES - 1;

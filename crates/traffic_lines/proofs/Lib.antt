@@ -1,6 +1,7 @@
 pub mod PublicLaws
 mod Tokens
 mod EventSections
+mod Deeds
 mod LineSections
 mod OtherIdentities
 mod PointRows

@@ -16,12 +16,12 @@ use Rattle.traffic_lines.specs.declared.lines.ShipLine.{ShipLine}
 use Rattle.traffic_lines.specs.declared.lines.ShipLine.TheVariants as body
 use Rattle.traffic_lines.specs.declared.lines.TrafficLine.{TrafficLine}
 use Rattle.traffic_lines.specs.declared.lines.TrafficLine.TheVariants.{Ship, Coast, Base, Group, Event}
-use Rattle.traffic_lines.specs.declared.worlds.Entry as entries
-use Rattle.traffic_lines.specs.declared.worlds.Entry.TheVariants.{AtShip, AtCoast}
+use Rattle.traffic_lines.specs.declared.worlds.EndEvent as entries
+use Rattle.traffic_lines.specs.declared.worlds.EndEvent.TheVariants.{AtShip, AtCoast}
 use Rattle.traffic_lines.specs.declared.worlds.WorldLine.{WorldLine}
 use Rattle.traffic_lines.specs.declared.worlds.WorldLine.TheVariants as world
 use Rattle.traffic_lines.specs.Lines.{ship, band, band_parts, coast, coast_station_parts, stations, stations_parts, IsStation, base, base_parts, IsBase, group, group_parts, at_moment, moment_parts, IsAtMoment, ship_event, ship_event_parts, IsShipEvent, coast_event, coast_event_parts, IsCoastEvent, ship_lines, ship_lines_parts, IsShipLine, station_event, station_event_parts, IsStationEvent, lines, line_parts, IsLine}
-use Rattle.traffic_lines.specs.Worlds.{at_ship, at_coast, entry, entry_parts, IsEntry, world_lines, world_parts, IsWorld}
+use Rattle.traffic_lines.specs.Worlds.{at_ship, at_coast, end_event, end_event_parts, IsEndEvent, world_lines, world_parts, IsWorld}
 use Rattle.traffic_lines.proofs.Tokens.{number_told, up_to_told}
 use Rattle.traffic_lines.proofs.EventSections.{ship_section, coast_section, station_section, hearing_section, get_section, event_section}
 
@@ -109,8 +109,8 @@ lines_section =
     })
 
 -- the event lines of exchanges, and all lines of theirs
-pub entry_section : Section {V = entries.Entry} entry IsEntry entry_parts
-entry_section =
+pub end_event_section : Section {V = entries.EndEvent} end_event IsEndEvent end_event_parts
+end_event_section =
     under
     (sided (worded (codes "s ") (moment_section (event_section ship_section get_section))) (worded (codes "c ") (moment_section (event_section coast_section get_section))))
     (record {
@@ -126,13 +126,13 @@ entry_section =
 pub world_section : Section {V = WorldLine} world_lines IsWorld world_parts
 world_section =
     under
-    (sided identity_section (sided (party_section identity IsMmsi identity_told) (sided base_section entry_section)))
+    (sided identity_section (sided (party_section identity IsMmsi identity_told) (sided base_section end_event_section)))
     (record {
-      told = elim [ world.Ship m ↦ inl m | world.Coast m b ↦ inr (inl (m, b)) | world.Base s ↦ inr (inr (inl s)) | world.Entry e ↦ inr (inr (inr e)) ];
-      back = elim [ inl m ↦ world.Ship m | inr (inl w) ↦ world.Coast w.0 w.1 | inr (inr (inl s)) ↦ world.Base s | inr (inr (inr e)) ↦ world.Entry e ];
-      again = elim [ world.Ship m ↦ refl | world.Coast m b ↦ refl | world.Base s ↦ refl | world.Entry e ↦ refl ];
-      there = elim [ world.Ship m ↦ λ q. refl | world.Coast m b ↦ λ q. refl | world.Base s ↦ λ q. refl | world.Entry e ↦ λ q. refl ];
+      told = elim [ world.Ship m ↦ inl m | world.Coast m b ↦ inr (inl (m, b)) | world.Base s ↦ inr (inr (inl s)) | world.EndEvent e ↦ inr (inr (inr e)) ];
+      back = elim [ inl m ↦ world.Ship m | inr (inl w) ↦ world.Coast w.0 w.1 | inr (inr (inl s)) ↦ world.Base s | inr (inr (inr e)) ↦ world.EndEvent e ];
+      again = elim [ world.Ship m ↦ refl | world.Coast m b ↦ refl | world.Base s ↦ refl | world.EndEvent e ↦ refl ];
+      there = elim [ world.Ship m ↦ λ q. refl | world.Coast m b ↦ λ q. refl | world.Base s ↦ λ q. refl | world.EndEvent e ↦ λ q. refl ];
       here = elim [ inl m ↦ λ q. refl | inr (inl w) ↦ λ q. refl | inr (inr (inl s)) ↦ λ q. refl | inr (inr (inr e)) ↦ λ q. refl ];
-      lawful = elim [ world.Ship m ↦ λ h. h | world.Coast m b ↦ λ h. (h, tt) | world.Base s ↦ λ h. h | world.Entry e ↦ λ h. h ];
+      lawful = elim [ world.Ship m ↦ λ h. h | world.Coast m b ↦ λ h. (h, tt) | world.Base s ↦ λ h. h | world.EndEvent e ↦ λ h. h ];
       lawful_back = elim [ inl m ↦ λ h. h | inr (inl w) ↦ λ h. h.0 | inr (inr (inl s)) ↦ λ h. h | inr (inr (inr e)) ↦ λ h. h ];
     })

@@ -28,8 +28,8 @@ use Rattle.traffic_lines.specs.declared.worlds.WorldLine.{WorldLine}
 use Rattle.traffic_lines.specs.declared.worlds.WorldLine.TheVariants as world
 use Rattle.traffic_lines.specs.Events.{IsShipOwn, IsCoastOwn, IsStationOwn, IsHearing, IsEvent}
 use Rattle.traffic_lines.specs.Lines.{ship, coast, coast_station_parts, group_parts, stations, stations_parts, IsStation, base, base_parts, IsBase, ship_event, ship_event_parts, IsShipEvent, coast_event, coast_event_parts, IsCoastEvent, ship_lines, ship_lines_parts, IsShipLine, lines, line_parts, IsLine, event_with, IsOfShip, IsOfCoast, IsLineText, IsTrafficLine, line_of_station, line_of_ship, line_of_coast, ship_point, IsFull}
-use Rattle.traffic_lines.specs.Worlds.{other_identity, entry, entry_parts, IsEntry, IsOtherCoast, world_lines, world_parts, IsWorld, IsWorldLine}
-use Rattle.traffic_lines.proofs.LineSections.{identity_section, stations_section, base_section, group_section, ship_event_section, coast_event_section, ship_lines_section, lines_section, entry_section, world_section}
+use Rattle.traffic_lines.specs.Worlds.{other_identity, end_event, end_event_parts, IsEndEvent, IsOtherCoast, world_lines, world_parts, IsWorld, IsWorldLine}
+use Rattle.traffic_lines.proofs.LineSections.{identity_section, stations_section, base_section, group_section, ship_event_section, coast_event_section, ship_lines_section, lines_section, end_event_section, world_section}
 use Rattle.traffic_lines.proofs.OtherIdentities.{other_rows}
 
 -- ---- the rows, which distinguish their values
@@ -61,9 +61,9 @@ pub lines_rows : WholeRows lines IsLine line_parts
 unfolding fits
 lines_rows = record { section = lines_section; sound = refl; plain = refl; all = refl }
 
-pub entry_rows : WholeRows entry IsEntry entry_parts
+pub end_event_rows : WholeRows end_event IsEndEvent end_event_parts
 unfolding fits
-entry_rows = record { section = entry_section; sound = refl; plain = refl; all = refl }
+end_event_rows = record { section = end_event_section; sound = refl; plain = refl; all = refl }
 
 pub world_rows : WholeRows world_lines IsWorld world_parts
 unfolding fits
@@ -169,26 +169,26 @@ full_among groups full = record { to = λ w bytes h. full_to groups w.0 w.1 byte
 pub world_ship_among : IsAmong (IsWritten ship IsMmsi group_parts) (IsWorldLine world_point.Ship) world.Ship
 world_ship_among = record {
   to = λ m bytes h. (tt, h);
-  back = elim [ world.Ship m ↦ λ bytes h. (m, h.1) | world.Coast m b ↦ λ bytes h. absurd h.0 | world.Base s ↦ λ bytes h. absurd h.0 | world.Entry e ↦ λ bytes h. absurd h.0 ];
+  back = elim [ world.Ship m ↦ λ bytes h. (m, h.1) | world.Coast m b ↦ λ bytes h. absurd h.0 | world.Base s ↦ λ bytes h. absurd h.0 | world.EndEvent e ↦ λ bytes h. absurd h.0 ];
 }
 
 pub other_among : (ship : ℕ)
     → IsAmong (IsWritten (coast (other_identity ship)) (IsOtherCoast ship) coast_station_parts) (IsWorldLine (world_point.Coast ship)) (λ (w : ℕ × Band). world.Coast w.0 w.1)
 other_among ship = record {
   to = λ w bytes h. (h.0.0.1, (h.0.0.0, h.1));
-  back = elim [ world.Ship m ↦ λ bytes h. absurd h.0 | world.Coast m b ↦ λ bytes h. ((m, b), (((h.1.0, h.0), tt), h.1.1)) | world.Base s ↦ λ bytes h. absurd h.0 | world.Entry e ↦ λ bytes h. absurd h.0 ];
+  back = elim [ world.Ship m ↦ λ bytes h. absurd h.0 | world.Coast m b ↦ λ bytes h. ((m, b), (((h.1.0, h.0), tt), h.1.1)) | world.Base s ↦ λ bytes h. absurd h.0 | world.EndEvent e ↦ λ bytes h. absurd h.0 ];
 }
 
 pub world_base_among : IsAmong (IsWritten base IsBase base_parts) (IsWorldLine world_point.Base) world.Base
 world_base_among = record {
   to = λ s bytes h. (tt, h);
-  back = elim [ world.Ship m ↦ λ bytes h. absurd h.0 | world.Coast m b ↦ λ bytes h. absurd h.0 | world.Base s ↦ λ bytes h. (s, h.1) | world.Entry e ↦ λ bytes h. absurd h.0 ];
+  back = elim [ world.Ship m ↦ λ bytes h. absurd h.0 | world.Coast m b ↦ λ bytes h. absurd h.0 | world.Base s ↦ λ bytes h. (s, h.1) | world.EndEvent e ↦ λ bytes h. absurd h.0 ];
 }
 
-pub entry_among : IsAmong (IsWritten entry IsEntry entry_parts) (IsWorldLine world_point.Events) world.Entry
-entry_among = record {
+pub end_event_among : IsAmong (IsWritten end_event IsEndEvent end_event_parts) (IsWorldLine world_point.Events) world.EndEvent
+end_event_among = record {
   to = λ e bytes h. (tt, h);
-  back = elim [ world.Ship m ↦ λ bytes h. absurd h.0 | world.Coast m b ↦ λ bytes h. absurd h.0 | world.Base s ↦ λ bytes h. absurd h.0 | world.Entry e ↦ λ bytes h. (e, h.1) ];
+  back = elim [ world.Ship m ↦ λ bytes h. absurd h.0 | world.Coast m b ↦ λ bytes h. absurd h.0 | world.Base s ↦ λ bytes h. absurd h.0 | world.EndEvent e ↦ λ bytes h. (e, h.1) ];
 }
 
 -- a point names an identity
@@ -201,4 +201,4 @@ pub world_grammar : (at : ExchangePoint) → IsExchangePoint at → HasGrammar (
 world_grammar world_point.Ship is = among_grammar identity_rows world_ship_among
 world_grammar (world_point.Coast mmsi) is = among_grammar (other_rows mmsi is) (other_among mmsi)
 world_grammar world_point.Base is = among_grammar base_rows world_base_among
-world_grammar world_point.Events is = among_grammar entry_rows entry_among
+world_grammar world_point.Events is = among_grammar end_event_rows end_event_among

@@ -14,10 +14,10 @@ use Rattle.traffic_lines.specs.declared.lines.CoastOwn.{CoastOwn}
 use Rattle.traffic_lines.specs.declared.lines.Event as events
 use Rattle.traffic_lines.specs.declared.worlds.ExchangePoint.{ExchangePoint}
 use Rattle.traffic_lines.specs.declared.worlds.ExchangePoint.TheVariants as point
-use Rattle.traffic_lines.specs.declared.worlds.Entry as entries
-use Rattle.traffic_lines.specs.declared.worlds.Entry.TheVariants.{AtShip, AtCoast}
+use Rattle.traffic_lines.specs.declared.worlds.EndEvent as entries
+use Rattle.traffic_lines.specs.declared.worlds.EndEvent.TheVariants.{AtShip, AtCoast}
 use Rattle.traffic_lines.specs.declared.worlds.WorldLine.{WorldLine}
-use Rattle.traffic_lines.specs.declared.worlds.WorldLine.TheVariants.{Ship, Coast, Base, Entry}
+use Rattle.traffic_lines.specs.declared.worlds.WorldLine.TheVariants.{Ship, Coast, Base, EndEvent}
 use Rattle.traffic_lines.specs.Events.{ship_rows, ship_parts, IsShipOwn, coast_rows, coast_parts, IsCoastOwn, get, get_parts, IsGet, event, event_parts, IsEvent}
 use Rattle.traffic_lines.specs.Lines.{ship, coast, coast_station_parts, base, base_parts, IsBase, at_moment, moment_parts, IsAtMoment}
 
@@ -62,38 +62,38 @@ abbrev pub at_coast_parts : ℕ × events.Event CoastOwn ℕ → Parts → Parts
 at_coast_parts = moment_parts (event_parts coast_parts get_parts)
 
 -- the row of an event of an exchange: its end, and what happens there
-abbrev pub entry : Grammar → Grammar
-entry rest = either (at_ship rest) (at_coast rest)
+abbrev pub end_event : Grammar → Grammar
+end_event rest = either (at_ship rest) (at_coast rest)
 
 -- the parts of an event line of an exchange
-abbrev pub entry_parts : entries.Entry → Parts → Parts
-entry_parts (AtShip at what) rest = nth 0 (at_ship_parts (at, what) rest)
-entry_parts (AtCoast at what) rest = last 1 (at_coast_parts (at, what) rest)
+abbrev pub end_event_parts : entries.EndEvent → Parts → Parts
+end_event_parts (AtShip at what) rest = nth 0 (at_ship_parts (at, what) rest)
+end_event_parts (AtCoast at what) rest = last 1 (at_coast_parts (at, what) rest)
 
 -- an event of an exchange, each part in its range
-abbrev pub IsEntry : entries.Entry → Type 0
-IsEntry (AtShip at what) = IsAtMoment (IsEvent IsShipOwn IsGet) (at, what)
-IsEntry (AtCoast at what) = IsAtMoment (IsEvent IsCoastOwn IsGet) (at, what)
+abbrev pub IsEndEvent : entries.EndEvent → Type 0
+IsEndEvent (AtShip at what) = IsAtMoment (IsEvent IsShipOwn IsGet) (at, what)
+IsEndEvent (AtCoast at what) = IsAtMoment (IsEvent IsCoastOwn IsGet) (at, what)
 
 -- ---- all lines
 
 -- the rows of all lines of a file of an exchange
 abbrev pub world_lines : Grammar → Grammar
-world_lines rest = either (ship rest) (either (coast identity rest) (either (base rest) (entry rest)))
+world_lines rest = either (ship rest) (either (coast identity rest) (either (base rest) (end_event rest)))
 
 -- the parts of a line of a file of an exchange
 abbrev pub world_parts : WorldLine → Parts → Parts
 world_parts (Ship mmsi) rest = nth 0 (part (digits 9 mmsi) rest)
 world_parts (Coast mmsi band) rest = nth 1 (coast_station_parts (mmsi, band) rest)
 world_parts (Base s) rest = nth 2 (base_parts s rest)
-world_parts (Entry what) rest = last 3 (entry_parts what rest)
+world_parts (EndEvent what) rest = last 3 (end_event_parts what rest)
 
 -- a line of a file of an exchange, each part in its range
 abbrev pub IsWorld : WorldLine → Type 0
 IsWorld (Ship mmsi) = IsMmsi mmsi
 IsWorld (Coast mmsi band) = IsMmsi mmsi
 IsWorld (Base s) = IsBase s
-IsWorld (Entry what) = IsEntry what
+IsWorld (EndEvent what) = IsEndEvent what
 
 -- the text of a line
 abbrev pub IsWorldLineText : WorldLine → List ℕ → Type 0
@@ -104,7 +104,7 @@ abbrev pub MayStandInWorld : ExchangePoint → WorldLine → Type 0
 MayStandInWorld point.Ship (Ship mmsi) = Unit {0}
 MayStandInWorld (point.Coast ship) (Coast mmsi band) = mmsi ≢ ship
 MayStandInWorld point.Base (Base s) = Unit {0}
-MayStandInWorld point.Events (Entry what) = Unit {0}
+MayStandInWorld point.Events (EndEvent what) = Unit {0}
 MayStandInWorld _ _ = ⊥
 
 -- the lines of a point

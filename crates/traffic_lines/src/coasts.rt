@@ -10,7 +10,7 @@ use crate::values::AckWait;
 use call_texts::field;
 use call_values::{CoastDelay, Mmsi, To};
 use cursor::Cursor;
-use line_grammar::{Left, end, further};
+use line_grammar::{Left, begins_with, end, further};
 
 /// Reads that no delay is given.
 fn no_delay(bytes: &[u8]) -> Result<Option<CoastDelay>, Left>
@@ -77,7 +77,11 @@ impl Rows for CoastOwn {
 
     ghost parts = { coast_parts };
 
+    /// Another first byte than those of the rows is left at once.
     fn read(bytes: &[u8]) -> Result<CoastOwn, Left> {
+        if !begins_with(b"ar", bytes) {
+            return Err(bytes.len());
+        }
         further(&accept(bytes), &relay(bytes))
     }
 }

@@ -1,6 +1,6 @@
 //! What comes to a station, and events: a reader for each row.
 ghost use Rattle.line_grammar.specs.Sections.{last, nth};
-ghost use Rattle.line_grammar.specs.Rows.{ReadsRow};
+ghost use Rattle.line_grammar.specs.Rows.{FindsRow, ReadsRow};
 ghost use Rattle.traffic_lines.specs.Events as rows;
 ghost use Rattle.traffic_lines.specs.Events.{IsDeed, IsEvent, IsGet, IsHearing, deed_parts, event_parts, get_parts, hearing_parts};
 
@@ -9,7 +9,7 @@ use crate::rows::{Rows, spelled, to_end};
 use crate::values::{Held, Number};
 use call_texts::{any_call, extra_of};
 use expansion::Expansion;
-use line_grammar::{Left, further};
+use line_grammar::{Left, begins_with, further};
 
 /// Reads `hear` and the text of a call, perhaps with an expansion.
 fn hear(bytes: &[u8]) -> Result<Hearing, Left>
@@ -36,8 +36,11 @@ impl Rows for Hearing {
 
     ghost parts = { hearing_parts };
 
-    /// A call that is heard ends the search.
+    /// Another first byte than that of both rows is left at once, and a call that is heard ends the search.
     fn read(bytes: &[u8]) -> Result<Hearing, Left> {
+        if !begins_with(b"h", bytes) {
+            return Err(bytes.len());
+        }
         let call = hear(bytes);
         if call.is_ok() {
             return call;
@@ -103,6 +106,38 @@ fn send<O: Rows>(bytes: &[u8]) -> Result<Deed<O>, Left>
     Ok(Deed::Send(call))
 }
 
+/// Reads a deed by each row. It isn't inlined, since only a line that is no deed comes here.
+#[inline(never)]
+fn each_deed<O: Rows>(bytes: &[u8]) -> Result<Deed<O>, Left>
+    ensures { ReadsRow (rows.deeds O.rows) (last 0) (IsDeed O.lawful) (deed_parts O.parts) bytes.now result }
+{
+    let declined = further(&decline(bytes), &send(bytes));
+    let answered = further(&answer(bytes), &declined);
+    let ticked = further(&tick(bytes), &answered);
+    further(&own(bytes), &ticked)
+}
+
+/// Reads what only this kind of station does, or else the row that the first byte tells. A fault says nothing of the
+/// other rows.
+fn told_deed<O: Rows>(bytes: &[u8]) -> Result<Deed<O>, Left>
+    ensures { FindsRow (rows.deeds O.rows) (last 0) (IsDeed O.lawful) (deed_parts O.parts) bytes.now result }
+{
+    let own = own(bytes);
+    if own.is_ok() {
+        return own;
+    }
+    let Some((first, _)) = bytes.split_first() else {
+        return Err(0);
+    };
+    match *first {
+        b't' => tick(bytes),
+        b'a' => answer(bytes),
+        b'd' => decline(bytes),
+        b's' => send(bytes),
+        _ => Err(0),
+    }
+}
+
 impl<O: Rows> Rows for Deed<O> {
     ghost rows = { rows.deeds O.rows };
 
@@ -110,11 +145,13 @@ impl<O: Rows> Rows for Deed<O> {
 
     ghost parts = { deed_parts O.parts };
 
+    /// Reads by the first byte, and by each row where that finds none, for the fault.
     fn read(bytes: &[u8]) -> Result<Deed<O>, Left> {
-        let declined = further(&decline(bytes), &send(bytes));
-        let answered = further(&answer(bytes), &declined);
-        let ticked = further(&tick(bytes), &answered);
-        further(&own(bytes), &ticked)
+        let told = told_deed(bytes);
+        if told.is_ok() {
+            return told;
+        }
+        each_deed(bytes)
     }
 }
 
@@ -146,12 +183,16 @@ impl<O: Rows, C: Rows> Rows for Event<O, C> {
 
     ghost parts = { event_parts O.parts C.parts };
 
-    /// What comes to the station ends the search, since most lines say that.
+    /// What comes to the station ends the search, and so does what it does.
     fn read(bytes: &[u8]) -> Result<Event<O, C>, Left> {
         let comes = comes(bytes);
         if comes.is_ok() {
             return comes;
         }
-        further(&comes, &does(bytes))
+        let does = does(bytes);
+        if does.is_ok() {
+            return does;
+        }
+        further(&comes, &does)
     }
 }

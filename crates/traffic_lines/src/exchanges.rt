@@ -3,7 +3,7 @@ ghost use Rattle.line_grammar.specs.Sections.{last, nth};
 ghost use Rattle.line_grammar.specs.Rows.{ReadsRow};
 ghost use Rattle.traffic_lines.specs.Readings.{ReadsInWorld};
 ghost use Rattle.traffic_lines.specs.Worlds as worlds;
-ghost use Rattle.traffic_lines.specs.Worlds.{IsEntry, entry_parts};
+ghost use Rattle.traffic_lines.specs.Worlds.{IsEndEvent, end_event_parts};
 ghost use Rattle.traffic_lines.specs.declared.worlds.ExchangePoint.TheVariants as point;
 ghost use Rattle.traffic_lines.specs.declared.worlds.WorldLine.TheVariants as line;
 
@@ -11,7 +11,7 @@ use crate::lines::{CoastOwn, Event, ShipOwn};
 use crate::others::other_coast;
 use crate::rows::{Rows, whole};
 use crate::values::Second;
-use crate::worlds::Entry;
+use crate::worlds::EndEvent;
 use call_values::{Band, Mmsi};
 use line_grammar::{Left, column, further, word};
 
@@ -47,38 +47,47 @@ pub fn read_exchange_base(bytes: &[u8]) -> Result<u64, usize>
 }
 
 /// Reads `s` and an event of the ship.
-fn at_ship(bytes: &[u8]) -> Result<Entry, Left>
-    ensures { ReadsRow worlds.at_ship (nth 0) IsEntry entry_parts bytes.now result }
+fn at_ship(bytes: &[u8]) -> Result<EndEvent, Left>
+    ensures { ReadsRow worlds.at_ship (nth 0) IsEndEvent end_event_parts bytes.now result }
 {
     let rest = word(b"s ", bytes)?;
     let (at, what) = <(u32, Event<ShipOwn, u32>)>::read(rest)?;
-    Ok(Entry::AtShip { at, what })
+    Ok(EndEvent::AtShip { at, what })
 }
 
 /// Reads `c` and an event of the coast station.
-fn at_coast(bytes: &[u8]) -> Result<Entry, Left>
-    ensures { ReadsRow worlds.at_coast (last 1) IsEntry entry_parts bytes.now result }
+fn at_coast(bytes: &[u8]) -> Result<EndEvent, Left>
+    ensures { ReadsRow worlds.at_coast (last 1) IsEndEvent end_event_parts bytes.now result }
 {
     let rest = word(b"c ", bytes)?;
     let (at, what) = <(u32, Event<CoastOwn, u32>)>::read(rest)?;
-    Ok(Entry::AtCoast { at, what })
+    Ok(EndEvent::AtCoast { at, what })
 }
 
-impl Rows for Entry {
-    ghost rows = { worlds.entry };
+impl Rows for EndEvent {
+    ghost rows = { worlds.end_event };
 
-    ghost lawful = { IsEntry };
+    ghost lawful = { IsEndEvent };
 
-    ghost parts = { entry_parts };
+    ghost parts = { end_event_parts };
 
-    fn read(bytes: &[u8]) -> Result<Entry, Left> {
-        further(&at_ship(bytes), &at_coast(bytes))
+    /// The end that the event is at ends the search.
+    fn read(bytes: &[u8]) -> Result<EndEvent, Left> {
+        let ship = at_ship(bytes);
+        if ship.is_ok() {
+            return ship;
+        }
+        let coast = at_coast(bytes);
+        if coast.is_ok() {
+            return coast;
+        }
+        further(&ship, &coast)
     }
 }
 
 /// What an event line of a file of an exchange says. An error is the column, as in `read_exchange_ship`.
-pub fn read_entry(bytes: &[u8]) -> Result<Entry, usize>
-    ensures { ReadsInWorld point.Events (λ says. line.Entry says) bytes.now result }
+pub fn read_end_event(bytes: &[u8]) -> Result<EndEvent, usize>
+    ensures { ReadsInWorld point.Events (λ says. line.EndEvent says) bytes.now result }
 {
     whole(bytes)
 }

@@ -10,7 +10,7 @@ use crate::values::Wait;
 use call_texts::field;
 use call_values::{Comm, Nature, Position};
 use cursor::Cursor;
-use line_grammar::{Left, further};
+use line_grammar::{Left, begins_with, further};
 
 /// Reads `position` and the ten digits of a position.
 fn position(bytes: &[u8]) -> Result<ShipOwn, Left>
@@ -56,7 +56,11 @@ impl Rows for ShipOwn {
 
     ghost parts = { ship_parts };
 
+    /// Another first byte than those of the rows is left at once.
     fn read(bytes: &[u8]) -> Result<ShipOwn, Left> {
+        if !begins_with(b"pdac", bytes) {
+            return Err(bytes.len());
+        }
         let alerted = further(&alert(bytes), &cancel(bytes));
         let delayed = further(&delay(bytes), &alerted);
         further(&position(bytes), &delayed)

@@ -19,7 +19,7 @@ pub enum ExchangePoint {
 /// What an event line of an exchange says: at which end it happens, so many milliseconds after the base. What comes to
 /// an end is the call that the other end sent under this number, from 0.
 #[derive(Clone, Copy, Debug, PartialEq, Eq)]
-pub enum Entry {
+pub enum EndEvent {
     /// At the ship.
     AtShip { at: u32, what: Event<ShipOwn, u32> },
     /// At the coast station.
@@ -36,5 +36,5 @@ pub enum WorldLine {
     /// The second that moments count from, from the beginning of 1970, at most 9,999,999,999.
     Base(u64),
     /// What happens at one end.
-    Entry(Entry),
+    EndEvent(EndEvent),
 }

@@ -12,7 +12,7 @@ use Rattle.traffic_lines.specs.declared.lines.Point.TheVariants as point
 use Rattle.traffic_lines.specs.declared.lines.TrafficLine.{TrafficLine}
 use Rattle.traffic_lines.specs.declared.lines.TrafficLine.TheVariants as line
 use Rattle.traffic_lines.specs.Lines.{MayStand}
-use Rattle.input_lines.specs.JoinLine.{JoinLine, nothing, reception, evidence}
+use Rattle.input_lines.specs.ReceiverLine.{ReceiverLine, nothing, reception, evidence}
 use Rattle.input_lines.specs.PointLine.{PointLine, joined, traffic, IsPointLine}
 use Rattle.traffic_replay.specs.Said.{Said, Kind, ship, coast, kind_of, identities_of, station_of, among_events, point_of, AreSaid}
 use Rattle.traffic_replay.specs.Happenings.{Taking, taking_ship, taking_coast, Happening, AreHappenings}
@@ -74,7 +74,7 @@ behind_same : (kind : Kind) (said : Said) (whole : List ℕ) (is_well : Bool) �
 behind_same kind said whole is_well tells = record { text = whole; is_well = is_well; tells = tells; begins = begins_itself whole }
 
 -- a line of receivers, or one that says nothing, gives no text
-without_joined : (kind : Kind) (l : JoinLine) (said : Said) (whole : List ℕ) (is_well : Bool) → StationTells kind (joined l ∷ said) whole is_well → StationTells kind said whole is_well
+without_joined : (kind : Kind) (l : ReceiverLine) (said : Said) (whole : List ℕ) (is_well : Bool) → StationTells kind (joined l ∷ said) whole is_well → StationTells kind said whole is_well
 without_joined ship l said whole is_well tells =
     record { happened = tells.happened; are_happenings = tells.are_happenings; text_is = tells.text_is; well_is = tells.well_is }
 without_joined (coast band) l said whole is_well tells =

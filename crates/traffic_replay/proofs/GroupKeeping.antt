@@ -5,7 +5,7 @@ use Rattle.traffic_lines.specs.declared.lines.TrafficLine.{TrafficLine}
 use Rattle.traffic_lines.specs.declared.lines.TrafficLine.TheVariants.{Event}
 use Rattle.traffic_lines.specs.declared.lines.Event.TheVariants.{Comes}
 use Rattle.traffic_lines.specs.declared.lines.Hearing.TheVariants.{Heard}
-use Rattle.input_lines.specs.JoinLine.{JoinLine, nothing}
+use Rattle.input_lines.specs.ReceiverLine.{ReceiverLine, nothing}
 use Rattle.input_lines.specs.PointLine.{joined, traffic}
 use Rattle.join_groups.specs.declared.groups.NamedGroups.{NamedGroups}
 use Rattle.join_groups.specs.Groups.{names, is_named, facts_of_line}
@@ -22,7 +22,7 @@ keeps_same groups named other F G n f h =
     holds_same (number_in groups) groups.sheets.items groups.batch.items named other F G n (λ k p v. ap (λ (X : Facts). X p v) (f k)) h
 
 -- groups that hold what a line gives of its group keep what is said with it
-pub keeps_line : (groups : NamedGroups) (said : Said) (line : JoinLine) (group : ℕ) (G : Facts) → ((j : ℕ) → names j line ≡ (group == j)) → facts_of_line group line ≡ G
+pub keeps_line : (groups : NamedGroups) (said : Said) (line : ReceiverLine) (group : ℕ) (G : Facts) → ((j : ℕ) → names j line ≡ (group == j)) → facts_of_line group line ≡ G
     → Holds groups (named_with group (is_named (of_receivers said))) (facts_with group G (λ k. facts_since_heard k said)) → KeepsGroups groups (joined line ∷ said)
 keeps_line groups said line group G named facts h =
     holds_same (number_in groups) groups.sheets.items groups.batch.items (named_with group (is_named (of_receivers said))) (is_named (of_receivers (joined line ∷ said)))

@@ -28,9 +28,7 @@ use Rattle.traffic_replay.specs.inside.Happens.{Takes, Happens}
 -- both kinds of station take lines by their deeds and by the calls that they hear
 ship_deeds : (base at : ℕ) (deed : Deed ShipOwn) → ship_event base at (event.Does (deed_with own.Ship deed)) ≡ Some (ship_deed base at deed)
 ship_deeds base at (Own what) = refl
-ship_deeds base at Tick = refl
-ship_deeds base at (Send call) = refl
-ship_deeds base at (Answer number accepts) = refl
+ship_deeds base at _ = refl
 
 pub ship_takes : (base at : ℕ) → base ≡ at → Takes taking_ship own.Ship (ship_deed base) at_ship.Heard at
 ship_takes base at same = subst (λ (b : ℕ). Takes taking_ship own.Ship (ship_deed base) at_ship.Heard b) same
@@ -38,9 +36,7 @@ ship_takes base at same = subst (λ (b : ℕ). Takes taking_ship own.Ship (ship_
 
 coast_deeds : (base at : ℕ) (deed : Deed CoastOwn) → coast_event base at (event.Does (deed_with own.Coast deed)) ≡ Some (coast_deed deed)
 coast_deeds base at (Own what) = refl
-coast_deeds base at Tick = refl
-coast_deeds base at (Send call) = refl
-coast_deeds base at (Answer number accepts) = refl
+coast_deeds base at _ = refl
 
 pub coast_takes : (base : ℕ) → Takes taking_coast own.Coast (λ at. coast_deed) at_coast.Heard base
 coast_takes base = record { deeds = coast_deeds base; calls = λ at call extra. refl; heard = refl }
@@ -66,10 +62,7 @@ made make (Err u) = Err u
 heard_made : {What : Type 0} (make : Call → What) (group : ℕ) (answer : Joined) → made make (heard_as (λ (c : Call). c) group answer) ≡ heard_as make group answer
 unfolding made
 heard_made make group (Reported found extra) = refl
-heard_made make group (Missing n) = refl
-heard_made make group (Differ n least greatest) = refl
-heard_made make group (Outside n symbol) = refl
-heard_made make group (Check n want got) = refl
+heard_made make group _ = refl
 
 heard_event : {What : Type 0} (make : Call → What) (group : ℕ) (answer : Joined) (call : Call) → heard_as (λ (c : Call). c) group answer ≡ Ok call → Ok (make call) ≡ heard_as make group answer
 unfolding made

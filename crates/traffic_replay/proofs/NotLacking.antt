@@ -20,7 +20,7 @@ use Rattle.traffic_lines.specs.declared.lines.Point.{Point}
 use Rattle.traffic_lines.specs.declared.lines.Point.TheVariants as point
 use Rattle.traffic_lines.specs.declared.lines.TrafficLine.TheVariants as line
 use Rattle.traffic_lines.specs.Lines.{IsOfShip, IsOfCoast, MayStand}
-use Rattle.input_lines.specs.JoinLine.{nothing, reception, evidence}
+use Rattle.input_lines.specs.ReceiverLine.{nothing, reception, evidence}
 use Rattle.input_lines.specs.PointLine.{PointLine, joined, traffic, IsPointLine}
 use Rattle.input_lines.proofs.PublicLaws.{line_there}
 use Rattle.join_groups.proofs.PublicLaws.{AreSome, group_small, AnswerLaw}

@@ -7,18 +7,18 @@ use Rattle.call_values.specs.declared.bounds.TheConstants.{LAST_BASE}
 use Rattle.ship_station.specs.declared.events.ShipWhat.{ShipWhat}
 use Rattle.ship_station.specs.declared.ships.Ship.{Ship}
 use Rattle.ship_station.specs.ShipRules.{Identities, ship_rules}
-use Rattle.ship_station.specs.Stands.{Stands as ShipStands}
+use Rattle.ship_station.specs.StandsFor.{StandsFor as ShipStandsFor}
 use Rattle.coast_station.specs.declared.coasts.Coast.{Coast}
 use Rattle.coast_station.specs.declared.events.CoastWhat.{CoastWhat}
 use Rattle.coast_station.specs.CoastRules.{Station as Who, coast_rules}
-use Rattle.coast_station.specs.Stands.{Stands as CoastStands}
+use Rattle.coast_station.specs.StandsFor.{StandsFor as CoastStandsFor}
 use Rattle.station_lines.specs.Events.{EventLine}
 use Rattle.traffic_lines.specs.declared.lines.TrafficLine.TheVariants as line
 use Rattle.traffic_lines.specs.declared.lines.Point.TheVariants as point
 use Rattle.traffic_lines.specs.declared.lines.StationLine.{StationLine}
 use Rattle.traffic_lines.specs.declared.lines.StationLine.TheVariants as named
 use Rattle.traffic_lines.specs.Lines.{line_of_station}
-use Rattle.input_lines.specs.JoinLine.{JoinLine}
+use Rattle.input_lines.specs.ReceiverLine.{ReceiverLine}
 use Rattle.input_lines.specs.PointLine.{joined, traffic, IsBody}
 use Rattle.join_groups.specs.declared.groups.TheConstants.{MOST_IN_BATCH}
 use Rattle.traffic_replay.specs.declared.command.Replay.{Replay}
@@ -40,7 +40,7 @@ identities own groups = record { own = own; groups = groups }
 pub same_identities : {a b : ℕ} {gs hs : List ℕ} → a ≡ b → gs ≡ hs → identities a gs ≡ identities b hs
 same_identities {a} {b} {gs} {hs} own groups = ap (λ (o : ℕ). identities o gs) own ∙ ap (λ (l : List ℕ). identities b l) groups
 
-carry : {What : Type 0} (rules : Rules What) (taking : Taking What) (IsAt : History What → Type 0) (l : JoinLine) (said : Said) (text : List ℕ) (is_well : Bool)
+carry : {What : Type 0} (rules : Rules What) (taking : Taking What) (IsAt : History What → Type 0) (l : ReceiverLine) (said : Said) (text : List ℕ) (is_well : Bool)
     → TellsSoFar rules taking IsAt said text is_well → TellsSoFar rules taking IsAt (joined l ∷ said) text is_well
 carry rules taking IsAt l said text is_well told = record {
   tells = record { happened = told.tells.happened; are_happenings = told.tells.are_happenings; text_is = told.tells.text_is; well_is = told.tells.well_is };
@@ -48,33 +48,33 @@ carry rules taking IsAt l said text is_well told = record {
 }
 
 -- a line of receivers, or one that says nothing, leaves what a stage keeps
-pub silent : (at : Stage) (l : JoinLine) (said : Said) (text : List ℕ) (is_well : Bool) → KeepsStation at said text is_well → KeepsStation at (joined l ∷ said) text is_well
+pub silent : (at : Stage) (l : ReceiverLine) (said : Said) (text : List ℕ) (is_well : Bool) → KeepsStation at said text is_well → KeepsStation at (joined l ∷ said) text is_well
 silent stage.Station l said text is_well keeps = keeps
 silent (stage.Base (named.Ship own)) l said text is_well keeps = keeps
 silent (stage.Base (named.Coast own band)) l said text is_well keeps = keeps
 silent (stage.Groups g) l said text is_well keeps = keeps
 silent (stage.Ship base s) l said text is_well keeps =
-    (keeps.0, keeps.1, carry (ship_rules (identities_of said)) taking_ship (ShipStands s (identities_of said)) l said text is_well keeps.2)
+    (keeps.0, keeps.1, carry (ship_rules (identities_of said)) taking_ship (ShipStandsFor s (identities_of said)) l said text is_well keeps.2)
 silent (stage.Coast s) l said text is_well keeps =
-    (keeps.0, keeps.1, carry (coast_rules (station_of keeps.0 said)) taking_coast (CoastStands s (station_of keeps.0 said)) l said text is_well keeps.2)
+    (keeps.0, keeps.1, carry (coast_rules (station_of keeps.0 said)) taking_coast (CoastStandsFor s (station_of keeps.0 said)) l said text is_well keeps.2)
 
 -- a ship begins after its groups
-pub ship_begins : (g : Groups) (s : Ship) (said : Said) (text : List ℕ) (is_well : Bool) → ShipStands s (identities_in g) [] → KeepsStation (stage.Groups g) said text is_well
+pub ship_begins : (g : Groups) (s : Ship) (said : Said) (text : List ℕ) (is_well : Bool) → ShipStandsFor s (identities_in g) [] → KeepsStation (stage.Groups g) said text is_well
     → KeepsStation (stage.Ship g.base s) said text is_well
 ship_begins g s said text is_well stands keeps = (
   keeps.0,
   keeps.2,
   record {
     tells = record { happened = []; are_happenings = keeps.3.0; text_is = keeps.3.2; well_is = keeps.3.3 };
-    stands = subst (λ (who : Identities). ShipStands s who []) (sym keeps.1) stands;
+    stands = subst (λ (who : Identities). ShipStandsFor s who []) (sym keeps.1) stands;
   },
 )
 
 -- receivers showed something: the stage goes on to events
-abbrev Begun : Stage → JoinLine → Said → List ℕ → Bool → Type 0
+abbrev Begun : Stage → ReceiverLine → Said → List ℕ → Bool → Type 0
 Begun to l said text is_well = (point_at to ≡ among_events (kind_of said)) × IsReadyAt to × KeepsStation to (joined l ∷ said) text is_well
 
-begun : (from to : Stage) (l : JoinLine) (said : Said) (text : List ℕ) (is_well : Bool) → GoesOn from to → IsBody (point_at from) → IsReadyAt from → KeepsStation from said text is_well
+begun : (from to : Stage) (l : ReceiverLine) (said : Said) (text : List ℕ) (is_well : Bool) → GoesOn from to → IsBody (point_at from) → IsReadyAt from → KeepsStation from said text is_well
     → Begun to l said text is_well
 begun stage.Station to l said text is_well begins body ready keeps = absurd body
 begun (stage.Base station) to l said text is_well begins body ready keeps = absurd body
@@ -86,7 +86,7 @@ begun (stage.Ship base s) to l said text is_well begins body ready keeps =
 begun (stage.Coast s) to l said text is_well begins body ready keeps =
     subst (λ (t : Stage). Begun t l said text is_well) (sym begins) (sym (ap among_events keeps.1), ready, silent (stage.Coast s) l said text is_well keeps)
 
-pub keeps_shown : (old new : Replay) (l : JoinLine) (said : Said) (text : List ℕ) → Keeps old said text → new.is_well ≡ old.is_well → GoesOn old.stage new.stage → IsBody (point_at old.stage)
+pub keeps_shown : (old new : Replay) (l : ReceiverLine) (said : Said) (text : List ℕ) → Keeps old said text → new.is_well ≡ old.is_well → GoesOn old.stage new.stage → IsBody (point_at old.stage)
     → point_of (joined l ∷ said) ≡ among_events (kind_of said) → KeepsGroups new.heard (joined l ∷ said) → length new.heard.batch.items < MOST_IN_BATCH
     → Keeps new (joined l ∷ said) text
 keeps_shown old new l said text keeps well begins body point heard few =
@@ -122,25 +122,25 @@ more rules taking IsAt IsAfter said text out new is_well accepted when what told
 
 pub more_at_ship : (base : ℕ) (s after : Ship) (said : Said) (text out new : List ℕ) (is_well accepted : Bool) (when : ℕ) (what : EventLine)
     → KeepsStation (stage.Ship base s) said (text ++ out) is_well
-    → ((who : Identities) (h : History ShipWhat) → base ≡ base_of said → ShipStands s who h → Happens (ship_rules who) taking_ship (ShipStands after who) h said when what out new accepted)
+    → ((who : Identities) (h : History ShipWhat) → base ≡ base_of said → ShipStandsFor s who h → Happens (ship_rules who) taking_ship (ShipStandsFor after who) h said when what out new accepted)
     → KeepsStation (stage.Ship base after) (traffic (line.Event when what) ∷ said) (text ++ new) (is_well && accepted)
 more_at_ship base s after said text out new is_well accepted when what keeps did =
     let who = identities_of said in (
       keeps.0,
       keeps.1,
-      more (ship_rules who) taking_ship (ShipStands s who) (ShipStands after who) said text out new is_well accepted when what keeps.2
+      more (ship_rules who) taking_ship (ShipStandsFor s who) (ShipStandsFor after who) said text out new is_well accepted when what keeps.2
           (did who (history_of (ship_rules who) keeps.2.tells.happened) keeps.1 keeps.2.stands),
     )
 
 pub more_at_coast : (s after : Coast) (said : Said) (text out new : List ℕ) (is_well accepted : Bool) (when : ℕ) (what : EventLine)
     → KeepsStation (stage.Coast s) said (text ++ out) is_well
-    → ((who : Who) (h : History CoastWhat) → CoastStands s who h → Happens (coast_rules who) taking_coast (CoastStands after who) h said when what out new accepted)
+    → ((who : Who) (h : History CoastWhat) → CoastStandsFor s who h → Happens (coast_rules who) taking_coast (CoastStandsFor after who) h said when what out new accepted)
     → KeepsStation (stage.Coast after) (traffic (line.Event when what) ∷ said) (text ++ new) (is_well && accepted)
 more_at_coast s after said text out new is_well accepted when what keeps did =
     let who = station_of keeps.0 said in (
       keeps.0,
       keeps.1,
-      more (coast_rules who) taking_coast (CoastStands s who) (CoastStands after who) said text out new is_well accepted when what keeps.2
+      more (coast_rules who) taking_coast (CoastStandsFor s who) (CoastStandsFor after who) said text out new is_well accepted when what keeps.2
           (did who (history_of (coast_rules who) keeps.2.tells.happened) keeps.2.stands),
     )
 
@@ -179,7 +179,7 @@ base_named (named.Coast own band) base to said text is_well behind keeps =
       keeps.0,
       record {
         tells = record { happened = []; are_happenings = keeps.2.1; text_is = keeps.2.2; well_is = keeps.2.3 };
-        stands = subst (λ (who : Who). CoastStands behind.0 who []) (sym keeps.1) behind.2;
+        stands = subst (λ (who : Who). CoastStandsFor behind.0 who []) (sym keeps.1) behind.2;
       },
     )
 
@@ -238,7 +238,7 @@ keeps_group old new from to mmsi said text is keeps room own base named same =
 -- an event line is kept where the station is
 pub keeps_at_ship : (old new : Replay) (base : ℕ) (s after : Ship) (said : Said) (text out written : List ℕ) (accepted : Bool) (when : ℕ) (what : EventLine) → base ≤ LAST_BASE
     → KeepsStation (stage.Ship base s) said (text ++ out) old.is_well
-    → ((who : Identities) (h : History ShipWhat) → base ≡ base_of said → ShipStands s who h → Happens (ship_rules who) taking_ship (ShipStands after who) h said when what out written accepted)
+    → ((who : Identities) (h : History ShipWhat) → base ≡ base_of said → ShipStandsFor s who h → Happens (ship_rules who) taking_ship (ShipStandsFor after who) h said when what out written accepted)
     → KeepsGroups new.heard (traffic (line.Event when what) ∷ said) → length new.heard.batch.items < MOST_IN_BATCH
     → new.stage ≡ stage.Ship base after → new.is_well ≡ (old.is_well && accepted) → Keeps new (traffic (line.Event when what) ∷ said) (text ++ written)
 keeps_at_ship old new base s after said text out written accepted when what within keeps did heard few to well = record {
@@ -253,7 +253,7 @@ keeps_at_ship old new base s after said text out written accepted when what with
 
 pub keeps_at_coast : (old new : Replay) (s after : Coast) (said : Said) (text out written : List ℕ) (accepted : Bool) (when : ℕ) (what : EventLine)
     → KeepsStation (stage.Coast s) said (text ++ out) old.is_well
-    → ((who : Who) (h : History CoastWhat) → CoastStands s who h → Happens (coast_rules who) taking_coast (CoastStands after who) h said when what out written accepted)
+    → ((who : Who) (h : History CoastWhat) → CoastStandsFor s who h → Happens (coast_rules who) taking_coast (CoastStandsFor after who) h said when what out written accepted)
     → KeepsGroups new.heard (traffic (line.Event when what) ∷ said) → length new.heard.batch.items < MOST_IN_BATCH
     → new.stage ≡ stage.Coast after → new.is_well ≡ (old.is_well && accepted) → Keeps new (traffic (line.Event when what) ∷ said) (text ++ written)
 keeps_at_coast old new s after said text out written accepted when what keeps did heard few to well = record {

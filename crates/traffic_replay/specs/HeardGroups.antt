@@ -5,14 +5,14 @@ use Rattle.line_engine.specs.Lines.{Lines}
 use Rattle.traffic_lines.specs.declared.lines.Event.TheVariants.{Comes}
 use Rattle.traffic_lines.specs.declared.lines.Hearing.TheVariants.{Heard}
 use Rattle.traffic_lines.specs.declared.lines.TrafficLine.TheVariants.{Event}
-use Rattle.input_lines.specs.JoinLine.{JoinLine}
+use Rattle.input_lines.specs.ReceiverLine.{ReceiverLine}
 use Rattle.input_lines.specs.PointLine.{PointLine, joined, traffic, IsPointLine}
 use Rattle.join_groups.specs.Groups.{group_facts}
 use Rattle.join_groups.specs.Meanings.{BringsTooMany}
 use Rattle.traffic_replay.specs.Said.{Said, point_of, AreSaid}
 
 -- the lines of receivers: receptions and evidence
-abbrev pub of_receivers : Said → List JoinLine
+abbrev pub of_receivers : Said → List ReceiverLine
 of_receivers [] = []
 of_receivers (joined line ∷ earlier) = line ∷ of_receivers earlier
 of_receivers (traffic line ∷ earlier) = of_receivers earlier
@@ -36,6 +36,6 @@ facts_since_heard k said = group_facts (of_receivers (since_heard k said)) k
 pub record IsOverfull (earlier : Lines) (text : List ℕ) : Type 0 where
   pub said : Said
   pub are_said : AreSaid said earlier
-  pub line : JoinLine
+  pub line : ReceiverLine
   pub is_line : IsPointLine (point_of said) (joined line) text
   pub brings : BringsTooMany (of_receivers said) line

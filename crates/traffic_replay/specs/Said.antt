@@ -5,7 +5,7 @@ use Rattle.line_engine.specs.Lines.{Lines}
 use Rattle.traffic_lines.specs.declared.lines.Point.{Point}
 use Rattle.traffic_lines.specs.declared.lines.Point.TheVariants as point
 use Rattle.traffic_lines.specs.declared.lines.TrafficLine.TheVariants.{Ship, Coast, Base, Group, Event}
-use Rattle.input_lines.specs.JoinLine.{nothing, reception, evidence}
+use Rattle.input_lines.specs.ReceiverLine.{nothing, reception, evidence}
 use Rattle.input_lines.specs.PointLine.{PointLine, joined, traffic, IsPointLine}
 use Rattle.ship_station.specs.ShipRules.{Identities}
 use Rattle.coast_station.specs.CoastRules.{Station}

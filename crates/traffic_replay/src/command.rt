@@ -2,7 +2,7 @@
 ghost use Rattle.std.specs.Prelude.{◌≡◌, ◌⊎◌, ◌∷◌, ◌≤◌, ℕ, List, [], length, OnOk, IfErr};
 ghost use Rattle.line_engine.specs.Commands.{KeepsText};
 ghost use Rattle.input_lines.specs.PointLine.{joined, IsBody};
-ghost use Rattle.input_lines.specs.JoinLine.{JoinLine as ReceiverLine};
+ghost use Rattle.input_lines.specs.ReceiverLine.{ReceiverLine};
 ghost use Rattle.input_lines.specs.Lines.{Says};
 ghost use Rattle.slot_evidence.specs.Facts.{Facts, facts_of};
 ghost use Rattle.slot_evidence.specs.Sheet.{IsEnds};

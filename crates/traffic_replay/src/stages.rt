@@ -1,6 +1,6 @@
 //! What the lines of a traffic file have come to.
 ghost use Rattle.std.specs.Prelude.{◌≡◌, ◌≤◌, ◌∷◌, ◌++◌, [], length, OnOk};
-ghost use Rattle.ship_station.specs.Stands.{Stands};
+ghost use Rattle.ship_station.specs.StandsFor.{StandsFor as ShipStandsFor};
 ghost use Rattle.input_lines.specs.PointLine.{IsBody};
 ghost use Rattle.traffic_replay.specs.inside.Progress.{GoesOn, IsBehindBase, IsReadyAt, identities_in, point_at};
 
@@ -69,7 +69,7 @@ impl Groups {
     /// The ship of these groups, in front of its first event.
     pub(crate) fn ship(&self) -> Ship
         requires { length self.now.named.items ≤ 16 }
-        ensures { Stands result (identities_in self.now) [] }
+        ensures { ShipStandsFor result (identities_in self.now) [] }
     {
         Ship::new(self.own, &self.named)
     }

@@ -86,23 +86,9 @@ room must places None is none wanted =
 
 reply_quiet : (own : ℕ) (accepts : Bool) (call : Call) → AreQuiet (reply_to own accepts call)
 reply_quiet own true (Alert casualty) = record { begin = λ k. refl; end = λ k. refl }
-reply_quiet own true (Ack from casualty) = record { begin = λ k. refl; end = λ k. refl }
-reply_quiet own true (Relay to from casualty ask) = record { begin = λ k. refl; end = λ k. refl }
-reply_quiet own true (RelayAck to from casualty) = record { begin = λ k. refl; end = λ k. refl }
-reply_quiet own true (AllShips category from first second f1 f2) = record { begin = λ k. refl; end = λ k. refl }
-reply_quiet own true (AreaCall area category from first second f1 f2) = record { begin = λ k. refl; end = λ k. refl }
-reply_quiet own true (GroupCall group category from first second f1 f2) = record { begin = λ k. refl; end = λ k. refl }
-reply_quiet own true (Individual to category from first second message end) = record { begin = λ k. refl; end = λ k. refl }
-reply_quiet own true (Service to category from kind) = record { begin = λ k. refl; end = λ k. refl }
+reply_quiet own true _ = record { begin = λ k. refl; end = λ k. refl }
 reply_quiet own false (Alert casualty) = record { begin = λ k. refl; end = λ k. refl }
-reply_quiet own false (Ack from casualty) = record { begin = λ k. refl; end = λ k. refl }
-reply_quiet own false (Relay to from casualty ask) = record { begin = λ k. refl; end = λ k. refl }
-reply_quiet own false (RelayAck to from casualty) = record { begin = λ k. refl; end = λ k. refl }
-reply_quiet own false (AllShips category from first second f1 f2) = record { begin = λ k. refl; end = λ k. refl }
-reply_quiet own false (AreaCall area category from first second f1 f2) = record { begin = λ k. refl; end = λ k. refl }
-reply_quiet own false (GroupCall group category from first second f1 f2) = record { begin = λ k. refl; end = λ k. refl }
-reply_quiet own false (Individual to category from first second message end) = record { begin = λ k. refl; end = λ k. refl }
-reply_quiet own false (Service to category from kind) = record { begin = λ k. refl; end = λ k. refl }
+reply_quiet own false _ = record { begin = λ k. refl; end = λ k. refl }
 
 due_quiet : (own : ℕ) (accepts : Bool) (o : Option Holding) → AreQuiet (reply_due_to own accepts o)
 due_quiet own accepts None = record { begin = λ k. refl; end = λ k. refl }
@@ -110,25 +96,11 @@ due_quiet own accepts (Some x) = reply_quiet own accepts x.call
 
 told_begin : (k : ℕ) (call : Call) → list_any (holds k) (distress_told call) ≡ false
 told_begin k (Alert casualty) = refl
-told_begin k (Ack from casualty) = refl
-told_begin k (Relay to from casualty ask) = refl
-told_begin k (RelayAck to from casualty) = refl
-told_begin k (AllShips category from first second f1 f2) = refl
-told_begin k (AreaCall area category from first second f1 f2) = refl
-told_begin k (GroupCall group category from first second f1 f2) = refl
-told_begin k (Individual to category from first second message end) = refl
-told_begin k (Service to category from kind) = refl
+told_begin k _ = refl
 
 told_end : (k : ℕ) (call : Call) → list_any (frees k) (distress_told call) ≡ false
 told_end k (Alert casualty) = refl
-told_end k (Ack from casualty) = refl
-told_end k (Relay to from casualty ask) = refl
-told_end k (RelayAck to from casualty) = refl
-told_end k (AllShips category from first second f1 f2) = refl
-told_end k (AreaCall area category from first second f1 f2) = refl
-told_end k (GroupCall group category from first second f1 f2) = refl
-told_end k (Individual to category from first second message end) = refl
-told_end k (Service to category from kind) = refl
+told_end k _ = refl
 
 position_quiet : (own : ℕ) (place : Option Whereabouts) (to : ℕ) (category : Category) → AreQuiet (position_told own place to category)
 position_quiet own None to category = record { begin = λ k. refl; end = λ k. refl }

@@ -34,9 +34,6 @@ module _ {What : Type 0} (rules : Rules What) where
   pub follows_rules : (e : Entry What) (h : History What) → Follows rules e h → rules.refusal h e.what ≡ None
   follows_rules e h follows = by_rules (time_back (last_moment h) e.at) (rules.refusal h e.what) follows.accepted
 
-  pub answer_refused : (h : History What) (at : ℕ) (what : What) (refusal : StationRefusal) → refused rules h at what ≡ Some refusal → answer_to rules h at what ≡ Err refusal
-  answer_refused h at what refusal is = ap (λ r. refusal_or r (rules.due h at what)) is
-
   pub answer_accepted : (h : History What) (at : ℕ) (what : What) → refused rules h at what ≡ None → answer_to rules h at what ≡ Ok (rules.due h at what)
   answer_accepted h at what is = ap (λ r. refusal_or r (rules.due h at what)) is
 

@@ -11,7 +11,7 @@ use Rattle.slot_evidence.specs.Facts.{Facts}
 use Rattle.slot_join.specs.declared.joined.Joined.{Joined}
 use Rattle.slot_join.specs.Answer.{IsAnswer}
 use Rattle.live_watch.specs.Told.{IsTold}
-use Rattle.input_lines.specs.JoinLine.{JoinLine}
+use Rattle.input_lines.specs.ReceiverLine.{ReceiverLine}
 use Rattle.join_groups.specs.Groups.{group_facts}
 use Rattle.join_groups.proofs.PublicLaws.{named_push, facts_push}
 use Rattle.watch_groups.specs.declared.telling.ToldCall.{ToldCall}
@@ -24,7 +24,7 @@ text_push told one = flat_map-append told_line told (one ∷ []) ∙ ap (λ (l :
 told_push : (told : List ToldCall) (one : ToldCall) (k : ℕ) → is_told (told ++ one ∷ []) k ≡ (is_told told k || one.group == k)
 told_push told one k = list_any-append (λ (t : ToldCall). t.group == k) told (one ∷ []) ∙ ap (λ (b : Bool). is_told told k || b) (or-false (one.group == k))
 
-are_push : (said : List JoinLine) (told : List ToldCall) (one : ToldCall) → IsToldOf said one → is_told told one.group ≡ false → AreTold said told → AreTold said (told ++ one ∷ [])
+are_push : (said : List ReceiverLine) (told : List ToldCall) (one : ToldCall) → IsToldOf said one → is_told told one.group ≡ false → AreTold said told → AreTold said (told ++ one ∷ [])
 are_push said [] one of new are = (of, refl, tt)
 are_push said (first ∷ told) one of new are =
     let parts = or_parts (first.group == one.group) (is_told told one.group) new in (
@@ -37,22 +37,22 @@ are_push said (first ∷ told) one of new are =
 abbrev pub More : Type 0
 More = (F G : Facts) (call : Call) → ((p v : ℕ) → F p v ≡ true → G p v ≡ true) → IsTold F call → IsTold G call
 
-of_more : More → (said : List JoinLine) (line : JoinLine) (one : ToldCall) → IsToldOf said one → IsToldOf (said ++ line ∷ []) one
+of_more : More → (said : List ReceiverLine) (line : ReceiverLine) (one : ToldCall) → IsToldOf said one → IsToldOf (said ++ line ∷ []) one
 of_more law said line one of = record {
   named = named_push said line one.group ∙ or_left _ _ of.named;
   call = law (group_facts said one.group) (group_facts (said ++ line ∷ []) one.group) one.call
       (λ p v is. ap (λ (F : Facts). F p v) (facts_push said line one.group) ∙ or_left _ _ is) of.call;
 }
 
-pub are_more : More → (said : List JoinLine) (line : JoinLine) (told : List ToldCall) → AreTold said told → AreTold (said ++ line ∷ []) told
+pub are_more : More → (said : List ReceiverLine) (line : ReceiverLine) (told : List ToldCall) → AreTold said told → AreTold (said ++ line ∷ []) told
 are_more law said line [] are = tt
 are_more law said line (one ∷ told) are = (of_more law said line one are.0, are.1, are_more law said line told are.2)
 
 -- nothing more was told
-pub tells_none : (said : List JoinLine) (told : List ToldCall) (out : List ℕ) → TellsMore said told out told out
+pub tells_none : (said : List ReceiverLine) (told : List ToldCall) (out : List ℕ) → TellsMore said told out told out
 tells_none said told out = record { stays = λ k is. is; are_told = λ are. are; text = λ written is. is }
 
-pub tells_then : (said : List JoinLine) (a b c : List ToldCall) (x y z : List ℕ) → TellsMore said a x b y → TellsMore said b y c z → TellsMore said a x c z
+pub tells_then : (said : List ReceiverLine) (a b c : List ToldCall) (x y z : List ℕ) → TellsMore said a x b y → TellsMore said b y c z → TellsMore said a x c z
 tells_then said a b c x y z first last = record {
   stays = λ k is. last.stays k (first.stays k is);
   are_told = λ are. last.are_told (first.are_told are);
@@ -60,7 +60,7 @@ tells_then said a b c x y z first last = record {
 }
 
 -- one call more was told
-pub tells_one : (said : List JoinLine) (told : List ToldCall) (one : ToldCall) (out after : List ℕ) → IsToldOf said one → is_told told one.group ≡ false → after ≡ out ++ told_line one → TellsMore said told out (told ++ one ∷ []) after
+pub tells_one : (said : List ReceiverLine) (told : List ToldCall) (one : ToldCall) (out after : List ℕ) → IsToldOf said one → is_told told one.group ≡ false → after ≡ out ++ told_line one → TellsMore said told out (told ++ one ∷ []) after
 tells_one said told one out after of new written = record {
   stays = λ k is. told_push told one k ∙ or_left _ _ is;
   are_told = are_push said told one of new;

@@ -4,7 +4,7 @@ use Rattle.line_engine.specs.Lines.{Lines}
 use Rattle.line_engine.specs.declared.command.Refusal.{Refusal}
 use Rattle.line_engine.specs.declared.command.Refusal.TheVariants.{Memory, TooManyGroups}
 use Rattle.line_engine.specs.Commands.{IsTakenBehind, IsRefusedBehind}
-use Rattle.input_lines.specs.JoinLine.{JoinLine, IsLine}
+use Rattle.input_lines.specs.ReceiverLine.{ReceiverLine, IsLine}
 use Rattle.join_groups.specs.declared.groups.NamedGroups.{NamedGroups}
 use Rattle.join_groups.specs.Output.{TellsAnswer, IsGroupsText}
 use Rattle.join_groups.specs.Meanings.{BringsTooMany}
@@ -27,10 +27,10 @@ use Rattle.watch_groups.proofs.Kept.{all_done, after_pause}
 
 -- a line says one thing
 abbrev pub OneLine : Type 0
-OneLine = (a b : JoinLine) (text : List ℕ) → IsLine a text → IsLine b text → a ≡ b
+OneLine = (a b : ReceiverLine) (text : List ℕ) → IsLine a text → IsLine b text → a ≡ b
 
 module _ {groups : NamedGroups} {named : List ℕ} {told : List ToldCall} {heard : ℕ} {lines : Lines} {text : List ℕ} (stands : StandsFor groups named told heard lines text) where
-  pub stands_after : (line : JoinLine) (bytes : List ℕ) (new : NamedGroups) (more : List ℕ) (now : List ToldCall) (count : ℕ) (after : List ℕ) → IsLine line bytes → Watches new more now count (stands.said ++ line ∷ []) → after ≡ told_text now
+  pub stands_after : (line : ReceiverLine) (bytes : List ℕ) (new : NamedGroups) (more : List ℕ) (now : List ToldCall) (count : ℕ) (after : List ℕ) → IsLine line bytes → Watches new more now count (stands.said ++ line ∷ []) → after ≡ told_text now
       → StandsFor new more now count (lines ++ bytes ∷ []) after
   stands_after line bytes new more now count after is watches text_is = record {
     said = stands.said ++ line ∷ [];
@@ -39,16 +39,16 @@ module _ {groups : NamedGroups} {named : List ℕ} {told : List ToldCall} {heard
     text_is = text_is;
   }
 
-  pub taken_behind : OneLine → (line : JoinLine) (bytes : List ℕ) → IsLine line bytes → (BringsTooMany stands.said line → ⊥) → IsTakenBehind watch_meaning lines bytes
+  pub taken_behind : OneLine → (line : ReceiverLine) (bytes : List ℕ) → IsLine line bytes → (BringsTooMany stands.said line → ⊥) → IsTakenBehind watch_meaning lines bytes
   taken_behind one line bytes is never = record {
     well_formed = λ n column. column.is_none line is;
     not_overfull = λ o.
         let said : o.said ≡ stands.said = same_said one o.said stands.said lines o.are_lines stands.are_lines in
         let same : o.line ≡ line = one o.line line bytes o.is_line is in
-        never (subst (λ (l : JoinLine). BringsTooMany stands.said l) same (subst (λ (s : List JoinLine). BringsTooMany s o.line) said o.brings));
+        never (subst (λ (l : ReceiverLine). BringsTooMany stands.said l) same (subst (λ (s : List ReceiverLine). BringsTooMany s o.line) said o.brings));
   }
 
-  pub refused_behind : (line : JoinLine) (bytes : List ℕ) (refusal : Refusal) → IsLine line bytes → (refusal ≡ Memory) ⊎ ((refusal ≡ TooManyGroups) × BringsTooMany stands.said line) → IsRefusedBehind watch_meaning lines bytes refusal
+  pub refused_behind : (line : ReceiverLine) (bytes : List ℕ) (refusal : Refusal) → IsLine line bytes → (refusal ≡ Memory) ⊎ ((refusal ≡ TooManyGroups) × BringsTooMany stands.said line) → IsRefusedBehind watch_meaning lines bytes refusal
   refused_behind line bytes refusal is (inl memory) = subst (λ (r : Refusal). IsRefusedBehind watch_meaning lines bytes r) (sym memory) tt
   refused_behind line bytes refusal is (inr full) = subst (λ (r : Refusal). IsRefusedBehind watch_meaning lines bytes r) (sym full.0)
       (λ n column. column.is_none line is, record { said = stands.said; are_lines = stands.are_lines; line = line; is_line = is; brings = full.1 })

@@ -3,7 +3,7 @@ use Rattle.std.specs.Prelude.{◌≡◌, ℕ, List, ◌++◌}
 use Rattle.line_grammar.specs.Columns.{IsColumn}
 use Rattle.line_engine.specs.Lines.{Lines}
 use Rattle.line_engine.specs.Meaning.{Meaning}
-use Rattle.input_lines.specs.JoinLine.{JoinLine, IsLine}
+use Rattle.input_lines.specs.ReceiverLine.{ReceiverLine, IsLine}
 use Rattle.join_groups.specs.Groups.{AreLines}
 use Rattle.join_groups.specs.Meanings.{IsOverfull}
 use Rattle.join_groups.specs.Output.{IsJoinText}
@@ -13,7 +13,7 @@ use Rattle.watch_groups.specs.Telling.{told_text, AreTold, TellsReported, TellsE
 -- these lines may give this text before their end: calls of groups that they name, at most one a group, and one of each
 -- group that is reported at a batch's end
 pub record GivesTold (lines : Lines) (text : List ℕ) : Type 0 where
-  pub said : List JoinLine
+  pub said : List ReceiverLine
   pub are_lines : AreLines said lines
   pub told : List ToldCall
   pub are_told : AreTold said told
@@ -23,7 +23,7 @@ pub record GivesTold (lines : Lines) (text : List ℕ) : Type 0 where
 -- an input of these lines may have this text: such calls, one of each group that is reported at the end too, and after
 -- them what join writes, with its status
 pub record EndsWatch (lines : Lines) (text : List ℕ) (status : ℕ) : Type 0 where
-  pub said : List JoinLine
+  pub said : List ReceiverLine
   pub are_lines : AreLines said lines
   pub told : List ToldCall
   pub are_told : AreTold said told

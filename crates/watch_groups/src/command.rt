@@ -1,6 +1,6 @@
 //! The command `watch`.
 ghost use Rattle.std.specs.Prelude.{◌≡◌, ◌≢◌, ◌⊎◌, ℕ, ◌+◌, ◌<◌, ◌++◌, ◌∷◌, [], true, List, IfErr, OnOk};
-ghost use Rattle.input_lines.specs.JoinLine.{JoinLine as Line};
+ghost use Rattle.input_lines.specs.ReceiverLine.{ReceiverLine as Line};
 ghost use Rattle.input_lines.specs.Lines.{Says};
 ghost use Rattle.join_groups.specs.Meanings.{BringsTooMany};
 ghost use Rattle.join_groups.specs.Holds.{HoldsSome};
@@ -16,7 +16,7 @@ ghost use Rattle.watch_groups.specs.inside.Gives.{gives_told};
 use crate::telling::{Judged, ToldCalls, look_through, note_untold, watcher_of};
 use byte_streams::Status;
 use input_lines::{JoinLine, LineFault, join_line, one_line};
-use join_groups::{Answers, MOST_IN_BATCH, NamedGroups, take_waiting, tell_all};
+use join_groups::{MOST_IN_BATCH, NamedGroups, WriteAnswers, append_groups, take_waiting};
 use line_engine::{Command, Refusal};
 use live_watch::{WatchedJoiner, told_calls};
 use std::alloc::{AllocError, Global};
@@ -40,7 +40,7 @@ pub struct WatchGroups<W: WatchedJoiner> {
 
 /// What a line names.
 #[derive(Clone, Copy, Debug, PartialEq, Eq)]
-enum Named {
+enum Naming {
     Nothing,
     /// A group, by evidence.
     Evidence(u32),
@@ -49,21 +49,21 @@ enum Named {
 }
 
 /// What a line that was read names.
-fn named_by(read: &JoinLine) -> Named
+fn named_by(read: &JoinLine) -> Naming
     ensures { (line : Line) → Says line read.now → Names line result }
 {
     match read {
-        JoinLine::Nothing => Named::Nothing,
-        JoinLine::Evidence { group, .. } => Named::Evidence(*group),
-        JoinLine::Reception { group, .. } => Named::Reception(*group),
+        JoinLine::Nothing => Naming::Nothing,
+        JoinLine::Evidence { group, .. } => Naming::Evidence(*group),
+        JoinLine::Reception { group, .. } => Naming::Reception(*group),
     }
 }
 
 /// Whether a line names a group of which a call is still to be told.
-fn is_untold(told: &ToldCalls, named: Named) -> bool {
+fn is_untold(told: &ToldCalls, named: Naming) -> bool {
     match named {
-        Named::Nothing => false,
-        Named::Evidence(group) | Named::Reception(group) => !told.has(group),
+        Naming::Nothing => false,
+        Naming::Evidence(group) | Naming::Reception(group) => !told.has(group),
     }
 }
 
@@ -113,7 +113,7 @@ impl<W: WatchedJoiner> WatchGroups<W> {
     }
 
     /// Counts a line after which the groups are as they are now. A reception may end the batch.
-    fn count(&mut self, named: Named, out: &mut Vec<u8>) -> Result<(), AllocError>
+    fn count(&mut self, named: Naming, out: &mut Vec<u8>) -> Result<(), AllocError>
         requires joins { W.can_join self.old.workers }
         requires ready { HoldsSome self.old.groups }
         requires few { self.old.heard < MOST_IN_BATCH }
@@ -127,12 +127,12 @@ impl<W: WatchedJoiner> WatchGroups<W> {
     {
         told_calls();
         match named {
-            Named::Nothing => Ok(()),
-            Named::Evidence(group) => {
+            Naming::Nothing => Ok(()),
+            Naming::Evidence(group) => {
                 note_untold(&mut self.named, &self.told, group)?;
                 Ok(())
             }
-            Named::Reception(group) => {
+            Naming::Reception(group) => {
                 note_untold(&mut self.named, &self.told, group)?;
                 self.heard += 1;
                 if self.heard == MOST_IN_BATCH {
@@ -199,7 +199,7 @@ impl<W: WatchedJoiner> Command for WatchGroups<W> {
 
     fn finish(&mut self, out: &mut Vec<u8>) -> Result<Status, AllocError> {
         self.end_batch(out)?;
-        Ok(Status::of(tell_all::<Answers>(&self.groups, out)?))
+        Ok(Status::of(append_groups::<WriteAnswers>(&self.groups, out)?))
     }
 
     ghost gives = { λ command lines text stands. gives_told stands.1 };

@@ -5,7 +5,7 @@ ghost use Rattle.live_watch.specs.Told.{IsToTell, IsWatched};
 ghost use Rattle.call_values.specs.declared.calls.Call.{Call as Sent};
 ghost use Rattle.slot_evidence.specs.Facts.{Facts};
 ghost use Rattle.slot_evidence.specs.Sheet.{IsEnds, facts_in};
-ghost use Rattle.input_lines.specs.JoinLine.{JoinLine};
+ghost use Rattle.input_lines.specs.ReceiverLine.{ReceiverLine};
 ghost use Rattle.join_groups.specs.Groups.{is_among, is_named};
 ghost use Rattle.join_groups.specs.Holds.{HoldsSome};
 ghost use Rattle.join_groups.specs.inside.Kept.{Keeps};
@@ -258,7 +258,7 @@ fn look_at(
 ) -> Result<(), AllocError>
     requires ready { HoldsSome groups.now }
     requires ended { groups.now.batch.items ≡ [] }
-    ensures { OnOk result ((said : List JoinLine) → Keeps groups.now said → is_named said group ≡ true
+    ensures { OnOk result ((said : List ReceiverLine) → Keeps groups.now said → is_named said group ≡ true
         → LooksAt said group told.old out.old.items told.new out.new.items) }
 {
     if told.has(group) {
@@ -291,7 +291,7 @@ pub(crate) fn look_through(
 ) -> Result<(), AllocError>
     requires ready { HoldsSome groups.now }
     requires ended { groups.now.batch.items ≡ [] }
-    ensures { OnOk result ((said : List JoinLine) → Keeps groups.now said
+    ensures { OnOk result ((said : List ReceiverLine) → Keeps groups.now said
         → ((k : ℕ) → is_among named.now k ≡ true → is_named said k ≡ true)
         → LooksThrough said named.now [] told.old out.old.items told.new out.new.items) }
 {

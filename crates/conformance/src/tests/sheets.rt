@@ -1,5 +1,6 @@
 //! Sheets that are joined one by one.
 use slot_evidence::{Seen, Sheet, read_sheet};
+use ten_unit::Element;
 
 #[test]
 fn facts_joined_one_by_one(rt: HostRuntime) {
@@ -17,5 +18,6 @@ fn facts_joined_one_by_one(rt: HostRuntime) {
 
 #[test]
 fn a_reception_of_no_elements(rt: HostRuntime) {
-    assert_eq!(rt; read_sheet([].as_slice()), None);
+    let nothing: [Element; 0] = [];
+    assert_eq!(rt; read_sheet(nothing.as_slice()), None);
 }

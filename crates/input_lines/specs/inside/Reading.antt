@@ -1,11 +1,11 @@
 -- The grammars by which lines are read, and the texts of their parts: this project's profile.
 use Rattle.std.specs.Prelude.{◌≡◌, ℕ, suc, Bool, true, List, ◌∷◌, ◌++◌, length, codes, Err}
-use Rattle.line_grammar.specs.Grammar.{Grammar, finish, anything, word, either, none, written}
+use Rattle.line_grammar.specs.Grammar.{Grammar, finish, word, either, none, written}
 use Rattle.line_grammar.specs.Repeats.{repeated}
 use Rattle.line_grammar.specs.inside.Reading.{read}
 use Rattle.line_grammar.specs.inside.Soundness.{is_sound}
 use Rattle.ten_unit.specs.declared.character.Element.{Element}
-use Rattle.input_lines.specs.JoinLine.{signs, behind_blank, body_parts, grouped, group_parts, IsGroup, pair, pairs_parts, reception_line, evidence_line}
+use Rattle.input_lines.specs.ReceiverLine.{empty_or_comment, signs, behind_blank, body_parts, grouped, group_parts, IsGroup, pair, pairs_parts, reception_line, evidence_line}
 
 -- a blank and signs
 abbrev pub blank_and_signs : Grammar
@@ -13,7 +13,7 @@ blank_and_signs = word (codes " ") signs
 
 -- the lines of join's input whose evidence has so many pairs at most
 abbrev pub join_lines : ℕ → Grammar
-join_lines n = either finish (either (word (codes "#") anything) (either reception_line (evidence_line n)))
+join_lines n = either empty_or_comment (either reception_line (evidence_line n))
 
 -- what the rows write of a group, of elements and of pairs
 abbrev pub group_text : (named : Bool) → ℕ → List ℕ

@@ -1,5 +1,5 @@
 -- The plain reader of a grammar: it answers with the parts, or with how many bytes are left at the fault.
-use Rattle.std.specs.Prelude.{ℕ, ◌+◌, ◌-◌, ◌*◌, ◌/◌, ◌^◌, min, zero, suc, Bool, ◌&&◌, nat_le, ◌==◌, if◌then◌else◌, List, [], ◌∷◌, ◌++◌, length, take, drop, Result, Ok, Err}
+use Rattle.std.specs.Prelude.{ℕ, ◌+◌, ◌-◌, ◌*◌, ◌/◌, ◌^◌, min, zero, suc, Bool, false, ◌&&◌, nat_le, ◌==◌, if◌then◌else◌, List, [], ◌∷◌, ◌++◌, length, take, drop, Result, Ok, Err}
 use Rattle.std.specs.List.{prefix_len, list_any}
 use Rattle.line_grammar.specs.Bytes.{digit_zero}
 use Rattle.line_grammar.specs.Shapes.{Shape, letters, fixed_number, pair, choice}
@@ -11,6 +11,11 @@ abbrev pub further : {A : Type 0} → Result A ℕ → Result A ℕ → Result A
 further (Ok value) other = Ok value
 further (Err left) (Ok value) = Ok value
 further (Err left) (Err right) = Err (min left right)
+
+-- a line begins with one of these letters
+abbrev pub begins_with : List ℕ → List ℕ → Bool
+begins_with signs [] = false
+begins_with signs (b ∷ bytes) = is_one_of signs b
 
 -- the end of a line
 unfoldable pub ended : List ℕ → Result Parts ℕ

@@ -1,5 +1,5 @@
 -- How fields are read one after another.
-use Rattle.std.specs.Prelude.{ℕ, Bool, not, ◌&&◌, ◌==◌, if◌then◌else◌, List, take, drop, Option, Some, None, Result, Ok, Err}
+use Rattle.std.specs.Prelude.{◌≡◌, ◌<◌, ◌⊎◌, length, slice_index, ℕ, Bool, not, ◌&&◌, ◌==◌, if◌then◌else◌, List, take, drop, Option, Some, None, Result, Ok, Err}
 use Rattle.std.specs.List.{prefix_len, list_all}
 use Rattle.sentence_frame.specs.Refusals.{is_clean}
 use Rattle.sentence_frame.specs.declared.refusals.SentenceRefusal.{SentenceRefusal}
@@ -17,6 +17,10 @@ first_of fields = take (text_length (drop 1 fields)) (drop 1 fields)
 -- what follows the first text of such fields
 unfoldable pub rest_of : List ℕ → List ℕ
 rest_of fields = drop (text_length (drop 1 fields)) (drop 1 fields)
+
+-- so many bytes are all, or a comma follows them
+abbrev pub ends_at : ℕ → List ℕ → Type 0
+ends_at width bytes = (length bytes ≡ width) ⊎ ((width < length bytes) × (slice_index bytes width ≡ 44))
 
 -- the value of field k, where its shape accepts its text
 unfoldable pub field : {A : Type 0} → ℕ → Shape → (List ℕ → A) → List ℕ → Result A SentenceRefusal

@@ -8,15 +8,15 @@ use Rattle.ship_station.specs.declared.events.ShipWhat.{ShipWhat}
 use Rattle.ship_station.specs.declared.ships.Ship.{Ship}
 use Rattle.ship_station.specs.Events.{IsShipWhat}
 use Rattle.ship_station.specs.ShipRules.{Identities, ship_rules}
-use Rattle.ship_station.specs.Stands.{Stands}
+use Rattle.ship_station.specs.StandsFor.{StandsFor}
 
 -- the answer is that of every history that the ship stands for
 abbrev pub AnswersEvent : Ship → (at : ℕ) → ShipWhat → Result (List Act) StationRefusal → Type 0
 AnswersEvent old at what answer =
-    (who : Identities) (h : History ShipWhat) → Stands old who h → last_moment h ≤ at → answer ≡ answer_to (ship_rules who) h at what
+    (who : Identities) (h : History ShipWhat) → StandsFor old who h → last_moment h ≤ at → answer ≡ answer_to (ship_rules who) h at what
 
 -- the ship then stands for every such history with the event put last, unless it is refused
 abbrev pub GoesOn : Ship → (at : ℕ) → ShipWhat → Ship → Type 0
 GoesOn old at what new =
-    (who : Identities) (h : History ShipWhat) → Stands old who h → last_moment h ≤ at → IsShipWhat what
-    → Stands new who (continued (ship_rules who) h at what)
+    (who : Identities) (h : History ShipWhat) → StandsFor old who h → last_moment h ≤ at → IsShipWhat what
+    → StandsFor new who (continued (ship_rules who) h at what)

@@ -10,7 +10,7 @@ use Rattle.line_engine.specs.Lines.{Lines}
 use Rattle.line_engine.specs.declared.command.Refusal.{Refusal}
 use Rattle.line_engine.specs.declared.command.Refusal.TheVariants as refusal
 use Rattle.input_lines.specs.WorldLine.{IsWorldFileLine}
-use Rattle.exchange.specs.StandsFor.{Stands}
+use Rattle.exchange.specs.StandsFor.{StandsFor as WorldStandsFor}
 use Rattle.station_exchange.specs.declared.command.Exchanging.{Exchanging}
 use Rattle.station_exchange.specs.declared.stages.Stage.{Stage}
 use Rattle.station_exchange.specs.declared.stages.Stage.TheVariants as at
@@ -40,7 +40,7 @@ KeepsEnds at.Ship said = world_of said ≡ []
 KeepsEnds (at.Coast ship) said = (ship_of said ≡ ship) × (world_of said ≡ [])
 KeepsEnds (at.Base ship coast band) said =
     (parties_of said ≡ record { ship = record { own = ship; groups = [] }; coast = record { own = coast; band = band } }) × (world_of said ≡ [])
-KeepsEnds (at.Events events) said = (events.base ≡ base_of said) × Stands events.world (parties_of said) (world_of said)
+KeepsEnds (at.Events events) said = (events.base ≡ base_of said) × WorldStandsFor events.world (parties_of said) (world_of said)
 
 -- a stage keeps what these lines say, and this is their text
 pub record Keeps (stage : Stage) (said : Said) (text : List ℕ) : Type 0 where

@@ -9,7 +9,7 @@ use Rattle.slot_join.specs.Answer.{IsAnswer, is_reported}
 use Rattle.line_engine.specs.declared.bounds.TheConstants.{LONGEST_LINE}
 use Rattle.line_engine.specs.Lines.{Lines}
 use Rattle.long_capture.specs.declared.starts.Start.{Start}
-use Rattle.long_capture.specs.Captures.{Stands, Ending, decided, reached}
+use Rattle.long_capture.specs.Captures.{StandsFor as CaptureStandsFor, Ending, decided, reached}
 use Rattle.stream_capture.specs.declared.command.Capturing.{Capturing}
 use Rattle.stream_capture.specs.Telling.{AreStreamLines, stream_of, AnsweredStart, AreAnsweredStarts, start_line, told_text, are_reported}
 
@@ -20,7 +20,7 @@ pub record Counts (command : Capturing) (told : List AnsweredStart) : Type 0 whe
 
 -- it was given this stream so far, and told this text
 pub record HasTold (command : Capturing) (e : List Element) (text : List ℕ) : Type 0 where
-  pub stands : Stands command.capture e
+  pub stands : CaptureStandsFor command.capture e
   pub told : List AnsweredStart
   pub are_told : (more : List Element) → AreAnsweredStarts (e ++ more) (decided (length e)) told
   pub text_is : text ≡ told_text 0 told

@@ -81,7 +81,9 @@ const CALLS: [(&str, &str); 17] = [
 fn is_sentence_of(call: &Call, line: &[u8]) -> bool {
     let record = of_call(call, false);
     let bytes = print(&record);
-    bytes.as_slice().strip_suffix(b"\r\n") == Some(line) && read(bytes.as_slice()) == Ok(record)
+    put_sentences(call, &None).as_slice() == bytes.as_slice()
+        && bytes.as_slice().strip_suffix(b"\r\n") == Some(line)
+        && read(bytes.as_slice()) == Ok(record)
 }
 
 /// Whether this is the sentence of the call with this text, and is read as its record.

@@ -2,7 +2,7 @@
 use call_values::{CoastDelay, Mmsi};
 use dsc_files::{EventLine, ExchangeLine, FileKind, Line, line_of, read_world, world_line};
 use std::test::Fail;
-use traffic_lines::{CoastOwn, Deed, Entry, Event, ExchangePoint, WorldLine};
+use traffic_lines::{CoastOwn, Deed, EndEvent, Event, ExchangePoint, WorldLine};
 
 // Points, lines that aren't of these points, and the column at which each is ill-formed.
 const COLUMNS: [(ExchangePoint, &str, usize); 8] = [
@@ -49,14 +49,14 @@ fn lines_of_exchanges_are_read(rt: HostRuntime) {
     let accept = CoastOwn::Accept(ship, Some(delay));
     assert_eq!(rt;
         read_world(ExchangePoint::Events, b"s 0 get 4294967295"),
-        Ok(WorldLine::Entry(Entry::AtShip {
+        Ok(WorldLine::EndEvent(EndEvent::AtShip {
             at: 0,
             what: Event::Comes(4_294_967_295)
         }))
     );
     assert_eq!(rt;
         read_world(ExchangePoint::Events, b"c 7000 accept 338040079 60000"),
-        Ok(WorldLine::Entry(Entry::AtCoast {
+        Ok(WorldLine::EndEvent(EndEvent::AtCoast {
             at: 7000,
             what: Event::Does(Deed::Own(accept))
         }))

@@ -12,13 +12,13 @@ use Rattle.traffic_rules.specs.Histories.{History}
 use Rattle.traffic_rules.specs.Rules.{Rules}
 use Rattle.ship_station.specs.declared.ships.Ship.{Ship}
 use Rattle.ship_station.specs.ShipRules.{Identities, ship_rules}
-use Rattle.ship_station.specs.Stands.{Stands as ShipStands}
+use Rattle.ship_station.specs.StandsFor.{StandsFor as ShipStandsFor}
 use Rattle.coast_station.specs.declared.coasts.Coast.{Coast}
 use Rattle.coast_station.specs.CoastRules.{coast_rules}
-use Rattle.coast_station.specs.Stands.{Stands as CoastStands}
+use Rattle.coast_station.specs.StandsFor.{StandsFor as CoastStandsFor}
 use Rattle.call_values.specs.declared.choices.Band.{Band}
 use Rattle.call_values.specs.declared.bounds.TheConstants.{LAST_BASE}
-use Rattle.input_lines.specs.JoinLine.{JoinLine}
+use Rattle.input_lines.specs.ReceiverLine.{ReceiverLine}
 use Rattle.input_lines.specs.PointLine.{PointLine, joined, IsBody, IsPointLine}
 use Rattle.traffic_lines.specs.Lines.{IsTrafficLine}
 use Rattle.line_grammar.specs.Columns.{IsColumn}
@@ -78,9 +78,9 @@ KeepsStation (stage.Base (named.Coast own band)) said text is_well =
     (kind_of said ≡ coast band) × (station_of band said ≡ record { own = own; band = band }) × IsQuiet said text is_well
 KeepsStation (stage.Groups g) said text is_well = (kind_of said ≡ ship) × (identities_of said ≡ identities_in g) × (g.base ≡ base_of said) × IsQuiet said text is_well
 KeepsStation (stage.Ship base s) said text is_well =
-    (kind_of said ≡ ship) × (base ≡ base_of said) × TellsSoFar (ship_rules (identities_of said)) taking_ship (ShipStands s (identities_of said)) said text is_well
+    (kind_of said ≡ ship) × (base ≡ base_of said) × TellsSoFar (ship_rules (identities_of said)) taking_ship (ShipStandsFor s (identities_of said)) said text is_well
 KeepsStation (stage.Coast s) said text is_well =
-    (band : Band) × (kind_of said ≡ coast band) × TellsSoFar (coast_rules (station_of band said)) taking_coast (CoastStands s (station_of band said)) said text is_well
+    (band : Band) × (kind_of said ≡ coast band) × TellsSoFar (coast_rules (station_of band said)) taking_coast (CoastStandsFor s (station_of band said)) said text is_well
 
 -- a replay keeps what these lines say, and this is their text
 pub record Keeps (replay : Replay) (said : Said) (text : List ℕ) : Type 0 where
@@ -98,13 +98,13 @@ pub record StandsFor (replay : Replay) (lines : Lines) (text : List ℕ) : Type 
 
 -- from one stage to events: a ship begins after its groups
 abbrev pub GoesOn : Stage → Stage → Type 0
-GoesOn (stage.Groups g) to = (s : Ship) × (to ≡ stage.Ship g.base s) × ShipStands s (identities_in g) []
+GoesOn (stage.Groups g) to = (s : Ship) × (to ≡ stage.Ship g.base s) × ShipStandsFor s (identities_in g) []
 GoesOn from to = to ≡ from
 
 -- the stage after the base of a station that was named
 abbrev pub IsBehindBase : StationLine → (base : ℕ) → Stage → Type 0
 IsBehindBase (named.Ship own) base to = (g : Groups) × (to ≡ stage.Groups g) × (identities_in g ≡ record { own = own; groups = [] }) × (g.base ≡ base)
-IsBehindBase (named.Coast own band) base to = (s : Coast) × (to ≡ stage.Coast s) × CoastStands s (record { own = own; band = band }) []
+IsBehindBase (named.Coast own band) base to = (s : Coast) × (to ≡ stage.Coast s) × CoastStandsFor s (record { own = own; band = band }) []
 
 -- faults of the station's lines are faults of this line at this point
 abbrev pub IsOwnLine : Point → List ℕ → Type 0
@@ -126,14 +126,14 @@ MayBeRead at (got.Reception group e) = IsBody at
 MayBeRead at (got.Evidence group sheet) = IsBody at
 
 -- a line of receivers gives these facts of its group
-pub record IsShown (line : JoinLine) (group : ℕ) (G : Facts) : Type 0 where
+pub record IsShown (line : ReceiverLine) (group : ℕ) (G : Facts) : Type 0 where
   pub named : (k : ℕ) → names k line ≡ (group == k)
   pub facts : facts_of_line group line ≡ G
   pub point : (earlier : Said) → point_of (joined line ∷ earlier) ≡ among_events (kind_of earlier)
 
 -- after what was said this brings a group too many
 pub record BringsGroup (said : Said) (says : PointLine) : Type 0 where
-  pub line : JoinLine
+  pub line : ReceiverLine
   pub is_joined : says ≡ joined line
   pub brings : BringsTooMany (of_receivers said) line
 
@@ -164,5 +164,5 @@ Begins old new line = (said : Said) (text : List ℕ) → Keeps old said text �
 
 -- what a line showed of a group is refused for want of memory, or since it brings a group too many
 abbrev pub RefusesGroup : (old : Replay) → (group : ℕ) → Refusal → Type 0
-RefusesGroup old group why = (why ≡ refusal.Memory) ⊎ ((said : Said) (line : JoinLine) (G : Facts) (text : List ℕ) → Keeps old said text
+RefusesGroup old group why = (why ≡ refusal.Memory) ⊎ ((said : Said) (line : ReceiverLine) (G : Facts) (text : List ℕ) → Keeps old said text
     → IsShown line group G → (why ≡ refusal.TooManyGroups) × BringsTooMany (of_receivers said) line)

@@ -5,10 +5,10 @@ use Rattle.dsc_cmd.proofs.PlanRuns.{at_plan}
 use Rattle.dsc_cmd.proofs.running.execute.Goals as goal
 
 pub returns-in-Join-clause-run : goal.returns-in-Join-clause-run
-returns-in-Join-clause-run g c = at_plan g.S.Source g.K.Sink c.in-Join.is c.tell_groups.ensures
+returns-in-Join-clause-run g c = at_plan g.S.Source g.K.Sink c.in-Join.is c.write_groups.ensures
 
 pub returns-in-Evidence-clause-run : goal.returns-in-Evidence-clause-run
-returns-in-Evidence-clause-run g c = at_plan g.S.Source g.K.Sink c.in-Evidence.is c.tell_groups-in-Evidence.ensures
+returns-in-Evidence-clause-run g c = at_plan g.S.Source g.K.Sink c.in-Evidence.is c.write_groups-in-Evidence.ensures
 
 pub returns-in-Encode-true-clause-run : goal.returns-in-Encode-true-clause-run
 returns-in-Encode-true-clause-run g c = at_plan g.S.Source g.K.Sink (c.in-Encode-true.is ∙ ap (λ long. Encode long) c.in-Encode-true.long-test) c.drive_alone.ensures

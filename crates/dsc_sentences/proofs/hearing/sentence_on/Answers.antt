@@ -13,10 +13,10 @@ returns-then-text c =
 
 pub returns-then-starts_with : goal.returns-then-starts_with
 returns-then-starts_with c =
-    let bytes = c.as_slice.ensures.value ∙ c.with_line_end-bytes.ensures ∙ ap (λ (l : List ℕ). l ++ 13 ∷ 10 ∷ []) c.without_return-text.ensures in
+    let bytes = c.as_slice.ensures.value ∙ c.append_line_end.ensures ∙ ap (λ (l : List ℕ). l ++ 13 ∷ 10 ∷ []) c.without_return-text.ensures in
     heard_dse c.args.line.now c.heard_as_dse.result (sym c.if-starts_with.ensures.value) (subst (λ (l : List ℕ). IsHeardAsDse l c.heard_as_dse.result) bytes c.heard_as_dse.ensures)
 
 pub returns-else-starts_with : goal.returns-else-starts_with
 returns-else-starts_with c =
-    let bytes = c.as_slice-else-starts_with.ensures.value ∙ c.with_line_end-bytes.ensures ∙ ap (λ (l : List ℕ). l ++ 13 ∷ 10 ∷ []) c.without_return-text.ensures in
+    let bytes = c.as_slice-else-starts_with.ensures.value ∙ c.append_line_end.ensures ∙ ap (λ (l : List ℕ). l ++ 13 ∷ 10 ∷ []) c.without_return-text.ensures in
     heard_dsc c.args.line.now c.heard_as_dsc.result (sym c.if-starts_with.ensures.value) (subst (λ (l : List ℕ). IsHeardAsDsc l c.heard_as_dsc.result) bytes c.heard_as_dsc.ensures)

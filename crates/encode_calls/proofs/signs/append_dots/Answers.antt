@@ -1,6 +1,6 @@
 use Rattle.std.proofs.Common.{ℕ, Bool, List, ◌++◌, map, sym, ap, ◌∙◌}
 use Rattle.phasing.specs.Sent.{dots, dot_count}
-use Rattle.input_lines.specs.JoinLine.{sign_of}
+use Rattle.input_lines.specs.ReceiverLine.{sign_of}
 use Rattle.encode_calls.proofs.SignTable.{short_dots, long_dots}
 use Rattle.encode_calls.proofs.signs.append_dots.Goals as goal
 

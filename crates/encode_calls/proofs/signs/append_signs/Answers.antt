@@ -5,7 +5,7 @@ use Rattle.std.proofs.lemmas.List.Concat.{flat_map-append}
 use Rattle.std.specs.Slice.Iter.{chunks_rest}
 use Rattle.ten_unit.specs.Word.{word_of}
 use Rattle.phasing.specs.Sent.{dots, dot_count}
-use Rattle.input_lines.specs.JoinLine.{sign_of}
+use Rattle.input_lines.specs.ReceiverLine.{sign_of}
 use Rattle.line_engine.specs.Determined.{BeginsWith}
 use Rattle.encode_calls.proofs.SignTable.{signs_of_sent}
 use Rattle.encode_calls.proofs.signs.append_signs.Goals as goal

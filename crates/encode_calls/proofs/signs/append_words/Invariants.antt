@@ -1,10 +1,7 @@
-use Rattle.std.proofs.Common.{◌≡◌, length, take, map}
+use Rattle.std.proofs.Common.{◌≡◌, ◌*◌, take, map, flat_map}
 use Rattle.ten_unit.specs.Word.{word_of}
-use Rattle.input_lines.specs.JoinLine.{sign_of}
+use Rattle.input_lines.specs.ReceiverLine.{sign_of}
 use Rattle.encode_calls.proofs.signs.append_words.Given as goal
 
 abbrev pub invariant-loop-number : goal.invariant-loop-number
-invariant-loop-number l = record {
-  long : length l.words ≡ 64;
-  signs : take l.number l.words ≡ map (λ v. map sign_of (word_of v)) (take l.number l.symbols);
-}
+invariant-loop-number l = take (10 * l.number) l.words ≡ map sign_of (flat_map word_of (take l.number l.symbols))

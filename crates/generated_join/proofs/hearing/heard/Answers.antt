@@ -1,7 +1,7 @@
 use Rattle.std.proofs.Common.{◌≡◌, ℕ, map, ◌+◌, ◌*◌, ◌++◌, List, length, take, drop, replicate, ◌∙◌, sym, ap, subst, arith}
 use Rattle.std.proofs.lemmas.List.{with_items_is}
 use Rattle.ten_unit.specs.declared.character.Element.TheVariants.{B}
-use Rattle.input_lines.specs.JoinLine.{sign_of}
+use Rattle.input_lines.specs.ReceiverLine.{sign_of}
 use Rattle.generated_join.proofs.Overwritten.{SignsOverwritten, signs_none, signs_kept, signs_lost, signs_all, sign_inside}
 use Rattle.generated_join.proofs.hearing.heard.Goals as goal
 use Rattle.generated_join.proofs.hearing.heard.Goals.{then-is_lost, else-is_lost}

@@ -8,7 +8,7 @@ use Rattle.slot_evidence.specs.Sheet.{IsEnds}
 use Rattle.join_groups.specs.Groups.{group_facts}
 use Rattle.encode_calls.specs.Transmissions.{list_on_air}
 use Rattle.generated_join.specs.Generator.{alert_of, heard, heard_of, lines_of_group}
-use Rattle.input_lines.specs.JoinLine.{sign_of}
+use Rattle.input_lines.specs.ReceiverLine.{sign_of}
 use Rattle.generated_join.proofs.Overwritten.{packed, packed_elements}
 use Rattle.generated_join.proofs.Groups.{first_heard, none_heard, one_more_heard, all_shown}
 use Rattle.generated_join.proofs.joining.answer_to.Goals as goal

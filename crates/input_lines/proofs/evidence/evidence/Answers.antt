@@ -2,7 +2,7 @@ use Rattle.std.proofs.Common.{◌≡◌, ◌<◌, ℕ, List, length, Err, refl}
 use Rattle.line_grammar.specs.Repeats.{repeated}
 use Rattle.line_grammar.specs.inside.Reading.{read}
 use Rattle.line_grammar.proofs.Chains.{passed}
-use Rattle.input_lines.specs.JoinLine.{evidence, grouped, pair}
+use Rattle.input_lines.specs.ReceiverLine.{evidence, grouped, pair}
 use Rattle.input_lines.proofs.Pairs.{no_group, no_pairs}
 use Rattle.input_lines.proofs.WholeLines.{evidence_of}
 use Rattle.input_lines.proofs.evidence.evidence.Goals as goal

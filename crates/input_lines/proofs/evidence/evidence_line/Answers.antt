@@ -1,6 +1,6 @@
 use Rattle.std.proofs.Common.{sym, subst}
 use Rattle.line_grammar.proofs.Stops.{left_le, IsColumn-stops}
-use Rattle.input_lines.specs.JoinLine.{IsLine}
+use Rattle.input_lines.specs.ReceiverLine.{IsLine}
 use Rattle.input_lines.proofs.Faults.{evidence_fault}
 use Rattle.input_lines.proofs.evidence.evidence_line.Goals as goal
 

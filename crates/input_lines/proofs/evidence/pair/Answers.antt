@@ -3,7 +3,7 @@ use Rattle.line_grammar.specs.Tokens.{free_number}
 use Rattle.line_grammar.specs.Grammar.{Grammar, word, field}
 use Rattle.line_grammar.specs.inside.Reading.{read}
 use Rattle.line_grammar.proofs.Chains.{passed, word_missed, word_on, token_missed, token_on}
-use Rattle.input_lines.specs.JoinLine.{pair}
+use Rattle.input_lines.specs.ReceiverLine.{pair}
 use Rattle.input_lines.proofs.Pairs.{behind_place, pair_read}
 use Rattle.input_lines.proofs.evidence.pair.Goals as goal
 

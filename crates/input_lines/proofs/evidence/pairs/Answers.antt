@@ -3,7 +3,7 @@ use Rattle.std.proofs.lemmas.Bool.{eqb-false}
 use Rattle.line_grammar.specs.Repeats.{repeated}
 use Rattle.line_grammar.specs.inside.Reading.{read}
 use Rattle.line_grammar.proofs.Chains.{passed}
-use Rattle.input_lines.specs.JoinLine.{pair}
+use Rattle.input_lines.specs.ReceiverLine.{pair}
 use Rattle.input_lines.proofs.Pairs.{taken_more, taken_fault}
 use Rattle.input_lines.proofs.evidence.pairs.Goals as goal
 

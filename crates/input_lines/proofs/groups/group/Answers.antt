@@ -1,7 +1,7 @@
 use Rattle.std.proofs.Common.{◌≡◌, ℕ, false, Err, refl}
 use Rattle.line_grammar.specs.Grammar.{Grammar}
 use Rattle.line_grammar.specs.inside.Reading.{read}
-use Rattle.input_lines.specs.JoinLine.{behind_blank, grouped}
+use Rattle.input_lines.specs.ReceiverLine.{behind_blank, grouped}
 use Rattle.input_lines.specs.inside.Reading.{IsBehindBlank}
 use Rattle.input_lines.proofs.NamedGroups.{no_number, group_named, no_rest, no_name}
 use Rattle.line_grammar.proofs.Chains.{passed}

@@ -2,7 +2,7 @@ use Rattle.std.proofs.Common.{refl, sym}
 use Rattle.std.proofs.lemmas.Bool.{eqb-false}
 use Rattle.std.proofs.lemmas.Result.{IfOk-weaker, IfErr-weaker}
 use Rattle.input_lines.proofs.Bodies.{all_of_bytes, body_of, blank_missed}
-use Rattle.input_lines.specs.JoinLine.{signs}
+use Rattle.input_lines.specs.ReceiverLine.{signs}
 use Rattle.input_lines.proofs.receptions.body.Goals as goal
 
 pub returns-clause-signs : goal.returns-clause-signs

@@ -1,7 +1,7 @@
 use Rattle.std.proofs.Common.{◌≡◌, ℕ, Err}
 use Rattle.line_grammar.specs.inside.Reading.{read}
 use Rattle.line_grammar.proofs.Chains.{passed}
-use Rattle.input_lines.specs.JoinLine.{behind_blank, grouped, signs}
+use Rattle.input_lines.specs.ReceiverLine.{behind_blank, grouped, signs}
 use Rattle.input_lines.proofs.Bodies.{signs_behind_blank}
 use Rattle.input_lines.proofs.WholeLines.{reception_of}
 use Rattle.input_lines.proofs.receptions.group_and_signs.Goals as goal

@@ -1,7 +1,7 @@
 use Rattle.std.proofs.Common.{ap, refl, sym, subst}
 use Rattle.line_grammar.proofs.Stops.{left_le, IsColumn-stops}
 use Rattle.input_lines.specs.declared.join.JoinLine.TheVariants as got
-use Rattle.input_lines.specs.JoinLine.{reception, IsLine}
+use Rattle.input_lines.specs.ReceiverLine.{reception, IsLine}
 use Rattle.input_lines.proofs.Faults.{reception_fault, packed_read}
 use Rattle.input_lines.proofs.receptions.reception_line.Goals as goal
 

@@ -4,7 +4,7 @@ use Rattle.line_grammar.specs.Tokens.{run}
 use Rattle.line_grammar.specs.Grammar.{finish}
 use Rattle.line_grammar.specs.inside.Reading.{read}
 use Rattle.line_grammar.proofs.Chains.{passed, word_missed, word_on, token_missed, token_on, end_missed}
-use Rattle.input_lines.specs.JoinLine.{signs}
+use Rattle.input_lines.specs.ReceiverLine.{signs}
 use Rattle.input_lines.specs.inside.Reading.{blank_and_signs}
 use Rattle.input_lines.proofs.Bodies.{checked_signs, run_signs}
 use Rattle.input_lines.proofs.receptions.signs.Goals as goal

@@ -2,7 +2,7 @@ use Rattle.std.proofs.Common.{◌≡◌, ℕ, ◌+◌, ◌<◌, ◌++◌, List, 
 use Rattle.std.proofs.Math.Seq.{drop-cons}
 use Rattle.std.proofs.Math.ListN.{take-append-drop}
 use Rattle.std.proofs.lemmas.List.{append-nil, take_more}
-use Rattle.long_capture.specs.Captures.{reached, Stands}
+use Rattle.long_capture.specs.Captures.{reached, StandsFor}
 use Rattle.long_capture.specs.Starts.{starts_below}
 use Rattle.long_capture.specs.Told.{AreStarts, Tells}
 use Rattle.ten_unit.specs.declared.character.Element.{Element}
@@ -35,7 +35,7 @@ loop-x-preserved c =
     let was = c.loop-x.invariant in
     let below : i < length e = omega arith in
     record {
-      stands = subst (λ (l : List Element). Stands c.take-answer.new.self l) (sym (take_more e i Y below)) (c.take-answer.ensures.stands (take i e) was.stands);
+      stands = subst (λ (l : List Element). StandsFor c.take-answer.new.self l) (sym (take_more e i Y below)) (c.take-answer.ensures.stands (take i e) was.stands);
       are =
           subst (λ (l : List Start). AreStarts e (starts_below e (reached c.take-answer.new.self)) l) (sym (c.in_ok-add.ensures))
           (c.answers_add_up.ensures e (reached c.loop-x.capture) (reached c.take-answer.new.self) c.loop-x.list.items c.take-answer.result was.are

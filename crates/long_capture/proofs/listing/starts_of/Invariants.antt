@@ -1,12 +1,12 @@
 use Rattle.std.proofs.Common.{take}
-use Rattle.long_capture.specs.Captures.{left, reached, Stands, Ending}
+use Rattle.long_capture.specs.Captures.{left, reached, StandsFor, Ending}
 use Rattle.long_capture.specs.Starts.{starts_below}
 use Rattle.long_capture.specs.Told.{AreStarts}
 use Rattle.long_capture.proofs.listing.starts_of.Given as goal
 
 abbrev pub invariant-loop-x : goal.invariant-loop-x
 invariant-loop-x l = record {
-  stands : Stands l.capture (take l.x-index l.e);
+  stands : StandsFor l.capture (take l.x-index l.e);
   are : AreStarts l.e (starts_below l.e (reached l.capture)) l.list.items;
 }
 

@@ -9,5 +9,5 @@ pub behind-requires : goal.behind-requires
 behind-requires c =
     let head = c.args.head.now in
     let bytes = c.args.bytes.now in
-    let ends = and_parts (is_ending (last_five bytes)) (list_all is_clean (inner bytes)) (sym c.ends.ensures ∙ c.if-not-ends.false) in
-    head_fits head bytes (head_facts head c.requires) (begins_facts head bytes (sym c.begins.ensures.value ∙ c.if-not-begins.false)) (ending_facts (last_five bytes) ends.0)
+    let is_ended = and_parts (is_ending (last_five bytes)) (list_all is_clean (inner bytes)) (sym c.is_ended.ensures ∙ c.if-not-is_ended.false) in
+    head_fits head bytes (head_facts head c.requires) (begins_facts head bytes (sym c.begins.ensures.value ∙ c.if-not-begins.false)) (ending_facts (last_five bytes) is_ended.0)

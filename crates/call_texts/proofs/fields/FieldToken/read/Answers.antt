@@ -18,9 +18,7 @@ pub returns : goal.returns
 unfolding read_token
 returns c =
     let absent = c.spelled-absent.ensures in
-    let six = c.six_digits.ensures in
-    let eight = c.eight_digits.ensures in
+    let told = c.six_or_eight_digits.ensures in
     let shown = choice_shows frequency_text (λ b. b.now) _ _ c.args.bytes.now _ _ _ c.further.ensures
-    (letters_show _ _ _ _ _ _ (sym (ap frequency_text c.absent.ensures)) absent.value absent.rest absent.left)
-    (choice_shows _ _ _ _ _ _ _ _ c.further-told.ensures (record { value = six.value; left = six.left }) (record { value = eight.value; left = eight.left })) in
+    (letters_show _ _ _ _ _ _ (sym (ap frequency_text c.absent.ensures)) absent.value absent.rest absent.left) (record { value = told.value; left = told.left }) in
     record { value = shown.value; left = shown.left }

@@ -1,11 +1,6 @@
-use Rattle.std.proofs.Common.{ℕ, ◌∙◌, ◌++◌, ◌∷◌, [], List, ap, sym, subst}
-use Rattle.std.specs.List.{All}
-use Rattle.casualty_book.specs.declared.rows.BookRow.{BookRow}
-use Rattle.casualty_book.specs.declared.packing.Packed.{Packed}
-use Rattle.casualty_book.specs.Rows.{IsLawful}
-use Rattle.casualty_book.specs.Texts.{row_text}
+use Rattle.std.proofs.Common.{ℕ, ◌∙◌, List, ap, sym, subst}
 use Rattle.casualty_book.specs.inside.Packing.{unpack, rows_of}
-use Rattle.casualty_book.proofs.BookTexts.{IsLeft, all_left, first_lawful, appended, all_appended}
+use Rattle.casualty_book.proofs.BookTexts.{IsLeft, all_left, appended, all_appended}
 use Rattle.casualty_book.proofs.books.Book.append_text.Goals as goal
 
 pub loop-key-init : goal.loop-key-init
@@ -13,23 +8,13 @@ loop-key-init c =
     let before = c.args.out.now.items in
     let iterator = c.into_iter-key-iterator.result in
     subst (λ (l : List ℕ). IsLeft c.args.self.now (rows_of iterator) before l) (sym c.reserve_exact.ensures.items)
-    (all_left c.args.self.now (rows_of iterator) before (ap rows_of (c.into_iter-key-iterator.ensures.into_iter_gives ∙ c.iter-key-items.ensures.rest) ∙ c.self.view_is)
-    (subst (λ (l : List BookRow). All IsLawful l) c.self.view_is c.self.invariant.book.lawful))
-
-pub unpack-requires : goal.unpack-requires
-unpack-requires c =
-    first_lawful (unpack c.in-Some.key.now) (rows_of c.next.new.self) (subst (λ (l : List Packed). All IsLawful (rows_of l)) c.in-Some.ensures.steps c.loop-key.invariant.lawful)
-
-pub append_row-requires : goal.append_row-requires
-append_row-requires c =
-    subst IsLawful (sym c.unpack.ensures)
-    (first_lawful (unpack c.in-Some.key.now) (rows_of c.next.new.self) (subst (λ (l : List Packed). All IsLawful (rows_of l)) c.in-Some.ensures.steps c.loop-key.invariant.lawful))
+    (all_left c.args.self.now (rows_of iterator) before (ap rows_of (c.into_iter-key-iterator.ensures.into_iter_gives ∙ c.iter-key-items.ensures.rest) ∙ c.self.view_is))
 
 pub loop-key-preserved : goal.loop-key-preserved
 loop-key-preserved c =
     appended c.args.self.now (rows_of c.loop-key.key-iterator) (rows_of c.next.new.self) (unpack c.in-Some.key.now) c.args.out.now.items c.loop-key.out.items c.append_row.new.out.items
     (ap rows_of c.in-Some.ensures.steps) c.loop-key.invariant
-    (c.in_ok-append_row.ensures ∙ ap (λ (r : BookRow). c.loop-key.out.items ++ (row_text r ++ 10 ∷ [])) c.unpack.ensures)
+    c.in_ok-append_row.ensures
 
 pub returns-clause-text : goal.returns-clause-text
 returns-clause-text c =

@@ -1,29 +1,17 @@
-use Rattle.std.proofs.Common.{◌≡◌, ℕ, ◌+◌, ◌-◌, min, List, length, take, drop, get_or, inl, inr, arith, ap, sym, ◌∙◌}
-use Rattle.std.proofs.lemmas.Bool.{cases_lt}
-use Rattle.std.proofs.lemmas.List.{get_or_past, get_or-take, get_or-drop, take_rest}
+use Rattle.std.proofs.Common.{◌≡◌, ℕ, ◌+◌, ◌-◌, min, List, length, take, drop, get_or, arith, ap, sym, ◌∙◌}
+use Rattle.std.proofs.lemmas.List.{get_or-take}
 use Rattle.ten_unit.specs.declared.character.Element.{Element}
 use Rattle.ten_unit.specs.declared.character.Element.TheVariants.{Lost}
 use Rattle.phasing.specs.inside.Places.{element_at}
+use Rattle.phasing.proofs.Padding.{in_rest}
 use Rattle.phasing.proofs.Words.{element_at-inside}
 use Rattle.phasing.proofs.window.RefSliceElementElements.planes_from.Goals as goal
-
--- an element of what follows
-in_rest : (e : List Element) (begin from i : ℕ) → from ≡ min begin (length e) → get_or e (begin + i) Lost ≡ get_or (drop from e) i Lost
-in_rest e begin from i is =
-    elim (cases_lt begin (length e)) as (λ _. get_or e (begin + i) Lost ≡ get_or (drop from e) i Lost) [
-      | inl inside ↦
-          let same : begin + i ≡ from + i = omega arith in
-          ap (λ (n : ℕ). get_or e n Lost) same ∙ sym (get_or-drop from e i Lost)
-      | inr past ↦
-          get_or_past e (begin + i) Lost (omega arith) ∙ sym (get_or-drop from e i Lost ∙ get_or_past e (from + i) Lost (omega arith))
-    ]
 
 at_rest : (e : List Element) (begin from i : ℕ) → from ≡ min begin (length e) → element_at e (begin + 150 + i) ≡ get_or (take (length e - from) (drop from e)) i Lost
 at_rest e begin from i is =
     let index : begin + 150 + i - 150 ≡ begin + i = omega arith in
     element_at-inside e (begin + 150 + i) (omega arith) ∙ ap (λ (n : ℕ). get_or e n Lost) index
-    ∙ in_rest e begin from i is
-    ∙ ap (λ (l : List Element). get_or l i Lost) (sym (take_rest e from))
+    ∙ in_rest e Lost begin from i is
 
 pub returns-in-Some : goal.returns-in-Some
 returns-in-Some c =

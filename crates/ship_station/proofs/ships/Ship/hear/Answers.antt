@@ -21,7 +21,7 @@ use Rattle.ship_station.specs.declared.ships.Ship.{Ship}
 use Rattle.ship_station.specs.Events.{ship_occurs}
 use Rattle.ship_station.specs.Past.{is_attempt, is_end, kept, open_alert}
 use Rattle.ship_station.specs.ShipRules.{Identities, held, is_for, at_call, due_at, refusal_at, ship_rules}
-use Rattle.ship_station.specs.Stands.{Keeps}
+use Rattle.ship_station.specs.StandsFor.{Keeps}
 use Rattle.ship_station.proofs.Steps.{accepted, goes}
 use Rattle.ship_station.proofs.Keeping.{keeps_after}
 use Rattle.ship_station.proofs.Traffic.{attempts_missed, ends_missed, traffic_due}

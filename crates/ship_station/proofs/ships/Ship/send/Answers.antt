@@ -10,7 +10,7 @@ use Rattle.ship_station.specs.declared.events.ShipWhat.TheVariants.{Send}
 use Rattle.ship_station.specs.Events.{ship_occurs}
 use Rattle.ship_station.specs.Past.{is_attempt, is_end}
 use Rattle.ship_station.specs.ShipRules.{held, refusal_at, ship_rules}
-use Rattle.ship_station.specs.Stands.{Stands}
+use Rattle.ship_station.specs.StandsFor.{StandsFor}
 use Rattle.ship_station.proofs.Steps.{accepted}
 use Rattle.ship_station.proofs.Keeping.{keeps_after}
 use Rattle.ship_station.proofs.Traffic.{attempts_missed, ends_missed}
@@ -25,9 +25,9 @@ returns-in_err-send-clause-goes_on c who h stands late event =
     let is : refusal_at who h (Send call) ≡ Some refusal =
     sym (ap (λ (n : ℕ). send_refusal n ship.held call) keeps.own ∙ ap (λ (l : Places). send_refusal who.own l call) keeps.held)
     ∙ refusal_of (send_refusal ship.own ship.held call) (send_due ship.held call) refusal c.in_err-send.ensures.answer in
-    subst (λ (g : History ShipWhat). Stands (record ship { held = c.send.new.held }) who g)
+    subst (λ (g : History ShipWhat). StandsFor (record ship { held = c.send.new.held }) who g)
     (sym (continued_refused (ship_rules who) h c.args.at (Send call) refusal (refused_on_time (ship_rules who) h c.args.at (Send call) late ∙ is)))
-    (subst (λ (l : Places). Stands (record ship { held = l }) who h) (sym c.in_err-send.ensures.unchanged) stands)
+    (subst (λ (l : Places). StandsFor (record ship { held = l }) who h) (sym c.in_err-send.ensures.unchanged) stands)
 
 pub returns-clause-goes_on : goal.returns-clause-goes_on
 returns-clause-goes_on c who h stands late event =

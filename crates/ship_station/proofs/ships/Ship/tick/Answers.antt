@@ -14,7 +14,7 @@ use Rattle.ship_station.specs.declared.ships.Ship.{Ship}
 use Rattle.ship_station.specs.Events.{ship_occurs}
 use Rattle.ship_station.specs.Past.{is_attempt, is_end, kept, open_alert, last_attempt, delays_left}
 use Rattle.ship_station.specs.ShipRules.{Identities, held, at_tick, refusal_at}
-use Rattle.ship_station.specs.Stands.{Keeps}
+use Rattle.ship_station.specs.StandsFor.{Keeps}
 use Rattle.ship_station.proofs.Steps.{accepted, answered, not_refused}
 use Rattle.ship_station.proofs.Keeping.{keeps_after}
 use Rattle.ship_station.proofs.Endings.{tick_end}

@@ -1,5 +1,0 @@
-use Rattle.join_groups.specs.inside.Progress.{Progress}
-use Rattle.join_groups.proofs.telling.tell_all.Given as goal
-
-abbrev pub invariant-loop-group : goal.invariant-loop-group
-invariant-loop-group g l = Progress g.T.Teller.tells l.groups.sheets.items l.groups.numbers.entries l.group-iterator l.fn.out.items l.out.items l.is_well

@@ -1,4 +1,0 @@
-use Rattle.line_grammar.proofs.pieces.+append_digits.Given as goal
-
-abbrev pub decreases-append_digits : goal.decreases-append_digits
-decreases-append_digits g l = l.width
