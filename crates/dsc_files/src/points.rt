@@ -25,10 +25,8 @@ pub enum PointLine {
 fn ship_traffic(groups: Option<u8>, bytes: &[u8]) -> Result<TrafficLine, usize>
     ensures { ReadsAt (ship_point groups) (λ says. says) bytes.now result }
 {
-    match read_ship_line(groups, bytes) {
-        Ok(says) => Ok(line_of_ship(says)),
-        Err(n) => Err(n),
-    }
+    let says = read_ship_line(groups, bytes)?;
+    Ok(line_of_ship(says))
 }
 
 /// Reads a line at this point.
@@ -36,23 +34,15 @@ fn line_at(point: Point, bytes: &[u8]) -> Result<TrafficLine, usize>
     ensures { ReadsAt point (λ says. says) bytes.now result }
 {
     match point {
-        Point::Station => match read_station(bytes) {
-            Ok(says) => Ok(line_of_station(says)),
-            Err(n) => Err(n),
-        },
-        Point::Base => match read_base(bytes) {
-            Ok(second) => Ok(TrafficLine::Base(second)),
-            Err(n) => Err(n),
-        },
+        Point::Station => Ok(line_of_station(read_station(bytes)?)),
+        Point::Base => Ok(TrafficLine::Base(read_base(bytes)?)),
         Point::Groups { held } => ship_traffic(Some(held), bytes),
         Point::Ship => ship_traffic(None, bytes),
-        Point::Coast => match read_coast_line(bytes) {
-            Ok((at, what)) => Ok(TrafficLine::Event {
-                at,
-                what: event_of(what),
-            }),
-            Err(n) => Err(n),
-        },
+        Point::Coast => {
+            let (at, what) = read_coast_line(bytes)?;
+            let what = event_of(what);
+            Ok(TrafficLine::Event { at, what })
+        }
     }
 }
 
@@ -72,15 +62,8 @@ pub fn read_traffic(point: Point, bytes: &[u8]) -> Result<TrafficLine, usize>
 pub fn point_line(alloc: Global, point: Point, line: &[u8]) -> Result<PointLine, LineFault>
     ensures { ReadsAtPoint point line.now result }
 {
-    let joined = match joined_line(alloc, point, line) {
-        Ok(joined) => joined,
-        Err(fault) => return Err(fault),
-    };
-    match joined {
+    match joined_line(alloc, point, line)? {
         Some(says) => Ok(PointLine::Joined(says)),
-        None => match read_traffic(point, line) {
-            Ok(says) => Ok(PointLine::Traffic(says)),
-            Err(n) => Err(LineFault::Column(n)),
-        },
+        None => Ok(PointLine::Traffic(read_traffic(point, line)?)),
     }
 }

@@ -12,15 +12,11 @@ use std::alloc::Global;
 fn added_line(alloc: Global, bytes: &[u8]) -> Result<Line, LineFault>
     ensures { ReadsStream bytes.now result }
 {
-    match stream_line(bytes) {
-        Ok(signs) => {
-            if signs.is_empty() {
-                return Ok(Line::Nothing);
-            }
-            Ok(Line::Stream(Reception::of_signs(alloc, signs)?.unwrap()))
-        }
-        Err(n) => Err(LineFault::Column(n)),
+    let signs = stream_line(bytes)?;
+    if signs.is_empty() {
+        return Ok(Line::Nothing);
     }
+    Ok(Line::Stream(Reception::of_signs(alloc, signs)?.unwrap()))
 }
 
 /// Reads one line of a file of this kind, without its end. An error is the column of a line that is ill-formed, or want
@@ -29,27 +25,15 @@ pub fn line_of(alloc: Global, kind: FileKind, bytes: &[u8]) -> Result<Line, Line
     ensures { ReadsLine kind bytes.now result }
 {
     match kind {
-        FileKind::Join => match join_line(alloc, bytes) {
-            Ok(says) => Ok(Line::from(says)),
-            Err(fault) => Err(fault),
-        },
-        FileKind::Call => match call_line(bytes) {
-            Ok(says) => Ok(Line::from(says)),
-            Err(n) => Err(LineFault::Column(n)),
-        },
+        FileKind::Join => Ok(Line::from(join_line(alloc, bytes)?)),
+        FileKind::Call => Ok(Line::from(call_line(bytes)?)),
         FileKind::Sentence => match sentence_line(bytes) {
             Ok(says) => Ok(Line::from(&says)),
             Err(n) => Err(LineFault::Column(n)),
         },
-        FileKind::Traffic(point) => match point_line(alloc, point, bytes) {
-            Ok(says) => Ok(Line::from(says)),
-            Err(fault) => Err(fault),
-        },
+        FileKind::Traffic(point) => Ok(Line::from(point_line(alloc, point, bytes)?)),
         FileKind::Stream => added_line(alloc, bytes),
-        FileKind::Book => match book_line(bytes) {
-            Ok(says) => Ok(Line::from(says)),
-            Err(n) => Err(LineFault::Column(n)),
-        },
+        FileKind::Book => Ok(Line::from(book_line(bytes)?)),
         FileKind::Exchange(point) => match world_line(point, bytes) {
             Ok(None) => Ok(Line::Nothing),
             Ok(Some(says)) => Ok(Line::from(says)),

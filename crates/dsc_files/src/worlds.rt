@@ -18,22 +18,13 @@ fn world_line_at(point: ExchangePoint, bytes: &[u8]) -> Result<WorldLine, usize>
     ensures { ReadsInWorld point (λ says. says) bytes.now result }
 {
     match point {
-        ExchangePoint::Ship => match read_exchange_ship(bytes) {
-            Ok(mmsi) => Ok(WorldLine::Ship(mmsi)),
-            Err(n) => Err(n),
-        },
-        ExchangePoint::Coast { ship } => match read_exchange_coast(ship, bytes) {
-            Ok((mmsi, band)) => Ok(WorldLine::Coast(mmsi, band)),
-            Err(n) => Err(n),
-        },
-        ExchangePoint::Base => match read_exchange_base(bytes) {
-            Ok(second) => Ok(WorldLine::Base(second)),
-            Err(n) => Err(n),
-        },
-        ExchangePoint::Events => match read_end_event(bytes) {
-            Ok(says) => Ok(WorldLine::EndEvent(says)),
-            Err(n) => Err(n),
-        },
+        ExchangePoint::Ship => Ok(WorldLine::Ship(read_exchange_ship(bytes)?)),
+        ExchangePoint::Coast { ship } => {
+            let (mmsi, band) = read_exchange_coast(ship, bytes)?;
+            Ok(WorldLine::Coast(mmsi, band))
+        }
+        ExchangePoint::Base => Ok(WorldLine::Base(read_exchange_base(bytes)?)),
+        ExchangePoint::Events => Ok(WorldLine::EndEvent(read_end_event(bytes)?)),
     }
 }
 
@@ -55,10 +46,8 @@ fn said_in_world(point: ExchangePoint, line: &[u8]) -> Result<Option<WorldLine>,
     ensures { Reads (IsWorldFileLine point) line.now result }
 {
     exchange_columns();
-    match read_world(point, line) {
-        Ok(says) => Ok(Some(says)),
-        Err(n) => Err(n),
-    }
+    let says = read_world(point, line)?;
+    Ok(Some(says))
 }
 
 /// Reads one line at this point of a file of an exchange. None says that the line says nothing: it is empty or a

@@ -43,19 +43,16 @@ module _ (who : Parties) (is_such : Act → Bool) (w : WorldHistory) where
       → (x : Entry ShipWhat) × (entry_of (option_map (λ (call : Call). (at, at_ship.Heard call)) o) g ≡ Some x) × (does is_such x ≡ true)
   got_there at number None (did acts) gave h = absurd (let h : did acts ≡ nothing number = gave in cc)
   got_there at number (Some c) (did acts) gave h = (record { at = at; what = at_ship.Heard c; acts = acts }, refl, h)
-  got_there at number o (refuses refusal) gave h = absurd (false≢true h)
-  got_there at number o (nothing n) gave h = absurd (false≢true h)
+  got_there at number o _ gave h = absurd (false≢true h)
 
   pub ship_there : (event : WorldEvent) (g : Given) → g ≡ answer_behind who (histories_of w) event → (is_at_ship event && gives is_such g) ≡ true
       → AtShip (sent_by (histories_of w).coast) event g is_such
   ship_there (world.Ship e) (did acts) gave h = record { entry = record { at = e.at; what = e.what; acts = acts }; is = refl; does_it = h }
-  ship_there (world.Ship e) (refuses refusal) gave h = absurd (false≢true h)
-  ship_there (world.Ship e) (nothing number) gave h = absurd (false≢true h)
+  ship_there (world.Ship e) _ gave h = absurd (false≢true h)
   ship_there (world.ShipGets at number) g gave h =
       let found = got_there at number (slice_get (sent_by (histories_of w).coast) number) g gave h in
       record { entry = found.0; is = found.1; does_it = found.2 }
-  ship_there (world.Coast e) g gave h = absurd (false≢true h)
-  ship_there (world.CoastGets at number) g gave h = absurd (false≢true h)
+  ship_there _ g gave h = absurd (false≢true h)
 
 module _ (who : Parties) (is_such : Act → Bool) (later earlier : WorldHistory) (e : WorldEntry) where
   -- the ship's entry at an event of a legal history

@@ -40,19 +40,16 @@ module _ (c : Call) where
   got_and_sent at number (Some d) (did acts) y is sends =
       let same = ap (λ (z : Entry CoastWhat). z.acts) (same_Some (record { at = at; what = at_coast.Heard d; acts = acts }) y is) in
       record { there = refl; first = sends.first; times = sends.times; last = sends.last; acts = ap (λ (l : List Act). did l) (same ∙ sends.split) }
-  got_and_sent at number (Some d) (refuses refusal) y is sends = absurd (none-some y is)
-  got_and_sent at number (Some d) (nothing n) y is sends = absurd (none-some y is)
+  got_and_sent at number (Some d) _ y is sends = absurd (none-some y is)
 
   sent_there : (calls : List Call) (event : WorldEvent) (g : Given) (y : Entry CoastWhat) → entry_of (coast_what calls event) g ≡ Some y → Sends c y.acts
       → IsSentByCoast c (record { event = event; gave = g })
   sent_there calls (world.Coast e) (did acts) y is sends =
       let same = ap (λ (z : Entry CoastWhat). z.acts) (same_Some (record { at = e.at; what = e.what; acts = acts }) y is) in
       record { there = refl; first = sends.first; times = sends.times; last = sends.last; acts = ap (λ (l : List Act). did l) (same ∙ sends.split) }
-  sent_there calls (world.Coast e) (refuses refusal) y is sends = absurd (none-some y is)
-  sent_there calls (world.Coast e) (nothing n) y is sends = absurd (none-some y is)
+  sent_there calls (world.Coast e) _ y is sends = absurd (none-some y is)
   sent_there calls (world.CoastGets at number) g y is sends = got_and_sent at number (slice_get calls number) g y is sends
-  sent_there calls (world.Ship e) g y is sends = absurd (none-some y is)
-  sent_there calls (world.ShipGets at number) g y is sends = absurd (none-some y is)
+  sent_there calls _ g y is sends = absurd (none-some y is)
 
 -- an entry of the coast station that hears a call, in the exchange
 module _ (c : Call) (before : WorldHistory) where
@@ -63,8 +60,7 @@ module _ (c : Call) (before : WorldHistory) where
   got_by at number (Some d) (did acts) y found is hears =
       let same = ap (λ (z : Entry CoastWhat). z.what) (same_Some (record { at = at; what = at_coast.Heard d; acts = acts }) y is) in
       record { at = at; number = number; event = refl; sent = found ∙ ap (λ (x : Call). Some x) (let h : at_coast.Heard d ≡ at_coast.Heard c = same ∙ hears in let e : d ≡ c = cc in e); accepted = refl }
-  got_by at number (Some d) (refuses refusal) y found is hears = absurd (none-some y is)
-  got_by at number (Some d) (nothing n) y found is hears = absurd (none-some y is)
+  got_by at number (Some d) _ y found is hears = absurd (none-some y is)
 
   heard_there : (event : WorldEvent) (g : Given) (y : Entry CoastWhat) → IsFromOutside event
       → entry_of (coast_what (sent_by (histories_of before).ship) event) g ≡ Some y → y.what ≡ at_coast.Heard c
@@ -72,11 +68,9 @@ module _ (c : Call) (before : WorldHistory) where
   heard_there (world.Coast e) (did acts) y outside is hears =
       let same = ap (λ (z : Entry CoastWhat). z.what) (same_Some (record { at = e.at; what = e.what; acts = acts }) y is) in
       absurd (subst (λ (what : CoastWhat). IsOwnOfCoast what) (same ∙ hears) outside)
-  heard_there (world.Coast e) (refuses refusal) y outside is hears = absurd (none-some y is)
-  heard_there (world.Coast e) (nothing n) y outside is hears = absurd (none-some y is)
+  heard_there (world.Coast e) _ y outside is hears = absurd (none-some y is)
   heard_there (world.CoastGets at number) g y outside is hears = got_by at number (slice_get (sent_by (histories_of before).ship) number) g y refl is hears
-  heard_there (world.Ship e) g y outside is hears = absurd (none-some y is)
-  heard_there (world.ShipGets at number) g y outside is hears = absurd (none-some y is)
+  heard_there _ g y outside is hears = absurd (none-some y is)
 
 -- what the coast station's law says of an acknowledgement
 abbrev pub GoesBack : Type 0
@@ -136,8 +130,7 @@ module _ (goes_back : GoesBack) (who : Parties) (earlier : WorldHistory) (legal 
   got_end own at number (Some c) (did acts) x found is may =
       let same = same_Some (record { at = at; what = at_ship.Heard c; acts = acts }) x is in
       acknowledgement_of own number c found (subst (λ (z : Entry ShipWhat). MayEndAlert own z.what) (sym same) may)
-  got_end own at number (Some c) (refuses refusal) x found is may = absurd (none-some x is)
-  got_end own at number (Some c) (nothing n) x found is may = absurd (none-some x is)
+  got_end own at number (Some c) _ x found is may = absurd (none-some x is)
 
   cancel_of : (own : ℕ) (what : ShipWhat) → IsOwnOfShip what → MayEndAlert own what → IsCancel what
   cancel_of own at_ship.Cancel outside may = tt
@@ -149,11 +142,9 @@ module _ (goes_back : GoesBack) (who : Parties) (earlier : WorldHistory) (legal 
   ended_by own (world.Ship e) (did acts) x outside is may =
       let same = same_Some (record { at = e.at; what = e.what; acts = acts }) x is in
       cancel_of own e.what outside (subst (λ (z : Entry ShipWhat). MayEndAlert own z.what) (sym same) may)
-  ended_by own (world.Ship e) (refuses refusal) x outside is may = absurd (none-some x is)
-  ended_by own (world.Ship e) (nothing n) x outside is may = absurd (none-some x is)
+  ended_by own (world.Ship e) _ x outside is may = absurd (none-some x is)
   ended_by own (world.ShipGets at number) g x outside is may = got_end own at number (slice_get (sent_by (histories_of earlier).coast) number) g x refl is may
-  ended_by own (world.Coast e) g x outside is may = absurd (none-some x is)
-  ended_by own (world.CoastGets at number) g x outside is may = absurd (none-some x is)
+  ended_by own _ g x outside is may = absurd (none-some x is)
 
 pub may_end : Ends → GoesBack → (who : Parties) (later earlier : WorldHistory) (ended : WorldEntry) → IsLegal who (later ++ ended ∷ earlier)
     → IsTrue (ship_does is_end ended) → MayEnd who.ship.own ended.event earlier

@@ -32,19 +32,16 @@ begins_none : (at : ℕ) (o : Option Call) (g : Given) (y : Entry ShipWhat)
     → entry_of (option_map (λ (call : Call). (at, at_ship.Heard call)) o) g ≡ Some y → begins_at_ship y ≡ false
 begins_none at None g y is = absurd (none-some y is)
 begins_none at (Some c) (did acts) y is = sym (ap begins_at_ship (same_Some (record { at = at; what = at_ship.Heard c; acts = acts }) y is))
-begins_none at (Some c) (refuses refusal) y is = absurd (none-some y is)
-begins_none at (Some c) (nothing n) y is = absurd (none-some y is)
+begins_none at (Some c) _ y is = absurd (none-some y is)
 
 -- an entry of the ship begins no alert where that of the exchange begins none
 begins_not : (calls : List Call) (event : WorldEvent) (g : Given) (y : Entry ShipWhat) → entry_of (ship_what calls event) g ≡ Some y
     → (is_alert_event event && is_accepted g) ≡ false → begins_at_ship y ≡ false
 begins_not calls (world.Ship e) (did acts) y is none =
     sym (ap begins_at_ship (same_Some (record { at = e.at; what = e.what; acts = acts }) y is)) ∙ not_accepted (is_alert_event (world.Ship e)) none
-begins_not calls (world.Ship e) (refuses refusal) y is none = absurd (none-some y is)
-begins_not calls (world.Ship e) (nothing n) y is none = absurd (none-some y is)
+begins_not calls (world.Ship e) _ y is none = absurd (none-some y is)
 begins_not calls (world.ShipGets at number) g y is none = begins_none at (slice_get calls number) g y is
-begins_not calls (world.Coast e) g y is none = absurd (none-some y is)
-begins_not calls (world.CoastGets at number) g y is none = absurd (none-some y is)
+begins_not calls _ g y is none = absurd (none-some y is)
 
 module _ (test : Entry ShipWhat → Bool) where
   none_with : (o : Option (Entry ShipWhat)) (h : History ShipWhat) → ((y : Entry ShipWhat) → o ≡ Some y → test y ≡ false) → NoneIs test h → NoneIs test (with_entry o h)

@@ -37,19 +37,16 @@ heard_accepts : (mmsi at : ℕ) (o : Option Call) (g : Given) (y : Entry CoastWh
 heard_accepts mmsi at None g y is h = none-some y is
 heard_accepts mmsi at (Some c) (did acts) y is h =
     false≢true (ap (λ (e : Entry CoastWhat). accepts mmsi e.what) (same_Some (record { at = at; what = at_coast.Heard c; acts = acts }) y is) ∙ h)
-heard_accepts mmsi at (Some c) (refuses refusal) y is h = none-some y is
-heard_accepts mmsi at (Some c) (nothing number) y is h = none-some y is
+heard_accepts mmsi at (Some c) _ y is h = none-some y is
 
 pub accepted_there : (mmsi : ℕ) (calls : List Call) (event : WorldEvent) (g : Given) (y : Entry CoastWhat) → entry_of (coast_what calls event) g ≡ Some y
     → accepts mmsi y.what ≡ true → (is_accept_event mmsi event && is_accepted g) ≡ true
 accepted_there mmsi calls (world.Coast e) (did acts) y is h =
     let same = same_Some (record { at = e.at; what = e.what; acts = acts }) y is in
     ap (λ (b : Bool). b && true) (ap (λ (z : Entry CoastWhat). accepts mmsi z.what) same ∙ h)
-accepted_there mmsi calls (world.Coast e) (refuses refusal) y is h = absurd (none-some y is)
-accepted_there mmsi calls (world.Coast e) (nothing number) y is h = absurd (none-some y is)
+accepted_there mmsi calls (world.Coast e) _ y is h = absurd (none-some y is)
 accepted_there mmsi calls (world.CoastGets at number) g y is h = absurd (heard_accepts mmsi at (slice_get calls number) g y is h)
-accepted_there mmsi calls (world.Ship e) g y is h = absurd (none-some y is)
-accepted_there mmsi calls (world.ShipGets at number) g y is h = absurd (none-some y is)
+accepted_there mmsi calls _ g y is h = absurd (none-some y is)
 
 lift_by : (mmsi : ℕ) (e : WorldEntry) (w : WorldHistory) (back : History CoastWhat) (x : Entry CoastWhat) (o : Option (Entry CoastWhat))
     → coast_entry (histories_of w) e ≡ o → (front : History CoastWhat) → with_entry o (histories_of w).coast ≡ front ++ x ∷ back

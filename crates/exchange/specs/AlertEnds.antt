@@ -31,14 +31,12 @@ is_at_coast _ = false
 -- an event was accepted
 abbrev pub is_accepted : Given → Bool
 is_accepted (did acts) = true
-is_accepted (refuses refusal) = false
-is_accepted (nothing number) = false
+is_accepted _ = false
 
 -- one of the acts that an event gave is such
 abbrev pub gives : (Act → Bool) → Given → Bool
 gives is_such (did acts) = list_any is_such acts
-gives is_such (refuses refusal) = false
-gives is_such (nothing number) = false
+gives is_such _ = false
 
 -- the ship does such at an entry
 abbrev pub ship_does : (Act → Bool) → WorldEntry → Bool

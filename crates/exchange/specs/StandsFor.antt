@@ -44,5 +44,4 @@ given_with (outcome.Nothing number) acts = nothing number
 -- an event that is refused, or delivers nothing
 abbrev pub IsStill : Given → Type 0
 IsStill (did acts) = ⊥
-IsStill (refuses refusal) = Unit {0}
-IsStill (nothing number) = Unit {0}
+IsStill _ = Unit {0}

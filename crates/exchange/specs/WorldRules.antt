@@ -37,15 +37,13 @@ IsOwnOfCoast _ = Unit {0}
 abbrev pub IsFromOutside : WorldEvent → Type 0
 IsFromOutside (world.Ship e) = IsOwnOfShip e.what
 IsFromOutside (world.Coast e) = IsOwnOfCoast e.what
-IsFromOutside (world.ShipGets at number) = Unit {0}
-IsFromOutside (world.CoastGets at number) = Unit {0}
+IsFromOutside _ = Unit {0}
 
 -- the parts of an end's own event are in their ranges
 abbrev pub IsWorldEvent : WorldEvent → Type 0
 IsWorldEvent (world.Ship e) = IsShipWhat e.what
 IsWorldEvent (world.Coast e) = IsCoastWhat e.what
-IsWorldEvent (world.ShipGets at number) = Unit {0}
-IsWorldEvent (world.CoastGets at number) = Unit {0}
+IsWorldEvent _ = Unit {0}
 
 -- what an end's answer gives
 abbrev pub given_by : Result (List Act) StationRefusal → Given

@@ -283,11 +283,9 @@ world_lines_judged point is =
 -- a line that says something is no empty line and no comment
 world_first : (line : WorldLine) (text : List ℕ) → IsWorldLineText line text → first_of text ≡ 35 → ⊥
 unfolding first_of
-world_first (world.Ship m) text h e = absurd (omega (arith, ap first_of h.1, e))
-world_first (world.Coast m b) text h e = absurd (omega (arith, ap first_of h.1, e))
-world_first (world.Base s) text h e = absurd (omega (arith, ap first_of h.1, e))
 world_first (world.EndEvent (AtShip at what)) text h e = absurd (omega (arith, ap first_of h.1, e))
 world_first (world.EndEvent (AtCoast at what)) text h e = absurd (omega (arith, ap first_of h.1, e))
+world_first _ text h e = absurd (omega (arith, ap first_of h.1, e))
 
 pub one_exchange : ((a b : WorldLine) (text : List ℕ) → IsWorldLineText a text → IsWorldLineText b text → a ≡ b)
     → (point : ExchangePoint) (a b : Option WorldLine) (text : List ℕ) → IsWorldFileLine point a text → IsWorldFileLine point b text → a ≡ b
@@ -359,11 +357,8 @@ StationsBegin = (line : TrafficLine) (text : List ℕ) → IsLineText line text 
 
 -- it is none of those of join's input
 stations_byte : (line : TrafficLine) (b : ℕ) → IsFirstByte line b → (b ≡ 35) ⊎ ((b ≡ 114) ⊎ (b ≡ 101)) → ⊥
-stations_byte (Ship mmsi) b first h = omega (arith, first, h)
-stations_byte (Coast mmsi band) b first h = omega (arith, first, h)
-stations_byte (Base second) b first h = omega (arith, first, h)
-stations_byte (Group mmsi) b first h = omega (arith, first, h)
 stations_byte (Event at what) b first h = grind arith
+stations_byte _ b first h = omega (arith, first, h)
 
 joined_byte : (line : ReceiverLine) (b : ℕ) (rest : List ℕ) → IsLine line (b ∷ rest) → (b ≡ 35) ⊎ ((b ≡ 114) ⊎ (b ≡ 101))
 joined_byte nothing b rest is = inl (nothing_byte b rest is)
@@ -385,8 +380,7 @@ one_point one begin at (traffic a) (traffic b) text x y = ap traffic (one a b te
 -- lines that begin with r or e in a body
 may_in_body : (at : Point) (line : ReceiverLine) → IsBody at → MayBeJoined at line
 may_in_body at nothing body = tt
-may_in_body at (reception group e) body = body
-may_in_body at (evidence group pairs) body = body
+may_in_body at _ body = body
 
 joined_choice : (at : Point) → IsBody at → IsChoice (IsTrafficLine at) IsLine (IsPointLine at)
 joined_choice at body = record {

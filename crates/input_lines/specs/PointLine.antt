@@ -15,15 +15,12 @@ pub data PointLine : Type 0 where
 abbrev pub IsBody : Point → Type 0
 IsBody Station = ⊥
 IsBody Base = ⊥
-IsBody (Groups held) = Unit {0}
-IsBody Ship = Unit {0}
-IsBody Coast = Unit {0}
+IsBody _ = Unit {0}
 
 -- receptions and evidence come after the base, and empty lines and comments everywhere
 abbrev pub MayBeJoined : Point → ReceiverLine → Type 0
 MayBeJoined point nothing = Unit {0}
-MayBeJoined point (reception group e) = IsBody point
-MayBeJoined point (evidence group pairs) = IsBody point
+MayBeJoined point _ = IsBody point
 
 -- the well-formed lines of a point
 abbrev pub IsPointLine : Point → PointLine → List ℕ → Type 0

@@ -19,19 +19,13 @@ use Rattle.line_grammar.proofs.Written.{tells_all}
 abbrev pub or : (G H : Grammar → Grammar) → Grammar → Grammar
 or G H rest = either (G rest) (H rest)
 
--- values under other names: told, and back again, with the same parts and ranges
-pub record Names {V W : Type 0} (P : W → Type 0) (Q : V → Type 0) (f : W → Parts → Parts) (g : V → Parts → Parts) : Type 0 where
-  pub told : V → W
-  pub back : W → V
-  pub again : (v : V) → back (told v) ≡ v
-  pub there : (v : V) (q : Parts) → g v q ≡ f (told v) q
-  pub here : (w : W) (q : Parts) → g (back w) q ≡ f w q
-  pub lawful : (v : V) → Q v → P (told v)
-  pub lawful_back : (w : W) → P w → Q (back w)
-
--- a section under such names
-pub under : {V W : Type 0} {G : Grammar → Grammar} {P : W → Type 0} {Q : V → Type 0} {f : W → Parts → Parts} {g : V → Parts → Parts} → Section G P f → Names P Q f g → Section G Q g
-under s n = renamed s n.told n.back n.lawful n.lawful_back (λ v h. n.again v) (λ v h q. n.there v q) (λ w h q. n.here w q)
+-- a section under other names of its values: a name is a value with the same parts and within its ranges, and each value
+-- has its name
+pub under : {V W : Type 0} {G : Grammar → Grammar} {P : W → Type 0} {Q : V → Type 0} {f : W → Parts → Parts} {g : V → Parts → Parts} → Section G P f
+    → (value_of : (w : W) → (v : V) × ((q : Parts) → g v q ≡ f w q) × (P w → Q v)) → ((v : V) → (w : W) × ((value_of w).0 ≡ v) × (Q v → P w)) → Section G Q g
+under {V = V} {g = g} s value_of name_of =
+    renamed s (λ v. (name_of v).0) (λ w. (value_of w).0) (λ v. (name_of v).2) (λ w. (value_of w).2) (λ v h. (name_of v).1)
+    (λ v h q. ap (λ (u : V). g u q) (sym (name_of v).1) ∙ (value_of (name_of v).0).1 q) (λ w h q. (value_of w).1 q)
 
 -- a token that was read, and one that was missed
 pub field_read : (token : Token) (old front mid : List ℕ) → read_token token old ≡ Ok (front, mid) → IsRead (field token) (part front) old mid

@@ -1,5 +1,5 @@
 -- The stages of a file, one line further.
-use Rattle.std.proofs.Common.{◌≡◌, ◌≤◌, ℕ, Bool, true, ◌&&◌, Some, None, if◌then◌else◌, List, [], ◌∷◌, ◌++◌, refl, sym, ◌∙◌, ap, subst, append_assoc}
+use Rattle.std.proofs.Common.{◌≤◌, Result, Ok, Err, IfErr, IsErrAnd, ◌≡◌, ℕ, Bool, true, ◌&&◌, Some, None, if◌then◌else◌, List, [], ◌∷◌, ◌++◌, refl, sym, ◌∙◌, ap, subst, append_assoc}
 use Rattle.call_values.specs.declared.choices.Band.{Band}
 use Rattle.call_values.specs.declared.bounds.TheConstants.{LAST_BASE}
 use Rattle.traffic_lines.specs.declared.worlds.ExchangePoint.{ExchangePoint}
@@ -7,6 +7,10 @@ use Rattle.traffic_lines.specs.declared.worlds.ExchangePoint.TheVariants as poin
 use Rattle.traffic_lines.specs.declared.worlds.EndEvent as entries
 use Rattle.traffic_lines.specs.declared.worlds.WorldLine.TheVariants.{Ship, Coast, Base, EndEvent}
 use Rattle.line_engine.specs.Lines.{Lines}
+use Rattle.line_engine.specs.declared.command.Refusal.{Refusal}
+use Rattle.line_engine.specs.declared.command.Refusal.TheVariants as refusal
+use Rattle.line_grammar.specs.Columns.{IsColumn}
+use Rattle.traffic_lines.specs.Worlds.{IsWorldLine}
 use Rattle.input_lines.specs.ReceiverLine.{IsNothing}
 use Rattle.input_lines.specs.WorldLine.{IsWorldFileLine}
 use Rattle.exchange.specs.StandsFor.{StandsFor as WorldStandsFor}
@@ -22,7 +26,7 @@ use Rattle.station_exchange.specs.Output.{entry_lines, all_accepted}
 use Rattle.station_exchange.specs.Meaning.{exchange_meaning}
 use Rattle.station_exchange.specs.inside.Gives.{gives_text}
 use Rattle.station_exchange.specs.inside.Happens.{Happens}
-use Rattle.station_exchange.specs.inside.Progress.{Keeps, KeepsEnds, LeadsTo, StandsFor, Takes, is_well_at}
+use Rattle.station_exchange.specs.inside.Progress.{IsOwnLine, IsRefusedAt, Keeps, KeepsEnds, LeadsTo, Refuses, StandsFor, Takes, is_well_at, point_at}
 
 -- a line that says nothing
 silent_ends : (stage : Stage) (said : Said) → KeepsEnds stage said → KeepsEnds stage (None ∷ said)
@@ -103,6 +107,13 @@ takes_event old new entry line text before after said accepted is base well happ
         well_is = well ∙ ap (λ (b : Bool). b && accepted) k.well_is ∙ ap (λ (b : Bool). all_accepted (world_of said) && b) happened.well;
       };
     }
+
+-- a line that is ill-formed at the point of a stage is refused there
+pub refused_at : (from : Stage) (line : List ℕ) (n : ℕ) (answer : Result Stage Refusal) → IsErrAnd answer (λ reason. reason ≡ refusal.Column n) → IsOwnLine line
+    → (1 ≤ n) × IsColumn (IsWorldLine (point_at from)) line n → IfErr answer (λ reason. IsRefusedAt from line reason)
+refused_at from line n (Ok to) is own fault = absurd is
+refused_at from line n (Err reason) is own fault = λ said text keeps.
+    subst (λ (r : Refusal). Refuses said line r) (sym is) (subst (λ (p : ExchangePoint). IsColumn (IsWorldFileLine p) line n) keeps.point (own (point_at from) n fault.0 fault.1))
 
 -- the command stands for a line more
 pub stands_on : (old new : Exchanging) (lines : Lines) (line text after : List ℕ) (stands : StandsFor old lines text) → Takes new.stage stands.said line after

@@ -22,13 +22,11 @@ ship_own base at (Own (own_ship.Position place)) = tt
 ship_own base at (Own (own_ship.Delay delay)) = tt
 ship_own base at (Own (own_ship.Alert nature comm)) = tt
 ship_own base at (Own own_ship.Cancel) = tt
-ship_own base at Tick = tt
 ship_own base at _ = tt
 
 coast_own : (deed : Deed CoastOwn) → IsOwnOfCoast (coast_deed deed)
 coast_own (Own (own_coast.Accept mmsi delay)) = tt
 coast_own (Own (own_coast.Relay mmsi to ask)) = tt
-coast_own Tick = tt
 coast_own _ = tt
 
 -- calls are heard as deliveries alone

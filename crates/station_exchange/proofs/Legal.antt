@@ -38,10 +38,8 @@ Names (EndEvent entry) = ⊥
 Names _ = Unit {0}
 
 early : (says : WorldLine) → Names says → (p : ExchangePoint) → MayStandInWorld p says → IsEarly p
-early (Ship mmsi) names = elim [ point.Ship ↦ λ may. tt | point.Coast ship ↦ λ may. tt | point.Base ↦ λ may. tt | point.Events ↦ λ may. may ]
-early (Coast mmsi band) names = elim [ point.Ship ↦ λ may. tt | point.Coast ship ↦ λ may. tt | point.Base ↦ λ may. tt | point.Events ↦ λ may. may ]
-early (Base second) names = elim [ point.Ship ↦ λ may. tt | point.Coast ship ↦ λ may. tt | point.Base ↦ λ may. tt | point.Events ↦ λ may. may ]
 early (EndEvent entry) names = absurd names
+early _ names = elim [ point.Ship ↦ λ may. tt | point.Coast ship ↦ λ may. tt | point.Base ↦ λ may. tt | point.Events ↦ λ may. may ]
 
 -- nothing happened there
 none_early : (said : Said) (lines : Lines) → AreSaid said lines → IsEarly (point_of said) → world_of said ≡ []

@@ -57,10 +57,8 @@ pub(crate) fn behind_ship(line: &[u8]) -> Result<Stage, Refusal>
     ensures err { IfErr result (λ refusal. IsRefusedAt stage.Ship line.now refusal) }
     ensures unsaid { IfErr result (λ refusal. (text : List ℕ) → KeepsText refusal text text) }
 {
-    match read_exchange_ship(line) {
-        Ok(ship) => Ok(Stage::Coast { ship }),
-        Err(n) => Err(Refusal::Column(n)),
-    }
+    let ship = read_exchange_ship(line)?;
+    Ok(Stage::Coast { ship })
 }
 
 /// The stage after the line that names the coast station, which comes after that of this ship.
@@ -70,10 +68,8 @@ pub(crate) fn behind_coast(ship: Mmsi, line: &[u8]) -> Result<Stage, Refusal>
     ensures err { IfErr result (λ refusal. IsRefusedAt (stage.Coast ship) line.now refusal) }
     ensures unsaid { IfErr result (λ refusal. (text : List ℕ) → KeepsText refusal text text) }
 {
-    match read_exchange_coast(ship, line) {
-        Ok((coast, band)) => Ok(Stage::Base { ship, coast, band }),
-        Err(n) => Err(Refusal::Column(n)),
-    }
+    let (coast, band) = read_exchange_coast(ship, line)?;
+    Ok(Stage::Base { ship, coast, band })
 }
 
 /// The stage after the line that names the base, which comes after those of these ends.
@@ -89,14 +85,14 @@ pub(crate) fn behind_base(
     ensures err { IfErr result (λ refusal. IsRefusedAt (stage.Base ship coast band) line.now refusal) }
     ensures unsaid { IfErr result (λ refusal. (text : List ℕ) → KeepsText refusal text text) }
 {
-    match read_exchange_base(line) {
-        Ok(base) => Ok(Stage::Events(Events {
-            base,
-            world: World::new(alloc, ship, coast, band),
-            is_well: true,
-        })),
-        Err(n) => Err(Refusal::Column(n)),
-    }
+    let base = read_exchange_base(line)?;
+    let world = World::new(alloc, ship, coast, band);
+    let is_well = true;
+    Ok(Stage::Events(Events {
+        base,
+        world,
+        is_well,
+    }))
 }
 
 impl Events {

@@ -32,23 +32,17 @@ delay_lawful (Some ms) is = is
 
 own_ship_lawful : (base at : ℕ) (own : ShipOwn) → IsShipOwn own → IsShipWhat (own_ship_event base at own)
 own_ship_lawful base at (own_ship.Position place) is = (is, time_lawful base at place)
-own_ship_lawful base at (own_ship.Delay delay) is = is
-own_ship_lawful base at (own_ship.Alert nature comm) is = is
-own_ship_lawful base at own_ship.Cancel is = tt
+own_ship_lawful base at _ is = is
 
 -- those by what an end does
 pub ship_deed_lawful : (base at : ℕ) (deed : Deed ShipOwn) → IsDeed IsShipOwn deed → IsShipWhat (ship_deed base at deed)
 ship_deed_lawful base at (Own what) is = own_ship_lawful base at what is
-ship_deed_lawful base at Tick is = tt
-ship_deed_lawful base at (Send call) is = tt
-ship_deed_lawful base at (Answer number accepts) is = tt
+ship_deed_lawful base at _ is = tt
 
 pub coast_deed_lawful : (deed : Deed CoastOwn) → IsDeed IsCoastOwn deed → IsCoastWhat (coast_deed deed)
 coast_deed_lawful (Own (own_coast.Accept mmsi delay)) is = (is.0, delay_lawful delay is.1)
 coast_deed_lawful (Own (own_coast.Relay mmsi to ask)) is = is
-coast_deed_lawful Tick is = tt
-coast_deed_lawful (Send call) is = tt
-coast_deed_lawful (Answer number accepts) is = tt
+coast_deed_lawful _ is = tt
 
 -- those of the event that a line gives of itself
 pub ship_event_lawful : (base at : ℕ) (line : EventLine) (what : ShipWhat) → IsEvent IsStationOwn IsHearing line → ship_event base at line ≡ Some what → IsShipWhat what

@@ -2,15 +2,13 @@
 //! by events of files.
 #![tactic(auto)]
 
-mod acts;
 mod answers;
 mod events;
 mod minutes;
 mod moments;
-mod refusals;
+mod texts;
 
-pub use acts::{append_act_text, put_act};
 pub use answers::{append_acts, append_answer, append_refusal};
 pub use events::OfLines;
 pub use minutes::civil_minute;
-pub use refusals::{append_refusal_text, put_refused};
+pub use texts::{append_act_text, append_refusal_text, put_act, put_refused};

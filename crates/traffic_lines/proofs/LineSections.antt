@@ -9,7 +9,7 @@ use Rattle.line_grammar.specs.Shapes.{digits}
 use Rattle.line_grammar.specs.Tokens.{Token}
 use Rattle.line_grammar.specs.Grammar.{Grammar, Parts}
 use Rattle.line_grammar.proofs.Sections.{TokenTexts, Section, worded, fielded, labelled, nothing, followed, sided}
-use Rattle.line_grammar.proofs.Rows.{Names, under}
+use Rattle.line_grammar.proofs.Rows.{under}
 use Rattle.traffic_lines.specs.declared.lines.StationLine.{StationLine}
 use Rattle.traffic_lines.specs.declared.lines.StationLine.TheVariants as station
 use Rattle.traffic_lines.specs.declared.lines.ShipLine.{ShipLine}
@@ -33,15 +33,8 @@ band_section : Section {V = Band} band (λ _. Unit {0}) band_parts
 band_section =
     under
     (sided (worded (codes " mf") nothing) (sided (worded (codes " hf") nothing) (worded (codes " vhf") nothing)))
-    (record {
-      told = elim [ Mf ↦ inl tt | Hf ↦ inr (inl tt) | Vhf ↦ inr (inr tt) ];
-      back = elim [ inl u ↦ Mf | inr (inl u) ↦ Hf | inr (inr u) ↦ Vhf ];
-      again = elim [ Mf ↦ refl | Hf ↦ refl | Vhf ↦ refl ];
-      there = elim [ Mf ↦ λ q. refl | Hf ↦ λ q. refl | Vhf ↦ λ q. refl ];
-      here = elim [ inl u ↦ λ q. refl | inr (inl u) ↦ λ q. refl | inr (inr u) ↦ λ q. refl ];
-      lawful = elim [ Mf ↦ λ h. h | Hf ↦ λ h. h | Vhf ↦ λ h. h ];
-      lawful_back = elim [ inl u ↦ λ h. h | inr (inl u) ↦ λ h. h | inr (inr u) ↦ λ h. h ];
-    })
+    (elim [ inl u ↦ (Mf, λ q. refl, λ h. h) | inr (inl u) ↦ (Hf, λ q. refl, λ h. h) | inr (inr u) ↦ (Vhf, λ q. refl, λ h. h) ])
+    (elim [ Mf ↦ (inl tt, refl, λ h. h) | Hf ↦ (inr (inl tt), refl, λ h. h) | Vhf ↦ (inr (inr tt), refl, λ h. h) ])
 
 -- a coast station of such an identity
 pub party_section : (party : Token) (Lawful : ℕ → Type 0) → TokenTexts party Lawful (digits 9) → Section {V = ℕ × Band} (coast party) (λ says. Lawful says.0 × Unit {0}) coast_station_parts
@@ -51,15 +44,8 @@ pub stations_section : Section {V = StationLine} stations IsStation stations_par
 stations_section =
     under
     (sided identity_section (party_section identity IsMmsi identity_told))
-    (record {
-      told = elim [ station.Ship m ↦ inl m | station.Coast m b ↦ inr (m, b) ];
-      back = elim [ inl m ↦ station.Ship m | inr w ↦ station.Coast w.0 w.1 ];
-      again = elim [ station.Ship m ↦ refl | station.Coast m b ↦ refl ];
-      there = elim [ station.Ship m ↦ λ q. refl | station.Coast m b ↦ λ q. refl ];
-      here = elim [ inl m ↦ λ q. refl | inr w ↦ λ q. refl ];
-      lawful = elim [ station.Ship m ↦ λ h. h | station.Coast m b ↦ λ h. (h, tt) ];
-      lawful_back = elim [ inl m ↦ λ h. h | inr w ↦ λ h. h.0 ];
-    })
+    (elim [ inl m ↦ (station.Ship m, λ q. refl, λ h. h) | inr w ↦ (station.Coast w.0 w.1, λ q. refl, λ h. h.0) ])
+    (elim [ station.Ship m ↦ (inl m, refl, λ h. h) | station.Coast m b ↦ (inr (m, b), refl, λ h. (h, tt)) ])
 
 pub base_section : Section {V = ℕ} base IsBase base_parts
 base_section = labelled (codes "base ") (up_to_told 9999999999 (omega arith))
@@ -83,56 +69,28 @@ pub ship_lines_section : Section {V = ShipLine} ship_lines IsShipLine ship_lines
 ship_lines_section =
     under
     (sided group_section ship_event_section)
-    (record {
-      told = elim [ body.Group m ↦ inl m | body.Event at what ↦ inr (at, what) ];
-      back = elim [ inl m ↦ body.Group m | inr w ↦ body.Event w.0 w.1 ];
-      again = elim [ body.Group m ↦ refl | body.Event at what ↦ refl ];
-      there = elim [ body.Group m ↦ λ q. refl | body.Event at what ↦ λ q. refl ];
-      here = elim [ inl m ↦ λ q. refl | inr w ↦ λ q. refl ];
-      lawful = elim [ body.Group m ↦ λ h. h | body.Event at what ↦ λ h. h ];
-      lawful_back = elim [ inl m ↦ λ h. h | inr w ↦ λ h. h ];
-    })
+    (elim [ inl m ↦ (body.Group m, λ q. refl, λ h. h) | inr w ↦ (body.Event w.0 w.1, λ q. refl, λ h. h) ])
+    (elim [ body.Group m ↦ (inl m, refl, λ h. h) | body.Event at what ↦ (inr (at, what), refl, λ h. h) ])
 
 -- all lines of traffic files
 pub lines_section : Section {V = TrafficLine} lines IsLine line_parts
 lines_section =
     under
     (sided identity_section (sided (party_section identity IsMmsi identity_told) (sided base_section (sided group_section (moment_section (event_section station_section hearing_section))))))
-    (record {
-      told = elim [ Ship m ↦ inl m | Coast m b ↦ inr (inl (m, b)) | Base s ↦ inr (inr (inl s)) | Group m ↦ inr (inr (inr (inl m))) | Event at what ↦ inr (inr (inr (inr (at, what)))) ];
-      back = elim [ inl m ↦ Ship m | inr (inl w) ↦ Coast w.0 w.1 | inr (inr (inl s)) ↦ Base s | inr (inr (inr (inl m))) ↦ Group m | inr (inr (inr (inr w))) ↦ Event w.0 w.1 ];
-      again = elim [ Ship m ↦ refl | Coast m b ↦ refl | Base s ↦ refl | Group m ↦ refl | Event at what ↦ refl ];
-      there = elim [ Ship m ↦ λ q. refl | Coast m b ↦ λ q. refl | Base s ↦ λ q. refl | Group m ↦ λ q. refl | Event at what ↦ λ q. refl ];
-      here = elim [ inl m ↦ λ q. refl | inr (inl w) ↦ λ q. refl | inr (inr (inl s)) ↦ λ q. refl | inr (inr (inr (inl m))) ↦ λ q. refl | inr (inr (inr (inr w))) ↦ λ q. refl ];
-      lawful = elim [ Ship m ↦ λ h. h | Coast m b ↦ λ h. (h, tt) | Base s ↦ λ h. h | Group m ↦ λ h. h | Event at what ↦ λ h. h ];
-      lawful_back = elim [ inl m ↦ λ h. h | inr (inl w) ↦ λ h. h.0 | inr (inr (inl s)) ↦ λ h. h | inr (inr (inr (inl m))) ↦ λ h. h | inr (inr (inr (inr w))) ↦ λ h. h ];
-    })
+    (elim [ inl m ↦ (Ship m, λ q. refl, λ h. h) | inr (inl w) ↦ (Coast w.0 w.1, λ q. refl, λ h. h.0) | inr (inr (inl s)) ↦ (Base s, λ q. refl, λ h. h) | inr (inr (inr (inl m))) ↦ (Group m, λ q. refl, λ h. h) | inr (inr (inr (inr w))) ↦ (Event w.0 w.1, λ q. refl, λ h. h) ])
+    (elim [ Ship m ↦ (inl m, refl, λ h. h) | Coast m b ↦ (inr (inl (m, b)), refl, λ h. (h, tt)) | Base s ↦ (inr (inr (inl s)), refl, λ h. h) | Group m ↦ (inr (inr (inr (inl m))), refl, λ h. h) | Event at what ↦ (inr (inr (inr (inr (at, what)))), refl, λ h. h) ])
 
 -- the event lines of exchanges, and all lines of theirs
 pub end_event_section : Section {V = entries.EndEvent} end_event IsEndEvent end_event_parts
 end_event_section =
     under
     (sided (worded (codes "s ") (moment_section (event_section ship_section get_section))) (worded (codes "c ") (moment_section (event_section coast_section get_section))))
-    (record {
-      told = elim [ AtShip at what ↦ inl (at, what) | AtCoast at what ↦ inr (at, what) ];
-      back = elim [ inl w ↦ AtShip w.0 w.1 | inr w ↦ AtCoast w.0 w.1 ];
-      again = elim [ AtShip at what ↦ refl | AtCoast at what ↦ refl ];
-      there = elim [ AtShip at what ↦ λ q. refl | AtCoast at what ↦ λ q. refl ];
-      here = elim [ inl w ↦ λ q. refl | inr w ↦ λ q. refl ];
-      lawful = elim [ AtShip at what ↦ λ h. h | AtCoast at what ↦ λ h. h ];
-      lawful_back = elim [ inl w ↦ λ h. h | inr w ↦ λ h. h ];
-    })
+    (elim [ inl w ↦ (AtShip w.0 w.1, λ q. refl, λ h. h) | inr w ↦ (AtCoast w.0 w.1, λ q. refl, λ h. h) ])
+    (elim [ AtShip at what ↦ (inl (at, what), refl, λ h. h) | AtCoast at what ↦ (inr (at, what), refl, λ h. h) ])
 
 pub world_section : Section {V = WorldLine} world_lines IsWorld world_parts
 world_section =
     under
     (sided identity_section (sided (party_section identity IsMmsi identity_told) (sided base_section end_event_section)))
-    (record {
-      told = elim [ world.Ship m ↦ inl m | world.Coast m b ↦ inr (inl (m, b)) | world.Base s ↦ inr (inr (inl s)) | world.EndEvent e ↦ inr (inr (inr e)) ];
-      back = elim [ inl m ↦ world.Ship m | inr (inl w) ↦ world.Coast w.0 w.1 | inr (inr (inl s)) ↦ world.Base s | inr (inr (inr e)) ↦ world.EndEvent e ];
-      again = elim [ world.Ship m ↦ refl | world.Coast m b ↦ refl | world.Base s ↦ refl | world.EndEvent e ↦ refl ];
-      there = elim [ world.Ship m ↦ λ q. refl | world.Coast m b ↦ λ q. refl | world.Base s ↦ λ q. refl | world.EndEvent e ↦ λ q. refl ];
-      here = elim [ inl m ↦ λ q. refl | inr (inl w) ↦ λ q. refl | inr (inr (inl s)) ↦ λ q. refl | inr (inr (inr e)) ↦ λ q. refl ];
-      lawful = elim [ world.Ship m ↦ λ h. h | world.Coast m b ↦ λ h. (h, tt) | world.Base s ↦ λ h. h | world.EndEvent e ↦ λ h. h ];
-      lawful_back = elim [ inl m ↦ λ h. h | inr (inl w) ↦ λ h. h.0 | inr (inr (inl s)) ↦ λ h. h | inr (inr (inr e)) ↦ λ h. h ];
-    })
+    (elim [ inl m ↦ (world.Ship m, λ q. refl, λ h. h) | inr (inl w) ↦ (world.Coast w.0 w.1, λ q. refl, λ h. h.0) | inr (inr (inl s)) ↦ (world.Base s, λ q. refl, λ h. h) | inr (inr (inr e)) ↦ (world.EndEvent e, λ q. refl, λ h. h) ])
+    (elim [ world.Ship m ↦ (inl m, refl, λ h. h) | world.Coast m b ↦ (inr (inl (m, b)), refl, λ h. (h, tt)) | world.Base s ↦ (inr (inr (inl s)), refl, λ h. h) | world.EndEvent e ↦ (inr (inr (inr e)), refl, λ h. h) ])

@@ -13,6 +13,10 @@ use Rattle.traffic_lines.specs.Lines.{coast, coast_station_parts}
 use Rattle.traffic_lines.specs.Worlds.{others, other_identity, IsOtherCoast}
 use Rattle.traffic_lines.proofs.LineSections.{party_section}
 
+-- an identity but this one
+abbrev IsOther : (mmsi : ℕ) → ℕ → Type 0
+IsOther mmsi n = IsMmsi n × (n ≢ mmsi)
+
 -- the ranges by what the one identity is
 abbrev ranges : (mmsi : ℕ) → (is_first is_last : Bool) → List (ℕ × ℕ)
 ranges mmsi is_first is_last =
@@ -24,17 +28,11 @@ inside mmsi n true false e f m h other = grind (arith, nat_tests)
 inside mmsi n false true e f m h other = grind (arith, nat_tests)
 inside mmsi n false false e f m h other = grind (arith, nat_tests)
 
-lawful : (mmsi n : ℕ) (s t : Bool) → (mmsi == 0) ≡ s → (mmsi == 999999999) ≡ t → IsMmsi mmsi → is_within (ranges mmsi s t) n ≡ true → IsMmsi n
-lawful mmsi n true true e f m h = absurd (omega (arith, eqb-true mmsi 0 e, eqb-true mmsi 999999999 f))
-lawful mmsi n true false e f m h = grind (arith, nat_tests)
-lawful mmsi n false true e f m h = grind (arith, nat_tests)
-lawful mmsi n false false e f m h = grind (arith, nat_tests)
-
-another : (mmsi n : ℕ) (s t : Bool) → (mmsi == 0) ≡ s → (mmsi == 999999999) ≡ t → IsMmsi mmsi → is_within (ranges mmsi s t) n ≡ true → n ≡ mmsi → ⊥
-another mmsi n true true e f m h same = absurd (omega (arith, eqb-true mmsi 0 e, eqb-true mmsi 999999999 f))
-another mmsi n true false e f m h same = grind (arith, nat_tests)
-another mmsi n false true e f m h same = grind (arith, nat_tests)
-another mmsi n false false e f m h same = grind (arith, nat_tests)
+other : (mmsi n : ℕ) (s t : Bool) → (mmsi == 0) ≡ s → (mmsi == 999999999) ≡ t → IsMmsi mmsi → is_within (ranges mmsi s t) n ≡ true → IsOther mmsi n
+other mmsi n true true e f m h = absurd (omega (arith, eqb-true mmsi 0 e, eqb-true mmsi 999999999 f))
+other mmsi n true false e f m h = (grind (arith, nat_tests), λ same. grind (arith, nat_tests))
+other mmsi n false true e f m h = (grind (arith, nat_tests), λ same. grind (arith, nat_tests))
+other mmsi n false false e f m h = (grind (arith, nat_tests), λ same. grind (arith, nat_tests))
 
 some : (mmsi : ℕ) (s t : Bool) → (mmsi == 0) ≡ s → (mmsi == 999999999) ≡ t → IsMmsi mmsi → are_ranges 9 (ranges mmsi s t) ≡ true
 some mmsi true true e f m = absurd (omega (arith, eqb-true mmsi 0 e, eqb-true mmsi 999999999 f))
@@ -42,23 +40,13 @@ some mmsi true false e f m = grind (arith, nat_tests)
 some mmsi false true e f m = grind (arith, nat_tests)
 some mmsi false false e f m = grind (arith, nat_tests)
 
-pub others_lawful : (mmsi n : ℕ) → IsMmsi mmsi → is_within (others mmsi) n ≡ true → IsMmsi n
-others_lawful mmsi n m h = lawful mmsi n (mmsi == 0) (mmsi == 999999999) refl refl m h
-
-pub others_differ : (mmsi n : ℕ) → IsMmsi mmsi → is_within (others mmsi) n ≡ true → n ≢ mmsi
-others_differ mmsi n m h = λ same. another mmsi n (mmsi == 0) (mmsi == 999999999) refl refl m h same
-
 pub others_ranges : (mmsi : ℕ) → IsMmsi mmsi → are_ranges 9 (others mmsi) ≡ true
 others_ranges mmsi m = some mmsi (mmsi == 0) (mmsi == 999999999) refl refl m
-
--- an identity but this one
-abbrev IsOther : (mmsi : ℕ) → ℕ → Type 0
-IsOther mmsi n = IsMmsi n × (n ≢ mmsi)
 
 pub other_told : (mmsi : ℕ) → IsMmsi mmsi → TokenTexts (other_identity mmsi) (IsOther mmsi) (digits 9)
 other_told mmsi m = record {
   is = λ n h. (n, inside mmsi n (mmsi == 0) (mmsi == 999999999) refl refl m h.0 h.1, refl);
-  of = λ bytes h. (h.0, (others_lawful mmsi h.0 m h.1, others_differ mmsi h.0 m h.1), h.2);
+  of = λ bytes h. (h.0, other mmsi h.0 (mmsi == 0) (mmsi == 999999999) refl refl m h.1, h.2);
   one = λ a b h k e. one_number 9 a b (omega (arith, h.0)) (omega (arith, k.0)) e;
 }
 

@@ -135,9 +135,7 @@ groups_to held few (body.Event at what) bytes h = ship_to at what bytes h
 groups_back : (held : ℕ) (line : TrafficLine) (bytes : List ℕ) → IsTrafficLine (point.Groups held) line bytes → (w : ShipLine) × IsWritten ship_lines IsShipLine ship_lines_parts w bytes
 groups_back held (Group m) bytes h = (body.Group m, h.1)
 groups_back held (Event at what) bytes h = (let w = ship_back at what bytes h.0 h.1 in (body.Event w.0.0 w.0.1, w.1))
-groups_back held (Ship m) bytes h = absurd h.0
-groups_back held (Coast m b) bytes h = absurd h.0
-groups_back held (Base s) bytes h = absurd h.0
+groups_back held _ bytes h = absurd h.0
 
 pub groups_among : (held : ℕ) → held < 16 → IsAmong (IsWritten ship_lines IsShipLine ship_lines_parts) (IsTrafficLine (point.Groups held)) line_of_ship
 groups_among held few = record { to = groups_to held few; back = groups_back held }
@@ -152,14 +150,9 @@ full_back : (groups : Option ℕ) → IsFull groups → (line : TrafficLine) (by
     → (w : ℕ × events.Event ShipOwn Hearing) × IsWritten ship_event IsShipEvent ship_event_parts w bytes
 full_back (Some held) full (Group m) bytes h = absurd (omega (arith, full, h.0))
 full_back (Some held) full (Event at what) bytes h = ship_back at what bytes h.0 h.1
-full_back (Some held) full (Ship m) bytes h = absurd h.0
-full_back (Some held) full (Coast m b) bytes h = absurd h.0
-full_back (Some held) full (Base s) bytes h = absurd h.0
+full_back (Some held) full _ bytes h = absurd h.0
 full_back None full (Event at what) bytes h = ship_back at what bytes h.0 h.1
-full_back None full (Group m) bytes h = absurd h.0
-full_back None full (Ship m) bytes h = absurd h.0
-full_back None full (Coast m b) bytes h = absurd h.0
-full_back None full (Base s) bytes h = absurd h.0
+full_back None full _ bytes h = absurd h.0
 
 pub full_among : (groups : Option ℕ) → IsFull groups
     → IsAmong (IsWritten ship_event IsShipEvent ship_event_parts) (IsTrafficLine (ship_point groups)) (λ (w : ℕ × events.Event ShipOwn Hearing). line_of_ship (body.Event w.0 w.1))

@@ -67,10 +67,8 @@ impl Rows for u32 {
 fn own<O: Rows>(bytes: &[u8]) -> Result<Deed<O>, Left>
     ensures { ReadsRow O.rows (nth 0) (IsDeed O.lawful) (deed_parts O.parts) bytes.now result }
 {
-    match O::read(bytes) {
-        Ok(what) => Ok(Deed::Own(what)),
-        Err(left) => Err(left),
-    }
+    let what = O::read(bytes)?;
+    Ok(Deed::Own(what))
 }
 
 /// Reads `tick`.
@@ -160,20 +158,16 @@ fn does<O: Rows, C: Rows>(bytes: &[u8]) -> Result<Event<O, C>, Left>
     ensures { ReadsRow (rows.deeds O.rows) (last 1) (IsEvent O.lawful C.lawful) (event_parts O.parts C.parts) bytes.now
         result }
 {
-    match Deed::<O>::read(bytes) {
-        Ok(deed) => Ok(Event::Does(deed)),
-        Err(left) => Err(left),
-    }
+    let deed = Deed::<O>::read(bytes)?;
+    Ok(Event::Does(deed))
 }
 
 /// Reads what comes to the station from outside, as an event.
 fn comes<O: Rows, C: Rows>(bytes: &[u8]) -> Result<Event<O, C>, Left>
     ensures { ReadsRow C.rows (nth 0) (IsEvent O.lawful C.lawful) (event_parts O.parts C.parts) bytes.now result }
 {
-    match C::read(bytes) {
-        Ok(what) => Ok(Event::Comes(what)),
-        Err(left) => Err(left),
-    }
+    let what = C::read(bytes)?;
+    Ok(Event::Comes(what))
 }
 
 impl<O: Rows, C: Rows> Rows for Event<O, C> {

@@ -40,10 +40,8 @@ pub fn read_exchange_coast(ship: Mmsi, bytes: &[u8]) -> Result<(Mmsi, Band), usi
 pub fn read_exchange_base(bytes: &[u8]) -> Result<u64, usize>
     ensures { ReadsInWorld point.Base (λ second. line.Base second) bytes.now result }
 {
-    match whole::<Second>(bytes) {
-        Ok(second) => Ok(second.number()),
-        Err(n) => Err(n),
-    }
+    let second = whole::<Second>(bytes)?;
+    Ok(second.number())
 }
 
 /// Reads `s` and an event of the ship.

@@ -25,10 +25,8 @@ pub fn read_station(bytes: &[u8]) -> Result<StationLine, usize>
 pub fn read_base(bytes: &[u8]) -> Result<u64, usize>
     ensures { ReadsAt Base (λ second. line.Base second) bytes.now result }
 {
-    match whole::<Second>(bytes) {
-        Ok(second) => Ok(second.number()),
-        Err(n) => Err(n),
-    }
+    let second = whole::<Second>(bytes)?;
+    Ok(second.number())
 }
 
 /// Reads an event of a ship, where no group may come.
@@ -36,10 +34,8 @@ fn read_ship_event(groups: Option<u8>, bytes: &[u8]) -> Result<ShipLine, usize>
     requires { IsFull groups }
     ensures { ReadsAt (ship_point groups) line_of_ship bytes.now result }
 {
-    match whole::<(u32, Event<ShipOwn, Hearing>)>(bytes) {
-        Ok((at, what)) => Ok(ShipLine::Event { at, what }),
-        Err(n) => Err(n),
-    }
+    let (at, what) = whole::<(u32, Event<ShipOwn, Hearing>)>(bytes)?;
+    Ok(ShipLine::Event { at, what })
 }
 
 /// Reads a group or an event, after fewer than sixteen groups.

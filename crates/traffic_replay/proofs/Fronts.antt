@@ -21,11 +21,9 @@ use Rattle.traffic_replay.specs.Meaning.{Tells, StationTells}
 
 -- events come after the groups alone
 abbrev IsBeforeEvents : Point → Type 0
-IsBeforeEvents point.Station = Unit {0}
-IsBeforeEvents point.Base = Unit {0}
-IsBeforeEvents (point.Groups held) = Unit {0}
 IsBeforeEvents point.Ship = ⊥
 IsBeforeEvents point.Coast = ⊥
+IsBeforeEvents _ = Unit {0}
 
 no_more_early : (kind : Kind) → IsBeforeEvents (among_events kind) → ⊥
 no_more_early ship early = early
@@ -37,11 +35,8 @@ Names (line.Event at what) = ⊥
 Names _ = Unit {0}
 
 pub early : (says : TrafficLine) → Names says → (p : Point) → MayStand p says → IsBeforeEvents p
-early (line.Ship m) names = elim [ point.Station ↦ λ may. tt | point.Base ↦ λ may. tt | point.Groups held ↦ λ may. tt | point.Ship ↦ λ may. may | point.Coast ↦ λ may. may ]
-early (line.Coast m b) names = elim [ point.Station ↦ λ may. tt | point.Base ↦ λ may. tt | point.Groups held ↦ λ may. tt | point.Ship ↦ λ may. may | point.Coast ↦ λ may. may ]
-early (line.Base s) names = elim [ point.Station ↦ λ may. tt | point.Base ↦ λ may. tt | point.Groups held ↦ λ may. tt | point.Ship ↦ λ may. may | point.Coast ↦ λ may. may ]
-early (line.Group m) names = elim [ point.Station ↦ λ may. tt | point.Base ↦ λ may. tt | point.Groups held ↦ λ may. tt | point.Ship ↦ λ may. may | point.Coast ↦ λ may. may ]
 early (line.Event at what) names = absurd names
+early _ names = elim [ point.Station ↦ λ may. tt | point.Base ↦ λ may. tt | point.Groups held ↦ λ may. tt | point.Ship ↦ λ may. may | point.Coast ↦ λ may. may ]
 
 -- in front of the first event nothing happened
 pub none_early : {What : Type 0} (taking : Taking What) (said : Said) (lines : Lines) → AreSaid said lines → IsBeforeEvents (point_of said) → AreHappenings taking said []
@@ -55,12 +50,16 @@ none_early taking (traffic (line.Base second) ∷ said) lines are in_front = non
 none_early taking (traffic (line.Group mmsi) ∷ said) lines are in_front = none_early taking said are.0 are.4 (early (line.Group mmsi) tt (point_of said) are.3.0)
 none_early taking (traffic (line.Event at what) ∷ said) lines are early = absurd (no_more_early (kind_of said) early)
 
--- a text that begins with that of what was said
-pub record IsBehind (kind : Kind) (said : Said) (whole : List ℕ) : Type 0 where
+-- a text that begins with one that is told so
+pub record IsFurther (Told : List ℕ → Bool → Type 0) (whole : List ℕ) : Type 0 where
   pub text : List ℕ
   pub is_well : Bool
-  pub tells : StationTells kind said text is_well
+  pub tells : Told text is_well
   pub begins : BeginsWith whole text
+
+-- one that begins with that of what was said
+abbrev IsBehind : Kind → Said → List ℕ → Type 0
+IsBehind kind said whole = IsFurther (StationTells kind said) whole
 
 tells_none : (kind : Kind) (said : Said) (lines : Lines) → AreSaid said lines → IsBeforeEvents (point_of said) → StationTells kind said [] true
 tells_none ship said lines are early = record { happened = []; are_happenings = none_early taking_ship said lines are early; text_is = refl; well_is = refl }
@@ -81,14 +80,8 @@ without_joined (coast band) l said whole is_well tells =
     record { happened = tells.happened; are_happenings = tells.are_happenings; text_is = tells.text_is; well_is = tells.well_is }
 
 -- the text of an event comes after that of the lines before it
-pub record IsLater {What : Type 0} (rules : Rules What) (taking : Taking What) (said : Said) (whole : List ℕ) : Type 0 where
-  pub text : List ℕ
-  pub is_well : Bool
-  pub tells : Tells rules taking said text is_well
-  pub begins : BeginsWith whole text
-
 without_event : {What : Type 0} (rules : Rules What) (taking : Taking What) (said : Said) (at : ℕ) (what : EventLine) (happened : List (Happening What)) (whole : List ℕ)
-    → AreHappenings taking (traffic (line.Event at what) ∷ said) happened → whole ≡ text_of rules happened → IsLater rules taking said whole
+    → AreHappenings taking (traffic (line.Event at what) ∷ said) happened → whole ≡ text_of rules happened → IsFurther (Tells rules taking said) whole
 without_event rules taking said at what [] whole are is = absurd are
 without_event rules taking said at what (h ∷ happened) whole are is = record {
   text = text_of rules happened;
@@ -100,11 +93,9 @@ without_event rules taking said at what (h ∷ happened) whole are is = record {
 behind_event : (kind : Kind) (at : ℕ) (what : EventLine) (said : Said) (whole : List ℕ) (is_well : Bool) → StationTells kind (traffic (line.Event at what) ∷ said) whole is_well
     → IsBehind kind said whole
 behind_event ship at what said whole is_well tells =
-    let l = without_event (ship_rules (identities_of said)) taking_ship said at what tells.happened whole tells.are_happenings tells.text_is in
-    record { text = l.text; is_well = l.is_well; tells = l.tells; begins = l.begins }
+    without_event (ship_rules (identities_of said)) taking_ship said at what tells.happened whole tells.are_happenings tells.text_is
 behind_event (coast band) at what said whole is_well tells =
-    let l = without_event (coast_rules (station_of band said)) taking_coast said at what tells.happened whole tells.are_happenings tells.text_is in
-    record { text = l.text; is_well = l.is_well; tells = l.tells; begins = l.begins }
+    without_event (coast_rules (station_of band said)) taking_coast said at what tells.happened whole tells.are_happenings tells.text_is
 
 -- the text of lines begins with that of all but the last
 one_less : (last : PointLine) (said : Said) (lines : Lines) (text whole : List ℕ) (is_well : Bool) → AreSaid said lines → IsPointLine (point_of said) last text

@@ -33,7 +33,6 @@ module _ {What : Type 0} (rules : Rules What) (taking : Taking What)
 
   of_answer : (group : ℕ) (answer : Joined) → IsOf rules (heard_as taking.heard group answer)
   of_answer group (Reported call extra) what same = subst rules.IsEvent (same_event (taking.heard call) what same) (heard call)
-  of_answer group (Missing n) what same = absurd (no_event _ what same)
   of_answer group _ what same = absurd (no_event _ what same)
 
   -- what comes of an event line

@@ -60,8 +60,7 @@ IsPointOf (point.Groups held) kind = kind ≡ ship
 IsPointOf point.Ship kind = kind ≡ ship
 IsPointOf point.Coast ship = ⊥
 IsPointOf point.Coast (coast band) = Unit {0}
-IsPointOf point.Station kind = Unit {0}
-IsPointOf point.Base kind = Unit {0}
+IsPointOf _ kind = Unit {0}
 
 among : (kind : Kind) → IsPointOf (among_events kind) kind
 among ship = refl
@@ -72,11 +71,8 @@ behind ship = refl
 behind (coast band) = tt
 
 group_kind : (p : Point) (kind : Kind) (mmsi : ℕ) → IsPointOf p kind → MayStand p (line.Group mmsi) → kind ≡ ship
-group_kind point.Station kind mmsi of may = absurd may
-group_kind point.Base kind mmsi of may = absurd may
 group_kind (point.Groups held) kind mmsi of may = of
-group_kind point.Ship kind mmsi of may = absurd may
-group_kind point.Coast kind mmsi of may = absurd may
+group_kind _ kind mmsi of may = absurd may
 
 point_kind : (said : Said) (lines : Lines) → AreSaid said lines → IsPointOf (point_of said) (kind_of said)
 point_kind [] lines are = tt
@@ -90,21 +86,19 @@ point_kind (traffic (line.Group mmsi) ∷ said) lines are = group_kind (point_of
 point_kind (traffic (line.Event at what) ∷ said) lines are = among (kind_of said)
 
 ship_event_of : (p : Point) (at : ℕ) (what : EventLine) → IsPointOf p ship → MayStand p (line.Event at what) → IsOfShip what
-ship_event_of point.Station at what of may = absurd may
-ship_event_of point.Base at what of may = absurd may
 ship_event_of (point.Groups held) at what of may = may
 ship_event_of point.Ship at what of may = may
 ship_event_of point.Coast at what of may = absurd of
+ship_event_of _ at what of may = absurd may
 
 not_ship : (band : Band) → coast band ≡ ship → ⊥
 not_ship band h = cc
 
 coast_event_of : (band : Band) (p : Point) (at : ℕ) (what : EventLine) → IsPointOf p (coast band) → MayStand p (line.Event at what) → IsOfCoast what
-coast_event_of band point.Station at what of may = absurd may
-coast_event_of band point.Base at what of may = absurd may
 coast_event_of band (point.Groups held) at what of may = absurd (not_ship band of)
 coast_event_of band point.Ship at what of may = absurd (not_ship band of)
 coast_event_of band point.Coast at what of may = may
+coast_event_of band _ at what of may = absurd may
 
 -- ---- what comes of event lines
 

@@ -76,8 +76,6 @@ Begun to l said text is_well = (point_at to ≡ among_events (kind_of said)) × 
 
 begun : (from to : Stage) (l : ReceiverLine) (said : Said) (text : List ℕ) (is_well : Bool) → GoesOn from to → IsBody (point_at from) → IsReadyAt from → KeepsStation from said text is_well
     → Begun to l said text is_well
-begun stage.Station to l said text is_well begins body ready keeps = absurd body
-begun (stage.Base station) to l said text is_well begins body ready keeps = absurd body
 begun (stage.Groups g) to l said text is_well begins body ready keeps =
     subst (λ (t : Stage). Begun t l said text is_well) (sym begins.1)
     (sym (ap among_events keeps.0), ready.0, silent (stage.Ship g.base begins.0) l said text is_well (ship_begins g begins.0 said text is_well begins.2 keeps))
@@ -85,6 +83,7 @@ begun (stage.Ship base s) to l said text is_well begins body ready keeps =
     subst (λ (t : Stage). Begun t l said text is_well) (sym begins) (sym (ap among_events keeps.0), ready, silent (stage.Ship base s) l said text is_well keeps)
 begun (stage.Coast s) to l said text is_well begins body ready keeps =
     subst (λ (t : Stage). Begun t l said text is_well) (sym begins) (sym (ap among_events keeps.1), ready, silent (stage.Coast s) l said text is_well keeps)
+begun _ to l said text is_well begins body ready keeps = absurd body
 
 pub keeps_shown : (old new : Replay) (l : ReceiverLine) (said : Said) (text : List ℕ) → Keeps old said text → new.is_well ≡ old.is_well → GoesOn old.stage new.stage → IsBody (point_at old.stage)
     → point_of (joined l ∷ said) ≡ among_events (kind_of said) → KeepsGroups new.heard (joined l ∷ said) → length new.heard.batch.items < MOST_IN_BATCH

@@ -111,13 +111,9 @@ impl Replay {
             → (BringsTooMany (of_receivers said) line → ⊥) × Keeps self.new (joined line ∷ said) text) }
         ensures err { IfErr result (RefusesGroup self.old group) }
     {
-        match self.heard.meet(group, shown) {
-            Ok(()) => {
-                self.stage.begin();
-                Ok(())
-            }
-            Err(refusal) => Err(refusal),
-        }
+        self.heard.meet(group, shown)?;
+        self.stage.begin();
+        Ok(())
     }
 
     /// Takes in what a receiver heard of its group.
@@ -131,13 +127,9 @@ impl Replay {
             → (BringsTooMany (of_receivers said) line → ⊥) × Keeps self.new (joined line ∷ said) text) }
         ensures err { IfErr result (RefusesGroup self.old group) }
     {
-        match self.heard.hear(workers, group, heard) {
-            Ok(()) => {
-                self.stage.begin();
-                Ok(())
-            }
-            Err(refusal) => Err(refusal),
-        }
+        self.heard.hear(workers, group, heard)?;
+        self.stage.begin();
+        Ok(())
     }
 
     /// Takes the line that names the station.
@@ -148,13 +140,9 @@ impl Replay {
         ensures err { IfErr result (RefusesLine self.old line.now) }
         ensures unsaid { IfErr result (λ refusal. (text : List ℕ) → KeepsText refusal text text) }
     {
-        match read_station(line) {
-            Ok(named) => {
-                self.stage = Stage::Base(named);
-                Ok(())
-            }
-            Err(n) => Err(Refusal::Column(n)),
-        }
+        let named = read_station(line)?;
+        self.stage = Stage::Base(named);
+        Ok(())
     }
 
     /// Takes the line of the base, after that of this station.
@@ -165,13 +153,9 @@ impl Replay {
         ensures err { IfErr result (RefusesLine self.old line.now) }
         ensures unsaid { IfErr result (λ refusal. (text : List ℕ) → KeepsText refusal text text) }
     {
-        match read_base(line) {
-            Ok(base) => {
-                self.stage = behind_base(self.alloc, named, base);
-                Ok(())
-            }
-            Err(n) => Err(Refusal::Column(n)),
-        }
+        let base = read_base(line)?;
+        self.stage = behind_base(self.alloc, named, base);
+        Ok(())
     }
 
     /// Takes a line of the station.

@@ -10,8 +10,7 @@ use Rattle.exchange.specs.StandsFor.{IsStill}
 -- the calls that an event sends
 abbrev pub calls_given : Given → List Call
 calls_given (did acts) = calls_of acts
-calls_given (refuses refusal) = []
-calls_given (nothing number) = []
+calls_given _ = []
 
 -- a call of a number that comes to an end at a moment, where it was sent
 abbrev pub delivery : {What : Type 0} → (heard : Call → What) → (at number : ℕ) → List Call → Option (ℕ × What)

@@ -122,8 +122,7 @@ IsShort read = (group : ℕ) (e : List Element) → read ≡ got.Reception group
 -- what was read of a line may come at this point
 abbrev pub MayBeRead : Point → Got → Type 0
 MayBeRead at got.Nothing = Unit {0}
-MayBeRead at (got.Reception group e) = IsBody at
-MayBeRead at (got.Evidence group sheet) = IsBody at
+MayBeRead at _ = IsBody at
 
 -- a line of receivers gives these facts of its group
 pub record IsShown (line : ReceiverLine) (group : ℕ) (G : Facts) : Type 0 where

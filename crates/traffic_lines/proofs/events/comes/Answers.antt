@@ -1,6 +1,13 @@
-use Rattle.std.proofs.Common.{ap}
+use Rattle.std.proofs.Common.{refl, ap}
 use Rattle.line_grammar.specs.Grammar.{first}
+use Rattle.line_grammar.specs.Sections.{nth}
+use Rattle.line_grammar.proofs.Rows.{leaves_row}
+use Rattle.traffic_lines.specs.Events.{IsEvent, event_parts}
 use Rattle.traffic_lines.proofs.events.comes.Goals as goal
 
-pub returns-in-Ok : goal.returns-in-Ok
-returns-in-Ok g c = (c.in-Ok.ensures.0, (c.in-Ok.ensures.1.0, c.in-Ok.ensures.1.1, ap first c.in-Ok.ensures.1.2))
+pub returns-in_err-what : goal.returns-in_err-what
+returns-in_err-what g c =
+    leaves_row (nth 0) (IsEvent g.O.Rows.lawful g.C.Rows.lawful) (event_parts g.O.Rows.parts g.C.Rows.parts) g.C.Rows.rows _ c.args.bytes.now _ _ refl c.from_residual.ensures.1 c.in_err-what.ensures
+
+pub returns : goal.returns
+returns g c = (c.in_ok-what.ensures.0, (c.in_ok-what.ensures.1.0, c.in_ok-what.ensures.1.1, ap first c.in_ok-what.ensures.1.2))

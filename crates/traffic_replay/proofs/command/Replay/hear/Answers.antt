@@ -1,5 +1,6 @@
 use Rattle.std.proofs.Common.{refl, inl, inr}
 use Rattle.slot_evidence.specs.Facts.{facts_of}
+use Rattle.std.proofs.lemmas.Result.{err_from_is_err_and}
 use Rattle.join_groups.specs.Groups.{is_named}
 use Rattle.join_groups.proofs.PublicLaws.{brings_full, full_brings}
 use Rattle.traffic_replay.specs.HeardGroups.{of_receivers, facts_since_heard}
@@ -7,20 +8,21 @@ use Rattle.traffic_replay.proofs.GroupKeeping.{keeps_line}
 use Rattle.traffic_replay.proofs.Told.{keeps_shown}
 use Rattle.traffic_replay.proofs.command.Replay.hear.Goals as goal
 
-pub returns-in-Ok-clause-ok : goal.returns-in-Ok-clause-ok
-returns-in-Ok-clause-ok g c = λ said line text keeps shown.
+pub returns-clause-ok : goal.returns-clause-ok
+returns-clause-ok g c = λ said line text keeps shown.
     let old = c.args.self.now in
-    let taken = c.in-Ok.ensures.ok (is_named (of_receivers said)) (λ k. facts_since_heard k said) keeps.heard in (
+    let taken = c.in_ok-hear.ensures.ok (is_named (of_receivers said)) (λ k. facts_since_heard k said) keeps.heard in (
       λ b. taken.0 (brings_full (of_receivers said) line c.args.group shown.named b),
       keeps_shown old _ line said text keeps refl c.begin.ensures c.requires.body (shown.point said)
-          (keeps_line c.hear.new.self said line c.args.group (facts_of c.args.heard) shown.named shown.facts taken.1) (c.in-Ok.ensures.few keeps.few),
+          (keeps_line c.hear.new.self said line c.args.group (facts_of c.args.heard) shown.named shown.facts taken.1) (c.in_ok-hear.ensures.few keeps.few),
     )
 
-pub returns-in-Err-clause-err : goal.returns-in-Err-clause-err
-returns-in-Err-clause-err g c =
-    elim c.in-Err.ensures.err [
+pub returns-in_err-hear-clause-err : goal.returns-in_err-hear-clause-err
+returns-in_err-hear-clause-err g c =
+    let p = err_from_is_err_and c.from_residual.result c.from_residual.ensures.1 in
+    rw (p.1, p.2) (elim c.in_err-hear.ensures.err [
       | inl memory ↦ inl memory
       | inr full ↦ inr (λ said line G text keeps shown.
           let is = full (is_named (of_receivers said)) (λ k. facts_since_heard k said) keeps.heard in
           (is.0, full_brings (of_receivers said) line c.args.group shown.named is.1))
-    ]
+    ])

@@ -1,5 +1,5 @@
 use Rattle.std.proofs.Common.{append_assoc, append-nil}
-use Rattle.station_lines.proofs.refusals.append_refusal.Goals as goal
+use Rattle.station_lines.proofs.texts.append_refusal.Goals as goal
 
 pub returns-in-NoSuchCall : goal.returns-in-NoSuchCall
 returns-in-NoSuchCall g c = rw (c.in-NoSuchCall.is, c.append_labelled.ensures.items, c.from.ensures) (simp append-nil)
