@@ -6,7 +6,7 @@ use Rattle.call_values.specs.declared.calls.Casualty.{Casualty}
 use Rattle.call_values.specs.declared.calls.Call.{Call}
 use Rattle.call_values.specs.declared.calls.Call.TheVariants.{Alert, Ack, Relay, RelayAck, AllShips, AreaCall, GroupCall, Individual, Service}
 use Rattle.call_values.specs.declared.choices.Category.{Category}
-use Rattle.call_values.specs.declared.choices.Category.TheVariants.{Routine, Safety, Urgency}
+use Rattle.call_values.specs.declared.choices.Category.TheVariants.{Routine}
 use Rattle.call_values.specs.declared.fields.FieldKind.{FieldKind}
 use Rattle.call_values.specs.declared.fields.FieldKind.TheVariants.{Absent, Hundreds, Hf, Vhf, Tens}
 use Rattle.call_values.specs.declared.parts.To.{To}
