@@ -46,23 +46,13 @@ parts_good = then_good _ _ (letter_good (UpTo 39)) (λ a _ _. area_second_good a
 
 latitude_at : (a b : ℕ) (t : Bool) → (a % 10 == 9) ≡ t → Allows (if t then Digits 0 1 else Digits 9 1) b
     → (b / 10 ≤ 9) × (b % 10 ≤ 1) × (a % 10 ≡ 9 → b / 10 ≤ 0)
-latitude_at a b true e h = (omega (arith, h.0), h.1, λ _. h.0)
-latitude_at a b false e h = (h.0, h.1, λ p. absurd (eqb-false (a % 10) 9 e p))
+latitude_at a b t e h = grind (arith, nat_tests)
 
 latitude_most : (a b : ℕ) → b / 10 ≤ 9 → (a % 10 ≡ 9 → b / 10 ≤ 0) → a % 10 * 10 + b / 10 ≤ 90
 latitude_most a b h k = grind arith
 
 pub area_lawful : (a b c d e : ℕ) → a ≤ 39 → Allows (area_latitude a) b → Allows (longitude_ones b) c → d ≤ 99 → e ≤ 99 → IsArea (area_of a b c d e)
-area_lawful a b c d e ha hb hc hd he =
-    let kb = latitude_at a b (a % 10 == 9) refl hb in
-    let kc = degrees_at b c (b % 10 == 1) refl hc in
-    record {
-      quadrant = omega arith;
-      latitude = latitude_most a b kb.0 kb.2;
-      longitude = longitude_most b c kb.1 kc.0 kc.1;
-      south = hd;
-      east = he;
-    }
+area_lawful a b c d e ha hb hc hd he = grind (arith, nat_tests)
 
 area_list : (a b c d e : ℕ) → b / 10 ≤ 9 → b % 10 ≤ 1 → c ≤ 99 → d ≤ 99 → e ≤ 99 → area_symbols (area_of a b c d e) ≡ a ∷ b ∷ c ∷ d ∷ e ∷ []
 unfolding area_digits
@@ -85,8 +75,7 @@ to_area v word p =
 
 latitude_from : (a b : ℕ) (t : Bool) → (a % 10 == 9) ≡ t → b / 10 ≤ 9 → b % 10 ≤ 1 → (a % 10 ≡ 9 → b / 10 ≤ 0)
     → Allows (if t then Digits 0 1 else Digits 9 1) b
-latitude_from a b true e h k l = (l (grind (arith, nat_tests)), k)
-latitude_from a b false e h k l = (h, k)
+latitude_from a b t e h k l = grind (arith, nat_tests)
 
 from_area : (v : Rectangle) (word : List ℕ) → Areas v word → AreaParts v word
 unfolding area_digits

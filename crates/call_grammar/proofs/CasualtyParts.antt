@@ -1,5 +1,5 @@
 -- Casualties by their parts.
-use Rattle.std.proofs.Common.{◌≡◌, ℕ, List, [], ◌∷◌, ◌++◌, Option, refl, sym, subst}
+use Rattle.std.proofs.Common.{◌≡◌, ℕ, List, [], ◌∷◌, ◌++◌, Option, refl, sym, subst, arith}
 use Rattle.symbol_reader.specs.inside.Languages.{Only, Then, Spelled}
 use Rattle.symbol_reader.proofs.Laws.{Good, Alike, then_good, only_good, alike_good}
 use Rattle.symbol_reader.proofs.Steps.{spelled_then}
@@ -54,42 +54,10 @@ casualty_parts_good : Good CasualtyParts
 casualty_parts_good = then_good _ _ identity_good (λ m _ _. after_identity_good m)
 
 to_casualty : (c : Casualty) (word : List ℕ) → CasualtyParts c word → Casualties c word
-to_casualty c word p =
-    let q = p.after in let r = q.after in let s = r.after in let t = s.after in
-    let value : c ≡ casualty_of p.chosen q.chosen r.chosen s.chosen t.chosen = t.after.value in
-    let last : t.back ≡ [] = t.after.list in
-    let f1 : word ≡ p.front ++ p.back = p.list in
-    let f2 : p.back ≡ q.front ++ q.back = q.list in
-    let f3 : q.back ≡ r.front ++ r.back = r.list in
-    let f4 : r.back ≡ s.front ++ s.back = s.list in
-    let f5 : s.back ≡ t.front ++ t.back = t.list in
-    let g1 : p.front ≡ identity_symbols p.chosen = p.before.list in
-    let g2 : q.front ≡ q.chosen ∷ [] = q.before.list in
-    let g3 : r.front ≡ position_symbols r.chosen = r.before.list in
-    let g4 : s.front ≡ time_symbols s.chosen = s.before.list in
-    let g5 : t.front ≡ t.chosen ∷ [] = t.before.list in
-    let e5 : s.back ≡ t.chosen ∷ [] = cc in
-    let e4 : r.back ≡ time_symbols s.chosen ++ (t.chosen ∷ []) = cc in
-    let e3 : q.back ≡ position_symbols r.chosen ++ (time_symbols s.chosen ++ (t.chosen ∷ [])) = cc in
-    let e2 : p.back ≡ q.chosen ∷ (position_symbols r.chosen ++ (time_symbols s.chosen ++ (t.chosen ∷ []))) = cc in
-    let list : word ≡ casualty_symbols (casualty_of p.chosen q.chosen r.chosen s.chosen t.chosen) = cc in
-    subst (λ x. Casualties x word) (sym value) (record {
-      is_lawful = record {
-        mmsi = p.before.is_lawful;
-        nature = q.before.is_lawful;
-        position = r.before.is_lawful;
-        time = s.before.is_lawful;
-        comm = t.before.is_lawful;
-      };
-      list = list;
-    })
+to_casualty c word p = grind arith
 
 from_casualty : (c : Casualty) (word : List ℕ) → Casualties c word → CasualtyParts c word
-from_casualty c word p =
-    let h = p.is_lawful in
-    subst (λ w. CasualtyParts c w) (sym p.list)
-    (spelled_then c.mmsi _ h.mmsi (spelled_then c.nature _ h.nature (spelled_then c.position _ h.position (spelled_then c.time _ h.time
-    (spelled_then c.comm _ h.comm (record { value = refl; list = refl }))))))
+from_casualty c word p = grind arith
 
 pub casualty_alike : Alike CasualtyParts Casualties
 casualty_alike = record { to = to_casualty; back = from_casualty }

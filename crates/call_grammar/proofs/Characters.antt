@@ -35,8 +35,7 @@ of_position None lawful = (omega arith, (omega arith, (omega arith, (omega arith
 of_position (Some f) lawful = ten (position_digits f) (omega (arith, lawful.quadrant, lawful.latitude, lawful.longitude))
 
 of_time : (t : Option (ℕ × ℕ)) → IsHourMinute t → AreCharacters (time_symbols t)
-of_time None lawful = (omega arith, (omega arith, tt))
-of_time (Some t) lawful = (omega (arith, lawful.0), (omega (arith, lawful.1), tt))
+of_time t lawful = grind arith
 
 of_casualty : (c : Casualty) → IsCasualty c → AreCharacters (casualty_symbols c)
 of_casualty c lawful =
@@ -62,8 +61,7 @@ of_message (Fields f1 f2) lawful = both (field_symbols f1) (field_symbols f2) (o
 of_message (At p) lawful = (omega arith, of_position p lawful)
 
 of_category : (g : Category) → category_symbol g < 128
-of_category Routine = omega arith
-of_category _ = omega arith
+of_category g = grind arith
 
 of_identity : (n : ℕ) → IsMmsi n → AreCharacters (identity_symbols n)
 of_identity n lawful = ten (10 * n) (omega (arith, lawful))
@@ -115,32 +113,20 @@ of_fields (Service m g from k) lawful =
     (of_category g, both (identity_symbols from) (kind_symbols k) (of_identity from lawful.1) (of_kind k lawful.2))
 
 of_to : (t : To) → format_to t < 128
-of_to to.All = omega arith
-of_to _ = omega arith
+of_to t = grind arith
 
 of_format : (c : Call) → format_of c < 128
-of_format (Alert casualty) = omega arith
-of_format c = of_to (address_of c)
+of_format c = grind arith
 
 of_choice : (b : Bool) (x y : ℕ) → x < 128 → y < 128 → cond b x y < 128
 of_choice true x y a b = a
 of_choice false x y a b = b
 
 of_kind_end : (k : Kind) → kind_end k < 128
-of_kind_end (Test reply) = of_choice reply ACKNOWLEDGE_BQ ACKNOWLEDGE_RQ (omega arith) (omega arith)
-of_kind_end AskPosition = omega arith
-of_kind_end (Position p t) = omega arith
+of_kind_end k = grind arith
 
 of_end : (c : Call) → end_of c < 128
-of_end (Alert casualty) = omega arith
-of_end (Ack from k) = omega arith
-of_end (Relay t from k ask) = of_choice ask ACKNOWLEDGE_RQ EOS (omega arith) (omega arith)
-of_end (RelayAck t from k) = omega arith
-of_end (AllShips g from x y f1 f2) = omega arith
-of_end (AreaCall a g from x y f1 f2) = omega arith
-of_end (GroupCall m g from x y f1 f2) = omega arith
-of_end (Individual m g from x y told e) = end_small e
-of_end (Service m g from k) = of_kind_end k
+of_end c = grind arith
 
 pub of_call : (c : Call) → IsCall c → AreCharacters (spell c)
 of_call c lawful =

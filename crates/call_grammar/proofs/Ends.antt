@@ -74,26 +74,10 @@ end_at l e (inr (inr d)) w =
     absurd (cc)
 
 end_known : (c : Call) → (end_of c ≡ ACKNOWLEDGE_RQ) ⊎ (end_of c ≡ ACKNOWLEDGE_BQ) ⊎ (end_of c ≡ EOS)
-end_known (Alert k) = inr (inr refl)
-end_known (Ack from k) = inr (inr refl)
-end_known (Relay t from k true) = inl refl
-end_known (Relay t from k false) = inr (inr refl)
-end_known (RelayAck t from k) = inr (inl refl)
-end_known (AllShips g from s k f1 f2) = inr (inr refl)
-end_known (AreaCall a g from s k f1 f2) = inr (inr refl)
-end_known (GroupCall m g from s k f1 f2) = inr (inr refl)
-end_known (Individual m g from s k x Ask) = inl refl
-end_known (Individual m g from s k x Reply) = inr (inl refl)
-end_known (Individual m g from s k x Plain) = inr (inr refl)
-end_known (Service m g from (Test true)) = inr (inl refl)
-end_known (Service m g from (Test false)) = inl refl
-end_known (Service m g from AskPosition) = inl refl
-end_known (Service m g from (Position p t)) = inr (inl refl)
+end_known c = grind arith
 
 covered_as : (l : List ℕ) (e : ℕ) (a : IsAtEnd l) → end_of a.call ≡ e → IsCovered (drop 1 (l ++ (e ∷ [])))
-covered_as l e a k =
-    let list : format_of a.call ∷ covered a.call ≡ l ++ (e ∷ []) = a.list ∙ ap (λ x. l ++ (x ∷ [])) k in
-    record { call = a.call; lawful = a.lawful; list = ap (λ x. drop 1 x) (sym list) }
+covered_as l e a k = grind arith
 
 -- before the first end of sequence, one of the three would be followed by a check
 pub at_end : (l : List ℕ) → IsAtEnd l

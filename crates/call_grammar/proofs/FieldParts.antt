@@ -41,8 +41,7 @@ parts_good : Good FieldParts
 parts_good = then_good _ _ (letter_good letter.Field) (λ initial _ _. field_rest_good initial)
 
 letter_at : (x : ℕ) (t : Bool) → Allows (if t then Exactly NO_INFORMATION else UpTo 99) x → t ≡ false → x ≤ 99
-letter_at x true h e = absurd (cc)
-letter_at x false h e = h
+letter_at x t h e = grind arith
 
 -- the letter of a field that is not absent
 pub letter_up : (initial x : ℕ) → (initial ≡ NO_INFORMATION → ⊥) → Allows (field_letter initial) x → x ≤ 99
@@ -122,8 +121,7 @@ to_field : (v : FieldKind) (word : List ℕ) → FieldParts v word → FieldWord
 to_field v word p = subst (FieldWords v) (sym (joined p refl)) (to_rest p.chosen v p.back p.before.allowed p.after)
 
 letter_from : (x : ℕ) (t : Bool) → t ≡ false → x ≤ 99 → Allows (if t then Exactly NO_INFORMATION else UpTo 99) x
-letter_from x true e h = absurd (cc)
-letter_from x false e h = h
+letter_from x t e h = grind arith
 
 letter_ok : (initial x : ℕ) → (initial ≡ NO_INFORMATION → ⊥) → x ≤ 99 → Allows (field_letter initial) x
 letter_ok initial x n h = letter_from x (initial == NO_INFORMATION) (ne_eqb initial NO_INFORMATION n) h
@@ -131,10 +129,7 @@ letter_ok initial x n h = letter_from x (initial == NO_INFORMATION) (ne_eqb init
 -- a field of three characters, and its first
 short_rest : (v : FieldKind) (initial b c : ℕ) → (initial / 10 ≡ 4 → ⊥) → Allows (field_letter initial) b → Allows (field_letter initial) c → v ≡ short_field initial b c
     → FieldRest initial v (b ∷ c ∷ [])
-short_rest v initial b c n hb hc value = one_then b hb (one_then c hc (record {
-  yes = λ e. absurd (n (eqb-true (initial / 10) 4 e));
-  no = λ _. record { value = value; list = refl };
-}))
+short_rest v initial b c n hb hc value = grind arith
 
 -- a field, its first character and the rest
 pub record FieldSplit (v : FieldKind) : Type 0 where

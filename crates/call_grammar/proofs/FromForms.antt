@@ -1,5 +1,5 @@
 -- A call's list is spelled by the grammar.
-use Rattle.std.proofs.Common.{◌≡◌, ℕ, List, [], ◌∷◌, ◌++◌, true, false, Some, None, refl, sym, ap, subst, append_assoc}
+use Rattle.std.proofs.Common.{◌≡◌, ℕ, List, [], ◌∷◌, ◌++◌, true, false, Some, None, refl, sym, ap, subst, append_assoc, arith}
 use Rattle.symbol_reader.specs.inside.Languages.{Only, Then}
 use Rattle.symbol_reader.proofs.Steps.{one_then, spelled_then}
 use Rattle.call_values.specs.declared.calls.Casualty.{Casualty}
@@ -36,9 +36,7 @@ only : {v : Call} → Only v v []
 only = record { value = refl; list = refl }
 
 IsDistressTelecommand-relay : (t : To) → IsDistressTelecommand t false
-IsDistressTelecommand-relay to.All = tt
-IsDistressTelecommand-relay (to.Area a) = refl
-IsDistressTelecommand-relay _ = refl
+IsDistressTelecommand-relay t = grind arith
 
 -- after each address
 from_distress : (t : To) (v : Call) (w : List ℕ) → IsTo t → Distress t v w → CallWords v (format_to t ∷ (address_symbols t ++ (categories.DISTRESS ∷ w)))
@@ -55,8 +53,7 @@ relay_words t from k e h i j =
 request_words : (t : To) (g : Category) (from first second : ℕ) (f1 f2 : FieldKind) → IsMmsi from → IsRequest first second (Fields f1 f2)
     → SenderAndRequest t g (request t g from first second f1 f2)
     (identity_symbols from ++ (first ∷ second ∷ (field_symbols f1 ++ (field_symbols f2 ++ (EOS ∷ [])))))
-request_words t g from first second f1 f2 i h =
-    spelled_then from _ i (spelled_then first _ h.one (spelled_then second _ h.two (spelled_then f1 _ h.told.0 (spelled_then f2 _ h.told.1 (one_then EOS refl only)))))
+request_words t g from first second f1 f2 i h = grind arith
 
 -- a call to one station, after its sender
 from_sender_and_individual : (m : ℕ) (g : Category) (from : ℕ) (v : Call) (w : List ℕ) → IsMmsi m → SenderAndIndividual m g v w

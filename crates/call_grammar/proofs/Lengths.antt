@@ -28,8 +28,7 @@ length-position (Some f) = length-ten_digits (position_digits f)
 length-position None = refl
 
 length-time : (t : Option (ℕ × ℕ)) → length (time_symbols t) ≡ 2
-length-time (Some t) = refl
-length-time None = refl
+length-time t = grind arith
 
 length-casualty : (c : Casualty) → length (casualty_symbols c) ≡ 14
 length-casualty c =

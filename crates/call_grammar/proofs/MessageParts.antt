@@ -48,8 +48,7 @@ parts_good = then_good _ _ (letter_good letter.Message) (λ initial _ _. message
 
 -- what begins a message and no position begins a field
 pub field_initial : (initial : ℕ) → Allows letter.Message initial → (initial ≡ POSITION_FOLLOWS → ⊥) → Allows letter.Field initial
-field_initial initial (inl e) n = absurd (n e)
-field_initial initial (inr h) n = h
+field_initial initial h n = grind arith
 
 to_message_at : (initial : ℕ) (v : Message) (l : List ℕ) → initial ≡ POSITION_FOLLOWS → AtRest v l → Messages v (initial ∷ l)
 to_message_at initial v l e p =

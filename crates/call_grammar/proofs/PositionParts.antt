@@ -69,47 +69,26 @@ record Lawful (a b c d e : ℕ) : Type 0 where
 
 ones_at : (a b : ℕ) (t : Bool) → (a % 10 == 9) ≡ t → Allows (if t then Exactly 0 else Digits 9 5) b
     → (b / 10 ≤ 9) × (b % 10 ≤ 5) × (a % 10 ≡ 9 → b ≡ 0)
-ones_at a b true e h = let k : b ≡ 0 = h in (omega arith, omega arith, λ _. k)
-ones_at a b false e h = (h.0, h.1, λ p. absurd (eqb-false (a % 10) 9 e p))
+ones_at a b t e h = grind (arith, nat_tests)
 
 hundreds_at : (a c : ℕ) (t : Bool) → (a % 10 == 9) ≡ t → Allows (if t then UpTo 1 else Digits 9 1) c
     → (c / 10 ≤ 9) × (c % 10 ≤ 1) × (a % 10 ≡ 9 → c ≤ 1)
-hundreds_at a c true e h = let k : c ≤ 1 = h in (omega arith, omega arith, λ _. k)
-hundreds_at a c false e h = (h.0, h.1, λ p. absurd (eqb-false (a % 10) 9 e p))
+hundreds_at a c t e h = grind (arith, nat_tests)
 
 pub degrees_at : (c d : ℕ) (t : Bool) → (c % 10 == 1) ≡ t → Allows (if t then UpTo 80 else UpTo 99) d
     → (d ≤ 99) × (c % 10 ≡ 1 → d ≤ 80)
-degrees_at c d true e h = let k : d ≤ 80 = h in (omega arith, λ _. k)
-degrees_at c d false e h = (h, λ p. absurd (eqb-false (c % 10) 1 e p))
+degrees_at c d t e h = grind (arith, nat_tests)
 
 both_test : (m n k l : ℕ) → ((m == n) && (k == l)) ≡ false → m ≡ n → k ≡ l → ⊥
 both_test m n k l e p q = grind (arith, nat_tests)
 
 last_at : (c d e : ℕ) (t : Bool) → ((c % 10 == 1) && (d == 80)) ≡ t → Allows (if t then Exactly 0 else UpTo 59) e
     → (e ≤ 59) × (c % 10 ≡ 1 → d ≡ 80 → e ≡ 0)
-last_at c d e true test h = let k : e ≡ 0 = h in (omega arith, λ _ _. k)
-last_at c d e false test h = (h, λ p q. absurd (both_test (c % 10) 1 d 80 test p q))
+last_at c d e t test h = grind (arith, nat_tests)
 
 lawful_from : (a b c d e : ℕ) → a ≤ 39 → Allows (latitude_ones a) b → Allows (minutes_and_hundreds a) c → Allows (longitude_ones c) d
     → Allows (longitude_minutes c d) e → Lawful a b c d e
-lawful_from a b c d e ha hb hc hd he =
-    let kb = ones_at a b (a % 10 == 9) refl hb in
-    let kc = hundreds_at a c (a % 10 == 9) refl hc in
-    let kd = degrees_at c d (c % 10 == 1) refl hd in
-    let ke = last_at c d e ((c % 10 == 1) && (d == 80)) refl he in
-    record {
-      initial = ha;
-      ones = kb.0;
-      tens = kb.1;
-      pole = kb.2;
-      minutes = kc.0;
-      hundreds = kc.1;
-      pole_minutes = kc.2;
-      degrees = kd.0;
-      half = kd.1;
-      last = ke.0;
-      half_last = ke.1;
-    }
+lawful_from a b c d e ha hb hc hd he = grind (arith, nat_tests)
 
 arc : (degrees minutes most : ℕ) → minutes < 60 → degrees ≤ most → (degrees ≡ most → minutes ≡ 0) → IsArc degrees minutes most
 arc degrees minutes most h k m = grind arith
@@ -122,23 +101,13 @@ longitude_most c d h k l = grind arith
 
 latitude_pole : (a b c : ℕ) → b / 10 ≤ 9 → (a % 10 ≡ 9 → b ≡ 0) → (a % 10 ≡ 9 → c ≤ 1)
     → a % 10 * 10 + b / 10 ≡ 90 → b % 10 * 10 + c / 10 ≡ 0
-latitude_pole a b c h k l e =
-    let nine : a % 10 ≡ 9 = omega arith in
-    let none : b ≡ 0 = k nine in
-    let few : c ≤ 1 = l nine in
-    omega arith
+latitude_pole a b c h k l e = grind (arith, nat_tests)
 
 longitude_half : (c d e : ℕ) → c % 10 ≤ 1 → d ≤ 99 → (c % 10 ≡ 1 → d ≡ 80 → e ≡ 0) → c % 10 * 100 + d ≡ 180 → e ≡ 0
 longitude_half c d e h k l p = l (omega arith) (omega arith)
 
 fix_lawful : (a b c d e : ℕ) → Lawful a b c d e → IsFix (fix_of a b c d e)
-fix_lawful a b c d e h = record {
-  quadrant = (let k : a ≤ 39 = h.initial in omega arith);
-  latitude = arc _ _ _ (let k : b % 10 ≤ 5 = h.tens in let l : c / 10 ≤ 9 = h.minutes in omega arith)
-      (latitude_most a b h.ones h.pole) (latitude_pole a b c h.ones h.pole h.pole_minutes);
-  longitude = arc _ _ _ (let k : e ≤ 59 = h.last in omega arith)
-      (longitude_most c d h.hundreds h.degrees h.half) (longitude_half c d e h.hundreds h.degrees h.half_last);
-}
+fix_lawful a b c d e h = grind (arith, nat_tests)
 
 fix_list : (a b c d e : ℕ) → Lawful a b c d e → ten_digits (position_digits (fix_of a b c d e)) ≡ a ∷ b ∷ c ∷ d ∷ e ∷ []
 unfolding position_digits
@@ -161,14 +130,7 @@ to_known a v back word h p e =
     })
 
 to_unknown : (v : Option Fix) (back word : List ℕ) → UnknownRest v back → word ≡ 99 ∷ back → Positions v word
-to_unknown v back word p e =
-    let q = p.after in let r = q.after in let s = r.after in let t = s.after in
-    let value : v ≡ None = t.value in
-    let tail : back ≡ p.chosen ∷ q.chosen ∷ r.chosen ∷ s.chosen ∷ [] = joined p (joined q (joined r (joined s t.list))) in
-    let k1 : p.chosen ≡ 99 = p.before.allowed in let k2 : q.chosen ≡ 99 = q.before.allowed in
-    let k3 : r.chosen ≡ 99 = r.before.allowed in let k4 : s.chosen ≡ 99 = s.before.allowed in
-    let list : word ≡ 99 ∷ 99 ∷ 99 ∷ 99 ∷ 99 ∷ [] = cc in
-    subst (λ x. Positions x word) (sym value) (record { is_lawful = tt; list = list })
+to_unknown v back word p e = grind (arith, nat_tests)
 
 below_initial : (initial : ℕ) → (initial ≤ 39) ⊎ (initial ≡ 99) → (initial == 99) ≡ false → initial ≤ 39
 below_initial initial h e = grind (arith, nat_tests)
@@ -201,11 +163,7 @@ arc_end : (degrees minutes most : ℕ) → IsArc degrees minutes most → degree
 arc_end degrees minutes most h e = grind arith
 
 fix_back : (f : Fix) → IsFix f → fix_of (first_of_fix f) (second_of f) (third_of f) (f.lon_deg % 100) f.lon_min ≡ f
-fix_back f h =
-    let k1 : f.lat_deg ≤ 90 = arc_most _ _ _ h.latitude in
-    let k2 : f.lat_min < 60 = arc_minutes _ _ _ h.latitude in
-    let k3 : f.lon_deg ≤ 180 = arc_most _ _ _ h.longitude in
-    same_fix _ f (omega arith) (omega arith) (omega arith) (omega arith) refl
+fix_back f h = grind (arith, nat_tests)
 
 fix_digits : (f : Fix) → IsFix f
     → ten_digits (position_digits f) ≡ first_of_fix f ∷ second_of f ∷ third_of f ∷ (f.lon_deg % 100) ∷ f.lon_min ∷ []
@@ -220,34 +178,27 @@ fix_digits f h =
 
 ones_allowed : (a b : ℕ) (t : Bool) → (a % 10 == 9) ≡ t → b / 10 ≤ 9 → b % 10 ≤ 5 → (a % 10 ≡ 9 → b ≡ 0)
     → Allows (if t then Exactly 0 else Digits 9 5) b
-ones_allowed a b true e h k l = l (eqb-true (a % 10) 9 e)
-ones_allowed a b false e h k l = (h, k)
+ones_allowed a b t e h k l = grind (arith, nat_tests)
 
 hundreds_allowed : (a c : ℕ) (t : Bool) → (a % 10 == 9) ≡ t → c / 10 ≤ 9 → c % 10 ≤ 1 → (a % 10 ≡ 9 → c ≤ 1)
     → Allows (if t then UpTo 1 else Digits 9 1) c
-hundreds_allowed a c true e h k l = l (eqb-true (a % 10) 9 e)
-hundreds_allowed a c false e h k l = (h, k)
+hundreds_allowed a c t e h k l = grind (arith, nat_tests)
 
 pub degrees_allowed : (c d : ℕ) (t : Bool) → (c % 10 == 1) ≡ t → d ≤ 99 → (c % 10 ≡ 1 → d ≤ 80) → Allows (if t then UpTo 80 else UpTo 99) d
-degrees_allowed c d true e h k = k (eqb-true (c % 10) 1 e)
-degrees_allowed c d false e h k = h
+degrees_allowed c d t e h k = grind (arith, nat_tests)
 
 both_tests : (m n k l : ℕ) → ((m == n) && (k == l)) ≡ true → (m ≡ n) × (k ≡ l)
 both_tests m n k l e = grind (arith, nat_tests)
 
 last_allowed : (c d e : ℕ) (t : Bool) → ((c % 10 == 1) && (d == 80)) ≡ t → e ≤ 59 → (c % 10 ≡ 1 → d ≡ 80 → e ≡ 0)
     → Allows (if t then Exactly 0 else UpTo 59) e
-last_allowed c d e true test h k = let both = both_tests (c % 10) 1 d 80 test in k both.0 both.1
-last_allowed c d e false test h k = h
+last_allowed c d e t test h k = grind (arith, nat_tests)
 
 not_99 : (n : ℕ) → n ≤ 39 → (n == 99) ≡ true → ⊥
 not_99 n h e = grind (arith, nat_tests)
 
 pole_of : (f : Fix) → IsFix f → first_of_fix f % 10 ≡ 9 → (f.lat_deg ≡ 90) × (f.lat_min ≡ 0)
-pole_of f h e =
-    let k1 : f.lat_deg ≤ 90 = arc_most _ _ _ h.latitude in
-    let k2 : f.lat_deg ≡ 90 = omega arith in
-    (k2, arc_end _ _ _ h.latitude k2)
+pole_of f h e = grind (arith, nat_tests)
 
 from_known : (f : Fix) → IsFix f
     → PositionParts (Some f) (first_of_fix f ∷ second_of f ∷ third_of f ∷ (f.lon_deg % 100) ∷ f.lon_min ∷ [])

@@ -33,15 +33,11 @@ pub spell-tail : (c : Call) → spell c ≡ up_to_end c ++ tail_of c
 spell-tail c = append_assoc (up_to_end c) (check_of (covered c) ∷ []) (end_of c ∷ end_of c ∷ [])
 
 format_to_lawful : (t : To) → IsFormat (format_to t)
-format_to_lawful to.All = inr (inl refl)
-format_to_lawful (to.Area a) = inr (inr (inl refl))
-format_to_lawful (to.Group m) = inr (inr (inr (inl refl)))
-format_to_lawful (to.One m) = inr (inr (inr (inr refl)))
+format_to_lawful t = grind arith
 
 -- calls begin with format specifiers
 pub format_lawful : (c : Call) → IsFormat (format_of c)
-format_lawful (Alert k) = inl refl
-format_lawful c = format_to_lawful (address_of c)
+format_lawful c = grind arith
 
 -- each format specifier begins a call
 pub format_call : (f : ℕ) → IsFormat f → (c : Call) × IsCall c × (format_of c ≡ f)

@@ -125,11 +125,7 @@ left_at_end l m rest n x b e never =
 -- a list that goes on after what the check covers
 pub checked_at : (c : Call) (l m : List ℕ) (got : ℕ) → Took CheckedCharacters c l m → 0 < length m → got ≡ get_or m 0 0
     → l ≡ covered c ++ (got ∷ drop 1 m)
-checked_at c l [] got p h e = absurd (omega arith)
-checked_at c l (x ∷ m) got p h e =
-    let f1 : l ≡ p.front ++ (x ∷ m) = p.list in
-    let f2 : p.front ≡ covered c = p.word.list in
-    f1 ∙ ap (λ a. a ++ (x ∷ m)) f2 ∙ ap (λ a. covered c ++ (a ∷ m)) (sym e)
+checked_at c l m got p h e = grind arith
 
 -- where a walk is with one more symbol: the format specifier f twice, and what was taken after the first
 pub record Stands (old : List ℕ) (x : ℕ) : Type 0 where
@@ -276,17 +272,12 @@ walk_keeps old x (Check want got) w j t = absurd (cc)
 
 -- a walk that isn't done wants a symbol
 pub not_done : (l : List ℕ) → (l ≡ []) ⊎ IsWalking l ⊎ IsDone l → (IsDone l → ⊥) → (l ≡ []) ⊎ IsWalking l
-not_done l (inl e) h = inl e
-not_done l (inr (inl w)) h = inr w
-not_done l (inr (inr d)) h = absurd (h d)
+not_done l k h = grind arith
 
 -- the symbol is pushed twice where it is the first
 pub pushed : (old mid new : List ℕ) (x : ℕ) → ((length old ≡ 0) × (mid ≡ old ++ (x ∷ []))) ⊎ ((0 < length old) × (mid ≡ old)) → new ≡ mid ++ (x ∷ [])
     → new ≡ after old x
-pushed [] mid new x (inl h) e = e ∙ ap (λ a. a ++ (x ∷ [])) h.1
-pushed [] mid new x (inr h) e = absurd (omega arith)
-pushed (f ∷ old) mid new x (inl h) e = absurd (omega arith)
-pushed (f ∷ old) mid new x (inr h) e = e ∙ ap (λ a. a ++ (x ∷ [])) h.1
+pushed old mid new x h e = grind arith
 
 -- what was pushed is taken back
 pub taken_back : (old : List ℕ) (x : ℕ) → take (length old) (after old x) ≡ old

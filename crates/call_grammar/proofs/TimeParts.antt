@@ -34,22 +34,11 @@ hour_of_day hour h e = grind (arith, nat_tests)
 
 to_unknown : (hour : ℕ) (v : Option (ℕ × ℕ)) (back word : List ℕ) → (hour == UNKNOWN_TIME) ≡ true
     → Then (Symbol (Exactly UNKNOWN_TIME)) (λ _. Only None) v back → word ≡ hour ∷ back → Times v word
-to_unknown hour v back word test p e =
-    let hour_is : hour ≡ UNKNOWN_TIME = grind (arith, nat_tests) in
-    let second : p.chosen ≡ UNKNOWN_TIME = p.before.allowed in
-    let value : v ≡ None = p.after.value in
-    let tail : back ≡ p.chosen ∷ [] = joined p p.after.list in
-    let list : word ≡ UNKNOWN_TIME ∷ UNKNOWN_TIME ∷ [] = cc in
-    subst (λ x. Times x word) (sym value) (record { is_lawful = tt; list = list })
+to_unknown hour v back word test p e = grind (arith, nat_tests)
 
 to_known : (hour : ℕ) (v : Option (ℕ × ℕ)) (back word : List ℕ) → hour < 24
     → Then {V = Option (ℕ × ℕ)} (Symbol (UpTo 59)) (λ minute. Only (Some (hour, minute))) v back → word ≡ hour ∷ back → Times v word
-to_known hour v back word h p e =
-    let minute : p.chosen ≤ 59 = p.before.allowed in
-    let value : v ≡ Some (hour, p.chosen) = p.after.value in
-    let tail : back ≡ p.chosen ∷ [] = joined p p.after.list in
-    let list : word ≡ hour ∷ p.chosen ∷ [] = cc in
-    subst (λ x. Times x word) (sym value) (record { is_lawful = (h, omega arith); list = list })
+to_known hour v back word h p e = grind (arith, nat_tests)
 
 to_rest : (hour : ℕ) (test : Bool) (v : Option (ℕ × ℕ)) (back word : List ℕ) → (hour ≤ 23) ⊎ (hour ≡ UNKNOWN_TIME) → (hour == UNKNOWN_TIME) ≡ test
     → TimeRest hour v back → word ≡ hour ∷ back → Times v word

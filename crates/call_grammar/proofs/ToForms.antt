@@ -1,5 +1,5 @@
 -- What the grammar spells is a call's list.
-use Rattle.std.proofs.Common.{◌≡◌, ℕ, List, [], ◌∷◌, ◌++◌, if◌then◌else◌, Bool, true, false, Option, Some, None, refl, sym, ◌∙◌, ap, subst, append_assoc}
+use Rattle.std.proofs.Common.{◌≡◌, ℕ, List, [], ◌∷◌, ◌++◌, if◌then◌else◌, Bool, true, false, Option, Some, None, refl, sym, ◌∙◌, ap, subst, append_assoc, arith}
 use Rattle.symbol_reader.specs.inside.Languages.{Then}
 use Rattle.symbol_reader.proofs.Steps.{joined, spelt}
 use Rattle.call_values.specs.declared.calls.Casualty.{Casualty}
@@ -39,12 +39,7 @@ moved : (before : List ℕ → List ℕ) (v u : Call) (w l : List ℕ) → v ≡
 moved before v u w l value list p = subst (λ x. CheckedCharacters x (before w)) (sym value) (subst (λ x. CheckedCharacters u (before x)) (sym list) p)
 
 to_alert : (v : Call) (w : List ℕ) → Alerts v w → CheckedCharacters v (formats.DISTRESS ∷ w)
-to_alert v w p =
-    let q = p.after in
-    let k : q.chosen ≡ EOS = q.before.allowed in
-    let back : p.back ≡ EOS ∷ [] = joined q q.after.list ∙ ap (λ x. x ∷ []) k in
-    moved (λ a. formats.DISTRESS ∷ a) v (Alert p.chosen) w (casualty_symbols p.chosen ++ (EOS ∷ [])) q.after.value (spelt p back)
-    (record { is_lawful = p.before.is_lawful; list = refl })
+to_alert v w p = grind arith
 
 to_ack : (from : ℕ) (v : Call) (w : List ℕ) → IsMmsi from → Acks from v w → CheckedCharacters v (ALL_SHIPS ∷ categories.DISTRESS ∷ (identity_symbols from ++ (DISTRESS_ACKNOWLEDGEMENT ∷ w)))
 to_ack from v w h p =

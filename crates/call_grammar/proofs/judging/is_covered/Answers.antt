@@ -1,11 +1,10 @@
-use Rattle.std.proofs.Common.{◌≡◌, ◌-◌, true, false, length, take, drop, sym, ◌∙◌, subst, arith}
+use Rattle.std.proofs.Common.{◌≡◌, ◌-◌, true, false, length, take, drop, sym, ◌∙◌, subst, arith, Err}
 use Rattle.std.proofs.lemmas.Bool.Decides.{nat_tests}
 use Rattle.std.proofs.lemmas.Grind.{common_steps}
 use Rattle.symbol_reader.specs.inside.Reading.{Took, Outcome}
 use Rattle.call_grammar.specs.inside.Grammar.{CheckedCharacters}
 use Rattle.call_grammar.proofs.Ends.{read_covered, none_left, not_refused}
 use Rattle.call_grammar.proofs.judging.is_covered.Goals as goal
-use Rattle.std.proofs.Common.{Err}
 use Rattle.std.proofs.lemmas.Bool.{eq-eqb}
 
 pub returns-in-Ok : goal.returns-in-Ok
