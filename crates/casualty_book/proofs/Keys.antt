@@ -61,13 +61,7 @@ keyed_exact a b h = exact a b (sym (same_order a b) ∙ h)
 
 -- codes are ordered like what they stand for
 codes_order : (a b : Option ℕ) → nat_cmp (code a) (code b) ≡ option_cmp nat_cmp a b
-codes_order None None = refl
-codes_order None (Some b) = is_less 0 (b + 1) (omega arith)
-codes_order (Some a) None = is_greater (a + 1) 0 (omega arith)
-codes_order (Some a) (Some b) =
-    ap (λ (q : ℕ). nat_cmp q (b + 1)) (add_comm a 1)
-    ∙ ap (λ (q : ℕ). nat_cmp (1 + a) q) (add_comm b 1)
-    ∙ shifted 1 a b
+codes_order a b = grind arith
 
 ten_are_few : (ds : List ℕ) → IsDigits 10 ds → length ds ≤ 16
 ten_are_few ds h = let e = h.long in omega (arith, e)
@@ -90,8 +84,7 @@ packs_order a b ha hb =
     (ordering_then (time i) (second i))))))
 
 told_again : (o : Option ℕ) → told (code o) ≡ o
-told_again None = refl
-told_again (Some n) = ap told (add-one n)
+told_again o = grind arith
 
 -- the row of a row's key is the row
 pub again : (row : BookRow) → IsLawful row → unpack (pack row) ≡ row

@@ -53,14 +53,10 @@ pub is_less : (x y : ℕ) → x < y → nat_cmp x y ≡ Less
 is_less x y h = ap (λ b. cond b Less (cond (x == y) Equal Greater)) (lt-ltb x y h)
 
 pub is_greater : (x y : ℕ) → y < x → nat_cmp x y ≡ Greater
-is_greater x y h =
-    ap (λ b. cond b Less (cond (x == y) Equal Greater)) (le-ltb x y (omega (arith, h)))
-    ∙ ap (λ b. cond b Equal Greater) (ne_eqb x y (λ e. omega (arith, e, h)))
+is_greater x y h = grind arith
 
 pub is_same : (x y : ℕ) → x ≡ y → nat_cmp x y ≡ Equal
-is_same x y e =
-    ap (λ b. cond b Less (cond (x == y) Equal Greater)) (le-ltb x y (omega (arith, e)))
-    ∙ ap (λ b. cond b Equal Greater) (eq-eqb x y e)
+is_same x y e = grind arith
 
 three_ways : (x y : ℕ) → (x < y) ⊎ ((x ≡ y) ⊎ (y < x))
 three_ways zero zero = inr (inl refl)
@@ -78,22 +74,11 @@ three_ways (suc x) (suc y) =
 
 -- what comes before both does not count
 pub shifted : (a r s : ℕ) → nat_cmp (a + r) (a + s) ≡ nat_cmp r s
-shifted a r s =
-    elim (three_ways r s) [
-      | inl h ↦ is_less (a + r) (a + s) (omega (arith, h)) ∙ sym (is_less r s h)
-      | inr more ↦
-          elim more [
-            | inl e ↦ is_same (a + r) (a + s) (ap (λ q. a + q) e) ∙ sym (is_same r s e)
-            | inr h ↦ is_greater (a + r) (a + s) (omega (arith, h)) ∙ sym (is_greater r s h)
-          ]
-    ]
+shifted a r s = grind arith
 
 -- the first digits decide where they differ
 above_all : (w x y r s : ℕ) → x < y → r < w → (x + 1) * w + r < (y + 1) * w + s
-above_all w x y r s h small =
-    let more : (x + 1 + 1) * w ≤ (y + 1) * w = mul-le-mul_right w (omega (arith, h)) in
-    let split = add-mul (x + 1) 1 w in
-    omega (arith, more, split, small)
+above_all w x y r s h small = grind arith
 
 weighed : (w x y r s : ℕ) (o : Ordering) → r < w → s < w → nat_cmp r s ≡ o → nat_cmp ((x + 1) * w + r) ((y + 1) * w + s) ≡ ordering_then (nat_cmp x y) o
 weighed w x y r s o hr hs e =

@@ -1,12 +1,12 @@
 -- the order of rows
 use Rattle.std.specs.Cmp.{IsTotalOrder}
+use Rattle.std.proofs.Common.{arith, refl, ap, subst, rules}
 use Rattle.std.specs.Cmp.Lexicographic.{slice_cmp}
 use Rattle.std.specs.Ordering.{nat_cmp, ordering_then}
 use Rattle.std.specs.declared.cmp.Ordering.{Ordering}
 use Rattle.std.specs.declared.cmp.Ordering.TheVariants.{Less, Equal, Greater}
 use Rattle.std.specs.Option.{option_cmp}
 use Rattle.std.specs.Prelude.{◌≡◌, ℕ, Option, Some, None}
-use Rattle.std.proofs.Common.{refl, ap, subst, rules}
 use Rattle.std.proofs.lemmas.Map.Lookups.{CmpEqualImpliesEq, exact_unsigned, exact_bytes}
 use Rattle.casualty_book.specs.declared.rows.BookKind.{BookKind}
 use Rattle.casualty_book.specs.declared.rows.BookKind.TheVariants.{Alert, Ack, Relay, RelayAck}
@@ -17,33 +17,13 @@ use Rattle.casualty_book.specs.contracts.rows.BookRowOrd.TheImpl.Laws as laws
 
 -- two orders, one after the other, distinguish what either does
 pub both_equal : (x y : Ordering) → ordering_then x y ≡ Equal → (x ≡ Equal) × (y ≡ Equal)
-both_equal Equal y h = (refl, h)
-both_equal Less y h = absurd (cc)
-both_equal Greater y h = absurd (cc)
+both_equal x y h = grind arith
 
 pub exact_rank : (a b : BookKind) → nat_cmp (rank a) (rank b) ≡ Equal → a ≡ b
-exact_rank Alert Alert h = refl
-exact_rank Ack Ack h = refl
-exact_rank Relay Relay h = refl
-exact_rank RelayAck RelayAck h = refl
-exact_rank Alert Ack h = absurd (cc)
-exact_rank Alert Relay h = absurd (cc)
-exact_rank Alert RelayAck h = absurd (cc)
-exact_rank Ack Alert h = absurd (cc)
-exact_rank Ack Relay h = absurd (cc)
-exact_rank Ack RelayAck h = absurd (cc)
-exact_rank Relay Alert h = absurd (cc)
-exact_rank Relay Ack h = absurd (cc)
-exact_rank Relay RelayAck h = absurd (cc)
-exact_rank RelayAck Alert h = absurd (cc)
-exact_rank RelayAck Ack h = absurd (cc)
-exact_rank RelayAck Relay h = absurd (cc)
+exact_rank a b h = grind arith
 
 exact_option : (a b : Option ℕ) → option_cmp nat_cmp a b ≡ Equal → a ≡ b
-exact_option None None h = refl
-exact_option None (Some b) h = absurd (cc)
-exact_option (Some a) None h = absurd (cc)
-exact_option (Some a) (Some b) h = ap Some (exact_unsigned a b h)
+exact_option a b h = grind arith
 
 pub rows_exact : CmpEqualImpliesEq row_order
 rows_exact a b h =

@@ -1,5 +1,6 @@
 -- sets in an order that distinguishes keys
 use Rattle.std.specs.BTreeSet as sorted
+use Rattle.std.proofs.Common.{arith, ◌≡◌, ◌↔◌, ◌⊎◌, Bool, true, false, not, ◌||◌, IsTrue, List, [], ◌∷◌, refl, sym, ◌∙◌, subst, inl, inr}
 use Rattle.std.specs.BTreeSet.{BTreeSet}
 use Rattle.std.specs.Cmp.{IsTotalOrder}
 use Rattle.std.specs.List.{Contains, list_any}
@@ -7,7 +8,6 @@ use Rattle.std.specs.List.Sorted.{IsStrictlySortedBy}
 use Rattle.std.specs.Ordering.{is_eq, eq_by_cmp}
 use Rattle.std.specs.declared.cmp.Ordering.{Ordering}
 use Rattle.std.specs.declared.cmp.Ordering.TheVariants.{Less, Equal}
-use Rattle.std.proofs.Common.{◌≡◌, ◌↔◌, ◌⊎◌, Bool, true, false, not, ◌||◌, IsTrue, List, [], ◌∷◌, refl, sym, ◌∙◌, subst, inl, inr}
 use Rattle.std.proofs.lemmas.Bool.{cases_Bool, or_cases, or_left, or_right, false≢true}
 use Rattle.std.proofs.lemmas.Cmp.{eq_by_cmp_equiv, tied_itself}
 use Rattle.std.proofs.lemmas.List.Elements.{All-contains, Contains-append_left, Contains-append_right, Contains-append_cases, Contains-push, Contains-push_cases}
@@ -17,12 +17,10 @@ use Rattle.std.proofs.lemmas.Map.Views.{All-after_first, btree_set_contains_iff,
 use Rattle.plain_laws.proofs.Lists.{holds_none}
 
 is_not : (a : Bool) → (a ≡ true → ⊥) → IsTrue (not a)
-is_not true none = absurd (none refl)
-is_not false none = refl
+is_not a none = grind arith
 
 isnt : (a : Bool) → IsTrue (not a) → a ≡ true → ⊥
-isnt true h e = absurd (false≢true h)
-isnt false h e = absurd (false≢true e)
+isnt a h e = grind arith
 
 -- where a key of a list is
 pub first : {K : Type 0} (x : K) (xs : List K) → Contains (x ∷ xs) x
@@ -33,15 +31,7 @@ pub later : {K : Type 0} (x : K) (xs : List K) (k : K) → Contains xs k → Con
 later x xs k h = Contains-append_right (x ∷ []) xs k h
 
 pub one_of : {K : Type 0} (x : K) (xs : List K) (k : K) → Contains (x ∷ xs) k → (x ≡ k) ⊎ Contains xs k
-one_of x xs k h =
-    elim (Contains-append_cases (x ∷ []) xs k h) [
-      | inl here ↦
-          elim (Contains-push_cases [] x k here) [
-            | inl none ↦ absurd (holds_none k none)
-            | inr same ↦ inl same
-          ]
-      | inr there ↦ inr there
-    ]
+one_of x xs k h = grind arith
 
 module _ {K : Type 0} {R : K → K → Ordering} (o : IsTotalOrder R) (exact : CmpEqualImpliesEq R) where
   has : (s : BTreeSet K) (k : K) → (sorted.contains R s k ≡ true) ↔ Contains s.keys k

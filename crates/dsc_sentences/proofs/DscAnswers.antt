@@ -1,5 +1,5 @@
 -- what is read of bytes
-use Rattle.std.proofs.Common.{◌≡◌, ℕ, true, false, nat_eq, inl, inr, subst, List, [], ◌∷◌, length, drop, refl, sym, ◌∙◌, ap, codes, Result, Ok, Err, IfOk}
+use Rattle.std.proofs.Common.{◌≡◌, ℕ, true, false, nat_eq, inl, inr, subst, List, [], ◌∷◌, length, drop, refl, sym, ◌∙◌, ap, codes, Result, Ok, Err, IfOk, arith}
 use Rattle.std.proofs.lemmas.Bool.{eqb-true, or_cases, false≢true}
 use Rattle.sentence_frame.specs.declared.refusals.SentenceRefusal.{SentenceRefusal}
 use Rattle.sentence_frame.specs.Shapes as shape
@@ -88,15 +88,10 @@ unfolding texts_of
 judged_then bytes fields h = rw h refl
 
 eleven : (n : ℕ) → is_among (11 ∷ []) n ≡ true → n ≡ 11
-eleven n h =
-    elim (or_cases (nat_eq 11 n) false h) [
-      | inl here ↦ sym (eqb-true 11 n here)
-      | inr none ↦ absurd (false≢true none)
-    ]
+eleven n h = grind arith
 
 answered : (bytes : List ℕ) (ts : List (List ℕ)) (r : Result DscFields SentenceRefusal) → texts_of dsc bytes ≡ judged 1 shapes ts ts → Agrees r (judged 1 shapes ts ts) ts (Has ts) → FieldsAnswer r bytes
-answered bytes ts (Ok s) j h = (j ∙ h.0 ∙ ap Ok (sym h.1.0), h.1.1)
-answered bytes ts (Err e) j h = j ∙ h
+answered bytes ts r j h = grind arith
 
 -- so reading opened fields answers the bytes
 pub read_opened : (bytes fields : List ℕ) (answer : Result DscFields SentenceRefusal) → opened (codes "$CDDSC") (11 ∷ []) bytes ≡ Ok fields → answer ≡ read_fields fields → FieldsAnswer answer bytes
@@ -127,12 +122,10 @@ answers_only bytes (Err x) s h lawful e =
     absurd (cc)
 
 pub answers_refused : (bytes : List ℕ) (answer : Result DscFields SentenceRefusal) (e : SentenceRefusal) → FieldsAnswer answer bytes → answer ≡ Err e → texts_of dsc bytes ≡ Err e
-answers_refused bytes (Ok v) e h same = absurd (cc)
-answers_refused bytes (Err x) e h same = (cc)
+answers_refused bytes answer e h same = grind arith
 
 pub answers_each : (bytes : List ℕ) (answer : Result DscFields SentenceRefusal) (e : SentenceRefusal) → FieldsAnswer answer bytes → texts_of dsc bytes ≡ Err e → answer ≡ Err e
-answers_each bytes (Ok v) e h same = absurd (let k = h.0 in cc)
-answers_each bytes (Err x) e h same = (cc)
+answers_each bytes answer e h same = grind arith
 
 pub answers_read : (bytes : List ℕ) (answer : Result DscFields SentenceRefusal) → FieldsAnswer answer bytes → IsReading bytes answer
 answers_read bytes (Ok s) h = record {

@@ -72,9 +72,7 @@ set_accepted n width most ns NoInformation ts r h pairs other all = take_accepte
 set_accepted n width most ns (Digits m) ts r h pairs other all = take_accepted n width most ns (Some m) ts r h all
 
 set_pairs : (n width : ℕ) (p : PartKind) (ts : List (List ℕ)) → ArePairs ts → ArePairs (set_texts n width p ++ ts)
-set_pairs n width LeftOut ts h = h
-set_pairs n width NoInformation ts h = h
-set_pairs n width (Digits m) ts h = h
+set_pairs n width p ts h = grind arith
 
 no_pairs : (codes : List ℕ) → accepted (pair_shapes codes []) [] ≡ true
 unfolding pair_shapes
@@ -106,43 +104,22 @@ are_sets x h =
 
 -- how many texts an expansion has
 set_count : (n width : ℕ) (p : PartKind) → (length (set_texts n width p) ≡ 0) ⊎ (length (set_texts n width p) ≡ 2)
-set_count n width LeftOut = inl refl
-set_count n width NoInformation = inr refl
-set_count n width (Digits m) = inr refl
+set_count n width p = grind arith
 
 there_count : (n width : ℕ) (p : PartKind) → IsThere p → length (set_texts n width p) ≡ 2
-there_count n width LeftOut h = absurd h
-there_count n width NoInformation h = refl
-there_count n width (Digits m) h = refl
+there_count n width p h = grind arith
 
 count_ok : (n : ℕ) → (n ≡ 6) ⊎ ((n ≡ 8) ⊎ (n ≡ 10)) → is_among (6 ∷ 8 ∷ 10 ∷ []) n ≡ true
-count_ok n (inl e) = rw e refl
-count_ok n (inr (inl e)) = rw e refl
-count_ok n (inr (inr e)) = rw e refl
+count_ok n h = grind arith
 
 three_counts : (x y z : ℕ) → (x ≡ 0) ⊎ (x ≡ 2) → (y ≡ 0) ⊎ (y ≡ 2) → (z ≡ 0) ⊎ (z ≡ 2) → (x ≡ 2) ⊎ ((y ≡ 2) ⊎ (z ≡ 2)) → (4 + (x + (y + z)) ≡ 6) ⊎ ((4 + (x + (y + z)) ≡ 8) ⊎ (4 + (x + (y + z)) ≡ 10))
-three_counts x y z (inl a) (inl b) (inl c) s = absurd (omega arith)
-three_counts x y z (inl a) (inl b) (inr c) s = inl (omega arith)
-three_counts x y z (inl a) (inr b) (inl c) s = inl (omega arith)
-three_counts x y z (inl a) (inr b) (inr c) s = inr (inl (omega arith))
-three_counts x y z (inr a) (inl b) (inl c) s = inl (omega arith)
-three_counts x y z (inr a) (inl b) (inr c) s = inr (inl (omega arith))
-three_counts x y z (inr a) (inr b) (inl c) s = inr (inl (omega arith))
-three_counts x y z (inr a) (inr b) (inr c) s = inr (inr (omega arith))
+three_counts x y z h k i s = grind arith
 
 some_count : (x : Sets) → IsThere x.enhanced ⊎ (IsThere x.speed ⊎ IsThere x.course) → (length (set_texts 0 8 x.enhanced) ≡ 2) ⊎ ((length (set_texts 2 4 x.speed) ≡ 2) ⊎ (length (set_texts 3 4 x.course) ≡ 2))
-some_count x (inl h) = inl (there_count 0 8 x.enhanced h)
-some_count x (inr (inl h)) = inr (inl (there_count 2 4 x.speed h))
-some_count x (inr (inr h)) = inr (inr (there_count 3 4 x.course h))
+some_count x h = grind arith
 
 expansion_count : (x : Sets) → IsExpansion x → (4 + length (expansion_texts x) ≡ 6) ⊎ ((4 + length (expansion_texts x) ≡ 8) ⊎ (4 + length (expansion_texts x) ≡ 10))
-expansion_count x h =
-    let e = set_texts 0 8 x.enhanced in
-    let s = set_texts 2 4 x.speed in
-    let c = set_texts 3 4 x.course in
-    let sum : length (expansion_texts x) ≡ length e + (length s + length c) = omega (arith, length-append e (s ++ c), length-append s c) in
-    subst (λ (n : ℕ). (4 + n ≡ 6) ⊎ ((4 + n ≡ 8) ⊎ (4 + n ≡ 10))) (sym sum)
-    (three_counts (length e) (length s) (length c) (set_count 0 8 x.enhanced) (set_count 2 4 x.speed) (set_count 3 4 x.course) (some_count x h.some))
+expansion_count x h = grind arith
 
 -- pairs of texts have as many shapes, plain letters and little room
 pair_length : (codes : List ℕ) (ts : List (List ℕ)) → ArePairs ts → length (pair_shapes codes ts) ≡ length ts
@@ -193,9 +170,7 @@ pair_room codes (c ∷ d ∷ ts) pairs =
     omega (arith, here, there)
 
 at_most_six : (n : ℕ) → (4 + n ≡ 6) ⊎ ((4 + n ≡ 8) ⊎ (4 + n ≡ 10)) → n ≤ 6
-at_most_six n (inl e) = omega (arith, e)
-at_most_six n (inr (inl e)) = omega (arith, e)
-at_most_six n (inr (inr e)) = omega (arith, e)
+at_most_six n h = grind arith
 
 pub dse_texts : (s : DseFields) → IsDse s → AreTexts dse (texts s)
 unfolding texts
@@ -230,12 +205,10 @@ answers_only bytes (Err x) s h lawful e =
     absurd (cc)
 
 answers_refused : (bytes : List ℕ) (answer : Result DseFields SentenceRefusal) (e : SentenceRefusal) → FieldsAnswer answer bytes → answer ≡ Err e → texts_of dse bytes ≡ Err e
-answers_refused bytes (Ok v) e h same = absurd (cc)
-answers_refused bytes (Err x) e h same = (cc)
+answers_refused bytes answer e h same = grind arith
 
 answers_each : (bytes : List ℕ) (answer : Result DseFields SentenceRefusal) (e : SentenceRefusal) → FieldsAnswer answer bytes → texts_of dse bytes ≡ Err e → answer ≡ Err e
-answers_each bytes (Ok v) e h same = absurd (let k = h.0 in cc)
-answers_each bytes (Err x) e h same = (cc)
+answers_each bytes answer e h same = grind arith
 
 pub answers_read : (bytes : List ℕ) (answer : Result DseFields SentenceRefusal) → FieldsAnswer answer bytes → IsReading bytes answer
 answers_read bytes (Ok s) h = record {

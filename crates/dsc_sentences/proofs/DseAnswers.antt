@@ -46,11 +46,7 @@ rises_0 = record {
 }
 
 above_2 : (m : ℕ) → is_among (3 ∷ []) m ≡ true → nat_lt m 2 ≡ false
-above_2 m h =
-    elim (or_cases (nat_eq 3 m) false h) [
-      | inl here ↦ (let e = eqb-true 3 m here in le-ltb m 2 (omega (arith, e)))
-      | inr none ↦ absurd (false≢true none)
-    ]
+above_2 m h = grind arith
 
 pub rises_2 : Rises 2 4 9999 (3 ∷ [])
 rises_2 = record { small = omega arith; room = omega arith; none = nothing_four 9999; shape = refl; others = refl; above = above_2 }
@@ -212,8 +208,7 @@ unfolding texts_of
 judged_then bytes fields h = rw h refl
 
 answered : (bytes : List ℕ) (ts : List (List ℕ)) (r : Result DseParts SentenceRefusal) → texts_of dse bytes ≡ judged 1 (shapes ts) ts ts → Agrees r (judged 1 (shapes ts) ts ts) ts (Has ts) → PartsAnswer r bytes
-answered bytes ts (Ok s) j h = (j ∙ h.0 ∙ ap Ok (sym h.1.0), h.1.1)
-answered bytes ts (Err e) j h = j ∙ h
+answered bytes ts r j h = grind arith
 
 pub read_opened : (bytes fields : List ℕ) (answer : Result DseParts SentenceRefusal) → opened (codes "$CDDSE") (6 ∷ 8 ∷ 10 ∷ []) bytes ≡ Ok fields → answer ≡ read_fields fields → PartsAnswer answer bytes
 read_opened bytes fields answer h e =

@@ -26,24 +26,10 @@ flag_shown Q = refl
 flag_shown R = refl
 
 flag_back : (f : Flag) → flag_in (flag_text f) ≡ f
-flag_back A = refl
-flag_back Q = refl
-flag_back R = refl
+flag_back f = grind arith
 
 flag_letter : (b : ℕ) → is_among (codes "AQR") b ≡ true → flag_text (flag_in (b ∷ [])) ≡ b ∷ []
-flag_letter b h =
-    elim (or_cases (nat_eq 65 b) (nat_eq 81 b || (nat_eq 82 b || false)) h) [
-      | inl first ↦ (let e = eqb-true 65 b first in rw (← e) refl)
-      | inr more ↦
-          elim (or_cases (nat_eq 81 b) (nat_eq 82 b || false) more) [
-            | inl second ↦ (let e = eqb-true 81 b second in rw (← e) refl)
-            | inr last ↦
-                elim (or_cases (nat_eq 82 b) false last) [
-                  | inl third ↦ (let e = eqb-true 82 b third in rw (← e) refl)
-                  | inr none ↦ absurd (false≢true none)
-                ]
-          ]
-    ]
+flag_letter b h = grind arith
 
 -- the flag is a letter, written and read back
 pub flag_kind : IsKind (shape.letter (codes "AQR")) flag_text flag_in (λ f. Unit {0})
@@ -70,13 +56,7 @@ one_again t h =
 
 -- some set is there
 pub some_there : (e s c : PartKind) → set_texts 0 8 e ++ (set_texts 2 4 s ++ set_texts 3 4 c) ≢ [] → IsThere e ⊎ IsThere s ⊎ IsThere c
-some_there LeftOut LeftOut LeftOut h = absurd (h refl)
-some_there LeftOut LeftOut NoInformation h = inr (inr tt)
-some_there LeftOut LeftOut (Digits n) h = inr (inr tt)
-some_there LeftOut NoInformation c h = inr (inl tt)
-some_there LeftOut (Digits n) c h = inr (inl tt)
-some_there NoInformation s c h = inl tt
-some_there (Digits n) s c h = inl tt
+some_there e s c h = grind arith
 
 -- the texts of a set, before others that don't begin with its code, show what it says
 abbrev pub BeginsOther : ℕ → List (List ℕ) → Type 0

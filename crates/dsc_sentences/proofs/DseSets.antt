@@ -25,12 +25,10 @@ data_kind width most room none = maybe_kind (shape.number width most) (digits wi
 
 -- the texts of a set that is there are its code and its data
 pub set_is : (n width : ℕ) (o : Option ℕ) → set_texts n width (part_of o) ≡ digits 2 n ∷ perhaps_text (digits width) o ∷ []
-set_is n width None = refl
-set_is n width (Some m) = refl
+set_is n width o = grind arith
 
 set_range : (most : ℕ) (o : Option ℕ) → IfSome o (λ n. n ≤ most) → IsUpTo most (part_of o)
-set_range most None h = tt
-set_range most (Some m) h = h
+set_range most o h = grind arith
 
 -- the text of a code is that code
 pub code_one : (n : ℕ) (c : List ℕ) → n < 100 → accepts (shape.code (n ∷ [])) c ≡ true → (digits 2 n ≡ c) × (number_of c ≡ n)

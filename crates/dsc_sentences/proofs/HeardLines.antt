@@ -43,16 +43,12 @@ verdict_dsc line form = rw form refl
 
 found_dse : (line : List ℕ) (r : Result (Option DscFields) SentenceRefusal) → is_dse line ≡ true → IfOk r (λ found. found ≡ None)
     → IfOk r (λ found. MatchOption found (is_dse line ≡ true) (IsAccepted line))
-found_dse line (Ok None) form h = form
-found_dse line (Ok (Some s)) form h = absurd (cc)
-found_dse line (Err e) form h = tt
+found_dse line r form h = grind arith
 
 found_dsc : (line : List ℕ) (r : Result (Option DscFields) SentenceRefusal) → is_dse line ≡ false
     → IfOk r (λ found. MatchOption found ⊥ (λ s. IsDsc s × SentenceText s (with_line_end line)))
     → IfOk r (λ found. MatchOption found (is_dse line ≡ true) (IsAccepted line))
-found_dsc line (Ok None) form h = absurd h
-found_dsc line (Ok (Some s)) form h = record { form = form; lawful = h.0; text = h.1 }
-found_dsc line (Err e) form h = tt
+found_dsc line r form h = grind arith
 
 pub heard_dse : (line : List ℕ) (r : Result (Option DscFields) SentenceRefusal) → is_dse line ≡ true → IsHeardAsDse (with_line_end line) r → IsHeard line r
 heard_dse line r form h = record {

@@ -1,5 +1,5 @@
 -- the law of fields that are letters
-use Rattle.std.proofs.Common.{◌≡◌, ℕ, Bool, true, false, not, ◌||◌, nat_eq, List, [], ◌∷◌, get_or, refl, sym, ◌∙◌, ap, inl, inr, codes}
+use Rattle.std.proofs.Common.{◌≡◌, ℕ, Bool, true, false, not, ◌||◌, nat_eq, List, [], ◌∷◌, get_or, refl, sym, ◌∙◌, ap, inl, inr, codes, arith}
 use Rattle.std.proofs.lemmas.Bool.{or_cases, eqb-true, false≢true}
 use Rattle.call_values.specs.declared.choices.End.{End}
 use Rattle.call_values.specs.declared.choices.End.TheVariants.{Ask, Reply, Plain}
@@ -15,24 +15,10 @@ end_shown Reply = refl
 end_shown Plain = refl
 
 end_back : (e : End) → end_in (end_text e) ≡ e
-end_back Ask = refl
-end_back Reply = refl
-end_back Plain = refl
+end_back e = grind arith
 
 end_letter : (b : ℕ) → is_among (codes "RBS") b ≡ true → end_text (end_in (b ∷ [])) ≡ b ∷ []
-end_letter b h =
-    elim (or_cases (nat_eq 82 b) (nat_eq 66 b || (nat_eq 83 b || false)) h) [
-      | inl first ↦ (let e = eqb-true 82 b first in rw (← e) refl)
-      | inr more ↦
-          elim (or_cases (nat_eq 66 b) (nat_eq 83 b || false) more) [
-            | inl second ↦ (let e = eqb-true 66 b second in rw (← e) refl)
-            | inr last ↦
-                elim (or_cases (nat_eq 83 b) false last) [
-                  | inl third ↦ (let e = eqb-true 83 b third in rw (← e) refl)
-                  | inr none ↦ absurd (false≢true none)
-                ]
-          ]
-    ]
+end_letter b h = grind arith
 
 -- the end of sequence is a letter, written and read back
 pub end_kind : IsKind (letter (codes "RBS")) end_text end_in (λ e. Unit {0})
@@ -55,8 +41,7 @@ mark_shown true = refl
 mark_shown false = refl
 
 mark_back : (b : Bool) → is_there (expanded_text b) ≡ b
-mark_back true = refl
-mark_back false = refl
+mark_back b = grind arith
 
 mark_again : (t : List ℕ) → accepts (maybe (letter (codes "E"))) t ≡ true → expanded_text (is_there t) ≡ t
 unfolding accepts

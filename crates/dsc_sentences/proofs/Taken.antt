@@ -12,10 +12,7 @@ use Rattle.sentence_frame.specs.inside.Fields.{field, perhaps}
 
 -- a text of some digits is there
 digits_there : (width : ℕ) (t : List ℕ) → are_digits (suc width) t ≡ true → is_nothing t ≡ false
-digits_there width [] h =
-    let none = eqb-true 0 (suc width) (and_parts (nat_eq 0 (suc width)) true h).0 in
-    absurd (omega (arith, none))
-digits_there width (b ∷ t) h = refl
+digits_there width t h = grind arith
 
 perhaps_there : {A : Type 0} (value : List ℕ → A) (t : List ℕ) → is_nothing t ≡ false → perhaps value t ≡ Some (value t)
 perhaps_there value t h = rw h refl

@@ -12,8 +12,7 @@ use Rattle.dsc_sentences.specs.Dse as dse
 use Rattle.dsc_sentences.specs.Verdicts.{told, form_of, with_line_end, without_return, verdict_of}
 
 told_accepted : (r : Result (List (List ℕ)) SentenceRefusal) → ((e : SentenceRefusal) → r ≡ Err e → ⊥) → Accepted ≡ told r
-told_accepted (Ok ts) h = refl
-told_accepted (Err e) h = absurd (h e refl)
+told_accepted r h = grind arith
 
 pub told_dsc : (bytes : List ℕ) (s : DscFields) → dsc.IsReading bytes (Ok s) → Accepted ≡ told (texts_of dsc.dsc bytes)
 told_dsc bytes s h = told_accepted (texts_of dsc.dsc bytes) (λ e read. let k = (h.refused e).1 read in cc)

@@ -86,13 +86,10 @@ module _ (own : ℕ) (p : Call → Bool) where
   tick_again t front rest before after false false none sum zeroth less = omega arith
 
 repeated_holds : (late once : Bool) (n : ℕ) (x : Holding) → list_any is_holding (if late then (if once then Send x.call 1 ∷ [] else GaveUp n ∷ []) else []) ≡ false
-repeated_holds true true n x = refl
-repeated_holds true false n x = refl
-repeated_holds false once n x = refl
+repeated_holds late once n x = grind arith
 
 one_holds : (at n : ℕ) (o : Option Holding) → list_any is_holding (repeated at n o) ≡ false
-one_holds at n None = refl
-one_holds at n (Some x) = repeated_holds (is_overdue at x.side x.at) _ n x
+one_holds at n o = grind arith
 
 repeats_hold : (at n : ℕ) (places : Places) → list_any is_holding (repeats at n places) ≡ false
 repeats_hold at n [] = refl
@@ -228,8 +225,7 @@ none_such q zero = tt
 none_such q (suc n) = (tt, none_such q n)
 
 if_more : (b : Bool) (n : ℕ) → (if b then suc n else n) ≡ (if b then 1 else 0) + n
-if_more true n = omega arith
-if_more false n = omega arith
+if_more b n = grind arith
 
 sum_first : (t one tick sent held again : ℕ) → t ≡ one + tick → sent ≡ held + again → t + sent ≡ (one + held) + (tick + again)
 sum_first t one tick sent held again here rest = omega arith

@@ -1,5 +1,5 @@
 -- what is held under a number after one entry more
-use Rattle.std.proofs.Common.{◌≡◌, ℕ, ◌+◌, ◌==◌, ◌&&◌, not, Bool, true, false, Option, Some, None, is_some, List, [], ◌∷◌, if◌then◌else◌, refl, sym, ◌∙◌, ap}
+use Rattle.std.proofs.Common.{◌≡◌, ℕ, ◌+◌, ◌==◌, ◌&&◌, not, Bool, true, false, Option, Some, None, is_some, List, [], ◌∷◌, if◌then◌else◌, refl, sym, ◌∙◌, ap, arith}
 use Rattle.std.specs.Option.{option_map}
 use Rattle.std.specs.Prelude.{IfSome}
 use Rattle.std.proofs.lemmas.Bool.{false≢true, eq-eqb}
@@ -25,22 +25,16 @@ abbrev pub IsNew : Option Holding → Type 0
 IsNew o = IfSome o (λ x. x.times ≡ first_times x.side)
 
 new_sent : (at : ℕ) (o : Option Call) → IsNew (option_map (λ (call : Call). newly_held call Sent at) o)
-new_sent at None = tt
-new_sent at (Some call) = refl
+new_sent at o = grind arith
 
 new_by : (o : Occurrence) (at : ℕ) (acts : List Act) → IsNew (begun_by o at acts)
-new_by (hears call) at acts = refl
-new_by ticks at acts = new_sent at (first_sent acts)
-new_by (answers number) at acts = new_sent at (first_sent acts)
-new_by other at acts = new_sent at (first_sent acts)
+new_by o at acts = grind arith
 
 no_more : (o : Option ℕ) → (if is_some o then o else None) ≡ o
-no_more None = refl
-no_more (Some x) = refl
+no_more o = grind arith
 
 either_way : (b : Bool) (x : Option Holding) → (if b then x else x) ≡ x
-either_way true x = refl
-either_way false x = refl
+either_way b x = grind arith
 
 abbrev pub holding : Call → Side → (at times : ℕ) → Holding
 holding call side at times = record { call = call; side = side; at = at; times = times }
@@ -51,31 +45,23 @@ again side first x = if is_sent side then sent_again_at first x else Some x
 
 stays : (late : Bool) (t : ℕ) (x y : Holding) → t ≡ 2 → (late && not (t == 1)) ≡ false
     → Some y ≡ (if late then (if t == 1 then Some x else None) else Some y)
-stays false t x y two none = refl
-stays true t x y two none = absurd (false≢true (sym none ∙ ap (λ (n : ℕ). true && not (n == 1)) two))
+stays late t x y two none = grind arith
 
 sent_once : (late : Bool) (t now : ℕ) (x : Holding) → t ≡ 1
     → sent_again_at (if late then Some now else None) x ≡ (if late then (if t == 1 then sent_at now (Some x) else None) else Some x)
-sent_once true t now x one = ap (λ (b : Bool). if b then sent_at now (Some x) else None) (sym (eq-eqb t 1 one))
-sent_once false t now x one = refl
+sent_once late t now x one = grind arith
 
 tick_of : (call : Call) (side : Side) (at times : ℕ) (first : Option ℕ) (now : ℕ) → times ≡ first_times side
     → gives_up now (again side first (holding call side at times)) ≡ false
     → again side (if is_some first then first else (if has_passed answer_wait at now then Some now else None)) (holding call side at times)
     ≡ ticked now (again side first (holding call side at times))
-tick_of call Got at times first now new stays_held = refl
-tick_of call Sent at times None now new stays_held = sent_once (has_passed answer_wait at now) times now (holding call Sent at times) new
-tick_of call Sent at times (Some a) now new stays_held =
-    stays (has_passed answer_wait a now) (times + 1) _ (holding call Sent a (times + 1)) (ap (λ (n : ℕ). n + 1) new) stays_held
+tick_of call side at times first now new stays_held = grind arith
 
 given_up : (late once : Bool) (x y : Option Holding) → (late && not once) ≡ true → (if late then (if once then x else None) else y) ≡ None
-given_up true false x y is = refl
-given_up true true x y is = absurd (false≢true is)
-given_up false once x y is = absurd (false≢true is)
+given_up late once x y is = grind arith
 
 gives_none : (at : ℕ) (o : Option Holding) → gives_up at o ≡ true → ticked at o ≡ None
-gives_none at None is = absurd (false≢true is)
-gives_none at (Some x) is = given_up (is_overdue at x.side x.at) (x.times == 1) (sent_at at (Some x)) (Some x) is
+gives_none at o is = grind arith
 
 module _ {What : Type 0} (occurs : What → Occurrence) where
   pub new_begun : (e : Option (Entry What)) → IsNew (begun occurs e)

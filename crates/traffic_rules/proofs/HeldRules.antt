@@ -36,23 +36,17 @@ pub record AreQuiet (acts : List Act) : Type 0 where
 
 -- the tick's acts
 repeated_begin : (at n k : ℕ) (late once : Bool) (x : Holding) → list_any (holds k) (if late then (if once then Send x.call 1 ∷ [] else GaveUp n ∷ []) else []) ≡ false
-repeated_begin at n k true true x = refl
-repeated_begin at n k true false x = refl
-repeated_begin at n k false once x = refl
+repeated_begin at n k late once x = grind arith
 
 repeated_end : (at n k : ℕ) (late once : Bool) (x : Holding)
     → list_any (frees k) (if late then (if once then Send x.call 1 ∷ [] else GaveUp n ∷ []) else []) ≡ (((late && not once)) && (n == k))
-repeated_end at n k true true x = refl
-repeated_end at n k true false x = or-false (n == k)
-repeated_end at n k false once x = refl
+repeated_end at n k late once x = grind arith
 
 one_begin : (at n k : ℕ) (o : Option Holding) → list_any (holds k) (repeated at n o) ≡ false
-one_begin at n k None = refl
-one_begin at n k (Some x) = repeated_begin at n k (is_overdue at x.side x.at) (x.times == 1) x
+one_begin at n k o = grind arith
 
 one_end : (at n k : ℕ) (o : Option Holding) → list_any (frees k) (repeated at n o) ≡ (gives_up at o && (n == k))
-one_end at n k None = refl
-one_end at n k (Some x) = repeated_end at n k (is_overdue at x.side x.at) (x.times == 1) x
+one_end at n k o = grind arith
 
 pub repeats_begin : (at n k : ℕ) (places : Places) → list_any (holds k) (repeats at n places) ≡ false
 repeats_begin at n k [] = refl
@@ -80,44 +74,25 @@ repeats_end at n k (suc i) (o ∷ places) is =
 
 -- a call that must be held isn't refused where a number is free
 room : (must : Bool) (places : Places) (first : Option ℕ) → first_free places ≡ first → refused_full must places ≡ None → must ≡ true → (n : ℕ) × (first ≡ Some n)
-room must places (Some n) is none wanted = (n, refl)
-room must places None is none wanted =
-    absurd (none-some Full (sym (ap (λ (o : Option ℕ). if true && is_none o then Some Full else None) (sym is) ∙ ap (λ (b : Bool). if b && is_none (first_free places) then Some Full else None) (sym wanted) ∙ none)))
+room must places first is none wanted = grind arith
 
 reply_quiet : (own : ℕ) (accepts : Bool) (call : Call) → AreQuiet (reply_to own accepts call)
-reply_quiet own true (Alert casualty) = record { begin = λ k. refl; end = λ k. refl }
-reply_quiet own true _ = record { begin = λ k. refl; end = λ k. refl }
-reply_quiet own false (Alert casualty) = record { begin = λ k. refl; end = λ k. refl }
-reply_quiet own false _ = record { begin = λ k. refl; end = λ k. refl }
+reply_quiet own accepts call = grind arith
 
 due_quiet : (own : ℕ) (accepts : Bool) (o : Option Holding) → AreQuiet (reply_due_to own accepts o)
-due_quiet own accepts None = record { begin = λ k. refl; end = λ k. refl }
-due_quiet own accepts (Some x) = reply_quiet own accepts x.call
+due_quiet own accepts o = grind arith
 
 told_begin : (k : ℕ) (call : Call) → list_any (holds k) (distress_told call) ≡ false
-told_begin k (Alert casualty) = refl
-told_begin k _ = refl
+told_begin k call = grind arith
 
 told_end : (k : ℕ) (call : Call) → list_any (frees k) (distress_told call) ≡ false
-told_end k (Alert casualty) = refl
-told_end k _ = refl
+told_end k call = grind arith
 
 position_quiet : (own : ℕ) (place : Option Whereabouts) (to : ℕ) (category : Category) → AreQuiet (position_told own place to category)
-position_quiet own None to category = record { begin = λ k. refl; end = λ k. refl }
-position_quiet own (Some place) to category = record { begin = λ k. refl; end = λ k. refl }
+position_quiet own place to category = grind arith
 
 at_once_quiet : (own : ℕ) (place : Option Whereabouts) (call : Call) → AreQuiet (due_at_once own place call)
-at_once_quiet own place (Alert casualty) = record { begin = λ k. refl; end = λ k. refl }
-at_once_quiet own place (Ack from casualty) = record { begin = λ k. refl; end = λ k. refl }
-at_once_quiet own place (Relay to from casualty ask) = record { begin = λ k. refl; end = λ k. refl }
-at_once_quiet own place (RelayAck to from casualty) = record { begin = λ k. refl; end = λ k. refl }
-at_once_quiet own place (AllShips category from first second f1 f2) = record { begin = λ k. refl; end = λ k. refl }
-at_once_quiet own place (AreaCall area category from first second f1 f2) = record { begin = λ k. refl; end = λ k. refl }
-at_once_quiet own place (GroupCall group category from first second f1 f2) = record { begin = λ k. refl; end = λ k. refl }
-at_once_quiet own place (Individual to category from first second message end) = record { begin = λ k. refl; end = λ k. refl }
-at_once_quiet own place (Service to category from (Test reply)) = record { begin = λ k. refl; end = λ k. refl }
-at_once_quiet own place (Service to category from AskPosition) = position_quiet own place from category
-at_once_quiet own place (Service to category from (Position position time)) = record { begin = λ k. refl; end = λ k. refl }
+at_once_quiet own place call = grind arith
 
 module _ {What : Type 0} (occurs : What → Occurrence) (e : Entry What) (h : History What) where
   -- the number of a place that is free, or whose call a heard one answers

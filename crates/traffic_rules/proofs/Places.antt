@@ -35,9 +35,7 @@ set_from f g n (suc c) (suc i) k x below is here others =
 
 pub set_place : (f g : HeldUnder) (n : ℕ) (x : Option Holding) → 1 ≤ n → n ≤ 16 → g n ≡ x → ((k : ℕ) → 1 ≤ k → k ≤ 16 → (k ≡ n → ⊥) → g k ≡ f k)
     → places_from g 1 16 ≡ with_place (places_from f 1 16) n x
-set_place f g zero x low high here others = absurd (omega arith)
-set_place f g (suc i) x low high here others =
-    set_from f g 1 16 i (suc i) x (omega arith) (omega arith) here (λ k above below other. others k above (omega arith) other)
+set_place f g n x low high here others = grind arith
 
 pub mapped : (f g : HeldUnder) (change : Option Holding → Option Holding) (n c : ℕ) → ((k : ℕ) → n ≤ k → k < n + c → g k ≡ change (f k))
     → places_from g n c ≡ map change (places_from f n c)
@@ -52,8 +50,7 @@ get_from f n (suc c) zero k below is = let first : n ≡ k = omega arith in ap f
 get_from f n (suc c) (suc i) k below is = get_from f (suc n) c i k (omega arith) (omega arith)
 
 pub place_from : (f : HeldUnder) (n : ℕ) → 1 ≤ n → n ≤ 16 → place_of (places_from f 1 16) n ≡ f n
-place_from f zero low high = absurd (omega arith)
-place_from f (suc i) low high = get_from f 1 16 i (suc i) (omega arith) (omega arith)
+place_from f n low high = grind arith
 
 -- past the last place nothing is held
 past_from : (f : HeldUnder) (n c i : ℕ) → c ≤ i → slice_index_or (places_from f n c) i None ≡ None
@@ -62,12 +59,10 @@ past_from f n (suc c) zero past = absurd (omega arith)
 past_from f n (suc c) (suc i) past = past_from f (suc n) c i (omega arith)
 
 pub no_place : (f : HeldUnder) (n : ℕ) → 16 < n → place_of (places_from f 1 16) n ≡ None
-no_place f zero past = absurd (omega arith)
-no_place f (suc i) past = past_from f 1 16 i (omega arith)
+no_place f n past = grind arith
 
 some_number : (o : Option ℕ) (n : ℕ) → option_map (λ (index : ℕ). suc index) o ≡ Some n → (index : ℕ) × (o ≡ Some index) × (n ≡ suc index)
-some_number None n is = absurd (cc)
-some_number (Some index) n is = (index, refl, sym (ap (λ (o : Option ℕ). unwrap_or o n) is))
+some_number o n is = grind arith
 
 -- the least number with a place that is such is one of 1 to 16
 pub number_from : (p : Option Holding → Bool) (f : HeldUnder) (n : ℕ) → option_map (λ (index : ℕ). suc index) (position p (places_from f 1 16)) ≡ Some n → (1 ≤ n) × (n ≤ 16)
@@ -78,19 +73,13 @@ number_from p f n is =
     (omega (arith, found.2), omega (arith, found.2, below, many))
 
 some_sum : (o : Option ℕ) (n : ℕ) → option_map (λ (index : ℕ). index + 1) o ≡ Some n → (index : ℕ) × (o ≡ Some index) × (n ≡ index + 1)
-some_sum None n is = absurd (cc)
-some_sum (Some index) n is = (index, refl, sym (ap (λ (o : Option ℕ). unwrap_or o n) is))
+some_sum o n is = grind arith
 
 pub free_number : (f : HeldUnder) (n : ℕ) → first_free (places_from f 1 16) ≡ Some n → (1 ≤ n) × (n ≤ 16)
-free_number f n is =
-    let found = some_sum (position is_none (places_from f 1 16)) n is in
-    let below = (position-Some is_none (places_from f 1 16) found.0 None found.1).0 in
-    let many = so_many f 1 16 in
-    (omega (arith, found.2), omega (arith, found.2, below, many))
+free_number f n is = grind arith
 
 one_at_most : (b : Bool) → (if b then 1 else 0) ≤ 1
-one_at_most true = omega arith
-one_at_most false = omega arith
+one_at_most b = grind arith
 
 -- in so many places no more calls are held
 pub held_at_most : (held : HeldUnder) (n c : ℕ) → calls_held (places_from held n c) ≤ c

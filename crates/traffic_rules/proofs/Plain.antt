@@ -1,5 +1,5 @@
 -- acts by the rules of traffic send such calls alone, each once
-use Rattle.std.proofs.Common.{◌≡◌, ℕ, suc, ◌==◌, ◌&&◌, ◌||◌, Bool, true, false, Option, Some, None, List, [], ◌∷◌, ◌++◌, if◌then◌else◌, refl, ap, sym}
+use Rattle.std.proofs.Common.{◌≡◌, ℕ, suc, ◌==◌, ◌&&◌, ◌||◌, Bool, true, false, Option, Some, None, List, [], ◌∷◌, ◌++◌, if◌then◌else◌, refl, ap, sym, arith}
 use Rattle.std.proofs.lemmas.Bool.{eq-eqb, or_right}
 use Rattle.std.proofs.lemmas.Option.{none-some}
 use Rattle.call_values.specs.declared.calls.Call.{Call}
@@ -107,13 +107,11 @@ module _ (q : Call → Bool) where
 
 -- a call that is sent and not refused may be sent
 sent_by : (s : Bool) (r : Option StationRefusal) → (if s then r else Some NotSendable) ≡ None → s ≡ true
-sent_by true r none = refl
-sent_by false r none = absurd (none-some NotSendable (sym none))
+sent_by s r none = grind arith
 
 -- and it isn't refused for what else there is
 pub sendable : (s : Bool) (r : Option StationRefusal) → (if s then r else Some NotSendable) ≡ None → r ≡ None
-sendable true r none = none
-sendable false r none = absurd (none-some NotSendable (sym none))
+sendable s r none = grind arith
 
 -- a call that isn't refused may be sent
 pub may_be_sent : (own : ℕ) (places : Places) (call : Call) → send_refusal own places call ≡ None → is_sendable own call ≡ true

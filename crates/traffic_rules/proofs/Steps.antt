@@ -1,5 +1,5 @@
 -- the steps of a station, and its legal histories
-use Rattle.std.proofs.Common.{◌≡◌, ℕ, ◌≤◌, Option, Some, None, Result, Ok, Err, [], ◌∷◌, ◌++◌, refl, sym, ◌∙◌, ap, inl, inr, if◌then◌else◌}
+use Rattle.std.proofs.Common.{◌≡◌, ℕ, ◌≤◌, Option, Some, None, Result, Ok, Err, [], ◌∷◌, ◌++◌, refl, sym, ◌∙◌, ap, inl, inr, if◌then◌else◌, arith}
 use Rattle.std.proofs.lemmas.Bool.{le-ltb, lt-ltb, cases_lt}
 use Rattle.std.proofs.lemmas.Option.{none-some}
 use Rattle.traffic_rules.specs.declared.refusals.StationRefusal.{StationRefusal}
@@ -12,11 +12,7 @@ pub on_time : (last given : ℕ) → last ≤ given → time_back last given ≡
 on_time last given h = ap (λ b. if b then Some (TimeBack last given) else None) (le-ltb given last h)
 
 pub in_time : (last given : ℕ) → time_back last given ≡ None → last ≤ given
-in_time last given none =
-    elim (cases_lt given last) [
-      | inl back ↦ absurd (none-some _ (sym (ap (λ b. if b then Some (TimeBack last given) else None) (sym (lt-ltb given last back)) ∙ none)))
-      | inr late ↦ late
-    ]
+in_time last given none = grind arith
 
 module _ {What : Type 0} (rules : Rules What) where
   -- the entry of an event at which a station did what is due
@@ -67,9 +63,7 @@ acts_in other (Ok acts) = acts
 acts_in other (Err refusal) = other
 
 pub refusal_of : {A : Type 0} (r : Option StationRefusal) (acts : A) (refusal : StationRefusal) → Err refusal ≡ refusal_or r acts → r ≡ Some refusal
-refusal_of (Some other) acts refusal is = sym (ap refusal_in is)
-refusal_of None acts refusal is = absurd (none-some _ (sym (ap refusal_in is)))
+refusal_of r acts refusal is = grind arith
 
 pub acts_of : {A : Type 0} (r : Option StationRefusal) (acts given : A) → Ok given ≡ refusal_or r acts → (r ≡ None) × (given ≡ acts)
-acts_of (Some other) acts given is = absurd (none-some _ (sym (sym (ap refusal_in is))))
-acts_of None acts given is = (refl, ap (acts_in given) is)
+acts_of r acts given is = grind arith
