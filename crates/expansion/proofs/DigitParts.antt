@@ -14,8 +14,7 @@ use Rattle.expansion.specs.inside.Grammar.{Symbol, EightDigits, FourDigits, eigh
 
 -- a first character that is not that of no information
 low : (a most : ℕ) → (a ≤ most) ⊎ (a ≡ NO_INFORMATION) → (a == NO_INFORMATION) ≡ false → a ≤ most
-low a most (inl h) e = h
-low a most (inr h) e = absurd (eqb-false a NO_INFORMATION e h)
+low a most h e = grind arith
 
 abbrev pub EightLast : ℕ → ℕ → ℕ → PartKind → List ℕ → Type 0
 EightLast a b c = Then (Symbol (UpTo 99)) (λ d. Only (Digits (eight_of a b c d)))

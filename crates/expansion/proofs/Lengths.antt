@@ -84,9 +84,7 @@ of_set specifier NoInformation s h = (s, (omega arith, tt))
 of_set specifier (Digits n) s h = (s, of_four n (omega arith))
 
 four_at_most : (p : PartKind) → IsUpTo 3599 p → IsUpTo 9999 p
-four_at_most LeftOut h = tt
-four_at_most NoInformation h = tt
-four_at_most (Digits n) h = omega arith
+four_at_most p h = grind arith
 
 pub of_spell : (x : Sets) (e : End) → IsExpansion x → AreCharacters (spell x e)
 of_spell x e h =

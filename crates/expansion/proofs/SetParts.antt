@@ -24,14 +24,11 @@ pub record IsApart (last : ℕ) : Type 0 where
   pub course : last ≡ COURSE → ⊥
 
 pub ends_apart : (e : End) → IsApart (end_symbol e)
-ends_apart Ask = record { enhanced = λ k. absurd (omega arith); speed = λ k. absurd (omega arith); course = λ k. absurd (omega arith) }
-ends_apart _ = record { enhanced = λ k. absurd (omega arith); speed = λ k. absurd (omega arith); course = λ k. absurd (omega arith) }
+ends_apart e = grind arith
 
 -- a set that is there: its specifier, and what comes after it
 there : (specifier : ℕ) (digits : ℕ → List ℕ) (p : PartKind) → IsThere p → set_symbols specifier digits p ≡ specifier ∷ told_symbols digits p
-there specifier digits LeftOut h = absurd h
-there specifier digits NoInformation h = refl
-there specifier digits (Digits n) h = refl
+there specifier digits p h = grind arith
 
 abbrev course_and : PartKind → ℕ → List ℕ
 course_and course last = set_symbols COURSE four_digits course ++ (last ∷ [])
@@ -49,32 +46,7 @@ record CourseTold (last : ℕ) (enhanced speed : PartKind) (next : ℕ) (x : Set
 
 to_course : (last : ℕ) (enhanced speed : PartKind) (next : ℕ) (test : Bool) (x : Sets) (l : List ℕ) → (next == COURSE) ≡ test
     → (next ≡ COURSE) ⊎ (next ≡ last) → AfterSpeed last enhanced speed next x l → CourseTold last enhanced speed next x l
-to_course last enhanced speed next true x l e h p =
-    let q = p.yes e in
-    let r = q.after in
-    let is : next ≡ COURSE = eqb-true next COURSE e in
-    let final : r.chosen ≡ last = r.before.allowed in
-    let tail : l ≡ told_symbols four_digits q.chosen ++ (r.chosen ∷ []) = spelt q (joined r r.after.list) in
-    let told = q.before.is_lawful in
-    record {
-      course = q.chosen;
-      range = told.1;
-      some = λ _. told.0;
-      value = r.after.value;
-      list = ap (λ a. a ∷ l) is ∙ ap (λ a. COURSE ∷ a) tail ∙ ap (λ a. COURSE ∷ (told_symbols four_digits q.chosen ++ (a ∷ []))) final
-          ∙ ap (λ a. a ++ (last ∷ [])) (sym (there COURSE four_digits q.chosen told.0));
-    }
-to_course last enhanced speed next false x l e h p =
-    let q = p.no e in
-    let tail : l ≡ [] = q.list in
-    let is : next ≡ last = elim h [ inl k ↦ absurd (eqb-false next COURSE e k) | inr k ↦ k ] in
-    record {
-      course = LeftOut;
-      range = tt;
-      some = λ k. absurd (eqb-false next COURSE e k);
-      value = q.value;
-      list = ap (λ a. a ∷ l) is ∙ ap (λ a. last ∷ a) tail;
-    }
+to_course last enhanced speed next test x l e h p = grind arith
 
 -- the speed and the course that come after this symbol
 record SpeedTold (last : ℕ) (enhanced : PartKind) (next : ℕ) (x : Sets) (l : List ℕ) : Type 0 where
@@ -88,73 +60,19 @@ record SpeedTold (last : ℕ) (enhanced : PartKind) (next : ℕ) (x : Sets) (l :
 
 to_speed : (last : ℕ) (enhanced : PartKind) (next : ℕ) (test : Bool) (x : Sets) (l : List ℕ) → (next == SPEED) ≡ test
     → (next ≡ SPEED) ⊎ (next ≡ COURSE) ⊎ (next ≡ last) → AfterEnhanced last enhanced next x l → SpeedTold last enhanced next x l
-to_speed last enhanced next true x l e h p =
-    let q = p.yes e in
-    let r = q.after in
-    let is : next ≡ SPEED = eqb-true next SPEED e in
-    let told = q.before.is_lawful in
-    let rest = to_course last enhanced q.chosen r.chosen (r.chosen == COURSE) x r.back refl r.before.allowed r.after in
-    let tail : l ≡ told_symbols four_digits q.chosen ++ course_and rest.course last = spelt q (joined r refl ∙ rest.list) in
-    record {
-      speed = q.chosen;
-      course = rest.course;
-      speed_range = told.1;
-      course_range = rest.range;
-      some = λ _. inl told.0;
-      value = rest.value;
-      list = ap (λ a. a ∷ l) is ∙ ap (λ a. SPEED ∷ a) tail
-          ∙ ap (λ a. a ++ course_and rest.course last) (sym (there SPEED four_digits q.chosen told.0));
-    }
-to_speed last enhanced next false x l e h p =
-    let not : next ≡ SPEED → ⊥ = eqb-false next SPEED e in
-    let either : (next ≡ COURSE) ⊎ (next ≡ last) = elim h [ inl k ↦ absurd (not k) | inr k ↦ k ] in
-    let rest = to_course last enhanced LeftOut next (next == COURSE) x l refl either (p.no e) in
-    record {
-      speed = LeftOut;
-      course = rest.course;
-      speed_range = tt;
-      course_range = rest.range;
-      some = λ k. inr (elim k [ inl m ↦ absurd (not m) | inr m ↦ rest.some m ]);
-      value = rest.value;
-      list = rest.list;
-    }
+to_speed last enhanced next test x l e h p = grind arith
 
 to_first : (e : End) (initial : ℕ) (test : Bool) (x : Sets) (l : List ℕ) → (initial == ENHANCED_POSITION) ≡ test
     → (initial ≡ ENHANCED_POSITION) ⊎ (initial ≡ SPEED) ⊎ (initial ≡ COURSE) → AfterFirst (end_symbol e) initial x l → CheckedSets e x (initial ∷ l)
-to_first e initial true x l t h p =
-    let q = p.yes t in
-    let r = q.after in
-    let is : initial ≡ ENHANCED_POSITION = eqb-true initial ENHANCED_POSITION t in
-    let told = q.before.is_lawful in
-    let rest = to_speed (end_symbol e) q.chosen r.chosen (r.chosen == SPEED) x r.back refl r.before.allowed r.after in
-    let tail : l ≡ told_symbols eight_digits q.chosen ++ speed_and rest.speed rest.course (end_symbol e) = spelt q (joined r refl ∙ rest.list) in
-    let list : initial ∷ l ≡ covered (sets_of q.chosen rest.speed rest.course) e =
-    ap (λ a. a ∷ l) is ∙ ap (λ a. ENHANCED_POSITION ∷ a) tail
-    ∙ ap (λ a. a ++ speed_and rest.speed rest.course (end_symbol e)) (sym (there ENHANCED_POSITION eight_digits q.chosen told.0)) in
-    subst (λ a. CheckedSets e a (initial ∷ l)) (sym rest.value) (record {
-      is_lawful = record { some = inl told.0; enhanced = told.1; speed = rest.speed_range; course = rest.course_range };
-      list = list;
-    })
-to_first e initial false x l t h p =
-    let later : (initial ≡ SPEED) ⊎ (initial ≡ COURSE) = elim h [ inl k ↦ absurd (eqb-false initial ENHANCED_POSITION t k) | inr k ↦ k ] in
-    let wider : (initial ≡ SPEED) ⊎ (initial ≡ COURSE) ⊎ (initial ≡ end_symbol e) = elim later [ inl k ↦ inl k | inr k ↦ inr (inl k) ] in
-    let rest = to_speed (end_symbol e) LeftOut initial (initial == SPEED) x l refl wider (p.no t) in
-    subst (λ a. CheckedSets e a (initial ∷ l)) (sym rest.value) (record {
-      is_lawful = record { some = inr (rest.some later); enhanced = tt; speed = rest.speed_range; course = rest.course_range };
-      list = rest.list;
-    })
+to_first e initial test x l t h p = grind arith
 
 to_sets : (e : End) (x : Sets) (word : List ℕ) → SetWords (end_symbol e) x word → CheckedSets e x word
-to_sets e x word p =
-    subst (λ w. CheckedSets e x w) (sym (joined p refl)) (to_first e p.chosen (p.chosen == ENHANCED_POSITION) x p.back refl p.before.allowed p.after)
+to_sets e x word p = grind arith
 
 -- the rest after the specifier of a course that is there
 course_there : (last : ℕ) (enhanced speed course : PartKind) → IsThere course → IsUpTo 3599 course
     → AfterSpeed last enhanced speed COURSE (sets_of enhanced speed course) (told_symbols four_digits course ++ (last ∷ []))
-course_there last enhanced speed course h k = record {
-  yes = λ _. spelled_then course (last ∷ []) (h, k) (one_then last refl (record { value = refl; list = refl }));
-  no = λ (t : true ≡ false). absurd (cc);
-}
+course_there last enhanced speed course h k = grind arith
 
 from_course : (last : ℕ) (enhanced speed course : PartKind) → IsApart last → IsUpTo 3599 course
     → CourseAndEnd last enhanced speed (sets_of enhanced speed course) (course_and course last)
@@ -176,10 +94,7 @@ speed_there last enhanced speed course a h k m = record {
 -- what may follow a speed may follow an enhanced position alone
 no_speed : (last : ℕ) (enhanced : PartKind) (x : Sets) (word : List ℕ) → IsApart last → CourseAndEnd last enhanced LeftOut x word
     → SpeedAndRest last enhanced x word
-no_speed last enhanced x word a p =
-    let not : p.chosen ≡ SPEED → ⊥ = λ k. elim p.before.allowed [ inl m ↦ absurd (omega arith) | inr m ↦ a.speed (sym m ∙ k) ] in
-    subst (λ w. SpeedAndRest last enhanced x w) (sym (joined p refl))
-    (one_then p.chosen (inr p.before.allowed) (record { yes = λ t. absurd (not (eqb-true p.chosen SPEED t)); no = λ _. p.after }))
+no_speed last enhanced x word a p = grind arith
 
 from_speed : (last : ℕ) (enhanced speed course : PartKind) → IsApart last → IsUpTo 9999 speed → IsUpTo 3599 course
     → SpeedAndRest last enhanced (sets_of enhanced speed course) (speed_and speed course last)

@@ -43,28 +43,10 @@ whole_good : (e : End) → Good (Whole e)
 whole_good e = then_good _ _ (checked_sets_good e) (λ x _ _. closed_good e x)
 
 closing_list : (k last : ℕ) (u : Unit {0}) (w : List ℕ) → Closing k last u w → w ≡ k ∷ last ∷ last ∷ []
-closing_list k last u w p =
-    let q = p.after in
-    let r = q.after in
-    let list : w ≡ p.chosen ∷ q.chosen ∷ r.chosen ∷ [] = joined p (joined q (joined r r.after.list)) in
-    let a : p.chosen ≡ k = p.before.allowed in
-    let b : q.chosen ≡ last = q.before.allowed in
-    let c : r.chosen ≡ last = r.before.allowed in
-    cc
+closing_list k last u w p = grind arith
 
 to_whole : (e : End) (x : Sets) (word : List ℕ) → Whole e x word → Lists e x word
-to_whole e x word p =
-    let q = p.after in
-    let y : Sets = p.chosen in
-    let k : ℕ = check_of (covered y e) in
-    let last : ℕ = end_symbol e in
-    let first : p.front ≡ covered y e = p.before.list in
-    let none : q.back ≡ [] = q.after.list in
-    let tail : q.front ≡ k ∷ last ∷ last ∷ [] = closing_list k last q.chosen q.front q.before in
-    let back : p.back ≡ q.front ++ q.back = q.list in
-    let rest : p.back ≡ k ∷ last ∷ last ∷ [] = back ∙ ap (λ a. a ++ q.back) tail ∙ ap (λ a. (k ∷ last ∷ last ∷ []) ++ a) none in
-    let list : word ≡ spell y e = p.list ∙ ap (λ a. a ++ p.back) first ∙ ap (λ a. covered y e ++ a) rest in
-    subst (λ a. Lists e a word) (sym q.after.value) (record { is_lawful = p.before.is_lawful; list = list })
+to_whole e x word p = grind arith
 
 from_whole : (e : End) (x : Sets) (word : List ℕ) → Lists e x word → Whole e x word
 from_whole e x word p =
@@ -247,8 +229,4 @@ covered_part e x l rest list =
 -- the same reading under other names
 pub closing_as : (k m last final : ℕ) (l rest new after : List ℕ) (r : Result (Unit {0}) Stop) → k ≡ m → last ≡ final → l ≡ rest → new ≡ after
     → Reads (Closing k last) l r new → Reads (Closing m final) rest r after
-closing_as k m last final l rest new after r a b c d p =
-    subst (λ x. Reads (Closing x final) rest r after) a
-    (subst (λ x. Reads (Closing k x) rest r after) b
-    (subst (λ x. Reads (Closing k last) x r after) c
-    (subst (λ x. Reads (Closing k last) l r x) d p)))
+closing_as k m last final l rest new after r a b c d p = grind arith

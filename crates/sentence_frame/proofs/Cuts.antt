@@ -30,10 +30,7 @@ abbrev pub has_no_comma : List ℕ → Bool
 has_no_comma text = list_all (λ b. not (is_comma b)) text
 
 onto_behind : (b : ℕ) (bytes : List ℕ) (parts : List (List ℕ)) → behind_commas parts ≡ 44 ∷ bytes → behind_commas (onto_first b parts) ≡ 44 ∷ (b ∷ bytes)
-onto_behind b bytes [] e = absurd (cc)
-onto_behind b bytes (part ∷ parts) e =
-    let tail : part ++ behind_commas parts ≡ bytes = cc in
-    ap (λ (l : List ℕ). 44 ∷ (b ∷ l)) tail
+onto_behind b bytes parts e = grind arith
 
 -- what is cut at its commas, each part after a comma again
 pub cut_behind : (bytes : List ℕ) → behind_commas (slice_split is_comma bytes) ≡ 44 ∷ bytes
@@ -48,8 +45,7 @@ cut_behind (b ∷ bytes) =
     ]
 
 onto_free : (b : ℕ) (parts : List (List ℕ)) → is_comma b ≡ false → list_all has_no_comma parts ≡ true → list_all has_no_comma (onto_first b parts) ≡ true
-onto_free b [] h all = rw h refl
-onto_free b (part ∷ parts) h all = rw h all
+onto_free b parts h all = grind arith
 
 -- no part has a comma
 pub cut_free : (bytes : List ℕ) → list_all has_no_comma (slice_split is_comma bytes) ≡ true

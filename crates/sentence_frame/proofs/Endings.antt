@@ -48,10 +48,7 @@ ending_text x h =
     cc
 
 pub written_ending : (sum : ℕ) → sum < 256 → written (ending sum) ≡ sum
-written_ending sum h =
-    let high : hexadecimal_value (hexadecimal (sum / 16)) ≡ sum / 16 = digit_back (sum / 16) (omega arith) in
-    let low : hexadecimal_value (hexadecimal (sum % 16)) ≡ sum % 16 = digit_back (sum % 16) (omega arith) in
-    rw (high, low) (omega arith)
+written_ending sum h = grind arith
 
 pub ending_is : (sum : ℕ) → sum < 256 → is_ending (ending sum) ≡ true
 ending_is sum h =
@@ -61,10 +58,7 @@ ending_is sum h =
 
 -- the checksum of clean bytes
 clean_small : (b : ℕ) → is_clean b ≡ true → b < 2 ^ 7
-clean_small b h =
-    let last = and_parts (nat_le 32 b && nat_le b 126) (not (nat_eq b 36) && not (nat_eq b 42)) h in
-    let two = and_parts (nat_le 32 b) (nat_le b 126) last.0 in
-    omega (arith, leb-true b 126 two.1)
+clean_small b h = grind arith
 
 fold_small : (sum : ℕ) (bytes : List ℕ) → sum < 2 ^ 7 → list_all is_clean bytes ≡ true → fold bit_xor sum bytes < 2 ^ 7
 fold_small sum [] h all = h

@@ -59,9 +59,7 @@ record AreDigitsFacts (width : ℕ) (t : List ℕ) : Type 0 where
   all : list_all is_digit t ≡ true
 
 are_digits_facts : (width : ℕ) (t : List ℕ) → are_digits width t ≡ true → AreDigitsFacts width t
-are_digits_facts width t h =
-    let k = and_parts (nat_eq (length t) width) (list_all is_digit t) h in
-    record { long = eqb-true (length t) width k.0; all = k.1 }
+are_digits_facts width t h = grind arith
 
 -- numbers in so many digits
 pub number_kind : (width most : ℕ) → most < 10 ^ width → IsKind (shape.number width most) (digits width) number_of (λ n. n ≤ most)
@@ -111,9 +109,7 @@ abbrev is_value : ℕ → Bool
 is_value d = nat_lt d 10
 
 value_digit : (d : ℕ) → is_value d ≡ true → is_digit (48 + d) ≡ true
-value_digit d h =
-    let small = ltb-true d 10 h in
-    and_from (nat_le 48 (48 + d)) (nat_le (48 + d) 57) (le-leb 48 (48 + d) (omega arith)) (le-leb (48 + d) 57 (omega (arith, small)))
+value_digit d h = grind arith
 
 text_digits : (values : List ℕ) → AreDigits values → list_all is_digit (digit_text values) ≡ true
 text_digits [] h = refl
@@ -182,14 +178,10 @@ perhaps_shown s text value Fits k None h = refl
 perhaps_shown s text value Fits k (Some v) h = or_right (is_nothing (text v)) (accepts s (text v)) (k.shown v h)
 
 some_text : (s : Shape) (t : List ℕ) → accepts s [] ≡ false → accepts s t ≡ true → is_nothing t ≡ false
-some_text s [] none h = absurd (false≢true (sym none ∙ h))
-some_text s (b ∷ t) none h = refl
+some_text s t none h = grind arith
 
 perhaps_back : {V : Type 0} (s : Shape) (text : V → List ℕ) (value : List ℕ → V) (Fits : V → Type 0) → IsKind s text value Fits → accepts s [] ≡ false → (o : Option V) → IfSome o Fits → perhaps value (perhaps_text text o) ≡ o
-perhaps_back s text value Fits k none None h = refl
-perhaps_back s text value Fits k none (Some v) h =
-    let some : is_nothing (text v) ≡ false = some_text s (text v) none (k.shown v h) in
-    rw some (ap Some (k.back v h))
+perhaps_back s text value Fits k none o h = grind arith
 
 perhaps_fits : {V : Type 0} (s : Shape) (text : V → List ℕ) (value : List ℕ → V) (Fits : V → Type 0) → IsKind s text value Fits → (t : List ℕ) → accepts (shape.maybe s) t ≡ true → IfSome (perhaps value t) Fits
 unfolding accepts

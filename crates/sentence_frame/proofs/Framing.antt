@@ -51,12 +51,10 @@ pub record IsFramed (head bytes fields : List ℕ) : Type 0 where
 
 -- a list with this first element
 first_is : (l : List ℕ) (b : ℕ) → 0 < length l → get_or l 0 0 ≡ b → l ≡ b ∷ drop 1 l
-first_is [] b h e = absurd (omega (arith, h))
-first_is (c ∷ l) b h e = ap (λ (d : ℕ). d ∷ l) e
+first_is l b h e = grind arith
 
 drop_behind : (xs ys : List ℕ) → 0 < length xs → drop 1 (xs ++ ys) ≡ drop 1 xs ++ ys
-drop_behind [] ys h = absurd (omega (arith, h))
-drop_behind (x ∷ xs) ys h = refl
+drop_behind xs ys h = grind arith
 
 pub framed_sound : (head bytes fields : List ℕ) → is_head head ≡ true → framed head bytes ≡ Ok fields → IsFramed head bytes fields
 framed_sound head bytes fields h e =

@@ -1,8 +1,7 @@
 -- what is known of bytes that begin with a head and end as sentences do
-use Rattle.std.proofs.Common.{◌≡◌, ◌≢◌, ℕ, ◌+◌, ◌-◌, ◌<◌, Bool, true, not, ◌&&◌, nat_eq, nat_lt, nat_le, List, length, get_or, take, drop, sym, ◌∙◌, ap, arith, inl, inr, length-drop}
+use Rattle.std.proofs.Common.{◌≡◌, ◌≢◌, ℕ, ◌+◌, ◌-◌, ◌<◌, Bool, true, not, ◌&&◌, nat_eq, nat_lt, nat_le, List, length, get_or, take, drop, sym, ◌∙◌, ap, arith, inl, inr, length-drop, get_or-drop, get_or-take}
 use Rattle.std.specs.List.{list_all, starts_with}
 use Rattle.std.specs.Cmp.Lexicographic.{same_text}
-use Rattle.std.proofs.Common.{get_or-drop, get_or-take}
 use Rattle.std.proofs.lemmas.Bool.{and_parts, cases_lt, cases_Bool, not-true, eqb-true, eqb-false, ltb-true, false≢true}
 use Rattle.std.proofs.lemmas.List.{get_or_past}
 use Rattle.std.proofs.lemmas.List.Folds.{list_all_at}
@@ -48,10 +47,7 @@ begins_facts head bytes b =
 
 -- no byte of a head but the first is a `*`, nor is a clean one
 pub clean_star : (b : ℕ) → is_clean b ≡ true → b ≢ 42
-clean_star b h =
-    let last = and_parts (nat_le 32 b && nat_le b 126) (not (nat_eq b 36) && not (nat_eq b 42)) h in
-    let two = and_parts (not (nat_eq b 36)) (not (nat_eq b 42)) last.1 in
-    eqb-false b 42 (not-true (nat_eq b 42) two.1)
+clean_star b h = grind arith
 
 head_star : (head : List ℕ) (i : ℕ) → IsHead head → 0 < i → i < length head → get_or head i 0 ≢ 42
 head_star head i h low high e =

@@ -18,17 +18,7 @@ has_plain_letters (shape.maybe s) = has_plain_letters s
 has_plain_letters _ = true
 
 digit_plain : (b : ℕ) → is_digit b ≡ true → is_plain b ≡ true
-digit_plain b h =
-    let k = and_parts (nat_le 48 b) (nat_le b 57) h in
-    let low = leb-true 48 b k.0 in
-    let high = leb-true b 57 k.1 in
-    and_from (is_clean b) (not (is_comma b))
-    (and_from (nat_le 32 b && nat_le b 126) (not (nat_eq b 36) && not (nat_eq b 42))
-    (and_from (nat_le 32 b) (nat_le b 126) (le-leb 32 b (omega (arith, low))) (le-leb b 126 (omega (arith, high))))
-    (and_from (not (nat_eq b 36)) (not (nat_eq b 42))
-    (not_from_false (nat_eq b 36) (ne_eqb b 36 (λ e. omega (arith, e, low))))
-    (not_from_false (nat_eq b 42) (ne_eqb b 42 (λ e. omega (arith, e, low))))))
-    (not_from_false (is_comma b) (ne_eqb b 44 (λ e. omega (arith, e, low))))
+digit_plain b h = grind arith
 
 pub digits_plain : (t : List ℕ) → list_all is_digit t ≡ true → are_plain t ≡ true
 digits_plain [] h = refl

@@ -1,5 +1,5 @@
 -- sentences of a form: what is read as one, and what is written as one
-use Rattle.std.proofs.Common.{◌<◌, ◌≡◌, ◌≢◌, ℕ, ◌+◌, ◌≤◌, Bool, true, ◌&&◌, List, [], ◌∷◌, ◌++◌, length, drop, refl, sym, ◌∙◌, ap, inl, inr, Result, Ok, Err, if◌then◌else◌}
+use Rattle.std.proofs.Common.{◌<◌, ◌≡◌, ◌≢◌, ℕ, ◌+◌, ◌≤◌, Bool, true, ◌&&◌, List, [], ◌∷◌, ◌++◌, length, drop, refl, sym, ◌∙◌, ap, inl, inr, Result, Ok, Err, if◌then◌else◌, arith}
 use Rattle.std.specs.List.{list_all}
 use Rattle.std.proofs.lemmas.Bool.{and_parts, and_from, cases_Bool}
 use Rattle.sentence_frame.specs.declared.refusals.SentenceRefusal.{SentenceRefusal}
@@ -49,15 +49,7 @@ pub record IsOpened (head counts bytes fields : List ℕ) : Type 0 where
 open_ok : (head counts bytes fields : List ℕ) (r : Result (List ℕ) SentenceRefusal)
     → (r >>= (λ (all : List ℕ). if is_among counts (length (texts all)) then Ok all else Err (FieldCount (length (texts all))))) ≡ Ok fields
     → (r ≡ Ok fields) × (is_among counts (length (texts fields)) ≡ true)
-open_ok head counts bytes fields (Err e) h = absurd (cc)
-open_ok head counts bytes fields (Ok all) h =
-    elim (cases_Bool (is_among counts (length (texts all)))) [
-      | inl is ↦
-          (let k = rw is at h in
-          let same : all ≡ fields = cc in
-          (k, ap (λ (l : List ℕ). is_among counts (length (texts l))) (sym same) ∙ is))
-      | inr isnt ↦ absurd (let k = rw isnt at h in cc)
-    ]
+open_ok head counts bytes fields r h = grind arith
 
 -- a sentence that is opened has its head, its checksum and so many fields
 pub opened_sound : (head counts bytes fields : List ℕ) → opened head counts bytes ≡ Ok fields → IsOpened head counts bytes fields
