@@ -1,41 +1,18 @@
-use Rattle.std.proofs.Common.{codes, refl, sym, ◌∙◌, ap}
-use Rattle.line_grammar.specs.inside.Reading.{read}
-use Rattle.call_texts.specs.CallGrammar as grammar
-use Rattle.line_grammar.specs.Sections.{labelled, nth}
-use Rattle.call_texts.specs.inside.Reading.{parts_with}
-use Rattle.line_grammar.proofs.SectionSteps.{both, behind, whole, no_tail, leaves_form}
+use Rattle.std.proofs.Common.{refl}
+use Rattle.line_grammar.proofs.SectionSteps.{leaves_form}
 use Rattle.call_texts.proofs.forms.area_call.Goals as goal
 
 pub returns-in_err-area : goal.returns-in_err-area
-returns-in_err-area g c =
-    leaves_form (grammar.area_call g.T.Tail.grammar) (nth 5) (parts_with g.T.Tail.parts) _ _ _ _ c.new-line.ensures c.from_residual.ensures.1
-    (c.in_err-area.ensures (grammar.request (grammar.frequencies g.T.Tail.grammar)))
+returns-in_err-area g c = leaves_form _ _ _ _ _ _ _ c.new-line.ensures c.from_residual.ensures.1 (c.in_err-area.ensures _)
 
 pub returns-in_err-request : goal.returns-in_err-request
-returns-in_err-request g c =
-    leaves_form (grammar.area_call g.T.Tail.grammar) (nth 5) (parts_with g.T.Tail.parts) _ _ _ _ c.new-line.ensures c.from_residual-in_err-request.ensures.1
-    ((behind (labelled (codes "area to=") grammar.area) (λ rest. grammar.request (grammar.frequencies rest)) _ _ _ _ c.in_ok-area.ensures
-    (λ rest. c.in_err-request.ensures (grammar.frequencies rest))) g.T.Tail.grammar)
+returns-in_err-request g c = leaves_form _ _ _ _ _ _ _ c.new-line.ensures c.from_residual-in_err-request.ensures.1 (rw (c.in_ok-area.ensures, c.in_err-request.ensures) refl)
 
 pub returns-in_err-frequencies : goal.returns-in_err-frequencies
-returns-in_err-frequencies g c =
-    leaves_form (grammar.area_call g.T.Tail.grammar) (nth 5) (parts_with g.T.Tail.parts) _ _ _ _ c.new-line.ensures c.from_residual-in_err-frequencies.ensures.1
-    ((behind (labelled (codes "area to=") grammar.area) (λ rest. grammar.request (grammar.frequencies rest)) _ _ _ _ c.in_ok-area.ensures
-    (behind grammar.request (λ rest. grammar.frequencies rest) _ _ _ _ c.in_ok-request.ensures
-    c.in_err-frequencies.ensures)) g.T.Tail.grammar)
+returns-in_err-frequencies g c = leaves_form _ _ _ _ _ _ _ c.new-line.ensures c.from_residual-in_err-frequencies.ensures.1 (rw (c.in_ok-area.ensures, c.in_ok-request.ensures, c.in_err-frequencies.ensures) refl)
 
 pub returns-in_err-tail : goal.returns-in_err-tail
-returns-in_err-tail g c =
-    leaves_form (grammar.area_call g.T.Tail.grammar) (nth 5) (parts_with g.T.Tail.parts) _ _ _ _ c.new-line.ensures c.from_residual-in_err-tail.ensures.1
-    (no_tail (λ rest. (labelled (codes "area to=") grammar.area) (grammar.request (grammar.frequencies rest))) g.T.Tail.grammar _ _ _ _ _ (both (labelled (codes "area to=") grammar.area) (λ rest. grammar.request (grammar.frequencies rest)) _ _ _ _ _ c.in_ok-area.ensures
-    (both grammar.request (λ rest. grammar.frequencies rest) _ _ _ _ _ c.in_ok-request.ensures
-    c.in_ok-frequencies.ensures)) c.rest.ensures c.in_err-tail.ensures)
+returns-in_err-tail g c = leaves_form _ _ _ _ _ _ _ c.new-line.ensures c.from_residual-in_err-tail.ensures.1 (rw (c.in_ok-area.ensures, c.in_ok-request.ensures, c.in_ok-frequencies.ensures, ← c.rest.ensures, c.in_err-tail.ensures) refl)
 
 pub returns : goal.returns
-returns g c = (
-  _,
-  ap (read (grammar.area_call g.T.Tail.grammar)) (sym c.new-line.ensures) ∙ whole (λ rest. (labelled (codes "area to=") grammar.area) (grammar.request (grammar.frequencies rest))) g.T.Tail.grammar _ _ _ _ _ (both (labelled (codes "area to=") grammar.area) (λ rest. grammar.request (grammar.frequencies rest)) _ _ _ _ _ c.in_ok-area.ensures
-      (both grammar.request (λ rest. grammar.frequencies rest) _ _ _ _ _ c.in_ok-request.ensures
-      c.in_ok-frequencies.ensures)) c.rest.ensures c.in_ok-tail.ensures,
-  refl,
-)
+returns g c = (_, rw (← c.new-line.ensures, c.in_ok-area.ensures, c.in_ok-request.ensures, c.in_ok-frequencies.ensures, ← c.rest.ensures, c.in_ok-tail.ensures) refl, refl)

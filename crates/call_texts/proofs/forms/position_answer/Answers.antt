@@ -1,51 +1,21 @@
-use Rattle.std.proofs.Common.{codes, refl, sym, ◌∙◌, ap}
-use Rattle.line_grammar.specs.inside.Reading.{read}
-use Rattle.call_texts.specs.CallGrammar as grammar
-use Rattle.line_grammar.specs.Sections.{labelled, last}
-use Rattle.call_texts.specs.inside.Reading.{parts_with}
-use Rattle.line_grammar.proofs.SectionSteps.{both, behind, whole, no_tail, leaves_form}
+use Rattle.std.proofs.Common.{refl}
+use Rattle.line_grammar.proofs.SectionSteps.{leaves_form}
 use Rattle.call_texts.proofs.forms.position_answer.Goals as goal
 
 pub returns-in_err-to : goal.returns-in_err-to
-returns-in_err-to g c =
-    leaves_form (grammar.position_answer g.T.Tail.grammar) (last 10) (parts_with g.T.Tail.parts) _ _ _ _ c.new-line.ensures c.from_residual.ensures.1
-    (c.in_err-to.ensures (grammar.sender ((labelled (codes " pos=") grammar.position) ((labelled (codes " time=") grammar.time) g.T.Tail.grammar))))
+returns-in_err-to g c = leaves_form _ _ _ _ _ _ _ c.new-line.ensures c.from_residual.ensures.1 (c.in_err-to.ensures _)
 
 pub returns-in_err-sender : goal.returns-in_err-sender
-returns-in_err-sender g c =
-    leaves_form (grammar.position_answer g.T.Tail.grammar) (last 10) (parts_with g.T.Tail.parts) _ _ _ _ c.new-line.ensures c.from_residual-in_err-sender.ensures.1
-    ((behind (labelled (codes "pos to=") grammar.identity) (λ rest. grammar.sender ((labelled (codes " pos=") grammar.position) ((labelled (codes " time=") grammar.time) rest))) _ _ _ _ c.in_ok-to.ensures
-    (λ rest. c.in_err-sender.ensures ((labelled (codes " pos=") grammar.position) ((labelled (codes " time=") grammar.time) rest)))) g.T.Tail.grammar)
+returns-in_err-sender g c = leaves_form _ _ _ _ _ _ _ c.new-line.ensures c.from_residual-in_err-sender.ensures.1 (rw (c.in_ok-to.ensures, c.in_err-sender.ensures) refl)
 
 pub returns-in_err-position : goal.returns-in_err-position
-returns-in_err-position g c =
-    leaves_form (grammar.position_answer g.T.Tail.grammar) (last 10) (parts_with g.T.Tail.parts) _ _ _ _ c.new-line.ensures c.from_residual-in_err-position.ensures.1
-    ((behind (labelled (codes "pos to=") grammar.identity) (λ rest. grammar.sender ((labelled (codes " pos=") grammar.position) ((labelled (codes " time=") grammar.time) rest))) _ _ _ _ c.in_ok-to.ensures
-    (behind grammar.sender (λ rest. (labelled (codes " pos=") grammar.position) ((labelled (codes " time=") grammar.time) rest)) _ _ _ _ c.in_ok-sender.ensures
-    (λ rest. c.in_err-position.ensures ((labelled (codes " time=") grammar.time) rest)))) g.T.Tail.grammar)
+returns-in_err-position g c = leaves_form _ _ _ _ _ _ _ c.new-line.ensures c.from_residual-in_err-position.ensures.1 (rw (c.in_ok-to.ensures, c.in_ok-sender.ensures, c.in_err-position.ensures) refl)
 
 pub returns-in_err-time : goal.returns-in_err-time
-returns-in_err-time g c =
-    leaves_form (grammar.position_answer g.T.Tail.grammar) (last 10) (parts_with g.T.Tail.parts) _ _ _ _ c.new-line.ensures c.from_residual-in_err-time.ensures.1
-    ((behind (labelled (codes "pos to=") grammar.identity) (λ rest. grammar.sender ((labelled (codes " pos=") grammar.position) ((labelled (codes " time=") grammar.time) rest))) _ _ _ _ c.in_ok-to.ensures
-    (behind grammar.sender (λ rest. (labelled (codes " pos=") grammar.position) ((labelled (codes " time=") grammar.time) rest)) _ _ _ _ c.in_ok-sender.ensures
-    (behind (labelled (codes " pos=") grammar.position) (λ rest. (labelled (codes " time=") grammar.time) rest) _ _ _ _ c.in_ok-position.ensures
-    c.in_err-time.ensures))) g.T.Tail.grammar)
+returns-in_err-time g c = leaves_form _ _ _ _ _ _ _ c.new-line.ensures c.from_residual-in_err-time.ensures.1 (rw (c.in_ok-to.ensures, c.in_ok-sender.ensures, c.in_ok-position.ensures, c.in_err-time.ensures) refl)
 
 pub returns-in_err-tail : goal.returns-in_err-tail
-returns-in_err-tail g c =
-    leaves_form (grammar.position_answer g.T.Tail.grammar) (last 10) (parts_with g.T.Tail.parts) _ _ _ _ c.new-line.ensures c.from_residual-in_err-tail.ensures.1
-    (no_tail (λ rest. (labelled (codes "pos to=") grammar.identity) (grammar.sender ((labelled (codes " pos=") grammar.position) ((labelled (codes " time=") grammar.time) rest)))) g.T.Tail.grammar _ _ _ _ _ (both (labelled (codes "pos to=") grammar.identity) (λ rest. grammar.sender ((labelled (codes " pos=") grammar.position) ((labelled (codes " time=") grammar.time) rest))) _ _ _ _ _ c.in_ok-to.ensures
-    (both grammar.sender (λ rest. (labelled (codes " pos=") grammar.position) ((labelled (codes " time=") grammar.time) rest)) _ _ _ _ _ c.in_ok-sender.ensures
-    (both (labelled (codes " pos=") grammar.position) (λ rest. (labelled (codes " time=") grammar.time) rest) _ _ _ _ _ c.in_ok-position.ensures
-    c.in_ok-time.ensures))) c.rest.ensures c.in_err-tail.ensures)
+returns-in_err-tail g c = leaves_form _ _ _ _ _ _ _ c.new-line.ensures c.from_residual-in_err-tail.ensures.1 (rw (c.in_ok-to.ensures, c.in_ok-sender.ensures, c.in_ok-position.ensures, c.in_ok-time.ensures, ← c.rest.ensures, c.in_err-tail.ensures) refl)
 
 pub returns : goal.returns
-returns g c = (
-  _,
-  ap (read (grammar.position_answer g.T.Tail.grammar)) (sym c.new-line.ensures) ∙ whole (λ rest. (labelled (codes "pos to=") grammar.identity) (grammar.sender ((labelled (codes " pos=") grammar.position) ((labelled (codes " time=") grammar.time) rest)))) g.T.Tail.grammar _ _ _ _ _ (both (labelled (codes "pos to=") grammar.identity) (λ rest. grammar.sender ((labelled (codes " pos=") grammar.position) ((labelled (codes " time=") grammar.time) rest))) _ _ _ _ _ c.in_ok-to.ensures
-      (both grammar.sender (λ rest. (labelled (codes " pos=") grammar.position) ((labelled (codes " time=") grammar.time) rest)) _ _ _ _ _ c.in_ok-sender.ensures
-      (both (labelled (codes " pos=") grammar.position) (λ rest. (labelled (codes " time=") grammar.time) rest) _ _ _ _ _ c.in_ok-position.ensures
-      c.in_ok-time.ensures))) c.rest.ensures c.in_ok-tail.ensures,
-  refl,
-)
+returns g c = (_, rw (← c.new-line.ensures, c.in_ok-to.ensures, c.in_ok-sender.ensures, c.in_ok-position.ensures, c.in_ok-time.ensures, ← c.rest.ensures, c.in_ok-tail.ensures) refl, refl)

@@ -1,25 +1,18 @@
-use Rattle.std.proofs.Common.{ℕ, codes, sym, ◌∙◌, ap}
+use Rattle.std.proofs.Common.{ℕ, codes, refl, sym, ◌∙◌, ap}
 use Rattle.line_grammar.specs.Grammar.{part}
 use Rattle.line_grammar.specs.Shapes.{digits}
 use Rattle.line_grammar.specs.inside.Reading.{named, read}
 use Rattle.call_texts.specs.CallGrammar as grammar
 use Rattle.line_grammar.specs.Sections.{labelled}
-use Rattle.call_texts.specs.CallParts.{casualty_parts, distress_parts}
-use Rattle.line_grammar.proofs.SectionSteps.{both, behind, leaves}
+use Rattle.call_texts.specs.CallParts.{casualty_parts}
+use Rattle.line_grammar.proofs.SectionSteps.{both, leaves}
 use Rattle.call_texts.proofs.sections.Distress.read.Goals as goal
 
 pub returns-in_err-mmsi : goal.returns-in_err-mmsi
-returns-in_err-mmsi c =
-    let ship = labelled (codes " casualty=") grammar.identity in
-    leaves grammar.distress (λ v. distress_parts v.from v.casualty) _ _ _ _ c.from_residual-in_err-mmsi.ensures.1
-    (behind grammar.from (λ rest. ship (grammar.casualty rest)) _ _ _ _ c.in_ok-from.ensures (λ rest. c.in_err-mmsi.ensures (grammar.casualty rest)))
+returns-in_err-mmsi c = leaves _ _ _ _ _ _ c.from_residual-in_err-mmsi.ensures.1 (λ rest. rw (c.in_ok-from.ensures, c.in_err-mmsi.ensures) refl)
 
 pub returns-in_err-casualty : goal.returns-in_err-casualty
-returns-in_err-casualty c =
-    let ship = labelled (codes " casualty=") grammar.identity in
-    leaves grammar.distress (λ v. distress_parts v.from v.casualty) _ _ _ _ c.from_residual-in_err-casualty.ensures.1
-    (behind grammar.from (λ rest. ship (grammar.casualty rest)) _ _ _ _ c.in_ok-from.ensures
-    (behind ship grammar.casualty _ _ _ _ c.in_ok-mmsi.ensures c.in_err-casualty.ensures.reads))
+returns-in_err-casualty c = leaves _ _ _ _ _ _ c.from_residual-in_err-casualty.ensures.1 (λ rest. rw (c.in_ok-from.ensures, c.in_ok-mmsi.ensures, c.in_err-casualty.ensures.reads) refl)
 
 pub returns : goal.returns
 returns c rest =
