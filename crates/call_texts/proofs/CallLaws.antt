@@ -12,7 +12,7 @@ use Rattle.line_grammar.specs.inside.Soundness.{is_sound}
 use Rattle.line_grammar.proofs.Stops.{IsAlike}
 use Rattle.call_texts.specs.CallGrammar.{calls, expansion, perhaps}
 use Rattle.call_texts.specs.CallParts.{call_text, expansion_text}
-use Rattle.call_texts.specs.Texts.{IsBareCallText, IsCallText, IsWholeOrAbsent, extra_text, reported_text}
+use Rattle.call_texts.specs.Texts.{IsCallText, IsWholeOrAbsent, extra_text, reported_text}
 use Rattle.call_texts.specs.inside.Expansions.{extra_parts}
 use Rattle.call_texts.specs.inside.Places.{call_parts}
 use Rattle.line_grammar.proofs.Sections.{followed, closed}

@@ -1,5 +1,5 @@
 -- calls and the parts of their texts
-use Rattle.std.proofs.Common.{◌≡◌, ℕ, Bool, ◌⊎◌, inl, inr, Option, codes, refl, ap}
+use Rattle.std.proofs.Common.{◌≡◌, ℕ, Bool, ◌⊎◌, inl, inr, Option, codes, arith}
 use Rattle.line_grammar.specs.Grammar.{word, field, Parts, part}
 use Rattle.call_values.specs.declared.positions.Fix.{Fix}
 use Rattle.call_values.specs.declared.calls.Casualty.{Casualty}
@@ -14,8 +14,7 @@ use Rattle.call_values.specs.declared.parts.Message.TheVariants.{Fields, At}
 use Rattle.call_values.specs.declared.parts.Kind.TheVariants.{Test, AskPosition, Position}
 use Rattle.call_values.specs.Identity.{IsMmsi}
 use Rattle.dsc_symbols.specs.Natures.{IsNature}
-use Rattle.dsc_symbols.specs.Telecommands.{IsComm}
-use Rattle.dsc_symbols.specs.Telecommands.{IsFirst, IsSecond}
+use Rattle.dsc_symbols.specs.Telecommands.{IsComm, IsFirst, IsSecond}
 use Rattle.call_values.specs.Positions.{IsPosition}
 use Rattle.call_values.specs.Clock.{IsHourMinute}
 use Rattle.call_values.specs.Fields.{IsField}
@@ -28,7 +27,6 @@ use Rattle.dsc_symbols.specs.declared.ends.TheConstants.{ENDS, RELAY_ENDS, TEST_
 use Rattle.call_texts.specs.CallGrammar as grammar
 use Rattle.call_texts.specs.CallParts.{position_text, time_text, area_text, frequency_text, address_text, relay_end, test_end, message_parts}
 use Rattle.call_texts.specs.inside.Places.{call_parts}
-use Rattle.line_grammar.specs.Sections.{nth}
 use Rattle.call_texts.proofs.SymbolTexts.{identity_told, nature_told, comm_told, first_told, second_told, category_told, end_told, relay_end_told, test_end_told}
 use Rattle.call_texts.proofs.FieldTexts.{time_told, position_told, area_told, frequency_told, address_told}
 use Rattle.line_grammar.proofs.Sections.{Section, fielded, worded, labelled, followed, LawfulSide, side_parts, sided, renamed}
@@ -317,63 +315,28 @@ back (inr (inr (inr (inr (inr (inr (inr (inr (inr (inl w)))))))))) = Service w.0
 back (inr (inr (inr (inr (inr (inr (inr (inr (inr (inr (w))))))))))) = Service w.0 w.1.0.0 w.1.0.1 (Position w.1.1.0 w.1.1.1)
 
 message_again : (m : Message) → message_back (message_told m) ≡ m
-message_again (Fields f1 f2) = refl
-message_again (At position) = refl
+message_again m = grind arith
 
 again : (c : Call) → back (told c) ≡ c
-again (Alert casualty) = refl
-again (Ack from casualty) = refl
-again (Relay to from casualty ask) = refl
-again (RelayAck to from casualty) = refl
-again (AllShips category from one two f1 f2) = refl
-again (AreaCall area category from one two f1 f2) = refl
-again (GroupCall group category from one two f1 f2) = refl
-again (Individual to category from one two message end) = ap (λ (m : Message). Individual to category from one two m end) (message_again message)
-again (Service to category from (Test reply)) = refl
-again (Service to category from AskPosition) = refl
-again (Service to category from (Position position time)) = refl
+again c = grind arith
 
 message_there : (m : Message) (q : Parts) → message_parts m q ≡ messages (message_told m) q
-message_there (Fields f1 f2) q = refl
-message_there (At position) q = refl
+message_there m q = grind arith
 
 message_here : (w : Messages) (q : Parts) → message_parts (message_back w) q ≡ messages w q
-message_here (inl f) q = refl
-message_here (inr position) q = refl
+message_here w q = grind arith
 
 there : (c : Call) (q : Parts) → call_parts c q ≡ calls (told c) q
-there (Alert casualty) q = refl
-there (Ack from casualty) q = refl
-there (Relay to from casualty ask) q = refl
-there (RelayAck to from casualty) q = refl
-there (AllShips category from one two f1 f2) q = refl
-there (AreaCall area category from one two f1 f2) q = refl
-there (GroupCall group category from one two f1 f2) q = refl
-there (Individual to category from one two message end) q = ap (λ (x : Parts). nth 7 (part (digits 9 to) (requests ((category, from), (one, two)) x))) (message_there message (part (digits 3 (end_symbol end)) q))
-there (Service to category from (Test reply)) q = refl
-there (Service to category from AskPosition) q = refl
-there (Service to category from (Position position time)) q = refl
+there c q = grind arith
 
 here : (w : Calls) (q : Parts) → call_parts (back w) q ≡ calls w q
-here (inl w) q = refl
-here (inr (inl w)) q = refl
-here (inr (inr (inl w))) q = refl
-here (inr (inr (inr (inl w)))) q = refl
-here (inr (inr (inr (inr (inl w))))) q = refl
-here (inr (inr (inr (inr (inr (inl w)))))) q = refl
-here (inr (inr (inr (inr (inr (inr (inl w))))))) q = refl
-here (inr (inr (inr (inr (inr (inr (inr (inl w)))))))) q = ap (λ (x : Parts). nth 7 (part (digits 9 w.0) (requests w.1.0 x))) (message_here w.1.1.0 (part (digits 3 (end_symbol w.1.1.1)) q))
-here (inr (inr (inr (inr (inr (inr (inr (inr (inl w))))))))) q = refl
-here (inr (inr (inr (inr (inr (inr (inr (inr (inr (inl w)))))))))) q = refl
-here (inr (inr (inr (inr (inr (inr (inr (inr (inr (inr (w))))))))))) q = refl
+here w q = grind arith
 
 message_is : (m : Message) → IsMessage m → AreMessages (message_told m)
-message_is (Fields f1 f2) h = h
-message_is (At position) h = h
+message_is m h = grind arith
 
 message_of : (w : Messages) → AreMessages w → IsMessage (message_back w)
-message_of (inl f) h = h
-message_of (inr position) h = h
+message_of w h = grind arith
 
 abbrev casualty_is : (c : Casualty) → IsCasualty c → AreCasualties (c.nature, (c.position, (c.time, c.comm)))
 casualty_is c h = (h.nature, (h.position, (h.time, h.comm)))
@@ -382,30 +345,10 @@ abbrev lawful_casualty : (mmsi : ℕ) (w : Casualties) → IsMmsi mmsi → AreCa
 lawful_casualty mmsi w m h = record { mmsi = m; nature = h.0; position = h.1.0; time = h.1.1.0; comm = h.1.1.1 }
 
 lawful : (c : Call) → IsCall c → AreCalls (told c)
-lawful (Alert casualty) h = (h.mmsi, casualty_is casualty h)
-lawful (Ack from casualty) h = (h.0, (h.1.mmsi, casualty_is casualty h.1))
-lawful (Relay to from casualty ask) h = (h.0, ((h.1, (h.2.mmsi, casualty_is casualty h.2)), tt))
-lawful (RelayAck to from casualty) h = (h.0, (h.1, (h.2.mmsi, casualty_is casualty h.2)))
-lawful (AllShips category from one two f1 f2) h = (((tt, h.0), (h.1.one, h.1.two)), h.1.told)
-lawful (AreaCall area category from one two f1 f2) h = (h.0, (((tt, h.1), (h.2.one, h.2.two)), h.2.told))
-lawful (GroupCall group category from one two f1 f2) h = (h.0, (((tt, h.1), (h.2.one, h.2.two)), h.2.told))
-lawful (Individual to category from one two message end) h = (h.0, (((tt, h.1), (h.2.one, h.2.two)), (message_is message h.2.told, tt)))
-lawful (Service to category from (Test reply)) h = (h.0, ((tt, h.1), tt))
-lawful (Service to category from AskPosition) h = (h.0, (tt, h.1))
-lawful (Service to category from (Position position time)) h = (h.0, ((tt, h.1), h.2))
+lawful c h = grind arith
 
 lawful_back : (w : Calls) → AreCalls w → IsCall (back w)
-lawful_back (inl w) h = lawful_casualty w.0 w.1 h.0 h.1
-lawful_back (inr (inl w)) h = (h.0, lawful_casualty w.1.0 w.1.1 h.1.0 h.1.1)
-lawful_back (inr (inr (inl w))) h = (h.0, h.1.0.0, lawful_casualty w.1.0.1.0 w.1.0.1.1 h.1.0.1.0 h.1.0.1.1)
-lawful_back (inr (inr (inr (inl w)))) h = (h.0, h.1.0, lawful_casualty w.1.1.0 w.1.1.1 h.1.1.0 h.1.1.1)
-lawful_back (inr (inr (inr (inr (inl w))))) h = (h.0.0.1, record { one = h.0.1.0; two = h.0.1.1; told = h.1 })
-lawful_back (inr (inr (inr (inr (inr (inl w)))))) h = (h.0, h.1.0.0.1, record { one = h.1.0.1.0; two = h.1.0.1.1; told = h.1.1 })
-lawful_back (inr (inr (inr (inr (inr (inr (inl w))))))) h = (h.0, h.1.0.0.1, record { one = h.1.0.1.0; two = h.1.0.1.1; told = h.1.1 })
-lawful_back (inr (inr (inr (inr (inr (inr (inr (inl w)))))))) h = (h.0, h.1.0.0.1, record { one = h.1.0.1.0; two = h.1.0.1.1; told = message_of w.1.1.0 h.1.1.0 })
-lawful_back (inr (inr (inr (inr (inr (inr (inr (inr (inl w))))))))) h = (h.0, h.1.0.1, tt)
-lawful_back (inr (inr (inr (inr (inr (inr (inr (inr (inr (inl w)))))))))) h = (h.0, h.1.1, tt)
-lawful_back (inr (inr (inr (inr (inr (inr (inr (inr (inr (inr (w))))))))))) h = (h.0, h.1.0.1, h.1.1)
+lawful_back w h = grind arith
 
 -- a call, as a section
 pub calls_section : Section {V = Call} grammar.calls IsCall call_parts

@@ -1,5 +1,5 @@
 -- the steps of the readers of expansions
-use Rattle.std.proofs.Common.{◌≡◌, ℕ, List, [], ◌++◌, codes, Result, Ok, Err, IfOk, ◌⊎◌, inl, inr, refl, sym, ◌∙◌, ap, append-nil, append_assoc}
+use Rattle.std.proofs.Common.{◌≡◌, ℕ, List, [], ◌++◌, codes, Result, IfOk, ◌⊎◌, refl, sym, ◌∙◌, ap, append-nil, append_assoc, arith}
 use Rattle.expansion.specs.declared.parts.PartKind.{PartKind}
 use Rattle.expansion.specs.declared.parts.PartKind.TheVariants.{LeftOut, NoInformation, Digits}
 use Rattle.expansion.specs.Parts.{IsThere}
@@ -24,24 +24,18 @@ ended_read bytes r e = e
 -- a reader of a form whose values have other parts elsewhere
 pub moved : {V : Type 0} {Lawful : V → Type 0} (G : Grammar) (place : Parts → Parts) (f g : V → Parts) (bytes : List ℕ) (r : Result V ℕ)
     → ((v : V) → Lawful v → g v ≡ place (f v)) → IfOk r Lawful → ReadsForm G (λ p. p) f bytes r → ReadsForm G place g bytes r
-moved G place f g bytes (Ok v) same h k = (k.0, k.1, same v h ∙ ap place k.2)
-moved G place f g bytes (Err left) same h k = k
+moved G place f g bytes r same h k = grind arith
 
 -- a reader of a form that is alone
 pub settled : {V : Type 0} (G : Grammar) (parts : V → Parts) (bytes : List ℕ) (r : Result V ℕ) → ReadsForm G (λ p. p) parts bytes r → ReadsTail G parts bytes r
-settled G parts bytes (Ok v) h = h.1 ∙ ap (λ (p : Parts). Ok p) (sym h.2)
-settled G parts bytes (Err left) h = h
+settled G parts bytes r h = grind arith
 
 -- the parts of a set that is there
 pub there_parts : (width : ℕ) (x : PartKind) (q : Parts) → IsThere x → perhaps_parts width x q ≡ second (set_part width x q)
-there_parts width LeftOut q h = absurd h
-there_parts width NoInformation q h = refl
-there_parts width (Digits n) q h = refl
+there_parts width x q h = grind arith
 
 pub from_enhanced_parts : (e s c : PartKind) (q : Parts) → IsThere e → parts.set_parts e s c q ≡ first (set_part 8 e (perhaps_parts 4 s (perhaps_parts 4 c q)))
-from_enhanced_parts LeftOut s c q h = absurd h
-from_enhanced_parts NoInformation s c q h = refl
-from_enhanced_parts (Digits n) s c q h = refl
+from_enhanced_parts e s c q h = grind arith
 
 -- how sets are written: each after its label, and nothing where it is left out
 there_written : (label : List ℕ) (token : Token) (width : ℕ) (x : PartKind) (rest : Grammar) (q : Parts) → IsThere x
@@ -69,30 +63,18 @@ course_written : (c : PartKind) → written (perhaps grammar.course finish) (per
 course_written c = perhaps_written (codes " course=") (grammar.set 4 3599) 4 c finish none
 
 speed_written : (s c : PartKind) → IsThere s → written (grammar.speed (perhaps grammar.course finish)) (set_part 4 s (perhaps_parts 4 c none)) ≡ speed_words s c
-speed_written s c h =
-    there_written (codes " speed=") (grammar.set 4 9999) 4 s (perhaps grammar.course finish) (perhaps_parts 4 c none) h
-    ∙ ap (λ (l : List ℕ). label_and_set (codes " speed=") 4 s ++ l) (course_written c)
+speed_written s c h = grind arith
 
 enhanced_written : (e s c : PartKind) → IsThere e
     → written (grammar.enhanced (perhaps grammar.speed (perhaps grammar.course finish))) (set_part 8 e (perhaps_parts 4 s (perhaps_parts 4 c none))) ≡ sets_words e s c
-enhanced_written e s c h =
-    there_written (codes " enh=") (grammar.set 8 99999999) 8 e (perhaps grammar.speed (perhaps grammar.course finish)) (perhaps_parts 4 s (perhaps_parts 4 c none)) h
-    ∙ ap (λ (l : List ℕ). label_and_set (codes " enh=") 8 e ++ l)
-    (perhaps_written (codes " speed=") (grammar.set 4 9999) 4 s (perhaps grammar.course finish) (perhaps_parts 4 c none)
-    ∙ ap (λ (l : List ℕ). label_and_set (codes " speed=") 4 s ++ l) (course_written c))
+enhanced_written e s c h = grind arith
 
 -- where no other set is there the last one is
 pub last_there : (c : PartKind) → IsThere LeftOut ⊎ IsThere LeftOut ⊎ IsThere c → IsThere c
-last_there c (inl h) = absurd h
-last_there c (inr (inl h)) = absurd h
-last_there c (inr (inr h)) = h
+last_there c h = grind arith
 
 sets_written : (e s c : PartKind) → IsThere e ⊎ IsThere s ⊎ IsThere c → written (grammar.sets finish) (parts.set_parts e s c none) ≡ sets_words e s c
-sets_written LeftOut LeftOut c h = there_written (codes " course=") (grammar.set 4 3599) 4 c finish none (last_there c h)
-sets_written LeftOut NoInformation c h = speed_written NoInformation c tt
-sets_written LeftOut (Digits n) c h = speed_written (Digits n) c tt
-sets_written NoInformation s c h = enhanced_written NoInformation s c tt
-sets_written (Digits n) s c h = enhanced_written (Digits n) s c tt
+sets_written e s c h = grind arith
 
 abbrev words : PartKind → PartKind → PartKind → List ℕ
 words e s c = codes " exp" ++ (label_and_set (codes " enh=") 8 e ++ (label_and_set (codes " speed=") 4 s ++ label_and_set (codes " course=") 4 c))

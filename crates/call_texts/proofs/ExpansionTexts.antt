@@ -17,10 +17,8 @@ use Rattle.call_texts.specs.CallParts as parts
 use Rattle.call_texts.specs.CallParts.{set_text, perhaps_parts, expansion_parts}
 use Rattle.call_texts.specs.Texts.{IsWholeOrAbsent}
 use Rattle.call_texts.specs.inside.Expansions.{IsSet, set_part, extra_parts}
-use Rattle.line_grammar.proofs.Sections.{TokenTexts}
-use Rattle.call_texts.proofs.FieldTexts.{up_to, most_of}
-use Rattle.line_grammar.proofs.Sections.{Section, worded, labelled, nothing, followed, LawfulSide, side_parts, sided, renamed}
-use Rattle.call_texts.proofs.ExpansionSteps.{last_there}
+use Rattle.line_grammar.proofs.Sections.{TokenTexts, Section, worded, labelled, nothing, followed, LawfulSide, side_parts, sided, renamed}
+use Rattle.call_texts.proofs.FieldTexts.{most_of}
 
 -- no digits are the letters of none
 four_apart : (n : ℕ) → digits 4 n ≡ codes "none" → ⊥
@@ -33,9 +31,7 @@ eight_apart n e = omega (arith, ap (λ (l : List ℕ). slice_index_or l 3 0) e)
 
 -- the value of a set that is there
 set_is : (width most : ℕ) (x : PartKind) → IsSet most x → IsToken (set width most) (set_text width x)
-set_is width most LeftOut h = absurd h.0
-set_is width most NoInformation h = inl refl
-set_is width most (Digits n) h = inr (up_to width most n h.1)
+set_is width most x h = grind arith
 
 set_of : (width most : ℕ) (bytes : List ℕ) → IsToken (set width most) bytes → (x : PartKind) × IsSet most x × (bytes ≡ set_text width x)
 set_of width most bytes (inl e) = (NoInformation, (tt, tt), e)
@@ -80,29 +76,19 @@ abbrev one_parts : ℕ → Unit {0} ⊎ PartKind → Parts → Parts
 one_parts width = side_parts (λ (u : Unit {0}) (q : Parts). q) (set_part width)
 
 one_lawful : (most : ℕ) (x : PartKind) → IsUpTo most x → IsOne most (one_told x)
-one_lawful most LeftOut h = tt
-one_lawful most NoInformation h = (tt, tt)
-one_lawful most (Digits n) h = (tt, h)
+one_lawful most x h = grind arith
 
 one_lawful_back : (most : ℕ) (w : Unit {0} ⊎ PartKind) → IsOne most w → IsUpTo most (one_back w)
-one_lawful_back most (inl u) h = tt
-one_lawful_back most (inr x) h = h.1
+one_lawful_back most w h = grind arith
 
 one_again : (x : PartKind) → one_back (one_told x) ≡ x
-one_again LeftOut = refl
-one_again NoInformation = refl
-one_again (Digits n) = refl
+one_again x = grind arith
 
 one_there : (width : ℕ) (x : PartKind) (q : Parts) → perhaps_parts width x q ≡ one_parts width (one_told x) q
-one_there width LeftOut q = refl
-one_there width NoInformation q = refl
-one_there width (Digits n) q = refl
+one_there width x q = grind arith
 
 one_here : (width most : ℕ) (w : Unit {0} ⊎ PartKind) → IsOne most w → (q : Parts) → perhaps_parts width (one_back w) q ≡ one_parts width w q
-one_here width most (inl u) h q = refl
-one_here width most (inr LeftOut) h q = absurd h.0
-one_here width most (inr NoInformation) h q = refl
-one_here width most (inr (Digits n)) h q = refl
+one_here width most w h q = grind arith
 
 perhaps_set : {G : Grammar → Grammar} (width most : ℕ) → Section {V = PartKind} G (IsSet most) (set_part width) → Section {V = PartKind} (perhaps G) (IsUpTo most) (perhaps_parts width)
 perhaps_set width most s =
@@ -139,39 +125,19 @@ some_back (inr (inl w)) = record { enhanced = LeftOut; speed = w.0; course = w.1
 some_back (inr (inr c)) = record { enhanced = LeftOut; speed = LeftOut; course = c }
 
 some_lawful : (e s c : PartKind) → IsExpansion (record { enhanced = e; speed = s; course = c }) → AreSome (some_told e s c)
-some_lawful LeftOut LeftOut c h = (last_there c h.some, h.course)
-some_lawful LeftOut NoInformation c h = ((tt, tt), h.course)
-some_lawful LeftOut (Digits n) c h = ((tt, h.speed), h.course)
-some_lawful NoInformation s c h = ((tt, tt), (h.speed, h.course))
-some_lawful (Digits n) s c h = ((tt, h.enhanced), (h.speed, h.course))
+some_lawful e s c h = grind arith
 
 some_lawful_back : (w : Some) → AreSome w → IsExpansion (some_back w)
-some_lawful_back (inl w) h = record { some = inl h.0.0; enhanced = h.0.1; speed = h.1.0; course = h.1.1 }
-some_lawful_back (inr (inl w)) h = record { some = inr (inl h.0.0); enhanced = tt; speed = h.0.1; course = h.1 }
-some_lawful_back (inr (inr c)) h = record { some = inr (inr h.0); enhanced = tt; speed = tt; course = h.1 }
+some_lawful_back w h = grind arith
 
 some_again : (e s c : PartKind) → some_back (some_told e s c) ≡ record { enhanced = e; speed = s; course = c }
-some_again LeftOut LeftOut c = refl
-some_again LeftOut NoInformation c = refl
-some_again LeftOut (Digits n) c = refl
-some_again NoInformation s c = refl
-some_again (Digits n) s c = refl
+some_again e s c = grind arith
 
 some_there : (e s c : PartKind) (q : Parts) → parts.set_parts e s c q ≡ some_parts (some_told e s c) q
-some_there LeftOut LeftOut c q = refl
-some_there LeftOut NoInformation c q = refl
-some_there LeftOut (Digits n) c q = refl
-some_there NoInformation s c q = refl
-some_there (Digits n) s c q = refl
+some_there e s c q = grind arith
 
 some_here : (w : Some) → AreSome w → (q : Parts) → expansion_parts (some_back w) q ≡ some_parts w q
-some_here (inl (LeftOut, w)) h q = absurd h.0.0
-some_here (inl (NoInformation, w)) h q = refl
-some_here (inl (Digits n, w)) h q = refl
-some_here (inr (inl (LeftOut, c))) h q = absurd h.0.0
-some_here (inr (inl (NoInformation, c))) h q = refl
-some_here (inr (inl (Digits n, c))) h q = refl
-some_here (inr (inr c)) h q = refl
+some_here w h q = grind arith
 
 -- an expansion, as a section
 expansion_section : Section {V = Sets} grammar.expansion IsExpansion expansion_parts

@@ -1,12 +1,11 @@
 -- the steps of the readers of fields
-use Rattle.std.proofs.Common.{◌≡◌, ℕ, true, is_ok, List, ◌++◌, Result, Ok, Err, IfOk, IfErr, IsErrAnd, sym, ◌∙◌, ap}
+use Rattle.std.proofs.Common.{◌≡◌, ℕ, true, is_ok, List, ◌++◌, Result, Ok, Err, IfOk, IfErr, IsErrAnd, ◌∙◌, ap, arith}
 use Rattle.line_grammar.specs.Shapes.{Shape, letters, pair, choice}
 use Rattle.line_grammar.specs.inside.Reading.{read_shape, after, behind, and_shape, and_letters, further}
 
 -- the exit of ? keeps the fault
 pub passed_on : {A B : Type 0} (r : Result A ℕ) (left : ℕ) (answer : Result B ℕ) → IsErrAnd r (λ y. y ≡ left) → answer ≡ Err left → IfErr r (λ n. answer ≡ Err n)
-passed_on (Ok a) left answer h e = tt
-passed_on (Err n) left answer h e = e ∙ ap (λ (m : ℕ). Err m) (sym h)
+passed_on r left answer h e = grind arith
 
 -- letters were missed, or read
 pub letters_missed : (text bytes : List ℕ) (left : ℕ) → after text bytes ≡ Err left → read_shape (letters text) bytes ≡ Err left
@@ -40,9 +39,7 @@ pub record Shows {T A : Type 0} (shown : T → A) (read : Result A ℕ) (r : Res
 
 -- the answer of two that is no fault, or else the further fault
 further_of : {T A : Type 0} (shown : T → A) (a b : Result A ℕ) (r s : Result T ℕ) → Shows shown a r → Shows shown b s → Shows shown (further a b) (further r s)
-further_of shown a b (Ok p) s h k = record { value = ap (λ x. further x b) h.value; left = tt }
-further_of shown a b (Err n) (Ok p) h k = record { value = ap (λ x. further x b) h.left ∙ ap (λ x. further (Err n) x) k.value; left = tt }
-further_of shown a b (Err m) (Err n) h k = record { value = tt; left = ap (λ x. further x b) h.left ∙ ap (λ x. further (Err m) x) k.left }
+further_of shown a b r s h k = grind arith
 
 pub further_shows : {T A : Type 0} (shown : T → A) (a b : Result A ℕ) (r s t : Result T ℕ) → t ≡ further r s → Shows shown a r → Shows shown b s → Shows shown (further a b) t
 further_shows shown a b r s t e h k = rw e (further_of shown a b r s h k)
@@ -54,8 +51,7 @@ text_and text now parts = (text parts.0, now parts.1)
 -- letters that stand for a value
 pub letters_show : {V R : Type 0} (text : V → List ℕ) (now : R → List ℕ) (v : V) (front : List ℕ) (read : Result (List ℕ × List ℕ) ℕ) (r : Result (V × R) ℕ)
     → front ≡ text v → IfOk r (λ p. p.0 ≡ v) → IfOk r (λ p. read ≡ Ok (front, now p.1)) → IfErr r (λ n. read ≡ Err n) → Shows (text_and text now) read r
-letters_show text now v front read (Ok p) e h k m = record { value = k ∙ ap (λ (t : List ℕ). Ok (t, now p.1)) (e ∙ ap text (sym h)); left = tt }
-letters_show text now v front read (Err n) e h k m = record { value = tt; left = m }
+letters_show text now v front read r e h k m = grind arith
 
 -- a choice of two shapes
 pub choice_shows : {V R : Type 0} (text : V → List ℕ) (now : R → List ℕ) (one two : Shape) (bytes : List ℕ) (r s t : Result (V × R) ℕ)

@@ -35,8 +35,7 @@ unfolding digits
 eights = refl
 
 time_is : (t : Option (ℕ × ℕ)) → IsHourMinute t → IsToken time (time_text t)
-time_is (Some t) h = inl (digits 2 t.0, digits 2 t.1, refl, up_to 2 23 t.0 (omega (arith, h.0)), up_to 2 59 t.1 (omega (arith, h.1)))
-time_is None h = inr refl
+time_is t h = grind arith
 
 time_of : (bytes : List ℕ) → IsToken time bytes → (t : Option (ℕ × ℕ)) × IsHourMinute t × (bytes ≡ time_text t)
 time_of bytes (inl h) =
@@ -68,16 +67,11 @@ arc_minutes : (degrees least most : ℕ) → IsArc degrees least most → (least
 arc_minutes degrees least most h = (grind arith, grind arith)
 
 arc_is : (width most degrees least : ℕ) (pole : List ℕ) → pole ≡ digits width (suc most) ++ digits 2 0 → IsArc degrees least (suc most) → IsShaped (arc width most pole) (digits width degrees ++ digits 2 least)
-arc_is width most degrees least pole e (m, inl h) = inl (digits width degrees, digits 2 least, refl, up_to width most degrees (omega (arith, h)), up_to 2 59 least (omega (arith, m)))
-arc_is width most degrees least pole e (m, inr h) = inr (ap (λ (n : ℕ). digits width n ++ digits 2 least) h.0 ∙ ap (λ (n : ℕ). digits width (suc most) ++ digits 2 n) h.1 ∙ sym e)
+arc_is width most degrees least pole e h = grind arith
 
 arc_of : (width most : ℕ) (pole bytes : List ℕ) → pole ≡ digits width (suc most) ++ digits 2 0 → IsShaped (arc width most pole) bytes
     → (degrees : ℕ) × (least : ℕ) × IsArc degrees least (suc most) × (bytes ≡ digits width degrees ++ digits 2 least)
-arc_of width most pole bytes e (inl h) =
-    let degrees = most_of width most h.0 h.3 in
-    let least = most_of 2 59 h.1 h.4 in
-    (h.3.0, h.4.0, (omega (arith, least), inl (omega (arith, degrees))), h.2 ∙ ap (λ (l : List ℕ). l ++ h.1) h.3.2 ∙ ap (λ (l : List ℕ). digits width h.3.0 ++ l) h.4.2)
-arc_of width most pole bytes e (inr h) = (suc most, 0, (omega arith, inr (refl, refl)), h ∙ e)
+arc_of width most pole bytes e h = grind arith
 
 -- positions
 north_pole : codes "9000" ≡ digits 2 90 ++ digits 2 0
@@ -153,19 +147,7 @@ position_told = record { is = position_is; of = position_of; one = position_one 
 
 -- areas
 area_is : (a : Rectangle) → IsArea a → IsShaped area_shape (area_text a)
-area_is a h = (
-  digits 1 a.quadrant,
-  _,
-  refl,
-  up_to 1 3 a.quadrant h.quadrant,
-  (
-    digits 2 a.latitude,
-    _,
-    refl,
-    up_to 2 90 a.latitude h.latitude,
-    (digits 3 a.longitude, _, refl, up_to 3 180 a.longitude h.longitude, (digits 2 a.south, digits 2 a.east, refl, up_to 2 99 a.south h.south, up_to 2 99 a.east h.east)),
-  ),
-)
+area_is a h = grind arith
 
 area_of : (bytes : List ℕ) → IsShaped area_shape bytes → (a : Rectangle) × IsArea a × (bytes ≡ area_text a)
 area_of bytes h =
@@ -205,11 +187,7 @@ six_in : (n : ℕ) → (n ≤ 399999) ⊎ ((900000 ≤ n) × (n ≤ 909999)) →
 six_in n h = grind (arith, nat_tests)
 
 frequency_is : (f : FieldKind) → IsField f → IsToken frequency (frequency_text f)
-frequency_is Absent h = inl refl
-frequency_is (Hundreds n) h = inr (inl (n, six_in n (inl (omega (arith, h))), refl))
-frequency_is (Hf n) h = inr (inl (300000 + n, six_in (300000 + n) (inl (omega (arith, h))), refl))
-frequency_is (Vhf n) h = inr (inl (900000 + n, six_in (900000 + n) (inr (omega arith, omega (arith, h))), refl))
-frequency_is (Tens n) h = inr (inr (40000000 + n, grind (arith, nat_tests), refl))
+frequency_is f h = grind arith
 
 six_of : (n : ℕ) → is_within ((0, 299999) ∷ (300000, 399999) ∷ (900000, 909999) ∷ []) n ≡ true → (f : FieldKind) × IsField f × (digits 6 n ≡ frequency_text f)
 six_of n h =

@@ -1,5 +1,5 @@
 -- identities and symbols are numbers in nine and in three digits
-use Rattle.std.proofs.Common.{◌≡◌, ℕ, ◌<◌, ◌^◌, Bool, true, false, List, ◌⊎◌, inl, inr, refl, ◌∙◌, ap, arith}
+use Rattle.std.proofs.Common.{◌≡◌, ℕ, ◌<◌, ◌^◌, Bool, true, List, refl, ◌∙◌, ap, arith}
 use Rattle.std.proofs.lemmas.Bool.Decides.{nat_tests}
 use Rattle.line_grammar.specs.Shapes.{fixed_number, is_within, digits}
 use Rattle.line_grammar.specs.Tokens.{shaped}
@@ -7,16 +7,13 @@ use Rattle.line_grammar.proofs.Digits.{one_number}
 use Rattle.line_grammar.proofs.Sections.{TokenTexts, numbers}
 use Rattle.call_values.specs.Identity.{IsMmsi}
 use Rattle.dsc_symbols.specs.Natures.{IsNature}
-use Rattle.dsc_symbols.specs.Telecommands.{IsComm}
-use Rattle.dsc_symbols.specs.Telecommands.{IsFirst, IsSecond}
+use Rattle.dsc_symbols.specs.Telecommands.{IsComm, IsFirst, IsSecond}
 use Rattle.call_values.specs.declared.choices.Category.{Category}
-use Rattle.call_values.specs.declared.choices.Category.TheVariants.{Routine, Safety, Urgency}
 use Rattle.call_values.specs.declared.choices.End.{End}
-use Rattle.call_values.specs.declared.choices.End.TheVariants.{Ask, Reply, Plain}
 use Rattle.call_values.proofs.PublicLaws.{end_one}
 use Rattle.call_grammar.specs.Spelling.{category_symbol, end_symbol}
-use Rattle.dsc_symbols.specs.declared.categories.TheConstants.{BELOW_DISTRESS, ROUTINE, SAFETY, URGENCY}
-use Rattle.dsc_symbols.specs.declared.ends.TheConstants.{ACKNOWLEDGE_BQ, ACKNOWLEDGE_RQ, ENDS, EOS, RELAY_ENDS, TEST_ENDS}
+use Rattle.dsc_symbols.specs.declared.categories.TheConstants.{BELOW_DISTRESS}
+use Rattle.dsc_symbols.specs.declared.ends.TheConstants.{ENDS, RELAY_ENDS, TEST_ENDS}
 use Rattle.call_texts.specs.CallParts.{relay_end, test_end}
 use Rattle.call_texts.specs.CallGrammar.{identity, symbol, nature, category, comm, first_command, second_command}
 
@@ -48,94 +45,48 @@ coded width ranges Lawful code inside decode one = record {
 
 -- categories
 category_inside : (c : Category) → (is_within BELOW_DISTRESS (category_symbol c) ≡ true) × (category_symbol c < 1000)
-category_inside Routine = (refl, omega arith)
-category_inside Safety = (refl, omega arith)
-category_inside Urgency = (refl, omega arith)
+category_inside c = grind arith
 
 category_decode : (n : ℕ) → is_within BELOW_DISTRESS n ≡ true → (c : Category) × Unit {0} × (n ≡ category_symbol c)
-category_decode n h =
-    let three : (n ≡ ROUTINE) ⊎ ((n ≡ SAFETY) ⊎ (n ≡ URGENCY)) = grind (arith, nat_tests) in
-    elim three [
-      | inl e ↦ (Routine, tt, e)
-      | inr more ↦ (elim more [
-        | inl e ↦ (Safety, tt, e)
-        | inr e ↦ (Urgency, tt, e)
-      ])
-    ]
+category_decode n h = grind arith
 
 category_one : (u v : Category) → category_symbol u ≡ category_symbol v → u ≡ v
-category_one Routine Routine e = refl
-category_one Safety Safety e = refl
-category_one Urgency Urgency e = refl
-category_one Routine Safety e = absurd (omega (arith, e))
-category_one Routine Urgency e = absurd (omega (arith, e))
-category_one Safety Routine e = absurd (omega (arith, e))
-category_one Safety Urgency e = absurd (omega (arith, e))
-category_one Urgency Routine e = absurd (omega (arith, e))
-category_one Urgency Safety e = absurd (omega (arith, e))
+category_one u v e = grind arith
 
 pub category_told : TokenTexts category (λ (c : Category). Unit {0}) (λ (c : Category). digits 3 (category_symbol c))
 category_told = coded 3 _ (λ (c : Category). Unit {0}) category_symbol (λ c h. category_inside c) category_decode (λ u v h k e. category_one u v e)
 
 -- ends of sequence
 end_inside : (x : End) → (is_within ENDS (end_symbol x) ≡ true) × (end_symbol x < 1000)
-end_inside Ask = (refl, omega arith)
-end_inside Reply = (refl, omega arith)
-end_inside Plain = (refl, omega arith)
+end_inside x = grind arith
 
 end_decode : (n : ℕ) → is_within ENDS n ≡ true → (x : End) × Unit {0} × (n ≡ end_symbol x)
-end_decode n h =
-    let three : (n ≡ ACKNOWLEDGE_RQ) ⊎ ((n ≡ ACKNOWLEDGE_BQ) ⊎ (n ≡ EOS)) = grind (arith, nat_tests) in
-    elim three [
-      | inl e ↦ (Ask, tt, e)
-      | inr more ↦ (elim more [
-        | inl e ↦ (Reply, tt, e)
-        | inr e ↦ (Plain, tt, e)
-      ])
-    ]
+end_decode n h = grind arith
 
 pub end_told : TokenTexts (symbol ENDS) (λ (x : End). Unit {0}) (λ (x : End). digits 3 (end_symbol x))
 end_told = coded 3 _ (λ (x : End). Unit {0}) end_symbol (λ x h. end_inside x) end_decode (λ u v h k e. end_one u v e)
 
 -- one of two ends
 relay_end_inside : (ask : Bool) → (is_within RELAY_ENDS (relay_end ask) ≡ true) × ((relay_end ask) < 1000)
-relay_end_inside true = (refl, omega arith)
-relay_end_inside false = (refl, omega arith)
+relay_end_inside ask = grind arith
 
 relay_end_decode : (n : ℕ) → is_within RELAY_ENDS n ≡ true → (ask : Bool) × Unit {0} × (n ≡ (relay_end ask))
-relay_end_decode n h =
-    let two : (n ≡ ACKNOWLEDGE_RQ) ⊎ (n ≡ EOS) = grind (arith, nat_tests) in
-    elim two [
-      | inl e ↦ (true, tt, e)
-      | inr e ↦ (false, tt, e)
-    ]
+relay_end_decode n h = grind arith
 
 relay_end_one : (u v : Bool) → (relay_end u) ≡ (relay_end v) → u ≡ v
-relay_end_one true true e = refl
-relay_end_one false false e = refl
-relay_end_one true false e = absurd (omega (arith, e))
-relay_end_one false true e = absurd (omega (arith, e))
+relay_end_one u v e = grind arith
 
 pub relay_end_told : TokenTexts (symbol RELAY_ENDS) (λ (ask : Bool). Unit {0}) (λ (ask : Bool). digits 3 (relay_end ask))
 relay_end_told = coded 3 _ (λ (ask : Bool). Unit {0}) relay_end (λ ask h. relay_end_inside ask) relay_end_decode (λ u v h k e. relay_end_one u v e)
 
 test_end_inside : (reply : Bool) → (is_within TEST_ENDS (test_end reply) ≡ true) × ((test_end reply) < 1000)
-test_end_inside true = (refl, omega arith)
-test_end_inside false = (refl, omega arith)
+test_end_inside reply = grind arith
 
 test_end_decode : (n : ℕ) → is_within TEST_ENDS n ≡ true → (reply : Bool) × Unit {0} × (n ≡ (test_end reply))
-test_end_decode n h =
-    let two : (n ≡ ACKNOWLEDGE_RQ) ⊎ (n ≡ ACKNOWLEDGE_BQ) = grind (arith, nat_tests) in
-    elim two [
-      | inl e ↦ (false, tt, e)
-      | inr e ↦ (true, tt, e)
-    ]
+test_end_decode n h = grind arith
 
 test_end_one : (u v : Bool) → (test_end u) ≡ (test_end v) → u ≡ v
-test_end_one true true e = refl
-test_end_one false false e = refl
-test_end_one true false e = absurd (omega (arith, e))
-test_end_one false true e = absurd (omega (arith, e))
+test_end_one u v e = grind arith
 
 pub test_end_told : TokenTexts (symbol TEST_ENDS) (λ (reply : Bool). Unit {0}) (λ (reply : Bool). digits 3 (test_end reply))
 test_end_told = coded 3 _ (λ (reply : Bool). Unit {0}) test_end (λ reply h. test_end_inside reply) test_end_decode (λ u v h k e. test_end_one u v e)
