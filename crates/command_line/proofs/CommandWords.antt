@@ -1,6 +1,6 @@
 -- The walk over the program's words, up to its command.
-use Rattle.std.proofs.Common.{◌≡◌, ◌∙◌, ◌&&◌, ◌||◌, Bool, true, false, List, [], ◌∷◌, ◌++◌, map, refl, ap, sym, subst, fold, cond, is_some, option_map}
-use Rattle.std.specs.Prelude.{Option, Some, None, codes, find, if◌then◌else◌}
+use Rattle.std.proofs.Common.{◌≡◌, ◌∙◌, ◌&&◌, ◌||◌, Bool, true, false, List, [], ◌∷◌, ◌++◌, map, refl, ap, sym, subst, fold, cond, is_some, option_map, arith}
+use Rattle.std.specs.Prelude.{Option, Some, None, codes, find, if◌then◌else◌, drop}
 use Rattle.std.specs.Str.{bytes_eq}
 use Rattle.std.proofs.lemmas.List.{append_assoc, append-nil}
 use Rattle.clap.specs.Lexer.{long_of}
@@ -13,7 +13,6 @@ use Rattle.command_line.proofs.Refusals.{some_kind, first_passes, second_passes,
 use Rattle.command_line.proofs.Turns.{HasNoDashes, bare, stray_word, turn_by}
 use Rattle.command_line.proofs.LongWords.{same_text}
 use Rattle.clap.specs.declared.error.kind.ErrorKind.TheVariants as kind
-use Rattle.std.specs.Prelude.{drop}
 use Rattle.std.proofs.lemmas.Option.{none-some}
 
 -- the program, as `clap` builds it
@@ -50,8 +49,7 @@ first_known word (Some command) undashed e = (command, refl)
 
 -- a command's word passes, be it help or not
 help_passes : (is_help : Bool) → (if is_help && false then kind.DisplayHelp ∷ kind.InvalidSubcommand ∷ [] else []) ≡ []
-help_passes true = refl
-help_passes false = refl
+help_passes is_help = grind arith
 
 first_passes_at : (word command : Text) → first_fault (Some command) word ≡ []
 first_passes_at word command = both_pass _ _ (help_passes (bytes_eq command (codes "help"))) refl

@@ -30,8 +30,7 @@ abbrev Cut : Text → Type 0
 Cut text = Lacks 61 text ⊎ ((name : Text) × (value : Text) × (text ≡ name ++ 61 ∷ value) × Lacks 61 name)
 
 Lacks-cons : (x : ℕ) (xs : Text) → x ≢ 61 → Lacks 61 xs → Lacks 61 (x ∷ xs)
-Lacks-cons x xs ne h zero lt = ne
-Lacks-cons x xs ne h (suc i) lt = h i (omega arith)
+Lacks-cons x xs ne h k lt = grind arith
 
 cut : (text : Text) → Cut text
 cut [] = inl (λ i lt. absurd (omega arith))

@@ -77,13 +77,10 @@ workers_are None n is = sym is
 workers_are (Some text) n is = ap (digits_value 10) is.0 ∙ (decimal_is_IsNumeral n (omega (arith, is.2))).1
 
 workers_in_range : (words : List Text) (n : ℕ) → HasWorkers words n → (1 ≤ n) × (n ≤ 64)
-workers_in_range words n (None, is, one) = (omega (arith, one), omega (arith, one))
-workers_in_range words n (Some text, is, number) = (number.1, number.2)
+workers_in_range words n h = grind arith
 
 dots_bare : (given : Option Text) (long : Bool) → IsDots given long → IfSome given IsBare
-dots_bare None long is = tt
-dots_bare (Some text) true is = subst IsBare (sym is) refl
-dots_bare (Some text) false is = subst IsBare (sym is) refl
+dots_bare given long is = grind arith
 
 dots_name : IsName (codes "dots")
 dots_name = record { alone = refl; valued = λ value. refl }
@@ -94,9 +91,7 @@ long_at None = false
 long_at (Some text) = bytes_eq text (codes "200")
 
 long_is_at : (given : Option Text) (long : Bool) → IsDots given long → long_at given ≡ long
-long_is_at None long is = sym is
-long_is_at (Some text) true is = ap (λ t. bytes_eq t (codes "200")) is
-long_is_at (Some text) false is = ap (λ t. bytes_eq t (codes "200")) is
+long_is_at given long is = grind arith
 
 -- how many groups the number's text gives, where it gives any
 abbrev groups_at : Option Text → ℕ

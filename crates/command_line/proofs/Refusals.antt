@@ -1,5 +1,5 @@
 -- Steps of a parse, each of which may refuse.
-use Rattle.std.proofs.Common.{◌≡◌, ◌∙◌, [], ◌∷◌, refl, ap}
+use Rattle.std.proofs.Common.{◌≡◌, ◌∙◌, [], ◌∷◌, refl, ap, arith}
 use Rattle.clap.specs.Kinds.{Kinds, or_else}
 use Rattle.clap.specs.declared.error.kind.ErrorKind.{ErrorKind}
 
@@ -9,13 +9,11 @@ some_kind e = cc
 
 -- where neither of two faults comes the first one doesn't
 pub first_passes : (a b : Kinds) → or_else a b ≡ [] → a ≡ []
-first_passes [] b e = refl
-first_passes (k ∷ ks) b e = absurd (some_kind e)
+first_passes a b e = grind arith
 
 -- where neither of two faults comes the second one doesn't
 pub second_passes : (a b : Kinds) → or_else a b ≡ [] → b ≡ []
-second_passes [] b e = e
-second_passes (k ∷ ks) b e = absurd (some_kind e)
+second_passes a b e = grind arith
 
 -- where no fault comes from either, none comes
 pub both_pass : (a b : Kinds) → a ≡ [] → b ≡ [] → or_else a b ≡ []

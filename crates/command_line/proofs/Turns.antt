@@ -1,5 +1,5 @@
 -- One word of a command, and the words after it.
-use Rattle.std.proofs.Common.{◌≡◌, Bool, true, false, List, [], ◌∷◌, ℕ, length, fold, subst, sym}
+use Rattle.std.proofs.Common.{◌≡◌, Bool, true, false, List, [], ◌∷◌, ℕ, length, fold, subst, sym, arith}
 use Rattle.std.specs.Prelude.{Option, Some, None, codes, if◌then◌else◌, slice_get}
 use Rattle.std.specs.Option.{option_map_or}
 use Rattle.std.specs.Str.{bytes_eq, chars}
@@ -110,8 +110,7 @@ stray s e = go s.is_leaf e
     go false h = some_kind h
 
 stray_char : (s : Shape) (word flags : Text) (k : ℕ) (first : Option ℕ) → char_by (bare s) start word flags first k ≡ [] → ⊥
-stray_char s word flags k None e = stray s e
-stray_char s word flags k (Some x) e = some_kind e
+stray_char s word flags k first e = grind arith
 
 stray_short : (s : Shape) (word : Text) (short : Option Text) → short_by (bare s) start word short ≡ [] → ⊥
 unfolding bundle_met flags_fault
