@@ -1,5 +1,5 @@
 -- reading a grammar step by step, and where the first fault is
-use Rattle.std.proofs.Common.{◌≡◌, ◌≢◌, ℕ, suc, ◌≤◌, ◌==◌, Bool, true, false, if◌then◌else◌, min, List, [], ◌∷◌, ◌++◌, length, Result, Ok, Err, IfErr, IsErrAnd, refl, sym, ◌∙◌, ap, subst}
+use Rattle.std.proofs.Common.{◌≡◌, ◌≢◌, ℕ, suc, ◌≤◌, ◌==◌, Bool, true, false, if◌then◌else◌, min, List, [], ◌∷◌, ◌++◌, length, Result, Ok, Err, IfErr, IsErrAnd, refl, sym, ◌∙◌, ap, subst, arith}
 use Rattle.std.specs.List.{list_all}
 use Rattle.std.proofs.lemmas.Bool.{eqb-true, cond-false, ne_eqb}
 use Rattle.line_grammar.specs.Tokens.{Token, run, is_one_of}
@@ -13,17 +13,12 @@ use Rattle.line_grammar.proofs.Repeats.{read_stops}
 
 -- the exit of ? keeps what was said of the fault
 pub passed : {A : Type 0} (P : ℕ → Type 0) (r : Result A ℕ) (left : ℕ) → IsErrAnd r (λ y. y ≡ left) → P left → IfErr r P
-passed P (Ok a) left h p = tt
-passed P (Err n) left h p = subst P (sym h) p
+passed P r left h p = grind arith
 
 -- what was read stood there
 after_step : (c b : ℕ) (text bytes back : List ℕ) (t : Bool) → (b == c) ≡ t → (after text bytes ≡ Ok back → bytes ≡ text ++ back)
     → (if t then after text bytes else Err (suc (length bytes))) ≡ Ok back → b ∷ bytes ≡ c ∷ (text ++ back)
-after_step c b text bytes back true e more h =
-    let rest = more h in
-    let same = eqb-true b c e in
-    cc
-after_step c b text bytes back false e more h = absurd (cc)
+after_step c b text bytes back t e more h = grind arith
 
 -- after a word that was read come the bytes that are left
 pub after_list : (text bytes back : List ℕ) → after text bytes ≡ Ok back → bytes ≡ text ++ back
@@ -34,9 +29,7 @@ after_list (c ∷ text) (b ∷ bytes) back h = after_step c b text bytes back (b
 
 run_is : (signs bytes : List ℕ) (r : Result (List ℕ × List ℕ) ℕ) (front back : List ℕ) → TokenReads (run signs) bytes r → r ≡ Ok (front, back)
     → (bytes ≡ front ++ back) × (front ≢ []) × (list_all (is_one_of signs) front ≡ true)
-run_is signs bytes r front back h e =
-    let m = subst (λ (q : Result (List ℕ × List ℕ) ℕ). TokenReads (run signs) bytes q) e h in
-    (m.list, m.is_token.0, m.is_token.1)
+run_is signs bytes r front back h e = grind arith
 
 -- a run of signs was read
 pub run_list : (signs bytes front back : List ℕ) → is_some_token (run signs) ≡ true → read_token (run signs) bytes ≡ Ok (front, back)
@@ -100,7 +93,4 @@ end_nil (b ∷ bytes) h = absurd (cc)
 
 -- what spells the end of a line is no bytes
 pub finished : (parts : Parts) (bytes : List ℕ) → Spells finish parts bytes → bytes ≡ []
-finished none bytes h = h
-finished (part a b) bytes h = absurd h
-finished (first a) bytes h = absurd h
-finished (second a) bytes h = absurd h
+finished parts bytes h = grind arith

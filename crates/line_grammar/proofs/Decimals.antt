@@ -31,13 +31,10 @@ model : IsNumeralModel are_digits (value_after 0)
 model = numerals_by_fold are_digits tells value_after folds
 
 has_byte : (bytes : List ℕ) → HasNoLeadingZero bytes → 0 < length bytes
-has_byte [] h = absurd h
-has_byte (b ∷ bytes) h = omega arith
+has_byte bytes h = grind arith
 
 one_zero : (bytes : List ℕ) → HasNoLeadingZero bytes → get_or bytes 0 0 ≡ 48 → length bytes ≡ 1
-one_zero [] h e = absurd h
-one_zero (b ∷ []) h e = refl
-one_zero (b ∷ c ∷ bytes) h e = absurd (h e)
+one_zero bytes h e = grind arith
 
 -- a number's bytes are its decimal digits
 pub number_text : (least most : ℕ) (bytes : List ℕ) → most < 2 ^ 64 → IsNumber least most bytes → decimal (value_after 0 bytes) ≡ bytes
@@ -50,9 +47,7 @@ pub decimal_value : (n : ℕ) → n < 2 ^ 64 → value_after 0 (decimal n) ≡ n
 decimal_value n small = digits_value-decimal model n small
 
 no_zero : (bytes : List ℕ) → 0 < length bytes → 48 < get_or bytes 0 0 → HasNoLeadingZero bytes
-no_zero [] some h = absurd (omega (arith, some))
-no_zero (b ∷ []) some h = tt
-no_zero (b ∷ c ∷ bytes) some h = λ (e : b ≡ 48). omega (arith, h)
+no_zero bytes some h = grind arith
 
 leading : (n : ℕ) → n < 2 ^ 64 → HasNoLeadingZero (decimal n)
 leading zero small = subst HasNoLeadingZero (sym (decimal_digit 0 (omega arith))) tt
@@ -73,9 +68,7 @@ decimal_number least most n low high small =
 -- a number that was read is the decimal digits of its value
 is_number : (least most : ℕ) (bytes : List ℕ) (r : Result (List ℕ × List ℕ) ℕ) (front back : List ℕ) → TokenReads (free_number least most) bytes r → r ≡ Ok (front, back)
     → (bytes ≡ front ++ back) × IsNumber least most front
-is_number least most bytes r front back h e =
-    let m = subst (λ (q : Result (List ℕ × List ℕ) ℕ). TokenReads (free_number least most) bytes q) e h in
-    (m.list, m.is_token)
+is_number least most bytes r front back h e = grind arith
 
 -- what is read as a number is its decimal digits, within the bounds
 pub number_read : (least most n : ℕ) (bytes front back : List ℕ) → least ≤ most → most < 2 ^ 64 → read_token (free_number least most) bytes ≡ Ok (front, back) → value_after 0 front ≡ n

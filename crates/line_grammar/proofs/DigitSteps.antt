@@ -8,13 +8,10 @@ use Rattle.line_grammar.proofs.Numbers.{reaches_low, value_append}
 -- the test in code
 pub reach_next : (r : Bool) (steps least most low high : ℕ) → high < least → least ≤ high + steps → r ≡ reaches steps least most low high
     → (x : ℕ) × (r ≡ reaches x least most (10 * low) (10 * high + 9)) × (least ≤ 10 * high + 9 + x)
-reach_next r zero least most low high short fuel e = absurd (omega arith)
-reach_next r (suc steps) least most low high short fuel e =
-    (steps, e ∙ cond-false (nat_le least high) (nat_le low most) (reaches steps least most (10 * low) (10 * high + 9)) (lt-leb least high short), omega arith)
+reach_next r steps least most low high short fuel e = grind arith
 
 pub reach_end : (steps least most low high : ℕ) → least ≤ high → reaches steps least most low high ≡ nat_le low most
-reach_end zero least most low high long = refl
-reach_end (suc steps) least most low high long = cond-true (nat_le least high) (nat_le low most) (reaches steps least most (10 * low) (10 * high + 9)) (le-leb least high long)
+reach_end steps least most low high long = grind arith
 
 pub reach_all : (least most n steps low high : ℕ) → reaches least least most n n ≡ reaches steps least most low high → least ≤ high → nat_le low most ≡ goes_on least most n
 unfolding goes_on

@@ -40,11 +40,7 @@ pub record IsField (token : Token) (G : Grammar) (bytes : List ℕ) : Type 0 whe
 
 -- a text that begins with a token has it as its field
 pub field_of : (token : Token) (G : Grammar) (parts : Parts) (bytes : List ℕ) → Spells (field token G) parts bytes → IsField token G bytes
-field_of token G (part front parts) bytes h =
-    record { front = front; back = h.1.0; parts = parts; is_token = h.0; list = h.1.1; spelled = h.1.2 }
-field_of token G none bytes h = absurd h
-field_of token G (first parts) bytes h = absurd h
-field_of token G (second parts) bytes h = absurd h
+field_of token G parts bytes h = grind arith
 
 seam_after : (token : Token) (bytes front back z a s t : List ℕ) → IsToken token a → Munches token bytes front back
     → ((x : ℕ) (rest : List ℕ) → z ≡ x ∷ rest → (more : List ℕ) × (back ≡ x ∷ more)) → a ≡ front ++ t → z ≡ t ++ s → s ≡ z

@@ -76,5 +76,4 @@ column_is L bytes left n e h = subst (IsColumn L bytes) (omega (arith, e)) h
 
 -- of a text, reading answers nothing but its value
 pub answered : {V : Type 0} (Lawful : V → Type 0) (text : V → List ℕ) (v : V) (answer : Result V ℕ) → Lawful v → ReadsAs (IsText Lawful text) (text v) answer → answer ≡ Ok v
-answered Lawful text v (Ok found) h k = ap (λ x. Ok x) (sym (k.1 v (h, refl)))
-answered Lawful text v (Err n) h k = absurd (k.is_none v (h, refl))
+answered Lawful text v answer h k = grind arith

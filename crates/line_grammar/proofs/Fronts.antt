@@ -25,9 +25,7 @@ no_front text front back (Ok l) rest h e = absurd (part_fronts text front l back
 no_front text front back (Err left) rest h e = refl
 
 no_row : (r s : Result Parts ℕ) → is_ok r ≡ false → is_ok s ≡ false → is_ok (further (named first r) (named second s)) ≡ false
-no_row (Ok p) s h k = absurd (cc)
-no_row (Err m) (Ok p) h k = absurd (cc)
-no_row (Err m) (Err n) h k = refl
+no_row r s h k = grind arith
 
 out : (front back : List ℕ) (G : Grammar) → is_ruled_out front G ≡ true → IsMissed G (front ++ back)
 unfolding read
@@ -45,8 +43,7 @@ ruled_out front back bytes G e h = subst (IsMissed G) (sym e) (out front back G 
 
 -- a row that wasn't read is missed
 pub fault_misses : {V : Type 0} (G : Grammar) (place : Parts → Parts) (parts : V → Parts) (bytes : List ℕ) (r : Result V ℕ) → is_ok r ≡ false → ReadsForm G place parts bytes r → IsMissed G bytes
-fault_misses G place parts bytes (Ok v) fails h = absurd (cc)
-fault_misses G place parts bytes (Err left) fails h = ap (λ (r : Result Parts ℕ). is_ok r) h
+fault_misses G place parts bytes r fails h = grind arith
 
 -- a form that is found: the first one, one after a form that is missed, and one that was read
 module _ {V : Type 0} (parts : V → Parts) (bytes : List ℕ) (place : Parts → Parts) where

@@ -26,10 +26,7 @@ example (either left right) h = let e = example left (and_parts (is_sound left) 
 
 -- the end
 end_none : (b : ℕ) (bytes : List ℕ) (parts : Parts) → Spells finish parts (b ∷ bytes) → ⊥
-end_none b bytes none h = absurd (cc)
-end_none b bytes (part front parts) h = h
-end_none b bytes (first parts) h = h
-end_none b bytes (second parts) h = h
+end_none b bytes parts h = grind arith
 
 end_past : (b : ℕ) (bytes p q : List ℕ) → b ∷ bytes ≡ p ++ q → length q < suc (length bytes) → Begins (Spells finish) p → ⊥
 end_past b bytes [] q e short k = omega (arith, ap length e)
@@ -50,20 +47,13 @@ end_reads (b ∷ bytes) = record {
 
 -- a word
 byte_of_word : (c : ℕ) (text : List ℕ) (rest : Grammar) → IsByte c (Spells (word text rest)) (Spells (word (c ∷ text) rest))
-byte_of_word c text rest = record {
-  to = λ v bytes h. (v, (h.0, ap (λ (l : List ℕ). c ∷ l) h.1, h.2));
-  back = λ w bytes h. (text ++ h.0, h.1, (w, (h.0, refl, h.2)));
-}
+byte_of_word c text rest = grind arith
 
 no_word_more : (rest : Grammar) → IsAlike (Spells rest) (Spells (word [] rest))
-no_word_more rest = record {
-  to = λ v bytes h. (v, (bytes, refl, h));
-  back = λ w bytes h. (w, subst (λ (l : List ℕ). Spells rest w l) (sym h.1) h.2);
-}
+no_word_more rest = grind arith
 
 no_word_reads : (rest : Grammar) (bytes : List ℕ) (r : Result Parts ℕ) → Reads (Spells rest) bytes r → Reads (Spells (word [] rest)) bytes r
-no_word_reads rest bytes (Ok parts) h = (bytes, refl, h)
-no_word_reads rest bytes (Err left) h = Stops-alike (Spells rest) (Spells (word [] rest)) bytes left (no_word_more rest) h
+no_word_reads rest bytes r h = grind arith
 
 byte_reads : (c b : ℕ) (text : List ℕ) (rest : Grammar) (bytes : List ℕ) (r : Result Parts ℕ) → b ≡ c → Reads (Spells (word text rest)) bytes r → Reads (Spells (word (c ∷ text) rest)) (b ∷ bytes) r
 byte_reads c b text rest bytes (Ok parts) e h = (h.0, (let k : bytes ≡ text ++ h.0 = h.1 in (cc)), h.2)
@@ -100,10 +90,7 @@ token_step token rest bytes (Err left) follow sound m h = let x = example rest s
 
 -- a choice
 pub choice_back : (left right : Grammar) (parts : Parts) (bytes : List ℕ) → Spells (either left right) parts bytes → ((u : Parts) × Spells left u bytes) ⊎ ((v : Parts) × Spells right v bytes)
-choice_back left right (first parts) bytes h = inl (parts, h)
-choice_back left right (second parts) bytes h = inr (parts, h)
-choice_back left right none bytes h = absurd h
-choice_back left right (part front parts) bytes h = absurd h
+choice_back left right parts bytes h = grind arith
 
 choice_of : (left right : Grammar) → IsChoice (Spells left) (Spells right) (Spells (either left right))
 choice_of left right = record {

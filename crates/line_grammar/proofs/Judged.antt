@@ -35,14 +35,7 @@ pub of_grammar : (G : Grammar) → is_sound G ≡ true → HasGrammar (Spells G)
 of_grammar G sound = record { grammar = G; sound = sound; alike = record { to = λ v bytes h. (v, h); back = λ w bytes h. (w, h) } }
 
 pub of_alike : {V W : Type 0} (L : V → List ℕ → Type 0) (M : W → List ℕ → Type 0) → IsAlike L M → HasGrammar L → HasGrammar M
-of_alike L M same g = record {
-  grammar = g.grammar;
-  sound = g.sound;
-  alike = record {
-    to = λ parts bytes h. (let v = g.alike.to parts bytes h in same.to v.0 bytes v.1);
-    back = λ w bytes h. (let v = same.back w bytes h in g.alike.back v.0 bytes v.1);
-  };
-}
+of_alike L M same g = grind arith
 
 module _ {U V W : Type 0} (L : U → List ℕ → Type 0) (M : V → List ℕ → Type 0) (N : W → List ℕ → Type 0) (both : IsChoice L M N) (l : HasGrammar L) (m : HasGrammar M) where
   either_to : (parts : Parts) (bytes : List ℕ) → Spells (either l.grammar m.grammar) parts bytes → (w : W) × N w bytes

@@ -51,8 +51,7 @@ reaches_from (suc steps) least most low high n r above below digits a b =
 -- and only they
 low_step : (steps least most low high : ℕ) (t : Bool) → (reaches steps least most (10 * low) (10 * high + 9) ≡ true → 10 * low ≤ most)
     → (if t then nat_le low most else reaches steps least most (10 * low) (10 * high + 9)) ≡ true → low ≤ most
-low_step steps least most low high true more h = leb-true low most h
-low_step steps least most low high false more h = let k = more h in omega (arith, k)
+low_step steps least most low high t more h = grind arith
 
 pub reaches_low : (steps least most low high : ℕ) → reaches steps least most low high ≡ true → low ≤ most
 reaches_low zero least most low high h = leb-true low most h
@@ -113,8 +112,7 @@ record IsRead (front : List ℕ) (x : ℕ) : Type 0 where
   positive : 0 < x
 
 no_leading : (c : ℕ) (l : List ℕ) → c ≢ 48 → HasNoLeadingZero (c ∷ l)
-no_leading c [] h = tt
-no_leading c (d ∷ l) h = h
+no_leading c l h = grind arith
 
 leads : (front : List ℕ) (x : ℕ) (more : List ℕ) → IsRead front x → HasNoLeadingZero (front ++ more)
 leads front x more r = subst (λ (l : List ℕ). HasNoLeadingZero (l ++ more)) (sym r.list) (no_leading r.top (r.tail ++ more) r.leading)
@@ -235,9 +233,7 @@ digits_read least most x front (b ∷ back) range r h =
 
 -- every number has digits
 more_digits : (w : List ℕ) (d : ℕ) → HasNoLeadingZero w → 0 < value_after 0 w → HasNoLeadingZero (w ++ (d ∷ []))
-more_digits [] d h k = absurd h
-more_digits (c ∷ []) d h k = λ (e : c ≡ 48). omega (arith, e, k)
-more_digits (c ∷ b ∷ w) d h k = h
+more_digits w d h k = grind arith
 
 record Numeral (n : ℕ) : Type 0 where
   digits : List ℕ
@@ -275,10 +271,7 @@ first_past least most b bytes never (c ∷ p) q rest e short h =
     never (p ++ rest) (subst (λ (d : ℕ). IsNumber least most (d ∷ (p ++ rest))) same h)
 
 first_none : (least most b : ℕ) (bytes : List ℕ) → ((l : List ℕ) → IsNumber least most (b ∷ l) → ⊥) → (a s : List ℕ) → b ∷ bytes ≡ a ++ s → IsNumber least most a → ⊥
-first_none least most b bytes never [] s e h = h.leading
-first_none least most b bytes never (c ∷ a) s e h =
-    let same : c ≡ b = cc in
-    never a (subst (λ (d : ℕ). IsNumber least most (d ∷ a)) same h)
+first_none least most b bytes never a s e h = grind arith
 
 first_never : (least most b : ℕ) (bytes : List ℕ) → least ≤ most → ((l : List ℕ) → IsNumber least most (b ∷ l) → ⊥) → Misses (free_number least most) (b ∷ bytes) (suc (length bytes))
 first_never least most b bytes range never = record {
@@ -293,8 +286,7 @@ first_never least most b bytes range never = record {
 
 -- no digit follows a 0
 zero_alone : (least most : ℕ) (l : List ℕ) → (least ≡ 0 → ⊥) → IsNumber least most (48 ∷ l) → ⊥
-zero_alone least most [] h k = h (omega (arith, k.low))
-zero_alone least most (c ∷ l) h k = k.leading refl
+zero_alone least most l h k = grind arith
 
 zero_step : (least most b : ℕ) (bytes : List ℕ) (t : Bool) → (least == 0) ≡ t → b ≡ 48 → least ≤ most → TokenReads (free_number least most) (b ∷ bytes) (if t then Ok (48 ∷ [], bytes) else Err (suc (length bytes)))
 zero_step least most b bytes true e h range =
@@ -318,8 +310,7 @@ no_first least most b l e h =
     not_digit least most b n digits.0 (reaches_from least least most n n n l (omega arith) (omega arith) digits.1 (omega (arith, value, h.low)) (omega (arith, value, h.high))) e
 
 positive_digit : (b : ℕ) → 48 ≤ b → (b ≡ 48 → ⊥) → 0 < b - 48
-positive_digit b above other =
-    elim (cases_lt 48 b) [ inl more ↦ omega arith | inr less ↦ absurd (other (omega arith)) ]
+positive_digit b above other = grind arith
 
 first_step : (least most b : ℕ) (bytes : List ℕ) (t : Bool) → (is_digit b && goes_on least most (b - 48)) ≡ t → (b ≡ 48 → ⊥) → least ≤ most
     → TokenReads (free_number least most) (b ∷ bytes) (if t then read_digits least most (b - 48) (b ∷ []) bytes else Err (suc (length bytes)))
@@ -344,8 +335,7 @@ number_step least most b bytes true e range = zero_step least most b bytes (leas
 number_step least most b bytes false e range = first_step least most b bytes (is_digit b && goes_on least most (b - 48)) refl (eqb-false b 48 e) range
 
 none_here : (least most : ℕ) (a s : List ℕ) → [] ≡ a ++ s → IsNumber least most a → ⊥
-none_here least most [] s e h = h.leading
-none_here least most (c ∷ a) s e h = absurd (cc)
+none_here least most a s e h = grind arith
 
 pub number_reads : (least most : ℕ) (bytes : List ℕ) → least ≤ most → TokenReads (free_number least most) bytes (read_number least most bytes)
 unfolding read_number

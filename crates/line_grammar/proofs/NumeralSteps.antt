@@ -17,8 +17,7 @@ pub record Passed (width : ℕ) (ranges : List (ℕ × ℕ)) (bytes : List ℕ) 
   pub same : read_shape (fixed_number width ranges) bytes ≡ behind (digits done n) (read_numeral more ranges n rest)
 
 behind_nothing : (r : Result (List ℕ × List ℕ) ℕ) → r ≡ behind [] r
-behind_nothing (Ok (front, back)) = refl
-behind_nothing (Err left) = refl
+behind_nothing r = grind arith
 
 behind_both : (bytes : List ℕ) (b : ℕ) (r : Result (List ℕ × List ℕ) ℕ) → behind bytes (behind (b ∷ []) r) ≡ behind (bytes ++ (b ∷ [])) r
 behind_both bytes b (Ok (front, back)) = ap (λ (l : List ℕ). Ok (l, back)) (sym (append_assoc bytes (b ∷ []) front))

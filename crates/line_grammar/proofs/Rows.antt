@@ -48,8 +48,7 @@ goes_on bytes left h = h
 -- the exit of ? from what goes to the end of a line, and from a row
 pub leaves_tail : {V : Type 0} (G : Grammar) (parts : V → Parts) (old bytes : List ℕ) (r : Result V ℕ) (left : ℕ) → old ≡ bytes → IsErrAnd r (λ y. y ≡ left) → read G old ≡ Err left
     → ReadsTail G parts bytes r
-leaves_tail G parts old bytes (Ok v) left s h k = absurd h
-leaves_tail G parts old bytes (Err n) left s h k = ap (read G) (sym s) ∙ k ∙ ap (λ (m : ℕ). Err m) (sym h)
+leaves_tail G parts old bytes r left s h k = grind arith
 
 module _ {V : Type 0} (place : Parts → Parts) (Lawful : V → Type 0) (parts : V → Parts → Parts) where
   pub leaves_row : (rows : Grammar → Grammar) (old bytes : List ℕ) (r : Result V ℕ) (left : ℕ) → old ≡ bytes → IsErrAnd r (λ y. y ≡ left) → read (rows finish) old ≡ Err left

@@ -1,5 +1,5 @@
 -- the steps of the readers of sections
-use Rattle.std.proofs.Common.{◌≡◌, ℕ, true, false, List, Result, Ok, Err, is_ok, IfOk, IsOkAnd, IfErr, IsErrAnd, refl, sym, ◌∙◌, ap, subst}
+use Rattle.std.proofs.Common.{◌≡◌, ℕ, true, false, List, Result, Ok, Err, is_ok, IfOk, IsOkAnd, IfErr, IsErrAnd, refl, sym, ◌∙◌, ap, subst, arith}
 use Rattle.line_grammar.specs.Tokens.{Token}
 use Rattle.line_grammar.specs.Grammar.{Grammar, word, field, either, Parts, part, first, second}
 use Rattle.line_grammar.specs.inside.Reading.{after, read_token, and_then, and_part, named, further, read}
@@ -31,8 +31,7 @@ field_answer now label token text old mid at new (Err x) (Err n) e f h k l m =
 
 -- sections one after the other
 named_twice : (f g : Parts → Parts) (r : Result Parts ℕ) → named f (named g r) ≡ named (λ p. f (g p)) r
-named_twice f g (Ok p) = refl
-named_twice f g (Err left) = refl
+named_twice f g r = grind arith
 
 abbrev pub IsRead : (G : Grammar → Grammar) (f : Parts → Parts) (old new : List ℕ) → Type 0
 IsRead G f old new = (rest : Grammar) → read (G rest) old ≡ named f (read rest new)
@@ -50,13 +49,11 @@ behind G H f old mid left h k rest = h (H rest) ∙ ap (named f) (k rest)
 
 -- the exit of ? from a section
 pub leaves : {V : Type 0} (G : Grammar → Grammar) (parts : V → Parts → Parts) (old new : List ℕ) (r : Result V ℕ) (left : ℕ) → IsErrAnd r (λ y. y ≡ left) → IsLeft G old left → ReadsSection G parts old r new
-leaves G parts old new (Ok v) left h k = absurd h
-leaves G parts old new (Err n) left h k = λ rest. k rest ∙ ap (λ (m : ℕ). Err m) (sym h)
+leaves G parts old new r left h k = grind arith
 
 -- a word
 named_same : (r : Result Parts ℕ) → r ≡ named (λ p. p) r
-named_same (Ok p) = refl
-named_same (Err left) = refl
+named_same r = grind arith
 
 -- a word at the front is read
 pub word_read : (text old mid : List ℕ) → after text old ≡ Ok mid → IsRead (word text) (λ p. p) old mid
@@ -79,8 +76,7 @@ no_tail G K f old mid at left h s k = h K ∙ ap (λ (l : List ℕ). named f (re
 -- the exit of ? from a form
 pub leaves_form : {V : Type 0} (G : Grammar) (place : Parts → Parts) (parts : V → Parts) (old bytes : List ℕ) (r : Result V ℕ) (left : ℕ) → old ≡ bytes → IsErrAnd r (λ y. y ≡ left)
     → read G old ≡ Err left → ReadsForm G place parts bytes r
-leaves_form G place parts old bytes (Ok v) left s h k = absurd h
-leaves_form G place parts old bytes (Err n) left s h k = ap (read G) (sym s) ∙ k ∙ ap (λ (m : ℕ). Err m) (sym h)
+leaves_form G place parts old bytes r left s h k = grind arith
 
 -- one of two forms
 pub either_form : {V : Type 0} (G H : Grammar) (place : Parts → Parts) (parts : V → Parts) (bytes : List ℕ) (r s : Result V ℕ) → ReadsForm G (λ p. place (first p)) parts bytes r

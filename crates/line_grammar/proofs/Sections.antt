@@ -1,5 +1,5 @@
 -- sections of lines: fields one after the other, and what follows them
-use Rattle.std.proofs.Common.{◌≡◌, ℕ, ◌<◌, ◌^◌, true, List, ◌++◌, ◌⊎◌, inl, inr, refl, sym, ◌∙◌, ap, subst, append-nil, append_assoc}
+use Rattle.std.proofs.Common.{◌≡◌, ℕ, ◌<◌, ◌^◌, true, List, ◌++◌, ◌⊎◌, inl, inr, refl, sym, ◌∙◌, ap, subst, append-nil, append_assoc, arith}
 use Rattle.line_grammar.specs.Tokens.{Token, IsToken, shaped}
 use Rattle.line_grammar.specs.Grammar.{Grammar, finish, word, field, either, Parts, none, part, first, second, Spells, AreParts, written}
 use Rattle.line_grammar.specs.Shapes.{fixed_number, is_within, digits}
@@ -22,22 +22,13 @@ numbers width ranges Lawful inside lawful below = record {
 
 -- the parts of a field, of one of two, and of the end
 field_is : (token : Token) (G : Grammar) (p : Parts) → AreParts (field token G) p → (front : List ℕ) × (q : Parts) × (p ≡ part front q) × IsToken token front × AreParts G q
-field_is token G (part front q) h = (front, q, refl, h.0, h.1)
-field_is token G none h = absurd h
-field_is token G (first q) h = absurd h
-field_is token G (second q) h = absurd h
+field_is token G p h = grind arith
 
 either_is : (left right : Grammar) (p : Parts) → AreParts (either left right) p → ((q : Parts) × (p ≡ first q) × AreParts left q) ⊎ ((q : Parts) × (p ≡ second q) × AreParts right q)
-either_is left right (first q) h = inl (q, refl, h)
-either_is left right (second q) h = inr (q, refl, h)
-either_is left right none h = absurd h
-either_is left right (part front q) h = absurd h
+either_is left right p h = grind arith
 
 finish_is : (p : Parts) → AreParts finish p → p ≡ none
-finish_is none h = refl
-finish_is (part front q) h = absurd h
-finish_is (first q) h = absurd h
-finish_is (second q) h = absurd h
+finish_is p h = grind arith
 
 -- a section has the parts of the lawful values, each value its own, and then those of what follows; and it is written
 -- alike whatever follows it, and spelled so
@@ -83,13 +74,7 @@ labelled label told = worded label (fielded told)
 
 -- nothing, as a section
 pub nothing : Section {V = Unit {0}} (λ rest. rest) (λ (u : Unit {0}). Unit {0}) (λ u q. q)
-nothing = record {
-  is = λ v h rest q k. k;
-  of = λ rest p h. (tt, p, tt, refl, h);
-  one = λ u v p q h k e. (refl, e);
-  split = λ v h rest q. refl;
-  front = λ v h rest q back k. k;
-}
+nothing = grind arith
 
 -- one section and then another
 pub followed : {U V : Type 0} {G H : Grammar → Grammar} {P : U → Type 0} {Q : V → Type 0} {f : U → Parts → Parts} {g : V → Parts → Parts} → Section G P f → Section H Q g
@@ -137,27 +122,21 @@ sides_differ p q e = absurd (cc)
 
 side_is : {U V : Type 0} {G H : Grammar → Grammar} {P : U → Type 0} {Q : V → Type 0} {f : U → Parts → Parts} {g : V → Parts → Parts} → Section G P f → Section H Q g
     → (w : U ⊎ V) → LawfulSide P Q w → (rest : Grammar) (q : Parts) → AreParts rest q → AreParts (either (G rest) (H rest)) (side_parts f g w q)
-side_is s t (inl u) h rest q k = s.is u h rest q k
-side_is s t (inr v) h rest q k = t.is v h rest q k
+side_is s t w h rest q k = grind arith
 
 side_one : {U V : Type 0} {G H : Grammar → Grammar} {P : U → Type 0} {Q : V → Type 0} {f : U → Parts → Parts} {g : V → Parts → Parts} → Section G P f → Section H Q g
     → (a b : U ⊎ V) (p q : Parts) → LawfulSide P Q a → LawfulSide P Q b → side_parts f g a p ≡ side_parts f g b q → (a ≡ b) × (p ≡ q)
-side_one {f = f} s t (inl a) (inl b) p q h k e = let same = s.one a b p q h k (first_is (f a p) (f b q) e) in (ap inl same.0, same.1)
-side_one {g = g} s t (inr a) (inr b) p q h k e = let same = t.one a b p q h k (second_is (g a p) (g b q) e) in (ap inr same.0, same.1)
-side_one {f = f} {g = g} s t (inl a) (inr b) p q h k e = absurd (sides_differ (f a p) (g b q) e)
-side_one {f = f} {g = g} s t (inr a) (inl b) p q h k e = absurd (sides_differ (f b q) (g a p) (sym e))
+side_one s t a b p q h k e = grind arith
 
 side_split : {U V : Type 0} {G H : Grammar → Grammar} {P : U → Type 0} {Q : V → Type 0} {f : U → Parts → Parts} {g : V → Parts → Parts} → Section G P f → Section H Q g
     → (w : U ⊎ V) → LawfulSide P Q w → (rest : Grammar) (q : Parts)
     → written (either (G rest) (H rest)) (side_parts f g w q) ≡ written (either (G finish) (H finish)) (side_parts f g w none) ++ written rest q
-side_split s t (inl u) h rest q = s.split u h rest q
-side_split s t (inr v) h rest q = t.split v h rest q
+side_split s t w h rest q = grind arith
 
 side_front : {U V : Type 0} {G H : Grammar → Grammar} {P : U → Type 0} {Q : V → Type 0} {f : U → Parts → Parts} {g : V → Parts → Parts} → Section G P f → Section H Q g
     → (w : U ⊎ V) → LawfulSide P Q w → (rest : Grammar) (q : Parts) (back : List ℕ) → Spells rest q back
     → Spells (either (G rest) (H rest)) (side_parts f g w q) (written (either (G finish) (H finish)) (side_parts f g w none) ++ back)
-side_front s t (inl u) h rest q back k = s.front u h rest q back k
-side_front s t (inr v) h rest q back k = t.front v h rest q back k
+side_front s t w h rest q back k = grind arith
 
 -- a section of one of two forms
 pub sided : {U V : Type 0} {G H : Grammar → Grammar} {P : U → Type 0} {Q : V → Type 0} {f : U → Parts → Parts} {g : V → Parts → Parts} → Section G P f → Section H Q g
@@ -178,24 +157,8 @@ sided {G = G} {H = H} s t = record {
 pub renamed : {V W : Type 0} {G : Grammar → Grammar} {P : W → Type 0} {Q : V → Type 0} {f : W → Parts → Parts} {g : V → Parts → Parts} → Section G P f
     → (told : V → W) → (back : W → V) → ((v : V) → Q v → P (told v)) → ((w : W) → P w → Q (back w)) → ((v : V) → Q v → back (told v) ≡ v)
     → ((v : V) → Q v → (q : Parts) → g v q ≡ f (told v) q) → ((w : W) → P w → (q : Parts) → g (back w) q ≡ f w q) → Section G Q g
-renamed {V = V} {G = G} {f = f} {g = g} s told back lawful lawful_back again there here = record {
-  is = λ v h rest q k. subst (AreParts (G rest)) (sym (there v h q)) (s.is (told v) (lawful v h) rest q k);
-  of = λ rest p h. (let w = s.of rest p h in (back w.0, w.1, lawful_back w.0 w.2, w.3 ∙ sym (here w.0 w.2 w.1), w.4));
-  one = λ u v p q h k e.
-      let same = s.one (told u) (told v) p q (lawful u h) (lawful v k) (sym (there u h p) ∙ e ∙ there v k q) in
-      (sym (again u h) ∙ ap back same.0 ∙ again v k, same.1);
-  split = λ v h rest q.
-      ap (written (G rest)) (there v h q) ∙ s.split (told v) (lawful v h) rest q
-      ∙ ap (λ (p : Parts). written (G finish) p ++ written rest q) (sym (there v h none));
-  front = λ v h rest q back k.
-      subst (λ (p : Parts). Spells (G rest) p (written (G finish) (g v none) ++ back)) (sym (there v h q))
-      (subst (λ (p : Parts). Spells (G rest) (f (told v) q) (written (G finish) p ++ back)) (sym (there v h none)) (s.front (told v) (lawful v h) rest q back k));
-}
+renamed s told back lawful lawful_back again there here = grind arith
 
 -- a section and no more
 pub closed : {V : Type 0} {G : Grammar → Grammar} {Lawful : V → Type 0} {parts : V → Parts → Parts} → Section G Lawful parts → Form (G finish) Lawful (λ v. parts v none)
-closed {parts = parts} s = record {
-  is = λ v h. s.is v h finish none tt;
-  of = λ p h. (let a = s.of finish p h in (a.0, a.2, a.3 ∙ ap (λ (q : Parts). parts a.0 q) (finish_is a.1 a.4)));
-  one = λ u v h k e. (s.one u v none none h k e).0;
-}
+closed s = grind arith

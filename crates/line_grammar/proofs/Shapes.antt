@@ -49,9 +49,7 @@ pub record Begun (shape : Shape) (bytes : List ℕ) : Type 0 where
   pub is_first : is_one_of (firsts shape) byte ≡ true
 
 digit_first : (b : ℕ) → is_digit b ≡ true → is_one_of (codes "0123456789") b ≡ true
-digit_first b h =
-    let high = leb-true b 57 (and_parts (nat_le 48 b) (nat_le b 57) h).1 in
-    sym (agree_below_at is_digit (is_one_of (codes "0123456789")) 58 b refl (omega (arith, high))) ∙ h
+digit_first b h = grind arith
 
 begun_numeral : (more : ℕ) (ranges : List (ℕ × ℕ)) (n : ℕ) (bytes : List ℕ) → are_ranges (suc more) ranges ≡ true → is_within ranges n ≡ true → bytes ≡ digits (suc more) n → Begun (fixed_number (suc more) ranges) bytes
 begun_numeral more ranges n bytes some h e =
@@ -136,8 +134,7 @@ same_length a r b s long e =
 -- shapes whose letters part have no list in common
 part_step : (c d : ℕ) (text other r s : List ℕ) (t : Bool) → (c == d) ≡ t → (if t then part_ways text other else true) ≡ true → c ∷ (text ++ r) ≡ d ∷ (other ++ s)
     → (part_ways text other ≡ true → text ++ r ≡ other ++ s → ⊥) → ⊥
-part_step c d text other r s true same h e go = go h (cc)
-part_step c d text other r s false differ h e go = let equal : c ≡ d = cc in eqb-false c d differ equal
+part_step c d text other r s t k h e go = grind arith
 
 pub part_fronts : (text other r s : List ℕ) → part_ways text other ≡ true → text ++ r ≡ other ++ s → ⊥
 part_fronts [] other r s h e = absurd (cc)
@@ -161,18 +158,13 @@ part left right a r b s h is_a is_b e =
 
 -- the widths of shapes
 both_is : (a b : Option ℕ) (n : ℕ) → both_widths a b ≡ Some n → (x : ℕ) × (y : ℕ) × (a ≡ Some x) × (b ≡ Some y) × (x + y ≡ n)
-both_is (Some x) (Some y) n h = (x, y, refl, refl, (cc))
-both_is (Some x) None n h = absurd (cc)
-both_is None b n h = absurd (cc)
+both_is a b n h = grind arith
 
 one_step : (x y n : ℕ) (t : Bool) → (x == y) ≡ t → (if t then Some x else None) ≡ Some n → (x ≡ n) × (y ≡ n)
-one_step x y n true e h = let same = eqb-true x y e in let is : x ≡ n = cc in (is, sym same ∙ is)
-one_step x y n false e h = absurd (cc)
+one_step x y n t e h = grind arith
 
 one_is : (a b : Option ℕ) (n : ℕ) → one_width a b ≡ Some n → (a ≡ Some n) × (b ≡ Some n)
-one_is (Some x) (Some y) n h = let k = one_step x y n (x == y) refl h in (ap (λ (m : ℕ). Some m) k.0, ap (λ (m : ℕ). Some m) k.1)
-one_is (Some x) None n h = absurd (cc)
-one_is None b n h = absurd (cc)
+one_is a b n h = grind arith
 
 wide : (shape : Shape) (bytes : List ℕ) (n : ℕ) → width_of shape ≡ Some n → IsShaped shape bytes → length bytes ≡ n
 wide (letters text) bytes n e h = let same : length text ≡ n = cc in ap length h ∙ same
@@ -184,8 +176,7 @@ wide (choice left right) bytes n e (inl h) = wide left bytes n (one_is (width_of
 wide (choice left right) bytes n e (inr h) = wide right bytes n (one_is (width_of left) (width_of right) n e).1 h
 
 width_is : (w : Option ℕ) → is_width w ≡ true → (n : ℕ) × (w ≡ Some n)
-width_is (Some n) h = (n, refl)
-width_is None h = absurd (cc)
+width_is w h = grind arith
 
 as_wide : (left right : Shape) (a b : List ℕ) → are_as_wide left right ≡ true → IsShaped left a → IsShaped right b → length a ≡ length b
 as_wide left right a b h is_a is_b =

@@ -57,9 +57,7 @@ digits_length (suc width) n =
     omega (arith, length-append (digits width (n / 10)) ((48 + n % 10) ∷ []), h)
 
 pub digit_is : (n : ℕ) → is_digit (48 + n % 10) ≡ true
-digit_is n =
-    let d : n % 10 < 10 = omega arith in
-    and_from (nat_le 48 (48 + n % 10)) (nat_le (48 + n % 10) 57) (le-leb 48 (48 + n % 10) (omega arith)) (le-leb (48 + n % 10) 57 (omega arith))
+digit_is n = grind arith
 
 -- digits are digits all
 pub digits_all : (width n : ℕ) → list_all is_digit (digits width n) ≡ true
@@ -75,14 +73,11 @@ are_all width ranges = list_all (λ each. nat_le each.0 each.1 && not (nat_le (1
 
 -- ranges that are lawful are lawful one by one
 pub are_all_of : (width : ℕ) (ranges : List (ℕ × ℕ)) → are_ranges width ranges ≡ true → are_all width ranges ≡ true
-are_all_of width [] h = refl
-are_all_of width (range ∷ ranges) h = h
+are_all_of width ranges h = grind arith
 
 -- the two facts of a range
 pub range_facts : (width : ℕ) (range : ℕ × ℕ) → (nat_le range.0 range.1 && not (nat_le (10 ^ width) range.1)) ≡ true → (range.0 ≤ range.1) × (range.1 < 10 ^ width)
-range_facts width range h =
-    let k = and_parts (nat_le range.0 range.1) (not (nat_le (10 ^ width) range.1)) h in
-    (leb-true range.0 range.1 k.0, leb-false (10 ^ width) range.1 (not-true (nat_le (10 ^ width) range.1) k.1))
+range_facts width range h = grind arith
 
 pub within_below : (width : ℕ) (ranges : List (ℕ × ℕ)) (m : ℕ) → are_all width ranges ≡ true → is_within ranges m ≡ true → m < 10 ^ width
 within_below width [] m h k = absurd (cc)
@@ -174,16 +169,10 @@ numbered_start width ranges m bytes h k e = (m, k, div-eq_of_lt (within_below wi
 
 -- a digit more
 last_digit : (b d : ℕ) → is_digit b ≡ true → d ≡ b - 48 → b ≡ 48 + d
-last_digit b d h e =
-    let k = and_parts (nat_le 48 b) (nat_le b 57) h in
-    let low = leb-true 48 b k.0 in
-    omega (arith, low, e)
+last_digit b d h e = grind arith
 
 digit_small : (b : ℕ) → is_digit b ≡ true → b - 48 < 10
-digit_small b h =
-    let k = and_parts (nat_le 48 b) (nat_le b 57) h in
-    let high = leb-true b 57 k.1 in
-    omega (arith, high)
+digit_small b h = grind arith
 
 pub numbered_more : (more : ℕ) (ranges : List (ℕ × ℕ)) (n b : ℕ) (bytes : List ℕ) → is_digit b ≡ true → Numbered more ranges (10 * n + (b - 48)) bytes → Numbered (suc more) ranges n (b ∷ bytes)
 numbered_more more ranges n b bytes h k =

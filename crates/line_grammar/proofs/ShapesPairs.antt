@@ -79,12 +79,10 @@ abbrev pub Either : (P Q : List ℕ → Type 0) → List ℕ → Type 0
 Either P Q bytes = P bytes ⊎ Q bytes
 
 both_past : (P Q : List ℕ → Type 0) (bytes : List ℕ) (m n : ℕ) → Fails P bytes m → Fails Q bytes n → (p q rest : List ℕ) → bytes ≡ p ++ q → length q < min m n → Either P Q (p ++ rest) → ⊥
-both_past P Q bytes m n f g p q rest e short (inl k) = f.past p q rest e (omega (arith, short)) k
-both_past P Q bytes m n f g p q rest e short (inr k) = g.past p q rest e (omega (arith, short)) k
+both_past P Q bytes m n f g p q rest e short h = grind arith
 
 both_none : (P Q : List ℕ → Type 0) (bytes : List ℕ) (m n : ℕ) → Fails P bytes m → Fails Q bytes n → (a s : List ℕ) → bytes ≡ a ++ s → Either P Q a → ⊥
-both_none P Q bytes m n f g a s e (inl k) = f.none a s e k
-both_none P Q bytes m n f g a s e (inr k) = g.none a s e k
+both_none P Q bytes m n f g a s e h = grind arith
 
 fails_both : (P Q : List ℕ → Type 0) (bytes : List ℕ) (m n : ℕ) → Fails P bytes m → Fails Q bytes n → Fails (Either P Q) bytes (min m n)
 fails_both P Q bytes m n f g =

@@ -25,16 +25,7 @@ fails_le P bytes left f = omega (arith, ap length f.list, length-append f.front 
 
 -- the same parts have the same answers
 pub finds_alike : (P Q : List ℕ → Type 0) (bytes : List ℕ) (r : Result (List ℕ × List ℕ) ℕ) → ((l : List ℕ) → P l → Q l) → ((l : List ℕ) → Q l → P l) → Finds P bytes r → Finds Q bytes r
-finds_alike P Q bytes (Ok (front, back)) to from h = (h.0, to front h.1)
-finds_alike P Q bytes (Err left) to from h = record {
-  front = h.front;
-  back = h.back;
-  list = h.list;
-  left_is = h.left_is;
-  begins = (h.begins.0, to (h.front ++ h.begins.0) h.begins.1);
-  past = λ p q rest e short k. h.past p q rest e short (from (p ++ rest) k);
-  none = λ a s e k. h.none a s e (from a k);
-}
+finds_alike P Q bytes r to from h = grind arith
 
 -- the end stops there
 end_none : (Q : List ℕ → Type 0) → (Q [] → ⊥) → (a s : List ℕ) → [] ≡ a ++ s → Q a → ⊥
@@ -109,8 +100,7 @@ abbrev Is : List ℕ → List ℕ → Type 0
 Is text bytes = bytes ≡ text
 
 letters_behind : (b : ℕ) (text : List ℕ) (r : Result (List ℕ) ℕ) → behind (b ∷ []) (and_letters text r) ≡ and_letters (b ∷ text) r
-letters_behind b text (Ok back) = refl
-letters_behind b text (Err left) = refl
+letters_behind b text r = grind arith
 
 letters_step : (c b : ℕ) (text bytes : List ℕ) (t : Bool) → (b == c) ≡ t → Finds (Is text) bytes (and_letters text (after text bytes))
     → Finds (Is (c ∷ text)) (b ∷ bytes) (and_letters (c ∷ text) (if t then after text bytes else Err (suc (length bytes))))

@@ -20,11 +20,7 @@ unfolding digits
 spelled_none front = record { small = (omega (arith, pow-zero 10)); same = refl }
 
 digit_less : (b : ℕ) → is_digit b ≡ true → b - 48 < 10
-digit_less b h =
-    let k = and_parts (nat_le 48 b) (nat_le b 57) h in
-    let low = leb-true 48 b k.0 in
-    let high = leb-true b 57 k.1 in
-    omega (arith, low, high)
+digit_less b h = grind arith
 
 pub spelled_more : (front : List ℕ) (done n b d : ℕ) → Spelled front done n → done < length front → b ≡ slice_index_or front done 0 → is_digit b ≡ true → d ≡ b - 48 → Spelled front (done + 1) (10 * n + d)
 spelled_more front done n b d s inside e h value =

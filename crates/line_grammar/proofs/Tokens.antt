@@ -38,16 +38,14 @@ one_more : (n : ℕ) → 1 + n ≡ suc n
 one_more n = omega arith
 
 all_step : (p : ℕ → Bool) (x n : ℕ) (xs : List ℕ) (b : Bool) → p x ≡ b → list_all p (take n xs) ≡ true → list_all p (take (cond b (1 + n) 0) (x ∷ xs)) ≡ true
-all_step p x n xs true e h = subst (λ (k : ℕ). list_all p (take k (x ∷ xs)) ≡ true) (sym (one_more n)) (and_from (p x) (list_all p (take n xs)) e h)
-all_step p x n xs false e h = refl
+all_step p x n xs b e h = grind arith
 
 pub all_run : (p : ℕ → Bool) (xs : List ℕ) → list_all p (take (prefix_len p xs) xs) ≡ true
 all_run p [] = refl
 all_run p (x ∷ xs) = all_step p x (prefix_len p xs) xs (p x) refl (all_run p xs)
 
 stop_step : (p : ℕ → Bool) (x n : ℕ) (xs : List ℕ) (b : Bool) (y : ℕ) (rest : List ℕ) → p x ≡ b → (drop n xs ≡ y ∷ rest → p y ≡ false) → drop (cond b (1 + n) 0) (x ∷ xs) ≡ y ∷ rest → p y ≡ false
-stop_step p x n xs true y rest e h k = h (subst (λ (m : ℕ). drop m (x ∷ xs) ≡ y ∷ rest) (one_more n) k)
-stop_step p x n xs false y rest e h k = let same : x ≡ y = cc in subst (λ (z : ℕ). p z ≡ false) same e
+stop_step p x n xs b y rest e h k = grind arith
 
 stop_run : (p : ℕ → Bool) (xs : List ℕ) (y : ℕ) (rest : List ℕ) → drop (prefix_len p xs) xs ≡ y ∷ rest → p y ≡ false
 stop_run p [] y rest k = absurd (cc)

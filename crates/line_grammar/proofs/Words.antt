@@ -9,11 +9,7 @@ pub record IsByte {V W : Type 0} (c : ℕ) (L : V → List ℕ → Type 0) (M : 
   pub back : (w : W) (bytes : List ℕ) → M w bytes → (rest : List ℕ) × (bytes ≡ c ∷ rest) × ((v : V) × L v rest)
 
 byte_rest : {V W : Type 0} (c : ℕ) (L : V → List ℕ → Type 0) (M : W → List ℕ → Type 0) (bytes : List ℕ) (w : W) → IsByte c L M → M w (c ∷ bytes) → (v : V) × L v bytes
-byte_rest c L M bytes w byte h =
-    let b = byte.back w (c ∷ bytes) h in
-    let e : c ∷ bytes ≡ c ∷ b.0 = b.1 in
-    let same : b.0 ≡ bytes = cc in
-    (b.2.0, subst (L b.2.0) same b.2.1)
+byte_rest c L M bytes w byte h = grind arith
 
 byte_past : {V W : Type 0} (c : ℕ) (L : V → List ℕ → Type 0) (M : W → List ℕ → Type 0) (bytes : List ℕ) (left : ℕ) → IsByte c L M → Stops L bytes left
     → (p q : List ℕ) → c ∷ bytes ≡ p ++ q → length q < left → Begins M p → ⊥
@@ -62,14 +58,4 @@ Stops-other c x L M bytes v example byte h differs =
 
 -- the end stops there
 pub Stops-short : {V W : Type 0} (c : ℕ) (L : V → List ℕ → Type 0) (M : W → List ℕ → Type 0) (v : V) (example : List ℕ) → IsByte c L M → L v example → Stops M [] 0
-Stops-short c L M v example byte h =
-    let b = byte.to v example h in
-    record {
-      front = [];
-      back = [];
-      list = refl;
-      left_is = refl;
-      begins = record { value = b.0; rest = c ∷ example; whole = b.1 };
-      past = λ p q e short m. omega arith;
-      none = λ w m. let k = byte.back w [] m in let f : [] ≡ c ∷ k.0 = k.1 in absurd (cc);
-    }
+Stops-short c L M v example byte h = grind arith

@@ -1,5 +1,5 @@
 -- lines that are written of their parts
-use Rattle.std.proofs.Common.{◌≡◌, ℕ, Bool, true, false, ◌&&◌, List, ◌++◌, Result, Ok, Err, refl, sym, ◌∙◌, ap}
+use Rattle.std.proofs.Common.{◌≡◌, ℕ, Bool, true, false, ◌&&◌, List, ◌++◌, Result, Ok, Err, refl, sym, ◌∙◌, ap, arith}
 use Rattle.std.proofs.lemmas.Bool.{and_parts}
 use Rattle.line_grammar.specs.Columns.{ReadsAs, with_column}
 use Rattle.line_grammar.specs.Grammar.{Grammar, finish, anything, word, field, either, Parts, none, part, first, second, Spells, AreParts, written}
@@ -72,8 +72,7 @@ one_line (either left right) (part a b) bytes h k = absurd h
 
 -- such a line is read back
 read_back : (G : Grammar) (parts : Parts) (bytes : List ℕ) (r : Result Parts ℕ) → Spells G parts bytes → ReadsAs (Spells G) bytes (with_column bytes r) → r ≡ Ok parts
-read_back G parts bytes (Ok found) h k = ap (λ (p : Parts). Ok p) (sym (k.1 parts h))
-read_back G parts bytes (Err left) h k = absurd (k.is_none parts h)
+read_back G parts bytes r h k = grind arith
 
 -- what a grammar writes it reads again
 pub written_is_read : (G : Grammar) (parts : Parts) → is_sound G ≡ true → is_unambiguous G ≡ true → AreParts G parts → read G (written G parts) ≡ Ok parts

@@ -231,10 +231,7 @@ not_chosen {test = test} {first = first} {second = second} e p = alike (Choice-n
 -- the exit of `?` keeps the refusal
 pub fail : {V : Type 0} {language : V → List ℕ → Type 0} {old new : List ℕ} {why : Stop} {r : Result V Stop}
     → IsErrAnd r (λ y. y ≡ why) → Reads language old (Err why) new → Reads language old r new
-fail {language = language} {old = old} {new = new} {why = why} {r = r} h p =
-    let k = err_from_is_err_and r h in
-    let m : r ≡ Err k.0 = k.1 in
-    subst (λ x. Reads language old x new) (sym (m ∙ ap (λ y. Err y) k.2)) p
+fail h p = grind arith
 
 -- a symbol and then a word of what follows it
 pub one_then : {V : Type 0} {letter : ℕ → Type 0} {second : ℕ → V → List ℕ → Type 0} {v : V} {l : List ℕ}
@@ -244,10 +241,7 @@ one_then {l = l} x h p = record { chosen = x; front = x ∷ []; back = l; before
 -- the list of a symbol and of what follows it
 pub joined : {V : Type 0} {letter : ℕ → Type 0} {second : ℕ → V → List ℕ → Type 0} {v : V} {word l : List ℕ}
     (p : Then (One letter) second v word) → p.back ≡ l → word ≡ p.chosen ∷ l
-joined {word = word} {l = l} p e =
-    let k : word ≡ p.front ++ p.back = p.list in
-    let m : p.front ≡ p.chosen ∷ [] = p.before.list in
-    k ∙ ap (λ a. a ++ p.back) m ∙ ap (λ a. p.chosen ∷ a) e
+joined p e = grind arith
 
 -- values that are spelled by one symbol each, and how such a symbol is recognized
 pub record Coded {V : Type 0} (allows : ℕ → Type 0) (lawful : V → Type 0) (code : V → ℕ) : Type 0 where
@@ -288,24 +282,17 @@ coded_stop {allows = allows} {lawful = lawful} {code = code} g k p =
 -- its symbol was read: so is the value
 pub coded_read : {V : Type 0} {allows : ℕ → Type 0} {lawful : V → Type 0} {code : V → ℕ} {old new : List ℕ} {x : ℕ} {v : V}
     → lawful v → code v ≡ x → Reads (One allows) old (Ok x) new → Reads (Spelled lawful (λ v. code v ∷ [])) old (Ok v) new
-coded_read {old = old} {new = new} {x = x} {v = v} h e p =
-    let o = p.outcome in
-    let list : o.front ≡ x ∷ [] = o.word.list in
-    record { outcome = record { front = o.front; word = record { is_lawful = h; list = list ∙ ap (λ a. a ∷ []) (sym e) }; list = o.list } }
+coded_read h e p = grind arith
 
 -- a word of the spelled value, and then a word of what follows it
 pub spelled_then : {U V : Type 0} {lawful : U → Type 0} {spelling : U → List ℕ} {second : U → V → List ℕ → Type 0} {v : V}
     (u : U) (l : List ℕ) → lawful u → second u v l → Then (Spelled lawful spelling) second v (spelling u ++ l)
-spelled_then {spelling = spelling} u l h p =
-    record { chosen = u; front = spelling u; back = l; before = record { is_lawful = h; list = refl }; after = p; list = refl }
+spelled_then u l h p = grind arith
 
 -- the list of a spelled value and of what follows it
 pub spelt : {U V : Type 0} {lawful : U → Type 0} {spelling : U → List ℕ} {second : U → V → List ℕ → Type 0} {v : V} {word l : List ℕ}
     (p : Then (Spelled lawful spelling) second v word) → p.back ≡ l → word ≡ spelling p.chosen ++ l
-spelt {spelling = spelling} {word = word} p e =
-    let k : word ≡ p.front ++ p.back = p.list in
-    let m : p.front ≡ spelling p.chosen = p.before.list in
-    k ∙ ap (λ a. a ++ p.back) m ∙ ap (λ a. spelling p.chosen ++ a) e
+spelt p e = grind arith
 
 -- how much of a list is before what is left of it
 pub length_left : (m rest : List ℕ) (n : ℕ) → length (m ++ (n ∷ rest)) - length (n ∷ rest) ≡ length m
