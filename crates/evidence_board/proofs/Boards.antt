@@ -16,14 +16,10 @@ past_event place zero = []
 past_event place (suc v) = as_greatest place v ∷ []
 
 past_here : (p past : ℕ) (rest : List Event) (l : ℕ) → words_behind p (past_event p past ++ rest) (record { least = l; past = 0 }) ≡ words_behind p rest (record { least = l; past = past })
-past_here p zero rest l = refl
-past_here p (suc v) rest l =
-    let most : max 0 (suc v) ≡ suc v = omega arith in
-    ap (words_behind p rest) (greatest_here p p v (record { least = l; past = 0 }) refl ∙ ap (λ (n : ℕ). record { least = l; past = n }) most)
+past_here p past rest l = grind arith
 
 past_apart : (p n past : ℕ) (rest : List Event) (w : Reach) → (p ≡ n → ⊥) → words_behind p (past_event n past ++ rest) w ≡ words_behind p rest w
-past_apart p n zero rest w apart = refl
-past_apart p n (suc v) rest w apart = ap (words_behind p rest) (greatest_apart p n v w apart)
+past_apart p n past rest w apart = grind arith
 
 module _ (f : ℕ → Reach) where
   -- a place saw its least symbol and its greatest one

@@ -10,29 +10,14 @@ use Rattle.evidence_board.specs.inside.Tells.{Changed}
 use Rattle.evidence_board.specs.inside.Through.{Through}
 
 pub changed_twice : (a b d : View) (p : ℕ) (c : Place) (f : Place → Place) → Changed a p c b → Changed b p (f (place_at b p)) d → Changed a p (f c) d
-changed_twice a b d p c f first last = record {
-  here = last.here ∙ ap f first.here;
-  others = λ q apart. last.others q apart ∙ first.others q apart;
-  share = last.share ∙ first.share;
-  size = last.size ∙ first.size;
-}
+changed_twice a b d p c f first last = grind arith
 
 pub unchanged : (v : View) (p : ℕ) (c : Place) → place_at v p ≡ c → Changed v p c v
 unchanged v p c is = record { here = is; others = λ q apart. refl; share = refl; size = refl }
 
 -- what is kept of a place and posted
 pub nothing_admitted : (c : Place) → c.given.least ≤ 128 → c.seen.least ≤ 128 → c ≡ admitted seen.None c
-nothing_admitted c given seen_least =
-    let least : c.given.least ≡ min c.given.least 128 = omega arith in
-    let past : c.given.past ≡ max c.given.past 0 = omega arith in
-    let lower : c.seen.least ≡ min c.seen.least 128 = omega arith in
-    let upper : c.seen.past ≡ max c.seen.past 0 = omega arith in
-    λ i. record {
-      given = record { least = least i; past = past i };
-      seen = record { least = lower i; past = upper i };
-      loads = c.loads;
-      lows = c.lows;
-    }
+nothing_admitted c given seen_least = grind arith
 
 pub one_admitted : (v : ℕ) (c : Place) → posted_past (v + 1) (posted_least v c) ≡ admitted (seen.One v) c
 one_admitted v c = ap (λ (n : ℕ). posted_past n (posted_least v c)) (add-one v)
@@ -42,15 +27,7 @@ several_admitted a b c = ap (λ (n : ℕ). posted_past n (posted_least a c)) (ad
 
 -- one place further
 pub further : (R : ℕ → Place → Place → Type 0) (before now after : View) (k : ℕ) (c : Place) → Through R before now k → Changed now k c after → R k (place_at before k) c → Through R before after (k + 1)
-further R before now after k c through changed here = record {
-  share = changed.share ∙ through.share;
-  size = changed.size ∙ through.size;
-  below = λ p under. elim (cases_eq p k) [
-    | inl same ↦ subst (λ (q : ℕ). R q (place_at before q) (place_at after q)) (sym same) (subst (λ (x : Place). R k (place_at before k) x) (sym changed.here) here)
-    | inr apart ↦ subst (λ (x : Place). R p (place_at before p) x) (sym (changed.others p apart)) (through.below p (omega arith))
-  ];
-  above = λ p over. changed.others p (λ e. omega arith) ∙ through.above p (omega arith);
-}
+further R before now after k c through changed here = grind arith
 
 pub at_first : (R : ℕ → Place → Place → Type 0) (v : View) → Through R v v 0
 at_first R v = record { share = refl; size = refl; below = λ p under. absurd (omega arith); above = λ p over. refl }

@@ -5,8 +5,7 @@ use Rattle.evidence_board.specs.Views.{Reach, no_reach}
 use Rattle.evidence_board.specs.Events.{Event, as_least, as_greatest, word_after, words_behind, words_after, IsLeast, IsPastGreatest, HaveSame}
 
 first_or_later : (e : Event) (es : List Event) (x : Event) → Contains (e ∷ es) x → (e ≡ x) ⊎ Contains es x
-first_or_later e es x (zero, below, at) = inl at
-first_or_later e es x (suc k, below, at) = inr (k, omega arith, at)
+first_or_later e es x h = grind arith
 
 later : (e : Event) (es : List Event) (x : Event) → Contains es x → Contains (e ∷ es) x
 later e es x (k, below, at) = (suc k, omega arith, at)
@@ -35,11 +34,7 @@ record StepsLeast (p : ℕ) (e : Event) (before after : ℕ) : Type 0 where
 
 -- the lesser of two numbers is one of them
 either_one : (p q v n : ℕ) → p ≡ q → (min n v ≡ n) ⊎ (as_least q v ≡ as_least p (min n v))
-either_one p q v n same =
-    elim (cases_lt v n) [
-      | inl below ↦ let at : v ≡ min n v = omega arith in inr (ap (λ (k : ℕ). as_least k v) (sym same) ∙ ap (as_least p) at)
-      | inr above ↦ inl (omega arith)
-    ]
+either_one p q v n same = grind arith
 
 either_past : (p q v n : ℕ) → p ≡ q → (max n (suc v) ≡ n) ⊎ ((u : ℕ) × (max n (suc v) ≡ suc u) × (as_greatest q v ≡ as_greatest p u))
 either_past p q v n same =
@@ -49,36 +44,7 @@ either_past p q v n same =
     ]
 
 steps_least : (p : ℕ) (e : Event) (w : Reach) → StepsLeast p e w.least (word_after p e w).least
-steps_least p (as_least q v) w =
-    elim (cases_eq p q) [
-      | inl same ↦
-          subst (λ (r : Reach). StepsLeast p (as_least q v) w.least r.least) (sym (least_here p q v w same)) record {
-            lower = omega arith;
-            below = λ u is. let at : v ≡ u = cc in omega arith;
-            is_one = either_one p q v w.least same;
-          }
-      | inr apart ↦
-          subst (λ (r : Reach). StepsLeast p (as_least q v) w.least r.least) (sym (least_apart p q v w apart)) record {
-            lower = omega arith;
-            below = λ u is. let at : q ≡ p = cc in absurd (apart (sym at));
-            is_one = inl refl;
-          }
-    ]
-steps_least p (as_greatest q v) w =
-    elim (cases_eq p q) [
-      | inl same ↦
-          subst (λ (r : Reach). StepsLeast p (as_greatest q v) w.least r.least) (sym (greatest_here p q v w same)) record {
-            lower = omega arith;
-            below = λ u is. absurd (cc);
-            is_one = inl refl;
-          }
-      | inr apart ↦
-          subst (λ (r : Reach). StepsLeast p (as_greatest q v) w.least r.least) (sym (greatest_apart p q v w apart)) record {
-            lower = omega arith;
-            below = λ u is. absurd (cc);
-            is_one = inl refl;
-          }
-    ]
+steps_least p e w = grind arith
 
 -- what events make of the least word
 record EndsLeast (p : ℕ) (es : List Event) (before after : ℕ) : Type 0 where

@@ -39,13 +39,7 @@ every_fact p v place symbol = record {
 
 -- a lawful sheet names places and symbols that there are
 pub symbol_small : (x : Seen) (v : ℕ) → IsLawful x → symbols_in x v ≡ true → v < 128
-symbol_small seen.None v lawful is = absurd (cc)
-symbol_small (seen.One w) v lawful is = omega (arith, eqb-true v w is, lawful)
-symbol_small (seen.Differ a b) v lawful is =
-    elim (or_cases _ _ is) [
-      | inl least ↦ omega (arith, eqb-true v a least, lawful)
-      | inr greatest ↦ omega (arith, eqb-true v b greatest, lawful)
-    ]
+symbol_small x v lawful is = grind arith
 
 pub place_small : (sheet : List Seen) (p v : ℕ) → IsSheet sheet → facts_in sheet p v ≡ true → p < 64
 place_small sheet p v lawful is =

@@ -22,13 +22,7 @@ use Rattle.evidence_board.specs.inside.Through.{LooksAt}
 
 -- a least and a greatest symbol, joined into a place of which nothing was kept
 two_added : (a b : ℕ) → a ≤ b → b < 128 → seen_with (seen_with seen.None a) b ≡ seen_between a (b + 1)
-two_added a b order small =
-    let low : min 128 a ≡ a = omega arith in
-    let high : max 0 (a + 1) ≡ suc a = omega arith in
-    let first : seen_with seen.None a ≡ seen_between a (suc a) = ap (λ (n : ℕ). seen_between n (max 0 (a + 1))) low ∙ ap (seen_between a) high in
-    let least : min (least_of (seen_with seen.None a)) b ≡ a = ap (λ (x : Seen). min (least_of x) b) first ∙ (ap (λ (n : ℕ). min n b) (least_back a (suc a) (omega arith, omega arith)) ∙ omega arith) in
-    let past : max (past_of (seen_with seen.None a)) (b + 1) ≡ b + 1 = ap (λ (x : Seen). max (past_of x) (b + 1)) first ∙ (ap (λ (n : ℕ). max n (b + 1)) (past_back a (suc a)) ∙ omega arith) in
-    ap (λ (n : ℕ). seen_between n (max (past_of (seen_with seen.None a)) (b + 1))) least ∙ ap (seen_between a) past
+two_added a b order small = grind arith
 
 pub kept_both : (old one new : List Seen) (p least past greatest : ℕ) → p < 64 → length old ≡ 64 → seen_at old p ≡ seen.None → least < past → past ≤ 128 → greatest ≡ past - 1
     → one ≡ set old p (seen_with (seen_at old p) least) → new ≡ set one p (seen_with (seen_at one p) greatest) → new ≡ set old p (seen_between least past)
@@ -42,8 +36,7 @@ kept_both old one new p least past greatest inside size unseen order small is fi
     ∙ set-set old p (seen_with (seen_at old p) least) (seen_between least past)
 
 pub order_small : (least past : ℕ) → AreInOrder least past → (least ≤ 128) × (past ≤ 128)
-order_small least zero order = (omega (arith, order), omega arith)
-order_small least (suc greatest) order = (omega (arith, order), omega (arith, order))
+order_small least past order = grind arith
 
 -- a number past a symbol that may be posted
 pub past_small : (facts : List (ℕ × ℕ)) (p past : ℕ) → ((v : ℕ) → past ≡ suc v → IsAllowed facts p v) → past ≤ 128
@@ -51,8 +44,7 @@ past_small facts p zero lawful = omega arith
 past_small facts p (suc v) lawful = let below = (lawful v refl).symbol in omega arith
 
 lows_some : (lows past : ℕ) → (past ≡ 0 → ⊥) → lows_after lows past ≡ lows + 1
-lows_some lows zero some_there = absurd (some_there refl)
-lows_some lows (suc greatest) some_there = refl
+lows_some lows past some_there = grind arith
 
 -- both words were loaded
 module _ (facts : List (ℕ × ℕ)) (p past least : ℕ) (before mid after : View) (some_there : past ≡ 0 → ⊥) (loaded : Changed before p (loaded_past past (place_at before p)) mid) (first : IsPastFound facts p before past) (changed : Changed mid p (loaded_least least (place_at mid p)) after) where
@@ -145,8 +137,7 @@ get_there (y ∷ l) (suc i) x at = get_there l i x at
 
 -- the words of a place that no thread shares any more
 order_apart : (least past : ℕ) → AreInOrder least past → (past ≡ 0 → ⊥) → (least < past) × (past ≤ 128)
-order_apart least zero order some_there = absurd (some_there refl)
-order_apart least (suc greatest) order some_there = (omega (arith, order), omega (arith, order))
+order_apart least past order some_there = grind arith
 
 module _ (words : List ℕ) (p least past : ℕ) (at : get_elem? words p ≡ some least) (above : get_elem? words (64 + p) ≡ some past) where
   pub words_are : kept_of (words_of words p) ≡ seen_between least past

@@ -32,11 +32,7 @@ allowed_none facts p = record { least = λ below. absurd (omega arith); greatest
 
 -- where there is a greatest symbol of two, the least word is no greater
 met_both : (words a b : Reach) → IsMet words a → IsMet words b → 0 < max a.past b.past → words.least < max a.past b.past
-met_both words a b left right some_there =
-    elim (cases_lt a.past b.past) [
-      | inl last ↦ let met = right (omega arith) in omega arith
-      | inr first ↦ let met = left (omega arith) in omega arith
-    ]
+met_both words a b left right some_there = grind arith
 
 -- a view that was set is there
 pub set_here_at : (views : List View) (k : ℕ) (v w : View) → get_elem? views k ≡ some v → get_elem? (set views k w) k ≡ some w

@@ -45,9 +45,7 @@ fresh_seated share alive = record {
 }
 
 pub lawful_order : (x : Seen) → IsLawful x → AreInOrder (least_of x) (past_of x)
-lawful_order seen.None lawful = refl
-lawful_order (seen.One v) lawful = (omega arith, lawful)
-lawful_order (seen.Differ a b) lawful = (omega (arith, lawful), lawful.1)
+lawful_order x lawful = grind arith
 
 pub united_rests : (a b : Reach) → IsResting a → IsResting b → IsResting (united a b)
 united_rests a b left right = order_met a.least a.past b.least b.past left right
@@ -56,19 +54,7 @@ pub small_at : (view : View) (p : ℕ) → IsSeated view → p < 64 → ((place_
 small_at view p seated below = ((order_small _ _ (seated.rest.given p below)).0, (order_small _ _ (seated.rest.seen p below)).0)
 
 pub looked_seated : (facts : List (ℕ × ℕ)) (before after : View) → IsSeated before → Through (LooksAt facts) before after 64 → IsSeated after
-looked_seated facts before after seated through =
-    let share = through.share in
-    let alive = seated.alive in
-    record {
-      alive = omega arith;
-      size = through.size ∙ seated.size;
-      rest = record {
-        given = λ p below. subst IsResting (sym (through.below p below).looked.given) (seated.rest.given p below);
-        seen = λ p below. (through.below p below).rest;
-      };
-      within = λ p below. subst (λ (r : Reach). IsWithin r (place_at after p).seen) (sym (through.below p below).looked.given)
-          (further_still (place_at before p).given (place_at before p).seen (place_at after p).seen (seated.within p below) (through.below p below).looked.no_less);
-    }
+looked_seated facts before after seated through = grind arith
 
 pub new_place : (v : View) (p : ℕ) → length v.places ≡ 64 → p < 64 → place_at (new_half v) p ≡ uncounted (place_at v p)
 new_place v p size below = place_uncounted v p (omega arith)
@@ -103,25 +89,7 @@ both_seated a b left right =
 
 -- an empty board
 blank_kept : (facts : List (ℕ × ℕ)) (p : ℕ) (words : Reach) (view : View) → words ≡ no_reach → place_at view p ≡ blank → IsPlaceKept facts p words (view ∷ [])
-blank_kept facts p words view is at =
-    let low : (place_at view p).given.least ≡ 128 = ap (λ (c : Place). c.given.least) at in
-    let high : (place_at view p).given.past ≡ 0 = ap (λ (c : Place). c.given.past) at in
-    let least : words.least ≡ 128 = ap (λ (r : Reach). r.least) is in
-    let past : words.past ≡ 0 = ap (λ (r : Reach). r.past) is in
-    let none : Fits no_reach blank = record {
-      given_within = record { least = omega arith; past = omega arith };
-      seen_within = record { least = omega arith; past = omega arith };
-      given_met = λ some_there. absurd (omega arith);
-      seen_met = λ some_there. absurd (omega arith);
-    }
-    in record {
-      least = omega arith;
-      greatest = omega arith;
-      fits = each_one (λ u. Fits words (place_at u p)) view (subst (λ (r : Reach). Fits r (place_at view p)) (sym is) (subst (Fits no_reach) (sym at) none));
-      allowed = subst (AreAllowed facts p) (sym is) (allowed_none facts p);
-      given_allowed = each_one (λ u. AreAllowed facts p (place_at u p).given) view (subst (λ (c : Place). AreAllowed facts p c.given) (sym at) (allowed_none facts p));
-      seen_allowed = each_one (λ u. AreAllowed facts p (place_at u p).seen) view (subst (λ (c : Place). AreAllowed facts p c.seen) (sym at) (allowed_none facts p));
-    }
+blank_kept facts p words view is at = grind arith
 
 pub opening_kept : (facts : List (ℕ × ℕ)) (words : List ℕ) → length words ≡ 128 → ((p : ℕ) → p < 64 → words_of words p ≡ no_reach) → IsKept facts words (fresh WHOLE ∷ [])
 opening_kept facts words size empty = record {

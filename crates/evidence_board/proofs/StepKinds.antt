@@ -42,8 +42,7 @@ unfolding blanks
 blanks_long = length-replicate 64 blank
 
 pub each_one : (P : View → Type 0) (v : View) → P v → Each P (v ∷ [])
-each_one P v here zero w at = subst P (some-injective v w at) here
-each_one P v here (suc k) w at = absurd (some-ne-none w (sym at))
+each_one P v here h w at = grind arith
 
 -- the two words of a place, where one of them is written, and those of other places
 least_written : (words : List ℕ) (p n : ℕ) → length words ≡ 128 → p < 64 → words_of (set words p n) p ≡ record (words_of words p) { least = n }

@@ -56,24 +56,14 @@ met_ends F G before after r seated size rest is ends each none =
     (λ p above. or_none-seen (F p) (G p) seen.None (beyond F (given_sheet before) ends p above) (none p above))
 
 kept_back : (x : Seen) → IsLawful x → kept_of (reach_of x) ≡ x
-kept_back seen.None lawful = refl
-kept_back (seen.One v) lawful = ap (λ (b : Bool). cond b (seen.One v) (seen.Differ v v)) (eq-eqb v v refl)
-kept_back (seen.Differ a b) lawful = ap (λ (c : Bool). cond c (seen.One a) (seen.Differ a b)) (ne_eqb a b (λ e. omega (arith, lawful)))
+kept_back x lawful = grind arith
 
 -- what is kept of a reach reaches as far
 span_within : (a b : ℕ) → IsWithin (record { least = a; past = suc b }) (reach_of (span_seen a b))
-span_within a b = elim (cases_eq a b) [
-  | inl same ↦
-      subst (λ (s : Seen). IsWithin (record { least = a; past = suc b }) (reach_of s)) (sym (ap (λ (c : Bool). cond c (seen.One a) (seen.Differ a b)) (eq-eqb a b same)))
-      (record { least = omega arith; past = omega (arith, same) })
-  | inr apart ↦
-      subst (λ (s : Seen). IsWithin (record { least = a; past = suc b }) (reach_of s)) (sym (ap (λ (c : Bool). cond c (seen.One a) (seen.Differ a b)) (ne_eqb a b apart)))
-      (record { least = omega arith; past = omega arith })
-]
+span_within a b = grind arith
 
 between_within : (least past : ℕ) → AreInOrder least past → IsWithin (record { least = least; past = past }) (reach_of (seen_between least past))
-between_within least zero order = record { least = omega (arith, order); past = omega arith }
-between_within least (suc greatest) order = span_within least greatest
+between_within least past order = grind arith
 
 pub kept_within : (r : Reach) → IsResting r → IsWithin r (reach_of (kept_of r))
 kept_within r rest = let w = between_within r.least r.past rest in record { least = w.least; past = w.past }

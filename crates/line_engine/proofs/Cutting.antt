@@ -57,8 +57,7 @@ open_line (b ∷ c ∷ text) more h some =
 
 -- the first line feed
 is_no_feed : (t : Bool) → (t ≡ true → ⊥) → not t ≡ true
-is_no_feed true h = absurd (h refl)
-is_no_feed false h = refl
+is_no_feed t h = grind arith
 
 text_before : (bytes : List ℕ) (k : ℕ) → ((j : ℕ) → j < k → Passes (is_byte 10) bytes j → ⊥) → is_text (take k bytes) ≡ true
 text_before bytes zero h = refl
@@ -121,5 +120,4 @@ is_line rest line new at h feed e f =
     feed_first rest at high feed ∙ ap (λ (l : List ℕ). l ++ (10 ∷ drop (at + 1) rest)) (sym e) ∙ ap (λ (l : List ℕ). line ++ (10 ∷ l)) (sym f)
 
 pub not_empty : (n : ℕ) → false ≡ (n == 0) → 0 < n
-not_empty zero e = absurd (cc)
-not_empty (suc n) e = omega arith
+not_empty n e = grind arith

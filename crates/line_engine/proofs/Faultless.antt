@@ -43,10 +43,7 @@ one_more meaning lines last sound all = record {
 
 -- a line that is taken within the limits has no fault
 pub sound_line : (meaning : Meaning) (lines : Lines) (line : List ℕ) → IsTakenBehind meaning lines line → length lines < 65536 → length line ≤ 4200 → (fault : Fault) → IsFault meaning lines line fault → ⊥
-sound_line meaning lines line is few short TooManyLines h = omega (arith, h)
-sound_line meaning lines line is few short TooLong h = omega (arith, h.1)
-sound_line meaning lines line is few short (Column n) h = is.well_formed n h.1
-sound_line meaning lines line is few short TooManyGroups h = is.not_overfull h.2
+sound_line meaning lines line is few short fault h = grind arith
 
 pub takes_line : {Command : Type 0} {meaning : Meaning} {stands_for : Command → Lines → List ℕ → Type 0} {lines : Lines} {line : List ℕ} {new : Command} {text : List ℕ}
     → length lines < 65536 → length line ≤ 4200 → IsTakenBehind meaning lines line → stands_for new (lines ++ line ∷ []) text → TakesLines meaning stands_for lines (line ∷ []) new text
@@ -71,5 +68,4 @@ takes_none {meaning = meaning} {stands_for = stands_for} {lines = lines} {comman
 pub takes_last : {Command : Type 0} {meaning : Meaning} {stands_for : Command → Lines → List ℕ → Type 0} {new : Command} {count : ℕ} (old : Command) (rest before after : List ℕ) → lines_of rest ≡ rest ∷ []
     → ((lines : Lines) (text : List ℕ) → stands_for old lines (text ++ before) → count ≡ length lines → TakesLines meaning stands_for lines (rest ∷ []) new (text ++ after))
     → (lines : Lines) (text : List ℕ) → stands_for old lines (text ++ before) → count ≡ length lines → TakesLines meaning stands_for lines (lines_of rest) new (text ++ after)
-takes_last {meaning = meaning} {stands_for = stands_for} {new = new} old rest before after e h lines text stands n =
-    subst (λ (more : Lines). TakesLines meaning stands_for lines more new (text ++ after)) (sym e) (h lines text stands n)
+takes_last old rest before after e h lines text stands n = grind arith

@@ -11,22 +11,7 @@ use Rattle.line_engine.proofs.Faultless.{none_yet, one_more}
 
 -- a line has one fault
 one_fault : (meaning : Meaning) → HasOneColumn meaning → (earlier : Lines) (line : List ℕ) (a b : Fault) → IsFault meaning earlier line a → IsFault meaning earlier line b → a ≡ b
-one_fault meaning one earlier line TooManyLines TooManyLines h k = refl
-one_fault meaning one earlier line TooManyLines TooLong h k = absurd (omega (arith, h, k.0))
-one_fault meaning one earlier line TooManyLines (Column n) h k = let few = k.0.few in absurd (omega (arith, h, few))
-one_fault meaning one earlier line TooManyLines TooManyGroups h k = let few = k.0.few in absurd (omega (arith, h, few))
-one_fault meaning one earlier line TooLong TooManyLines h k = absurd (omega (arith, k, h.0))
-one_fault meaning one earlier line TooLong TooLong h k = refl
-one_fault meaning one earlier line TooLong (Column n) h k = let short = k.0.short in absurd (omega (arith, h.1, short))
-one_fault meaning one earlier line TooLong TooManyGroups h k = let short = k.0.short in absurd (omega (arith, h.1, short))
-one_fault meaning one earlier line (Column m) TooManyLines h k = let few = h.0.few in absurd (omega (arith, k, few))
-one_fault meaning one earlier line (Column m) TooLong h k = let short = h.0.short in absurd (omega (arith, k.1, short))
-one_fault meaning one earlier line (Column m) (Column n) h k = ap Column (one earlier line m n h.1 k.1)
-one_fault meaning one earlier line (Column m) TooManyGroups h k = absurd (k.1 m h.1)
-one_fault meaning one earlier line TooManyGroups TooManyLines h k = let few = h.0.few in absurd (omega (arith, k, few))
-one_fault meaning one earlier line TooManyGroups TooLong h k = let short = h.0.short in absurd (omega (arith, k.1, short))
-one_fault meaning one earlier line TooManyGroups (Column n) h k = absurd (h.1 n k.1)
-one_fault meaning one earlier line TooManyGroups TooManyGroups h k = refl
+one_fault meaning one earlier line a b h k = grind arith
 
 -- a list that is split twice is split at one place, or first at one of them
 pub record IsInside (before : Lines) (line : List ℕ) (all : Lines) : Type 0 where
@@ -71,10 +56,7 @@ none_first meaning lines number fault none h = none.none h.earlier h.line h.late
 
 -- a line has a fault or none
 well_formed : (meaning : Meaning) (earlier : Lines) (line : List ℕ) → IsWithin earlier line → ((n : ℕ) → meaning.IsIllFormed earlier line n → ⊥) → (meaning.IsOverfull earlier line → ⊥) → (fault : Fault) → IsFault meaning earlier line fault → ⊥
-well_formed meaning earlier line within well few TooManyLines h = let below = within.few in omega (arith, h, below)
-well_formed meaning earlier line within well few TooLong h = let short = within.short in omega (arith, h.1, short)
-well_formed meaning earlier line within well few (Column n) h = well n h.1
-well_formed meaning earlier line within well few TooManyGroups h = few h.2
+well_formed meaning earlier line within well few fault h = grind arith
 
 fault_or_none : (meaning : Meaning) → IsDecided meaning → (earlier : Lines) (line : List ℕ) → ((fault : Fault) × IsFault meaning earlier line fault) ⊎ ((fault : Fault) → IsFault meaning earlier line fault → ⊥)
 fault_or_none meaning decided earlier line =

@@ -93,15 +93,7 @@ pub on_paused : {Command Sink : Type 0} {meaning : Meaning} {stands_for : Comman
     {taken left : List ℕ} {count : ℕ} {old new : Command} {before : List ℕ} (after : List ℕ)
     → ((lines : Lines) (text : List ℕ) → stands_for old lines (text ++ before) → stands_for new lines (text ++ after))
     → IsOn meaning stands_for written faults start taken left count old before sink → IsOn meaning stands_for written faults start taken left count new after sink
-on_paused after says on = record {
-  lines = on.lines;
-  text = on.text;
-  goes_on = on.goes_on;
-  count_is = on.count_is;
-  faultless = on.faultless;
-  stands = says on.lines on.text on.stands;
-  wrote = on.wrote;
-}
+on_paused after says on = grind arith
 
 -- and there was no memory for it
 pub stops_in_pause : {Command Sink : Type 0} {meaning : Meaning} {stands_for : Command → Lines → List ℕ → Type 0} {written : Sink → Option (List ℕ)} {faults : Sink → ℕ} {start sink : Sink}
@@ -170,19 +162,11 @@ stops_in_write new after left gives on halt.Memory stops = absurd stops
 
 -- a limit that an open line passes stops a run
 limit_fault : (meaning : Meaning) (lines : Lines) (line : List ℕ) (count len : ℕ) (fault : Fault) → count ≡ length lines → len ≤ length line → IsLimitPassed count len fault → IsFault meaning lines line fault
-limit_fault meaning lines line count len TooManyLines e le h = omega (arith, h)
-limit_fault meaning lines line count len TooLong e le h = (omega (arith, h.0), omega (arith, h.1))
-limit_fault meaning lines line count len (Column n) e le h = absurd h
-limit_fault meaning lines line count len TooManyGroups e le h = absurd h
+limit_fault meaning lines line count len fault e le h = grind arith
 
 open_fault : {meaning : Meaning} {all lines : Lines} {rest more : List ℕ} {count : ℕ} {fault : Fault} → IsOpenLine rest more → all ≡ lines ++ lines_of (rest ++ more) → count ≡ length lines
     → IsLimitPassed count (length rest) fault → IsNextFault meaning all lines fault
-open_fault {meaning} {all} {lines} {rest} {more} {count} {fault} o e n p = record {
-  line = o.line;
-  later = o.later;
-  list = e ∙ ap (λ (l : Lines). lines ++ l) o.list;
-  is_fault = limit_fault meaning lines o.line count (length rest) fault n o.long p;
-}
+open_fault o e n p = grind arith
 
 pub stops_open : {Command Sink : Type 0} {meaning : Meaning} {stands_for : Command → Lines → List ℕ → Type 0} {written : Sink → Option (List ℕ)} {faults : Sink → ℕ} {start sink : Sink}
     {taken rest : List ℕ} {count : ℕ} {command : Command} {pending : List ℕ} (left : Option (List ℕ)) → GivesLaw meaning stands_for → is_text rest ≡ true → 0 < length rest
@@ -202,8 +186,7 @@ stops_open left gives t some on _ p = absurd p
 
 -- nothing follows an ended source
 pub no_rest : (left : Option (List ℕ)) (rest : List ℕ) → IsEnded left → IsRest left rest → rest ≡ []
-no_rest left rest ended (inl none) = none
-no_rest left rest ended (inr is) = ended rest is
+no_rest left rest ended h = grind arith
 
 -- the last line stops a run
 pub stops_last : {Command Sink : Type 0} {meaning : Meaning} {stands_for : Command → Lines → List ℕ → Type 0} {written : Sink → Option (List ℕ)} {faults : Sink → ℕ} {start sink : Sink}
@@ -254,8 +237,7 @@ on_through {meaning = meaning} {stands_for = stands_for} {taken = taken} {new = 
 pub on_left : {Command Sink : Type 0} {meaning : Meaning} {stands_for : Command → Lines → List ℕ → Type 0} {written : Sink → Option (List ℕ)} {faults : Sink → ℕ} {start sink : Sink}
     {taken left other : List ℕ} {count : ℕ} {command : Command} {pending : List ℕ} → left ≡ other
     → IsOn meaning stands_for written faults start taken left count command pending sink → IsOn meaning stands_for written faults start taken other count command pending sink
-on_left {meaning = meaning} {stands_for = stands_for} {written = written} {faults = faults} {start = start} {sink = sink} {taken = taken} {count = count} {command = command} {pending = pending} e on =
-    subst (λ (l : List ℕ). IsOn meaning stands_for written faults start taken l count command pending sink) e on
+on_left e on = grind arith
 
 pub counted_line : {Command : Type 0} {meaning : Meaning} {stands_for : Command → Lines → List ℕ → Type 0} {old new : Command} {line before after : List ℕ} {count : ℕ}
     → (was : IsCounted stands_for old before count) → TakesLines meaning stands_for was.lines (line ∷ []) new (was.written ++ after) → IsCounted stands_for new after (count + 1)
@@ -269,10 +251,7 @@ counted_line {line = line} was takes = record {
 -- a run that stopped between two reads
 pub stopped : {Sink : Type 0} {meaning : Meaning} {written : Sink → Option (List ℕ)} {faults : Sink → ℕ} (left_before left : Option (List ℕ)) (start sink : Sink) (taken pending : List ℕ) (h : Halt)
     → Loses left_before left taken → length taken ≤ 275447808 → Stops meaning written faults start left taken pending sink h → RunsInto meaning written faults left_before left start pending sink h
-stopped left_before left start sink taken pending (halt.Fault first) lost within s = record { taken = taken; lost = lost; within = within; stops = s }
-stopped left_before left start sink taken pending halt.Read lost within s = absurd s
-stopped left_before left start sink taken pending halt.Write lost within s = record { taken = taken; lost = lost; within = within; stops = s }
-stopped left_before left start sink taken pending halt.Memory lost within s = record { taken = taken; lost = lost; within = within; stops = s }
+stopped left_before left start sink taken pending h lost within s = grind arith
 
 pub not_read : {Sink : Type 0} (meaning : Meaning) (written : Sink → Option (List ℕ)) (faults : Sink → ℕ) (start sink : Sink) (left : Option (List ℕ)) (taken pending : List ℕ) (h : Halt)
     → Stops meaning written faults start left taken pending sink h → h ≡ halt.Read → ⊥

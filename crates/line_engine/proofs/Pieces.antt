@@ -15,8 +15,7 @@ use Rattle.line_engine.proofs.Writing.{nothing_written}
 
 -- what the exit of a `?` returns is the error
 pub exit_is : {T E : Type 0} (r : Result T E) (e d : E) → IsErrAnd r (λ y. y ≡ e) → r ≡ Err d → e ≡ d
-exit_is (Ok x) e d is f = absurd is
-exit_is (Err y) e d is f = let same : y ≡ d = cc in sym is ∙ same
+exit_is r e d is f = grind arith
 
 -- without memory for the first read
 pub no_window : {Command Sink : Type 0} (meaning : Meaning) (stands_for : Command → Lines → List ℕ → Type 0) (written : Sink → Option (List ℕ)) (faults : Sink → ℕ) (left : Option (List ℕ)) (sink : Sink) (command : Command) (pending : List ℕ)
@@ -89,5 +88,4 @@ runs_into_last {left_after = left_after} {sink = sink} bytes after gives ended t
 
 -- an open line within the limits
 pub few_bytes : (count left len : ℕ) → count ≤ 65536 → (0 < left → count < 65536) → left ≤ 4200 → len ≡ left → count * 4201 + len ≤ 275316736
-few_bytes count zero len few some short e = omega arith
-few_bytes count (suc n) len few some short e = let less : count < 65536 = some (omega arith) in omega arith
+few_bytes count left len few some short e = grind arith

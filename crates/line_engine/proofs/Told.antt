@@ -121,13 +121,10 @@ memory_front runs =
 
 pub at_halt : {Sink : Type 0} {meaning : Meaning} {written : Sink → Option (List ℕ)} {faults : Sink → ℕ} {left_before left_after : Option (List ℕ)} {start sink : Sink} {pending : List ℕ} {h k : Halt}
     → h ≡ k → RunsInto meaning written faults left_before left_after start pending sink h → RunsInto meaning written faults left_before left_after start pending sink k
-at_halt {meaning = meaning} {written = written} {faults = faults} {left_before = left_before} {left_after = left_after} {start = start} {sink = sink} {pending = pending} e runs =
-    subst (λ (h : Halt). RunsInto meaning written faults left_before left_after start pending sink h) e runs
+at_halt e runs = grind arith
 
 pub not_five : (status : ℕ) → IsOfFault status → status ≢ 5
-not_five status (inl three) five = omega (arith, three, five)
-not_five status (inr seven) five = omega (arith, seven, five)
+not_five status h five = grind arith
 
 pub status_of : (status told : ℕ) → status ≢ 5 → (status ≡ told) ⊎ (status ≡ 5) → status ≡ told
-status_of status told other (inl is) = is
-status_of status told other (inr five) = absurd (other five)
+status_of status told other h = grind arith

@@ -1,5 +1,5 @@
 -- what a sink gains
-use Rattle.std.proofs.Common.{◌≡◌, ℕ, List, [], ◌++◌, length, false, nat_eq, Option, Result, Ok, Err, OnOk, OnErr, IfErr, IsErrAnd, refl, sym, ◌∙◌, ap, subst, append_assoc, append-nil}
+use Rattle.std.proofs.Common.{◌≡◌, ℕ, List, [], ◌++◌, length, false, nat_eq, Option, Result, Ok, Err, OnOk, OnErr, IfErr, IsErrAnd, refl, sym, ◌∙◌, ap, subst, append_assoc, append-nil, arith}
 use Rattle.byte_streams.specs.Streams.{Gains, Rises}
 use Rattle.byte_streams.proofs.PublicLaws.{Gains-none, Gains-more}
 use Rattle.line_engine.specs.inside.Progress.{HasWritten, Fails}
@@ -56,14 +56,11 @@ pub some_items : (n : ℕ) (items : List ℕ) → n ≡ length items → nat_eq 
 some_items n items len not_zero none = let zero_too : n ≡ 0 = len ∙ ap length none in absurd (cc (ap (λ (k : ℕ). nat_eq k 0) zero_too))
 
 pub on_err : {T E P : Type 0} (r : Result T E) → P → OnErr r P
-on_err (Ok x) h = tt
-on_err (Err e) h = h
+on_err r h = grind arith
 
 -- what the exit of a `?` says of its error
 pub exit : {T E : Type 0} (r : Result T E) (e : E) (Q : E → Type 0) → IsErrAnd r (λ y. y ≡ e) → Q e → IfErr r Q
-exit (Ok x) e Q is h = tt
-exit (Err y) e Q is h = subst Q (sym is) h
+exit r e Q is h = grind arith
 
 pub on_ok_both : {T E P Q R : Type 0} (r : Result T E) → OnOk r P → OnOk r Q → (P → Q → R) → OnOk r R
-on_ok_both (Ok x) p q h = h p q
-on_ok_both (Err e) p q h = tt
+on_ok_both r p q h = grind arith

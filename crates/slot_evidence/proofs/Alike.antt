@@ -53,31 +53,14 @@ kept_alike S T (seen.Differ a b) alike several = record {
 
 -- what is between two of a set is between two of a larger one
 wider_left : (S T : Symbols) (v : ℕ) → IsBetween S v → IsBetween (λ w. S w || T w) v
-wider_left S T v b = record {
-  low = b.low;
-  high = b.high;
-  has_low = or_left _ _ b.has_low;
-  has_high = or_left _ _ b.has_high;
-  above = b.above;
-  below = b.below;
-}
+wider_left S T v b = grind arith
 
 wider_right : (S T : Symbols) (v : ℕ) → IsBetween T v → IsBetween (λ w. S w || T w) v
-wider_right S T v b = record {
-  low = b.low;
-  high = b.high;
-  has_low = or_right _ _ b.has_low;
-  has_high = or_right _ _ b.has_high;
-  above = b.above;
-  below = b.below;
-}
+wider_right S T v b = grind arith
 
 between_either : (S T U V : Symbols) → ((v : ℕ) → S v ≡ true → IsBetween T v) → ((v : ℕ) → U v ≡ true → IsBetween V v)
     → (v : ℕ) → (S v || U v) ≡ true → IsBetween (λ w. T w || V w) v
-between_either S T U V one other v has = elim (or_cases (S v) (U v) has) [
-  | inl here ↦ wider_left T V v (one v here)
-  | inr there ↦ wider_right T V v (other v there)
-]
+between_either S T U V one other v has = grind arith
 
 -- unions of alike sets are alike
 pub unions_alike : (S T U V : Symbols) → AreAlike S T → AreAlike U V → AreAlike (λ v. S v || U v) (λ v. T v || V v)

@@ -19,88 +19,28 @@ pub record IsEdges (S : Symbols) (least past : ℕ) : Type 0 where
 
 -- order by numbers
 order_tells : (least past : ℕ) → AreInOrder least past → ((least ≡ 128) × (past ≡ 0)) ⊎ ((least < past) × (past ≤ 128))
-order_tells least zero order = inl (order, refl)
-order_tells least (suc greatest) order = inr (omega (arith, order), omega (arith, order))
+order_tells least past order = grind arith
 
 order_none : (least past : ℕ) → least ≡ 128 → past ≡ 0 → AreInOrder least past
-order_none least zero is none = is
-order_none least (suc greatest) is none = absurd (omega arith)
+order_none least past is none = grind arith
 
 -- a least symbol below the number past the greatest is in order
 pub order_some : (least past : ℕ) → least < past → past ≤ 128 → AreInOrder least past
-order_some least zero below small = absurd (omega arith)
-order_some least (suc greatest) below small = (omega arith, omega arith)
+order_some least past below small = grind arith
 
 pub order_met : (a b c d : ℕ) → AreInOrder a b → AreInOrder c d → AreInOrder (min a c) (max b d)
-order_met a b c d left right =
-    elim (order_tells a b left) [
-      | inl none ↦
-          elim (order_tells c d right) [
-            | inl neither ↦ order_none _ _ (omega (arith, none, neither)) (omega (arith, none, neither))
-            | inr other ↦ order_some _ _ (omega (arith, none, other)) (omega (arith, none, other))
-          ]
-      | inr one ↦
-          elim (order_tells c d right) [
-            | inl alone ↦ order_some _ _ (omega (arith, one, alone)) (omega (arith, one, alone))
-            | inr both ↦ order_some _ _ (omega (arith, one, both)) (omega (arith, one, both))
-          ]
-    ]
+order_met a b c d left right = grind arith
 
 -- what is kept of a set of symbols says where its edges are, and the other way round
 pub edges_seen : (S : Symbols) (least past : ℕ) → AreInOrder least past → IsEdges S least past → IsSeen S (seen_between least past)
-edges_seen S least zero order edges = λ v. false_from_ne_true (S v) (λ shown. omega (arith, edges.between v shown))
-edges_seen S least (suc greatest) order edges =
-    one_or_differ least greatest (IsSeen S)
-    (λ same. (edges.has_least (omega (arith, order)), λ w shown. omega (arith, edges.between w shown)))
-    (λ other. record {
-      has_least = edges.has_least (omega (arith, order));
-      has_greatest = edges.has_greatest greatest refl;
-      apart = omega (arith, order);
-      between = λ w shown. (omega (arith, edges.between w shown), omega (arith, edges.between w shown));
-    })
+edges_seen S least past order edges = grind arith
 
 pub seen_edges : (S : Symbols) (least past : ℕ) → AreInOrder least past → IsSeen S (seen_between least past) → IsEdges S least past
-seen_edges S least zero order none = record {
-  has_least = λ below. absurd (omega (arith, order));
-  has_greatest = λ v is. absurd (omega arith);
-  between = λ w shown. let hidden = none w in absurd (cc);
-}
-seen_edges S least (suc greatest) order shows =
-    one_or_differ least greatest (λ x. IsSeen S x → IsEdges S least (suc greatest))
-    (λ same one. record {
-      has_least = λ below. one.0;
-      has_greatest = λ v is. let at : least ≡ v = omega arith in ap S (sym at) ∙ one.0;
-      between = λ w shown. let at = one.1 w shown in (omega (arith, at), omega (arith, at));
-    })
-    (λ other several. record {
-      has_least = λ below. several.has_least;
-      has_greatest = λ v is. let at : greatest ≡ v = omega arith in ap S (sym at) ∙ several.has_greatest;
-      between = λ w shown. let at = several.between w shown in (omega (arith, at), omega (arith, at));
-    })
-    shows
+seen_edges S least past order h = grind arith
 
 -- the edges of two sets together
 pub edges_met : (S T : Symbols) (a b c d : ℕ) → IsEdges S a b → IsEdges T c d → IsEdges (λ v. S v || T v) (min a c) (max b d)
-edges_met S T a b c d s t = record {
-  has_least =
-      λ below.
-      elim (cases_lt a c) [
-        | inl first ↦ let at : min a c ≡ a = omega arith in or_left _ _ (ap S at ∙ s.has_least (omega arith))
-        | inr last ↦ let at : min a c ≡ c = omega arith in or_right _ _ (ap T at ∙ t.has_least (omega arith))
-      ];
-  has_greatest =
-      λ v is.
-      elim (cases_lt b d) [
-        | inl first ↦ or_right _ _ (t.has_greatest v (omega arith))
-        | inr last ↦ or_left _ _ (s.has_greatest v (omega arith))
-      ];
-  between =
-      λ w shown.
-      elim (or_cases (S w) (T w) shown) [
-        | inl one ↦ let at = s.between w one in (omega (arith, at), omega (arith, at))
-        | inr other ↦ let at = t.between w other in (omega (arith, at), omega (arith, at))
-      ];
-}
+edges_met S T a b c d s t = grind arith
 
 -- the edges of one symbol at most, which is 128 for none
 past_some : (s : ℕ) → s < 128 → past_symbol s ≡ s + 1
@@ -110,31 +50,10 @@ past_none : (s : ℕ) → 128 ≤ s → past_symbol s ≡ 0
 past_none s above = ap (λ (b : Bool). cond b (s + 1) 0) (le-ltb s 128 above)
 
 pub order_symbol : (s : ℕ) → s ≤ 128 → AreInOrder s (past_symbol s)
-order_symbol s small =
-    elim (cases_lt s 128) [
-      | inl below ↦ order_some _ _ (omega (arith, past_some s below)) (omega (arith, past_some s below))
-      | inr above ↦ order_none _ _ (omega arith) (past_none s above)
-    ]
+order_symbol s small = grind arith
 
 pub edges_symbol : (S : Symbols) (s : ℕ) → s ≤ 128 → ((v : ℕ) → v < 128 → S v ≡ (v == s)) → ((v : ℕ) → 128 ≤ v → S v ≡ false) → IsEdges S s (past_symbol s)
-edges_symbol S s small inside outside = record {
-  has_least = λ below. inside s below ∙ eq-eqb s s refl;
-  has_greatest =
-      λ v is.
-      elim (cases_lt s 128) [
-        | inl below ↦ let at : v ≡ s = omega (arith, past_some s below) in inside v (omega arith) ∙ eq-eqb v s at
-        | inr above ↦ absurd (omega (arith, past_none s above))
-      ];
-  between =
-      λ w shown.
-      elim (cases_lt w 128) [
-        | inl below ↦
-            let at : w ≡ s = eqb-true w s (sym (inside w below) ∙ shown) in
-            let past : past_symbol s ≡ s + 1 = past_some s (omega arith) in
-            (omega arith, omega arith)
-        | inr above ↦ let hidden = outside w above in absurd (cc)
-      ];
-}
+edges_symbol S s small inside outside = grind arith
 
 -- the edges of each place of a sheet
 pub ends_edges : (F : Facts) (leasts pasts : List ℕ) → AreKept leasts pasts → IsEnds F (seen_of leasts pasts) → (p : ℕ) → IsEdges (F p) (slice_index_or leasts p 128) (slice_index_or pasts p 0)
@@ -214,13 +133,7 @@ ends_met F G a b c d leasts pasts left right kept least greatest f g =
 
 -- one symbol more at a place
 edges_one : (p symbol : ℕ) → IsEdges (one_fact p symbol p) symbol (symbol + 1)
-edges_one p symbol =
-    let one = one_symbol p symbol in
-    record {
-      has_least = λ below. one.0;
-      has_greatest = λ v is. let at : symbol ≡ v = omega arith in ap (one_fact p symbol p) (sym at) ∙ one.0;
-      between = λ w shown. let at = one.1 w shown in (omega (arith, at), omega (arith, at));
-    }
+edges_one p symbol = grind arith
 
 order_added : (leasts pasts : List ℕ) (p symbol least past : ℕ) → AreKept leasts pasts → p < 64 → symbol < 128 → least ≡ min (slice_index leasts p) symbol → past ≡ max (slice_index pasts p) (symbol + 1) → AreInOrder least past
 order_added leasts pasts p symbol least past kept inside small is_least is_past =

@@ -15,10 +15,7 @@ use Rattle.phasing.specs.Origin.{lead_of}
 
 -- the same facts have the same sheets
 pub IsEnds-same : (F G : Facts) (s : List Seen) → ((p v : ℕ) → F p v ≡ G p v) → IsEnds F s → IsEnds G s
-IsEnds-same F G s same ends = record {
-  places = ends.places;
-  each = λ p. IsSeen-same (F p) (G p) (seen_at s p) (same p) (ends.each p);
-}
+IsEnds-same F G s same ends = grind arith
 
 -- facts have one sheet
 pub one_sheet : (F : Facts) (s t : List Seen) → IsEnds F s → IsEnds F t → s ≡ t
@@ -31,19 +28,7 @@ same_sheet F G s t same a b = one_sheet G s t (IsEnds-same F G s same a) b
 
 -- what is kept is kept of the symbols that it names
 pub seen_by : (x : Seen) → IsLawful x → IsSeen (symbols_in x) x
-seen_by seen.None h = λ v. refl
-seen_by (seen.One w) h = (eq-eqb w w refl, λ v e. eqb-true v w e)
-seen_by (seen.Differ a b) h = record {
-  has_least = or_left _ _ (eq-eqb a a refl);
-  has_greatest = or_right _ _ (eq-eqb b b refl);
-  apart = h.0;
-  between =
-      λ w e.
-      elim (or_cases (w == a) (w == b) e) [
-        | inl least ↦ let at = eqb-true w a least in (omega (arith, at, h.0), omega (arith, at, h.0))
-        | inr greatest ↦ let at = eqb-true w b greatest in (omega (arith, at, h.0), omega (arith, at, h.0))
-      ];
-}
+seen_by x h = grind arith
 
 -- a sheet keeps the ends of its own facts
 pub own_ends : (s : List Seen) → IsSheet s → IsEnds (facts_in s) s
@@ -97,10 +82,7 @@ everywhere P s n long inside outside k =
 
 -- one more fact
 pub one_symbol : (p symbol : ℕ) → IsSeen (one_fact p symbol p) (seen.One symbol)
-one_symbol p symbol = (
-  and_from _ _ (eq-eqb p p refl) (eq-eqb symbol symbol refl),
-  λ w e. eqb-true w symbol (and_parts (p == p) (w == symbol) e).1,
-)
+one_symbol p symbol = grind arith
 
 pub IsEnds-add : (F : Facts) (s : List Seen) (p symbol : ℕ) (x : Seen) → p < 64 → IsEnds F s → IsSeen (λ v. F p v || one_fact p symbol p v) x → IsEnds (union F (one_fact p symbol)) (set s p x)
 IsEnds-add F s p symbol x inside ends here =
@@ -109,17 +91,10 @@ IsEnds-add F s p symbol x inside ends here =
 
 -- the facts of a place of a reception, by its two slots
 pub place_facts : (inside small a b : Bool) → inside ≡ true → ((small && a) || (small && b)) ≡ (inside && (small && (a || b)))
-place_facts true true a b h = refl
-place_facts true false a b h = refl
-place_facts false small a b h = cc
+place_facts inside small a b h = grind arith
 
 pub place_seen : (e : List Element) (lead p dx rx : ℕ) (x : Seen) → p < 64 → dx ≡ dx_slot p → rx ≡ rx_slot p → IsSeen (λ v. (nat_lt v 128 && shows e lead dx v) || (nat_lt v 128 && shows e lead rx v)) x → IsSeen (facts_at e (Some lead) p) x
-place_seen e lead p dx rx x inside is_dx is_rx =
-    IsSeen-same (λ v. (nat_lt v 128 && shows e lead dx v) || (nat_lt v 128 && shows e lead rx v)) (facts_at e (Some lead) p) x
-    (λ v.
-    ap (λ (s : ℕ). (nat_lt v 128 && shows e lead s v) || (nat_lt v 128 && shows e lead rx v)) is_dx
-    ∙ ap (λ (s : ℕ). (nat_lt v 128 && shows e lead (dx_slot p) v) || (nat_lt v 128 && shows e lead s v)) is_rx
-    ∙ place_facts (nat_lt p 64) (nat_lt v 128) _ _ (lt-ltb p 64 inside))
+place_seen e lead p dx rx x inside is_dx is_rx h = grind arith
 
 -- the sheet of what the places show at the origin's lead
 pub IsEnds-read : (e : List Element) (lead : ℕ) (s : List Seen) → Some lead ≡ lead_of e → IsSheet s → ((p : ℕ) → IsSeen (facts_at e (Some lead) p) (seen_at s p)) → IsEnds (facts_of e) s
@@ -131,20 +106,11 @@ IsEnds-read e lead s origin sheet each = record {
 
 -- a symbol that is kept was shown
 pub kept_shown : (S : Symbols) (x : Seen) (v : ℕ) → IsSeen S x → symbols_in x v ≡ true → S v ≡ true
-kept_shown S seen.None v is kept = absurd (cc)
-kept_shown S (seen.One w) v is kept = ap S (eqb-true v w kept) ∙ is.0
-kept_shown S (seen.Differ a b) v is kept =
-    elim (or_cases _ _ kept) [
-      | inl least ↦ ap S (eqb-true v a least) ∙ is.has_least
-      | inr greatest ↦ ap S (eqb-true v b greatest) ∙ is.has_greatest
-    ]
+kept_shown S x v is kept = grind arith
 
 -- a reception shows places and symbols that there are
 at_small : (e : List Element) (lead : Option ℕ) (p v : ℕ) → facts_at e lead p v ≡ true → (p < 64) × (v < 128)
-at_small e None p v is = absurd (cc)
-at_small e (Some lead) p v is =
-    let both = and_parts _ _ is in
-    (ltb-true p 64 both.0, ltb-true v 128 (and_parts _ _ both.1).0)
+at_small e lead p v is = grind arith
 
 pub fact_small : (e : List Element) (p v : ℕ) → facts_of e p v ≡ true → (p < 64) × (v < 128)
 unfolding facts_of

@@ -13,15 +13,10 @@ use Rattle.slot_evidence.specs.inside.Kept.{seen_of, AreOrdered, AreKept}
 
 -- what the numbers of a place say: the one symbol, or two that differ
 pub one_or_differ : (least greatest : ℕ) (P : Seen → Type 0) → (least ≡ greatest → P (seen.One least)) → ((least ≡ greatest → ⊥) → P (seen.Differ least greatest)) → P (seen_between least (suc greatest))
-one_or_differ least greatest P one several =
-    elim (cases_eq least greatest) [
-      | inl same ↦ subst (λ (b : Bool). P (cond b (seen.One least) (seen.Differ least greatest))) (sym (eq-eqb least greatest same)) (one same)
-      | inr other ↦ subst (λ (b : Bool). P (cond b (seen.One least) (seen.Differ least greatest))) (sym (ne_eqb least greatest other)) (several other)
-    ]
+one_or_differ least greatest P one several = grind arith
 
 pub lawful_between : (least past : ℕ) → AreInOrder least past → IsLawful (seen_between least past)
-lawful_between least zero order = tt
-lawful_between least (suc greatest) order = one_or_differ least greatest IsLawful (λ same. omega (arith, order)) (λ other. (omega (arith, order), order.1))
+lawful_between least past order = grind arith
 
 -- rows in order have as many numbers, and are in order at each place
 pub as_many : (leasts pasts : List ℕ) → AreOrdered leasts pasts → length pasts ≡ length leasts
@@ -83,8 +78,7 @@ same_told a b c d s t e r left right is_s is_t is_e is_r =
 
 -- a place's two numbers say what its least and its greatest symbol say
 pub between_span : (least past : ℕ) → (past ≡ 0 → ⊥) → seen_between least past ≡ span_seen least (past - 1)
-between_span least zero some = absurd (some refl)
-between_span least (suc greatest) some = let at : greatest ≡ suc greatest - 1 = omega arith in ap (span_seen least) at
+between_span least past some = grind arith
 
 -- a write of both numbers at a place
 pub ordered_set : (leasts pasts : List ℕ) (p least past : ℕ) → AreOrdered leasts pasts → AreInOrder least past → AreOrdered (set leasts p least) (set pasts p past)

@@ -16,11 +16,7 @@ use Rattle.slot_evidence.proofs.Ends.{place_facts}
 use Rattle.slot_evidence.proofs.Edges.{IsEdges, edges_met, edges_symbol, order_met, order_symbol, kept_from, ends_from}
 
 edges_same : (S T : Symbols) (least past : ℕ) → ((v : ℕ) → S v ≡ T v) → IsEdges S least past → IsEdges T least past
-edges_same S T least past same edges = record {
-  has_least = λ small. sym (same least) ∙ edges.has_least small;
-  has_greatest = λ v is. sym (same v) ∙ edges.has_greatest v is;
-  between = λ w shown. edges.between w (same w ∙ shown);
-}
+edges_same S T least past same edges = grind arith
 
 -- the one symbol that a slot shows, if any
 slot_edges : (e : List Element) (lead s x : ℕ) → IsSymbol (slot e lead s) x → IsEdges (λ v. nat_lt v 128 && shows e lead s v) x (past_symbol x)

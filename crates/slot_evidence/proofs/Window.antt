@@ -31,11 +31,7 @@ stretch_inside e (suc n) p begun inside =
 
 -- no word has a lost element
 lost_one : (x y : Element) → x ≡ Lost → (y ≡ Lost → ⊥) → element_eq x y ≡ false
-lost_one Y y lost told = absurd cc
-lost_one B y lost told = absurd cc
-lost_one Lost Y lost told = refl
-lost_one Lost B lost told = refl
-lost_one Lost Lost lost told = absurd (told refl)
+lost_one x y lost told = grind arith
 
 lost_apart : (w word : List Element) (i : ℕ) → i < length word → slice_index_or w i Lost ≡ Lost → (slice_index_or word i Lost ≡ Lost → ⊥) → elements_eq w word ≡ false
 lost_apart [] [] i inside lost told = absurd (omega arith)
