@@ -1,7 +1,6 @@
 -- Areas by their letters.
-use Rattle.std.proofs.Common.{◌≡◌, ℕ, ◌+◌, ◌*◌, ◌/◌, ◌%◌, ◌≤◌, ◌==◌, if◌then◌else◌, Bool, true, false, List, [], ◌∷◌, refl, sym, ◌∙◌, ap, subst, arith}
+use Rattle.std.proofs.Common.{◌≡◌, ℕ, ◌+◌, ◌*◌, ◌/◌, ◌%◌, ◌≤◌, ◌==◌, if◌then◌else◌, Bool, List, [], ◌∷◌, refl, sym, ◌∙◌, ap, subst, arith}
 use Rattle.std.proofs.lemmas.Bool.Decides.{nat_tests}
-use Rattle.std.proofs.lemmas.Bool.{eqb-false}
 use Rattle.symbol_reader.specs.declared.letters.Letter.TheVariants.{UpTo, Digits}
 use Rattle.symbol_reader.specs.Letters.{Allows}
 use Rattle.symbol_reader.specs.inside.Languages.{Only, Then}
@@ -12,7 +11,7 @@ use Rattle.call_grammar.specs.Spelling.{area_digits, area_symbols}
 use Rattle.call_grammar.specs.inside.Grammar.{Symbol, Areas, area_latitude, longitude_ones, area_of}
 use Rattle.symbol_reader.proofs.Digits.{ten_digits-of}
 use Rattle.call_values.proofs.PublicLaws.{same_area}
-use Rattle.call_grammar.proofs.PositionParts.{degrees_at, longitude_most, degrees_allowed}
+use Rattle.call_grammar.proofs.PositionParts.{degrees_at, degrees_allowed}
 
 abbrev pub AreaLast : ℕ → ℕ → ℕ → ℕ → Rectangle → List ℕ → Type 0
 AreaLast a b c d = Then (Symbol (UpTo 99)) (λ e. Only (area_of a b c d e))

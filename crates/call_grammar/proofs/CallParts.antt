@@ -5,7 +5,7 @@ use Rattle.symbol_reader.proofs.Laws.{Good, Alike, then_good, alike_good}
 use Rattle.call_grammar.specs.inside.Grammar.{CheckedCharacters}
 use Rattle.call_grammar.specs.inside.Forms.{Formats, AfterFormat}
 use Rattle.call_grammar.proofs.CodedParts.{formats_good}
-use Rattle.call_grammar.proofs.FormParts.{after_format_good}
+use Rattle.call_grammar.proofs.FormParts.{after_format_closes}
 use Rattle.call_grammar.proofs.ToForms.{to_call}
 use Rattle.call_grammar.proofs.FromForms.{from_covered}
 
@@ -18,4 +18,4 @@ call_alike = record {
 
 -- a call's characters up to its check read back, and none begin another's
 pub checked_characters_good : Good CheckedCharacters
-checked_characters_good = alike_good _ _ call_alike (then_good _ _ formats_good (λ f _ _. after_format_good f))
+checked_characters_good = alike_good _ _ call_alike (then_good _ _ formats_good (λ f _ _. (after_format_closes f).good))

@@ -1,13 +1,11 @@
 -- Casualties by their parts.
-use Rattle.std.proofs.Common.{◌≡◌, ℕ, List, [], ◌∷◌, ◌++◌, Option, refl, sym, subst, arith}
+use Rattle.std.proofs.Common.{ℕ, List, [], ◌∷◌, Option, arith}
 use Rattle.symbol_reader.specs.inside.Languages.{Only, Then, Spelled}
 use Rattle.symbol_reader.proofs.Laws.{Good, Alike, then_good, only_good, alike_good}
-use Rattle.symbol_reader.proofs.Steps.{spelled_then}
 use Rattle.call_values.specs.declared.positions.Fix.{Fix}
 use Rattle.call_values.specs.declared.calls.Casualty.{Casualty}
 use Rattle.dsc_symbols.specs.Natures.{IsNature}
 use Rattle.dsc_symbols.specs.Telecommands.{IsComm}
-use Rattle.call_grammar.specs.Spelling.{identity_symbols, position_symbols, time_symbols, casualty_symbols}
 use Rattle.call_grammar.specs.inside.Grammar.{Identities, Positions, Times, Casualties}
 use Rattle.call_grammar.proofs.IdentityParts.{identity_good}
 use Rattle.call_grammar.proofs.SymbolParts.{nature_good, comm_good}

@@ -6,7 +6,6 @@ use Rattle.call_values.specs.declared.calls.Casualty.{Casualty}
 use Rattle.call_values.specs.declared.calls.Call.{Call}
 use Rattle.call_values.specs.declared.calls.Call.TheVariants.{Alert, Ack, Relay, RelayAck, AllShips, AreaCall, GroupCall, Individual, Service}
 use Rattle.call_values.specs.declared.choices.Category.{Category}
-use Rattle.call_values.specs.declared.choices.Category.TheVariants.{Routine}
 use Rattle.call_values.specs.declared.fields.FieldKind.{FieldKind}
 use Rattle.call_values.specs.declared.fields.FieldKind.TheVariants.{Absent, Hundreds, Hf, Vhf, Tens}
 use Rattle.call_values.specs.declared.parts.To.{To}
@@ -23,9 +22,6 @@ use Rattle.call_values.specs.Identity.{IsMmsi}
 use Rattle.call_values.specs.Positions.{IsPosition}
 use Rattle.call_values.specs.Clock.{IsHourMinute}
 use Rattle.call_values.specs.Calls.{IsCasualty, IsRequest, IsCall}
-use Rattle.call_values.specs.Views.{address_of}
-use Rattle.call_values.proofs.PublicLaws.{end_small}
-use Rattle.dsc_symbols.specs.declared.ends.TheConstants.{ACKNOWLEDGE_BQ, ACKNOWLEDGE_RQ, EOS}
 use Rattle.dsc_symbols.specs.declared.telecommands.TheConstants.{DISTRESS_ACKNOWLEDGEMENT, DISTRESS_RELAY}
 use Rattle.call_grammar.specs.Spelling.{position_digits, identity_symbols, position_symbols, time_symbols, casualty_symbols, area_digits, area_symbols, blanks, field_symbols, message_symbols, category_symbol, format_to, address_symbols, distress_symbols, request_symbols, kind_symbols, kind_end, format_of, end_of, fields_of, covered, check_of, spell}
 

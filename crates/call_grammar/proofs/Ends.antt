@@ -1,5 +1,5 @@
 -- Where the first end of sequence is next.
-use Rattle.std.proofs.Common.{◌≡◌, ℕ, ◌≤◌, ◌⊎◌, inl, inr, true, false, List, [], ◌∷◌, ◌++◌, length, drop, Err, refl, sym, ◌∙◌, ap, subst, append-nil, append_assoc, arith}
+use Rattle.std.proofs.Common.{◌≡◌, ℕ, ◌≤◌, ◌⊎◌, inl, inr, List, [], ◌∷◌, ◌++◌, length, drop, Err, sym, ◌∙◌, ap, subst, append-nil, append_assoc, arith}
 use mathlib.Core.List.{head-eq_of_cons-eq}
 use Rattle.std.proofs.lemmas.List.{same_from_push}
 use Rattle.symbol_reader.specs.declared.reading.Stop.{Stop}
@@ -7,9 +7,6 @@ use Rattle.symbol_reader.specs.declared.reading.Stop.TheVariants.{Short, Outside
 use Rattle.symbol_reader.specs.inside.Reading.{Took, Outcome}
 use Rattle.symbol_reader.proofs.Laws.{no_word_goes_on}
 use Rattle.call_values.specs.declared.calls.Call.{Call}
-use Rattle.call_values.specs.declared.calls.Call.TheVariants.{Alert, Ack, Relay, RelayAck, AllShips, AreaCall, GroupCall, Individual, Service}
-use Rattle.call_values.specs.declared.choices.End.TheVariants.{Ask, Reply, Plain}
-use Rattle.call_values.specs.declared.parts.Kind.TheVariants.{Test, AskPosition, Position}
 use Rattle.dsc_symbols.specs.declared.ends.TheConstants.{ACKNOWLEDGE_BQ, ACKNOWLEDGE_RQ, EOS}
 use Rattle.call_grammar.specs.Spelling.{format_of, fields_of, end_of, covered, check_of, through_check}
 use Rattle.call_grammar.specs.inside.Grammar.{CheckedCharacters}

@@ -1,7 +1,7 @@
 -- Positions by their letters.
 use Rattle.std.proofs.Common.{◌≡◌, ℕ, zero, suc, ◌+◌, ◌*◌, ◌/◌, ◌%◌, ◌≤◌, ◌<◌, ◌⊎◌, inl, inr, ◌==◌, ◌&&◌, if◌then◌else◌, Bool, true, false, List, [], ◌∷◌, Option, Some, None, refl, sym, ◌∙◌, ap, subst, arith}
 use Rattle.std.proofs.lemmas.Bool.Decides.{nat_tests}
-use Rattle.std.proofs.lemmas.Bool.{eqb-true, eqb-false}
+use Rattle.std.proofs.lemmas.Bool.{eqb-true}
 use Rattle.symbol_reader.specs.declared.letters.Letter.TheVariants.{Exactly, UpTo, UpToOr, Digits}
 use Rattle.symbol_reader.specs.Letters.{Allows}
 use Rattle.symbol_reader.specs.inside.Languages.{Only, Then, Choice}
@@ -12,7 +12,6 @@ use Rattle.call_values.specs.Positions.{IsArc, IsFix}
 use Rattle.call_grammar.specs.Spelling.{ten_digits, position_digits}
 use Rattle.call_grammar.specs.inside.Grammar.{Symbol, Positions, KnownRest, UnknownRest, fix_of, latitude_ones, minutes_and_hundreds, longitude_ones, longitude_minutes}
 use Rattle.symbol_reader.proofs.Digits.{ten_digits-of}
-use Rattle.call_values.proofs.PublicLaws.{same_fix}
 
 abbrev pub Minutes : ℕ → ℕ → ℕ → ℕ → Option Fix → List ℕ → Type 0
 Minutes a b c d = Then (Symbol (longitude_minutes c d)) (λ e. Only (Some (fix_of a b c d e)))

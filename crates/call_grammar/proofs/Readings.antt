@@ -1,15 +1,12 @@
 -- From what is read of a list to the answers of `read`.
-use Rattle.std.proofs.Common.{◌≡◌, ℕ, ◌-◌, ◌<◌, ◌≤◌, inl, inr, List, [], ◌∷◌, ◌++◌, length, drop, get_or, refl, sym, ◌∙◌, ap, subst, append_assoc, length-append, arith}
+use Rattle.std.proofs.Common.{◌≡◌, ℕ, ◌-◌, ◌<◌, ◌≤◌, inl, List, [], ◌∷◌, ◌++◌, length, drop, get_or, refl, sym, ◌∙◌, ap, subst, append_assoc, length-append, arith}
 use mathlib.Core.List.{head-eq_of_cons-eq}
 use Rattle.std.proofs.Math.Seq.{get_or-append_seam}
 use Rattle.symbol_reader.specs.inside.Reading.{Begins, Wants, Leaves}
 use Rattle.symbol_reader.proofs.Laws.{no_word_goes_on}
 use Rattle.call_values.specs.declared.calls.Call.{Call}
-use Rattle.call_values.specs.declared.calls.Call.TheVariants.{Alert}
 use Rattle.call_values.specs.declared.parts.To.{To}
-use Rattle.call_values.specs.declared.parts.To.TheVariants as to
 use Rattle.call_values.specs.Calls.{IsCall}
-use Rattle.call_values.specs.Views.{address_of}
 use Rattle.call_grammar.specs.Spelling.{format_to, format_of, fields_of, end_of, covered, check_of, up_to_end, spell}
 use Rattle.call_grammar.specs.inside.Grammar.{CheckedCharacters}
 use Rattle.dsc_symbols.specs.Formats.{IsFormat}
@@ -18,7 +15,7 @@ use Rattle.call_grammar.specs.Walk.{IsViable, IsOpen}
 use Rattle.call_grammar.specs.Reading.{IsPart, EndsShort, EndsOutside, IsTwice}
 use Rattle.call_grammar.specs.inside.Forms.{format_symbol}
 use Rattle.call_grammar.proofs.CodedParts.{format_of_symbol, format_there}
-use Rattle.call_grammar.proofs.FormParts.{after_format_good}
+use Rattle.call_grammar.proofs.FormParts.{after_format_closes}
 use Rattle.call_grammar.proofs.ToForms.{to_format}
 use Rattle.call_grammar.proofs.CallParts.{checked_characters_good}
 use Rattle.call_grammar.proofs.Lengths.{length-spell}
@@ -42,7 +39,7 @@ format_lawful c = grind arith
 -- each format specifier begins a call
 pub format_call : (f : ℕ) → IsFormat f → (c : Call) × IsCall c × (format_of c ≡ f)
 format_call f h =
-    let g = after_format_good (format_of_symbol f) in
+    let g = (after_format_closes (format_of_symbol f)).good in
     let o = to_format (format_of_symbol f) g.value g.text g.word in
     let list : format_symbol (format_of_symbol f) ∷ g.text ≡ covered g.value = o.list in
     (g.value, o.is_lawful, sym (head-eq_of_cons-eq list) ∙ format_there f h)

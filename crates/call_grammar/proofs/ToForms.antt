@@ -4,7 +4,7 @@ use Rattle.symbol_reader.specs.inside.Languages.{Then}
 use Rattle.symbol_reader.proofs.Steps.{joined, spelt}
 use Rattle.call_values.specs.declared.calls.Casualty.{Casualty}
 use Rattle.call_values.specs.declared.calls.Call.{Call}
-use Rattle.call_values.specs.declared.calls.Call.TheVariants.{Alert, Ack, Individual, Service}
+use Rattle.call_values.specs.declared.calls.Call.TheVariants.{Ack, Individual, Service}
 use Rattle.call_values.specs.declared.choices.Category.{Category}
 use Rattle.call_values.specs.declared.choices.End.{End}
 use Rattle.call_values.specs.declared.choices.End.TheVariants.{Ask, Reply, Plain}

@@ -1,5 +1,5 @@
 -- The words `--name` and `--name=value`, as `clap` reads them.
-use Rattle.std.proofs.Common.{◌≡◌, ◌≢◌, ◌∙◌, ◌==◌, ◌⊎◌, inl, inr, Bool, true, false, ℕ, [], ◌∷◌, ◌++◌, refl, ap, sym, cond, zero, suc, arith}
+use Rattle.std.proofs.Common.{◌≡◌, ◌≢◌, ◌∙◌, ◌==◌, ◌⊎◌, inl, inr, Bool, true, false, ℕ, [], ◌∷◌, ◌++◌, refl, ap, sym, cond, arith}
 use Rattle.std.specs.Prelude.{Option, Some, None, codes, option_and_then}
 use Rattle.std.specs.Str.{bytes_eq}
 use Rattle.std.proofs.lemmas.Slice.Eq.{bytes_eq-Decides}

@@ -1,11 +1,10 @@
 -- Expansions by their sets.
-use Rattle.std.proofs.Common.{◌≡◌, ℕ, ◌⊎◌, inl, inr, ◌==◌, Bool, true, false, List, [], ◌∷◌, ◌++◌, refl, sym, ◌∙◌, ap, subst, arith}
-use Rattle.std.proofs.lemmas.Bool.{eqb-true, eqb-false}
+use Rattle.std.proofs.Common.{◌≡◌, ℕ, ◌⊎◌, inl, inr, ◌==◌, Bool, true, false, List, [], ◌∷◌, ◌++◌, refl, sym, subst, arith}
+use Rattle.std.proofs.lemmas.Bool.{eqb-true}
 use Rattle.symbol_reader.specs.Digits.{eight_digits, four_digits}
 use Rattle.symbol_reader.proofs.Laws.{Good, Alike, alike_good}
-use Rattle.symbol_reader.proofs.Steps.{one_then, joined, spelled_then, spelt}
+use Rattle.symbol_reader.proofs.Steps.{one_then, spelled_then}
 use Rattle.call_values.specs.declared.choices.End.{End}
-use Rattle.call_values.specs.declared.choices.End.TheVariants.{Ask, Reply, Plain}
 use Rattle.call_values.specs.Ends.{end_symbol}
 use Rattle.expansion.specs.declared.specifiers.TheConstants.{COURSE, ENHANCED_POSITION, SPEED}
 use Rattle.expansion.specs.declared.parts.PartKind.{PartKind}

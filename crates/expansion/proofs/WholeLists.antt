@@ -1,8 +1,9 @@
 -- The whole lists of expansions, and what is read of them.
 use Rattle.std.proofs.Common.{◌≡◌, ℕ, ◌+◌, ◌-◌, ◌≤◌, ◌==◌, Bool, true, false, List, [], ◌∷◌, ◌++◌, length, take, get_or, Result, Ok, Err, refl, sym, ◌∙◌, ap, subst, append_assoc, length-append, arith}
-use Rattle.std.proofs.lemmas.List.{append_cancel_right, take-append-le}
+use Rattle.std.proofs.lemmas.Grind.{common_steps}
+use Rattle.std.proofs.lemmas.List.{append_cancel_right}
 use Rattle.std.proofs.lemmas.Bool.{eqb-true, eqb-false}
-use Rattle.std.proofs.Math.Seq.{take-length, get_or-append_seam}
+use Rattle.std.proofs.Math.Seq.{get_or-append_seam}
 use Rattle.symbol_reader.specs.Checks.{check_of}
 use Rattle.symbol_reader.specs.declared.reading.Stop.{Stop}
 use Rattle.symbol_reader.specs.declared.reading.Stop.TheVariants.{Short, Outside}
@@ -13,7 +14,7 @@ use Rattle.symbol_reader.specs.inside.Languages.{Only, Then, Spelled}
 use Rattle.symbol_reader.specs.inside.Reading.{Begins, Wants, Leaves, Reads}
 use Rattle.symbol_reader.specs.inside.Closings.{Closing}
 use Rattle.symbol_reader.proofs.Laws.{Good, Alike, then_good, only_good, alike_good, no_word_goes_on}
-use Rattle.symbol_reader.proofs.Steps.{alike, next, stop, one_then, joined, spelled_then, length_left}
+use Rattle.symbol_reader.proofs.Steps.{alike, next, stop, one_then, spelled_then, length_left}
 use Rattle.symbol_reader.proofs.Closings.{closing_good}
 use Rattle.call_values.specs.declared.choices.End.{End}
 use Rattle.call_values.specs.Ends.{end_symbol}
@@ -153,10 +154,7 @@ closed_ok e x l rest new u h list p =
 
 pub closed_short : (e : End) (x : Sets) (l rest new : List ℕ) → IsExpansion x → l ≡ covered x e ++ rest
     → Reads (Closing (check_of (covered x e)) (end_symbol e)) rest (Err Short) new → EndsShort e l (length l)
-closed_short e x l rest new h list p =
-    let whole = alike (whole_alike e) (next (checked_sets_good e) (took e x l rest h list)
-    (stop (closing_good (check_of (covered x e)) (end_symbol e)) (λ _ _ _. only_good x) p)) in
-    record { part = part_of e l whole.outcome.wants; place = refl }
+closed_short e x l rest new h list p = grind (arith, common_steps)
 
 pub closed_left : (e : End) (x : Sets) (l rest new : List ℕ) → IsExpansion x → l ≡ covered x e ++ rest
     → Reads (Closing (check_of (covered x e)) (end_symbol e)) rest (Err Outside) new → Leaves (Lists e) l new
@@ -222,9 +220,7 @@ closed_refused e x l rest new v want r false h list w t at else =
 
 -- what the check covers comes before its place
 pub covered_part : (e : End) (x : Sets) (l rest : List ℕ) → l ≡ covered x e ++ rest → take (length l - length rest) l ≡ covered x e
-covered_part e x l rest list =
-    ap (λ k. take k l) (checked_length e x l rest list) ∙ ap (λ a. take (length (covered x e)) a) list
-    ∙ take-append-le (length (covered x e)) (covered x e) rest (omega arith) ∙ take-length (covered x e)
+covered_part e x l rest list = grind (arith, common_steps)
 
 -- the same reading under other names
 pub closing_as : (k m last final : ℕ) (l rest new after : List ℕ) (r : Result (Unit {0}) Stop) → k ≡ m → last ≡ final → l ≡ rest → new ≡ after

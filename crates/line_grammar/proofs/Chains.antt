@@ -1,7 +1,7 @@
 -- reading a grammar step by step, and where the first fault is
-use Rattle.std.proofs.Common.{◌≡◌, ◌≢◌, ℕ, suc, ◌≤◌, ◌==◌, Bool, true, false, if◌then◌else◌, min, List, [], ◌∷◌, ◌++◌, length, Result, Ok, Err, IfErr, IsErrAnd, refl, sym, ◌∙◌, ap, subst, arith}
+use Rattle.std.proofs.Common.{◌≡◌, ◌≢◌, ℕ, suc, ◌≤◌, ◌==◌, Bool, true, if◌then◌else◌, min, List, [], ◌∷◌, ◌++◌, length, Result, Ok, Err, IfErr, IsErrAnd, refl, sym, ◌∙◌, ap, arith}
 use Rattle.std.specs.List.{list_all}
-use Rattle.std.proofs.lemmas.Bool.{eqb-true, cond-false, ne_eqb}
+use Rattle.std.proofs.lemmas.Bool.{cond-false, ne_eqb}
 use Rattle.line_grammar.specs.Tokens.{Token, run, is_one_of}
 use Rattle.line_grammar.specs.Grammar.{Grammar, finish, word, field, either, Parts, part, first, second, Spells, none}
 use Rattle.line_grammar.specs.inside.Soundness.{is_some_token, is_sound}

@@ -1,5 +1,5 @@
 -- texts that are written of the parts of a section and are read by its grammar
-use Rattle.std.proofs.Common.{◌≡◌, ℕ, ◌+◌, ◌-◌, ◌≤◌, true, List, length, Result, Ok, Err, refl, sym, ◌∙◌, ap, subst, arith}
+use Rattle.std.proofs.Common.{◌≡◌, ℕ, ◌+◌, ◌-◌, ◌≤◌, true, List, length, Result, Ok, Err, sym, ◌∙◌, ap, subst, arith}
 use Rattle.line_grammar.specs.Columns.{ReadsAs, IsColumn}
 use Rattle.line_grammar.specs.Grammar.{Grammar, Parts, Spells, written}
 use Rattle.line_grammar.specs.inside.Reading.{read}

@@ -1,12 +1,12 @@
 -- the plain reader of a sound grammar answers for its language
-use Rattle.std.proofs.Common.{◌≡◌, ℕ, suc, ◌<◌, Bool, true, false, ◌==◌, ◌&&◌, if◌then◌else◌, List, [], ◌∷◌, ◌++◌, length, Result, Ok, Err, ◌⊎◌, inl, inr, refl, sym, ap, subst, arith}
+use Rattle.std.proofs.Common.{◌≡◌, ℕ, suc, ◌<◌, Bool, true, false, ◌==◌, ◌&&◌, if◌then◌else◌, List, [], ◌∷◌, ◌++◌, length, Result, Ok, Err, ◌⊎◌, refl, sym, ap, subst, arith}
 use Rattle.std.proofs.lemmas.Bool.{and_parts, eqb-true, eqb-false}
 use Rattle.line_grammar.specs.Columns.{Begins}
 use Rattle.line_grammar.specs.Tokens.{Token}
 use Rattle.line_grammar.specs.Grammar.{Grammar, finish, anything, word, field, either, Parts, none, part, first, second, Spells}
 use Rattle.line_grammar.specs.inside.Soundness.{may_follow, is_some_token, is_sound}
 use Rattle.line_grammar.specs.inside.Reading.{ended, after, read_token, and_then, named, and_part, further, read}
-use Rattle.line_grammar.proofs.Stops.{Stops, Reads, IsChoice, Stops-choice, IsAlike, Stops-alike}
+use Rattle.line_grammar.proofs.Stops.{Stops, Reads, IsChoice, Stops-choice, IsAlike}
 use Rattle.line_grammar.proofs.Words.{IsByte, Stops-byte, Stops-other, Stops-short}
 use Rattle.line_grammar.proofs.Tokens.{TokenReads}
 use Rattle.line_grammar.proofs.Munching.{some_token, token_reads}

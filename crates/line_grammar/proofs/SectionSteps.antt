@@ -1,5 +1,5 @@
 -- the steps of the readers of sections
-use Rattle.std.proofs.Common.{◌≡◌, ℕ, true, false, List, Result, Ok, Err, is_ok, IfOk, IsOkAnd, IfErr, IsErrAnd, refl, sym, ◌∙◌, ap, subst, arith}
+use Rattle.std.proofs.Common.{◌≡◌, ℕ, true, false, List, Result, Ok, Err, is_ok, IfOk, IsOkAnd, IfErr, IsErrAnd, sym, ◌∙◌, ap, subst, arith}
 use Rattle.line_grammar.specs.Tokens.{Token}
 use Rattle.line_grammar.specs.Grammar.{Grammar, word, field, either, Parts, part, first, second}
 use Rattle.line_grammar.specs.inside.Reading.{after, read_token, and_then, and_part, named, further, read}

@@ -1,6 +1,5 @@
 -- How the reading of a language follows from the reading of its parts.
 use Rattle.std.proofs.Common.{◌≡◌, ℕ, IsErrAnd, inl, inr, Bool, true, false, List, [], ◌∷◌, ◌++◌, length, Result, Ok, Err, refl, sym, ◌∙◌, ap, subst, append_assoc, append-nil, length-append, arith, ◌-◌}
-use Rattle.std.proofs.lemmas.Result.{err_from_is_err_and}
 use Rattle.plain_laws.proofs.Lists.{split}
 use Rattle.symbol_reader.specs.declared.letters.Letter.{Letter}
 use Rattle.symbol_reader.specs.declared.reading.Stop.{Stop}

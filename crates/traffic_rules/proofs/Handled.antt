@@ -23,7 +23,7 @@ use Rattle.traffic_rules.specs.Occurrences.{Occurrence, is_tick}
 use Rattle.traffic_rules.specs.HeldTold.{all_held}
 use Rattle.traffic_rules.specs.Sending.{asks, acknowledges, is_sendable, held_under_least, send_refusal, send_due}
 use Rattle.traffic_rules.specs.Answering.{reply_to, reply_due_to, answer_due}
-use Rattle.traffic_rules.specs.Repeating.{is_overdue, repeated, repeats}
+use Rattle.traffic_rules.specs.Repeating.{repeated, repeats}
 use Rattle.traffic_rules.specs.Hearing.{Whereabouts, is_question, is_got, distress_told, question_due, answered_number, answered_or_shown, position_told, due_at_once, heard_due}
 use Rattle.traffic_rules.specs.Sendings.{asking, sends, is_holding, times_in, waiting, sends_and_holds, times_held, times_sent, times_sent_again, AreSentAtMostTwice}
 use Rattle.traffic_rules.specs.TrafficActs.{AreSentSuch}

@@ -1,18 +1,17 @@
 -- what is held under a number after one entry more
-use Rattle.std.proofs.Common.{◌≡◌, ℕ, ◌+◌, ◌==◌, ◌&&◌, not, Bool, true, false, Option, Some, None, is_some, List, [], ◌∷◌, if◌then◌else◌, refl, sym, ◌∙◌, ap, arith}
+use Rattle.std.proofs.Common.{◌≡◌, ℕ, ◌==◌, ◌&&◌, not, Bool, true, false, Option, Some, None, is_some, List, [], ◌∷◌, if◌then◌else◌, refl, sym, ◌∙◌, ap, arith}
 use Rattle.std.specs.Option.{option_map}
 use Rattle.std.specs.Prelude.{IfSome}
-use Rattle.std.proofs.lemmas.Bool.{false≢true, eq-eqb}
 use Rattle.call_values.specs.declared.calls.Call.{Call}
 use Rattle.traffic_rules.specs.declared.acts.Act.{Act}
 use Rattle.traffic_rules.specs.declared.held.Holding.{Holding}
 use Rattle.traffic_rules.specs.declared.held.Side.{Side}
-use Rattle.traffic_rules.specs.declared.held.Side.TheVariants.{Sent, Got}
+use Rattle.traffic_rules.specs.declared.held.Side.TheVariants.{Sent}
 use Rattle.traffic_rules.specs.Histories.{Entry, History, since}
 use Rattle.traffic_rules.specs.Holding.{newly_held, first_times, sent_at}
 use Rattle.traffic_rules.specs.Moments.{has_passed}
-use Rattle.traffic_rules.specs.Occurrences.{Occurrence, ticks, answers, hears, other, is_tick}
-use Rattle.traffic_rules.specs.HeldTold.{answer_wait, first_sent, begun_by, sent_again_at, is_sent, begins, ends, opened, first_passed, held_since, begun, held_told}
+use Rattle.traffic_rules.specs.Occurrences.{Occurrence, is_tick}
+use Rattle.traffic_rules.specs.HeldTold.{answer_wait, begun_by, sent_again_at, is_sent, begins, ends, opened, first_passed, held_since, begun, held_told}
 use Rattle.traffic_rules.specs.Repeating.{is_overdue, ticked}
 
 -- a tick gives up what is held

@@ -1,18 +1,16 @@
 -- what is held after each event of the rules that both stations share: what `specs/After` says
 use native.Mathlib.Omega.{arith}
-use Rattle.std.proofs.Common.{◌≡◌, ℕ, zero, suc, ◌+◌, ◌<◌, ◌≤◌, ◌⊎◌, inl, inr, ◌==◌, ◌&&◌, ◌||◌, not, Bool, true, false, Option, Some, None, is_none, List, [], ◌∷◌, ◌++◌, if◌then◌else◌, refl, sym, ◌∙◌, ap}
+use Rattle.std.proofs.Common.{◌≡◌, ℕ, zero, suc, ◌+◌, ◌<◌, ◌≤◌, ◌⊎◌, inl, inr, ◌==◌, ◌&&◌, ◌||◌, not, Bool, true, false, Option, Some, None, List, [], ◌∷◌, ◌++◌, if◌then◌else◌, refl, sym, ◌∙◌, ap}
 use Rattle.std.specs.List.{list_any}
 use Rattle.std.proofs.Math.Bool.{or-false, and-true, and-false}
 use Rattle.std.proofs.lemmas.Bool.{eq-eqb, ne_eqb, cases_lt}
 use Rattle.std.proofs.lemmas.List.Folds.{list_any-append}
 use Rattle.std.proofs.lemmas.Option.{none-some}
 use Rattle.call_values.specs.declared.calls.Call.{Call}
-use Rattle.call_values.specs.declared.calls.Call.TheVariants.{Alert, Ack, Relay, RelayAck, AllShips, AreaCall, GroupCall, Individual, Service}
-use Rattle.call_values.specs.declared.parts.Kind.TheVariants.{Test, AskPosition, Position}
 use Rattle.traffic_rules.specs.declared.acts.Act.{Act}
 use Rattle.traffic_rules.specs.declared.acts.Act.TheVariants.{Send, Held, GaveUp}
 use Rattle.traffic_rules.specs.declared.held.Holding.{Holding}
-use Rattle.traffic_rules.specs.declared.refusals.StationRefusal.TheVariants.{Full, NoSuchCall}
+use Rattle.traffic_rules.specs.declared.refusals.StationRefusal.TheVariants.{NoSuchCall}
 use Rattle.traffic_rules.specs.Histories.{Entry, History}
 use Rattle.traffic_rules.specs.declared.held.Side.TheVariants.{Sent, Got}
 use Rattle.call_values.specs.declared.choices.Category.{Category}
@@ -21,7 +19,7 @@ use Rattle.traffic_rules.specs.Occurrences.{Occurrence, ticks, answers, hears, o
 use Rattle.traffic_rules.specs.HeldTold.{holds, frees, begun_by, begins, ends, held_told, all_held}
 use Rattle.traffic_rules.specs.Sending.{asks, acknowledges, is_sendable, refused_full, held_under_least, send_refusal, send_due}
 use Rattle.traffic_rules.specs.Answering.{reply_to, reply_due_to, refused_unless_got, answer_refusal, answer_due}
-use Rattle.traffic_rules.specs.Repeating.{is_overdue, repeated, repeats}
+use Rattle.traffic_rules.specs.Repeating.{repeated, repeats}
 use Rattle.traffic_rules.specs.Hearing.{Whereabouts, is_answered_by, is_question, is_got, must_be_held, distress_told, question_due, answered_number, answered_or_shown, position_told, due_at_once, heard_due, heard_refusal}
 use Rattle.traffic_rules.specs.After.{held_at, freed_at, after_sending, after_answering, after_tick, after_question, after_hearing}
 use Rattle.traffic_rules.proofs.Places.{place_from, no_place, number_from, free_number}

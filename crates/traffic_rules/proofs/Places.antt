@@ -1,7 +1,7 @@
 -- places of held calls under numbers from one on
 use native.Mathlib.Omega.{arith}
-use Rattle.std.proofs.Common.{◌≡◌, ℕ, zero, suc, ◌+◌, ◌<◌, ◌≤◌, Bool, true, false, Option, Some, None, ◌∷◌, length, if◌then◌else◌, slice_index_or, slice_set, refl, sym, ◌∙◌, ap}
-use Rattle.std.specs.Prelude.{map, is_some, is_none, position, unwrap_or}
+use Rattle.std.proofs.Common.{◌≡◌, ℕ, zero, suc, ◌+◌, ◌<◌, ◌≤◌, Bool, Option, Some, None, ◌∷◌, length, if◌then◌else◌, slice_index_or, slice_set, refl, ◌∙◌, ap}
+use Rattle.std.specs.Prelude.{map, is_some, position}
 use Rattle.std.specs.Option.{option_map}
 use Rattle.std.proofs.lemmas.List.Quantifiers.{position-Some}
 use Rattle.traffic_rules.specs.declared.held.Holding.{Holding}

@@ -1,7 +1,6 @@
 -- acts by the rules of traffic send such calls alone, each once
-use Rattle.std.proofs.Common.{◌≡◌, ℕ, suc, ◌==◌, ◌&&◌, ◌||◌, Bool, true, false, Option, Some, None, List, [], ◌∷◌, ◌++◌, if◌then◌else◌, refl, ap, sym, arith}
+use Rattle.std.proofs.Common.{◌≡◌, ℕ, suc, ◌==◌, ◌&&◌, ◌||◌, Bool, true, false, Option, Some, None, List, [], ◌∷◌, ◌++◌, if◌then◌else◌, refl, ap, arith}
 use Rattle.std.proofs.lemmas.Bool.{eq-eqb, or_right}
-use Rattle.std.proofs.lemmas.Option.{none-some}
 use Rattle.call_values.specs.declared.calls.Call.{Call}
 use Rattle.call_values.specs.declared.calls.Call.TheVariants.{Alert, Ack, Relay, Individual, Service}
 use Rattle.call_values.specs.declared.choices.Category.{Category}

@@ -1,11 +1,11 @@
 use Rattle.symbol_reader.proofs.Steps.{next, stop, fail}
 use Rattle.call_grammar.proofs.IdentityParts.{identity_good}
-use Rattle.call_grammar.proofs.FormParts as good
+use Rattle.call_grammar.proofs.FormParts as forms
 use Rattle.call_grammar.proofs.forms.sender_and_individual.Goals as goal
 
 pub returns-in_err-from : goal.returns-in_err-from
 returns-in_err-from c = fail c.from_residual.ensures.1
-    (stop identity_good (λ _ _ _. good.individuals_good _ _ _) c.in_err-from.ensures)
+    (stop identity_good (λ _ _ _. (forms.individuals_closes _ _ _).good) c.in_err-from.ensures)
 
 pub returns : goal.returns
 returns c =
