@@ -2,7 +2,7 @@
 ghost use Rattle.std.specs.Prelude.{◌≡◌, ◌+◌, ◌≤◌, ◌++◌, [], ◌∷◌, codes, decimal};
 ghost use Rattle.arrayvec.specs.ArrayVec.{array_vec_len};
 ghost use Rattle.line_grammar.specs.Bytes.{line_feed};
-ghost use Rattle.call_texts.specs.Texts.{report_text, answer_text};
+ghost use Rattle.call_texts.specs.Texts.{report_text, answer_text, answer_line};
 
 use crate::calls::append_reported;
 use arrayvec::ArrayVec;
@@ -21,12 +21,20 @@ pub fn put_answer(group: u32, answer: &Joined) -> ArrayVec<u8, 288>
 
 /// The same with the line feed that ends the line.
 pub fn put_answer_line(group: u32, answer: &Joined) -> ArrayVec<u8, 289>
-    ensures { result.items ≡ answer_text group answer.now ++ line_feed ∷ [] }
+    ensures { result.items ≡ answer_line group answer.now }
 {
     let mut out = ArrayVec::new();
-    append_answer(&mut out, group, answer);
-    out.push(b'\n');
+    append_answer_line(&mut out, group, answer);
     out
+}
+
+/// Appends the same to a text that has room for it, so that it isn't copied.
+pub fn append_answer_line<const N: usize>(out: &mut ArrayVec<u8, N>, group: u32, answer: &Joined)
+    requires { array_vec_len out.old + 183 ≤ N }
+    ensures { out.new.items ≡ out.old.items ++ answer_line group answer.now }
+{
+    append_answer(out, group, answer);
+    out.push(b'\n');
 }
 
 /// Appends a group's answer without its line feed: `g`, the group's number, and the report; at most 182 bytes.

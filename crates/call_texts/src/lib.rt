@@ -15,7 +15,7 @@ mod tails;
 mod tokens;
 mod values;
 
-pub use answers::{put_answer, put_answer_line};
+pub use answers::{append_answer_line, put_answer, put_answer_line};
 pub use calls::{append_call, put_call};
 pub use forms::any_call;
 pub use laws::{

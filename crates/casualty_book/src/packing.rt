@@ -64,10 +64,12 @@ impl Ord for Packed {
     ghost matches_eq = { λ a b. refl };
 
     fn cmp(&self, other: &Packed) -> Ordering {
-        match self.casualty.cmp(&other.casualty) {
-            Ordering::Less => Ordering::Less,
-            Ordering::Equal => self.cmp_behind(other),
-            Ordering::Greater => Ordering::Greater,
+        if self.casualty < other.casualty {
+            Ordering::Less
+        } else if self.casualty > other.casualty {
+            Ordering::Greater
+        } else {
+            self.cmp_behind(other)
         }
     }
 }

@@ -6,7 +6,8 @@ ghost use Rattle.slot_evidence.specs.Sheet.{IsEnds};
 ghost use Rattle.slot_join.specs.declared.joined.Joined.{Joined};
 ghost use Rattle.stream_capture.specs.Telling.{start_line};
 
-use call_texts::put_answer_line;
+use arrayvec::ArrayVec;
+use call_texts::append_answer_line;
 use itoa::Buffer;
 use slot_evidence::Sheet;
 use slot_join::{is_reported, report};
@@ -28,6 +29,8 @@ pub(crate) fn append_start(
     out.extend_from_slice(b"at ")?;
     out.extend_from_slice(buffer.format(origin).as_bytes())?;
     out.extend_from_slice(b" ")?;
-    out.extend_from_slice(&put_answer_line(number, &answer))?;
+    let mut line: ArrayVec<u8, 183> = ArrayVec::new();
+    append_answer_line(&mut line, number, &answer);
+    out.extend_from_slice(&line)?;
     Ok(is_reported(&answer))
 }
