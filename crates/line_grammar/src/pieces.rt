@@ -1,5 +1,5 @@
 //! Appending bytes, numbers and digits to a text with room for them.
-ghost use Rattle.std.specs.Prelude.{◌≡◌, ◌+◌, ◌≤◌, ◌++◌, length, decimal};
+ghost use Rattle.std.specs.Prelude.{◌≡◌, ◌+◌, ◌<◌, ◌≤◌, ◌++◌, length, decimal, slice_index_or};
 ghost use Rattle.arrayvec.specs.ArrayVec.{array_vec_len};
 ghost use Rattle.line_grammar.specs.Shapes.{digits};
 
@@ -25,7 +25,31 @@ pub fn append_number<const N: usize>(out: &mut ArrayVec<u8, N>, number: u64)
     append(out, buffer.format(number).as_bytes());
 }
 
-/// Appends the last `width` decimal digits of a number, zeros in front included, where these are few.
+/// The two digits of each number below a hundred.
+static PAIRS: [u8; 200] =
+    *b"00010203040506070809101112131415161718192021222324252627282930313233343536373839404142434445464748495051525354555657585960616263646566676869707172737475767778798081828384858687888990919293949596979899";
+
+/// The digit with this number in the table.
+#[inline(always)]
+fn table_digit(at: usize) -> u8
+    requires { at < 200 }
+    ensures { result ≡ slice_index_or PAIRS at 0 }
+{
+    PAIRS[at]
+}
+
+/// The two digits of a number below a hundred.
+#[inline(always)]
+fn two_digits(number: u64) -> [u8; 2]
+    requires { number < 100 }
+    ensures { result ≡ digits 2 number }
+{
+    let at = 2 * number as usize;
+    [table_digit(at), table_digit(at + 1)]
+}
+
+/// Appends the last `width` decimal digits of a number, zeros in front included, where these are few: from the last ones
+/// on, two by a table with each division.
 #[inline(always)]
 fn append_few_digits<const N: usize>(out: &mut ArrayVec<u8, N>, width: usize, number: u64)
     requires room { array_vec_len out.old + width ≤ N }
@@ -36,10 +60,15 @@ fn append_few_digits<const N: usize>(out: &mut ArrayVec<u8, N>, width: usize, nu
     let mut text = [b'0'; 10];
     let mut rest = number;
     let mut at = width;
-    while at > 0 {
-        at -= 1;
-        text[at] = b'0' + (rest % 10) as u8;
-        rest /= 10;
+    while at > 1 {
+        at -= 2;
+        let pair = two_digits(rest % 100);
+        text[at + 1] = pair[1];
+        text[at] = pair[0];
+        rest /= 100;
+    }
+    if at > 0 {
+        text[0] = b'0' + (rest % 10) as u8;
     }
     append(out, &text[..width]);
 }
