@@ -22,10 +22,10 @@ pub(crate) fn append_line(
     let mut number = Buffer::new();
     out.extend_from_slice(b"r g")?;
     out.extend_from_slice(number.format(group).as_bytes())?;
-    out.extend_from_slice(b" ")?;
+    out.push(b' ')?;
     let mut symbols = [0; 144];
     let count = write_slots(call, expansion, &mut symbols);
     append_signs(out, &symbols[..count], long)?;
-    out.extend_from_slice(b"\n")?;
+    out.push(b'\n')?;
     Ok(())
 }

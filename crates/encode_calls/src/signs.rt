@@ -16,6 +16,7 @@ static LONG_DOTS: [u8; 200] =
     *b"BYBYBYBYBYBYBYBYBYBYBYBYBYBYBYBYBYBYBYBYBYBYBYBYBYBYBYBYBYBYBYBYBYBYBYBYBYBYBYBYBYBYBYBYBYBYBYBYBYBYBYBYBYBYBYBYBYBYBYBYBYBYBYBYBYBYBYBYBYBYBYBYBYBYBYBYBYBYBYBYBYBYBYBYBYBYBYBYBYBYBYBYBYBYBYBYBYBYBYBY";
 
 /// Appends the signs of a dot pattern. The error is want of memory.
+#[inline(always)]
 fn append_dots(out: &mut Vec<u8>, long: bool) -> Result<(), AllocError>
     ensures signs { OnOk result (out.new.items ≡ out.old.items ++ map sign_of (dots (dot_count long))) }
     ensures kept { OnErr result (out.new.items ≡ out.old.items) }
@@ -36,8 +37,8 @@ fn row(symbol: u8) -> [u8; 16]
     WORDS[symbol as usize]
 }
 
-/// So many words are written together.
-const TOGETHER: usize = 64;
+/// So many words are written together: those of most calls.
+const TOGETHER: usize = 80;
 
 /// The room for that many words, and for what a row has after its word.
 const ROOM: usize = 10 * TOGETHER + 6;

@@ -12,7 +12,7 @@ abbrev pub invariant-loop-symbols : goal.invariant-loop-symbols
 invariant-loop-symbols l =
     goal.iterator-loop-symbols.can_next l.symbols-iterator
     × goal.iterator-loop-symbols.is_finite l.symbols-iterator
-    × (chunks_size l.symbols-iterator ≡ 64)
+    × (chunks_size l.symbols-iterator ≡ 80)
     × All (λ v. v < 128) (chunks_rest l.symbols-iterator)
     × (l.out.items ++ map sign_of (flat_map word_of (chunks_rest l.symbols-iterator)) ≡ l.fn.out.items ++ map sign_of (sent l.slots l.long))
     × BeginsWith l.out.items l.fn.out.items
