@@ -2,13 +2,14 @@
 ghost use Rattle.std.specs.Prelude.{◌≡◌, ◌≢◌, ◌⊎◌, ◌↔◌, ℕ, ◌+◌, ◌<◌, ◌≤◌, Bool, false, nat_le, length, [], None, Some, IfOk, IfErr, IfSome, OnOk};
 ghost use Rattle.slot_evidence.specs.Facts.{Facts, facts_of, no_facts};
 ghost use Rattle.slot_evidence.specs.Sheet.{IsEnds};
-ghost use Rattle.live_watch.specs.Batches.{HasWatched};
+ghost use Rattle.receiver_pool.specs.Groups.{facts_of_group, Shows};
 ghost use Rattle.join_groups.specs.Holds.{Holds, HoldsSome, IsFull, named_with, facts_with, facts_without, number_in};
 
 use line_engine::Refusal;
-use live_watch::{BatchWatcher, WatchedJoiner};
 use phasing::LONGEST;
-use receiver_pool::{GroupReception, Joiner, meet_sheet, take_sheet};
+use receiver_pool::{
+    GroupReception, GroupSheet, Joiner, Reading, meet_entries, meet_sheet, take_sheet,
+};
 use slot_evidence::{Reception, Sheet};
 use std::alloc::{AllocError, Global};
 use std::collections::BTreeMap;
@@ -25,7 +26,16 @@ pub const MOST_IN_BATCH: usize = 256;
 pub struct NamedGroups {
     pub(crate) numbers: BTreeMap<u32, usize>,
     pub(crate) sheets: Vec<Sheet>,
-    pub(crate) batch: Vec<GroupReception>,
+    batch: Vec<GroupReception>,
+}
+
+/// What becomes of a reception that shows something new of its group, where one worker works alone.
+#[derive(Clone, Copy, Debug, PartialEq, Eq)]
+pub enum News {
+    /// It is read at once, as any other.
+    IsRead,
+    /// It waits for the batch.
+    Waits,
 }
 
 impl NamedGroups {
@@ -121,25 +131,17 @@ impl NamedGroups {
         ensures few { OnOk result (length self.old.batch.items < MOST_IN_BATCH
             → length self.new.batch.items < MOST_IN_BATCH) }
     {
-        if let Some(shown) = workers.read_alone(&heard) {
-            return self.meet(group, &shown);
-        }
-        let number = self.number_of(group)?;
-        self.put(number, heard)?;
-        if self.is_full() {
-            self.close_batch(workers)?;
-        }
+        self.wait(workers.reading(), News::IsRead, group, heard)?;
+        self.close_full(workers)?;
         Ok(())
     }
 
-    /// Takes what a receiver heard of a group, at most 1,000,000 elements, into the batch, and leaves the batch open.
-    /// One worker who works alone reads it at once, and where nobody watches the group any more, or it shows nothing
-    /// beyond what is known of the group, there is nothing to be seen beside that worker, and it doesn't wait. A group
-    /// too many leaves all as it was.
-    pub fn wait<W: WatchedJoiner>(
+    /// Takes in what a receiver heard of a group, at most 1,000,000 elements, and leaves the batch open. A reception that
+    /// isn't read at once waits in the batch. A group too many leaves all as it was.
+    pub(crate) fn wait(
         &mut self,
-        workers: &W,
-        is_watched: bool,
+        reading: &Reading,
+        news: News,
         group: u32,
         heard: Reception,
     ) -> Result<(), Refusal>
@@ -153,29 +155,32 @@ impl NamedGroups {
             → (refusal ≡ Refusal.TooManyGroups) × IsFull named group)) }
         ensures kept { IfErr result (λ refusal. refusal ≢ Refusal.Memory → self.new ≡ self.old) }
     {
-        if let Some(read) = self.read_at_once(workers, is_watched, group, &heard) {
+        if let Some(read) = self.read_at_once(reading, news, group, &heard) {
             return self.meet(group, &read);
         }
         let number = self.number_of(group)?;
-        self.put(number, heard)?;
+        self.batch.push(GroupReception {
+            group: number,
+            reception: heard,
+        })?;
         Ok(())
     }
 
     /// What a reception shows that waits for no batch, if it waits for none.
-    fn read_at_once<W: WatchedJoiner>(
+    fn read_at_once(
         &self,
-        workers: &W,
-        is_watched: bool,
+        reading: &Reading,
+        news: News,
         group: u32,
         heard: &Reception,
     ) -> Option<Sheet>
         requires { length heard.now ≤ LONGEST }
         ensures { IfSome result (λ read. IsEnds (facts_of heard.now) read) }
     {
-        let Some(read) = workers.read_alone(heard) else {
+        let Some(read) = reading.read(heard) else {
             return None;
         };
-        if is_watched && self.is_news(group, &read) {
+        if news == News::Waits && self.is_news(group, &read) {
             return None;
         }
         Some(read)
@@ -197,28 +202,6 @@ impl NamedGroups {
         }
     }
 
-    /// Whether the batch holds as many receptions as it may.
-    fn is_full(&self) -> bool
-        ensures { result ≡ nat_le MOST_IN_BATCH (length self.now.batch.items) }
-    {
-        self.batch.len() >= MOST_IN_BATCH
-    }
-
-    /// Puts a reception of the group with this number into the batch.
-    fn put(&mut self, number: usize, heard: Reception) -> Result<(), AllocError>
-        requires { length heard ≤ LONGEST }
-        ensures holds { OnOk result ((named : ℕ → Bool) (F : ℕ → Facts) (group : ℕ) → Holds self.old named F
-            → number_in self.old group ≡ Some number
-            → Holds self.new named (facts_with group (facts_of heard) F)) }
-        ensures more { OnOk result (length self.new.batch.items ≡ length self.old.batch.items + 1) }
-    {
-        self.batch.push(GroupReception {
-            group: number,
-            reception: heard,
-        })?;
-        Ok(())
-    }
-
     /// Ends the batch: the workers join its receptions into the sheets of their groups.
     pub fn close_batch<W: Joiner>(&mut self, workers: &W) -> Result<(), AllocError>
         requires ready { HoldsSome self.old }
@@ -228,36 +211,56 @@ impl NamedGroups {
         ensures empty { OnOk result (self.new.batch.items ≡ []) }
     {
         if !self.batch.is_empty() {
-            workers.join_into(&mut self.sheets, &self.batch)?;
-
-            // The list moves to memory beyond the first batch's receptions. So their memory serves the next batches: at
-            // the heap's end it would go back to the system, and come anew page by page, at each of them.
-            self.batch.reserve_exact(MOST_IN_BATCH)?;
-            self.batch.clear();
+            let shown = workers.read_batch(&self.batch)?;
+            self.end_batch(shown)?;
         }
         Ok(())
     }
 
-    /// Ends the batch as `close_batch` does, with workers whose boards a watcher looks at, and gives the watcher back.
-    pub fn close_watched<W: WatchedJoiner>(
-        &mut self,
-        workers: &W,
-        watcher: BatchWatcher,
-    ) -> Result<BatchWatcher, AllocError>
+    /// Ends the batch if it holds as many receptions as it may.
+    pub(crate) fn close_full<W: Joiner>(&mut self, workers: &W) -> Result<(), AllocError>
         requires ready { HoldsSome self.old }
         requires joins { W.can_join workers.now }
         ensures holds { OnOk result ((named : ℕ → Bool) (F : ℕ → Facts) → Holds self.old named F
             → Holds self.new named F) }
-        ensures empty { OnOk result (self.new.batch.items ≡ []) }
-        ensures watched { IfOk result (λ after. HasWatched watcher after self.old.sheets.items self.old.batch.items) }
+        ensures few { OnOk result (length self.new.batch.items < MOST_IN_BATCH) }
     {
-        if self.batch.is_empty() {
-            return Ok(watcher);
+        if self.batch.len() >= MOST_IN_BATCH {
+            self.close_batch(workers)?;
         }
-        let watcher = workers.join_watched(watcher, &mut self.sheets, &self.batch)?;
+        Ok(())
+    }
+
+    /// Ends the batch, which showed this of its groups.
+    pub fn end_batch(&mut self, shown: Vec<GroupSheet>) -> Result<(), AllocError>
+        requires ready { HoldsSome self.old }
+        requires shown { Shows (facts_of_group self.old.batch.items) self.old.batch.items shown.items }
+        ensures holds { OnOk result ((named : ℕ → Bool) (F : ℕ → Facts) → Holds self.old named F
+            → Holds self.new named F) }
+        ensures empty { OnOk result (self.new.batch.items ≡ []) }
+    {
+        meet_entries(&mut self.sheets, &shown);
+        drop(shown);
+
+        // The list moves to memory beyond the first batch's receptions. So their memory serves the next batches: at the
+        // heap's end it would go back to the system, and come anew page by page, at each of them.
         self.batch.reserve_exact(MOST_IN_BATCH)?;
         self.batch.clear();
-        Ok(watcher)
+        Ok(())
+    }
+
+    /// The receptions of the open batch.
+    pub fn batch(&self) -> &[GroupReception]
+        ensures { result.now ≡ self.now.batch.items }
+    {
+        &self.batch
+    }
+
+    /// The sheet of each group, by its number, without the receptions of the open batch.
+    pub fn sheets(&self) -> &[Sheet]
+        ensures { result.now ≡ self.now.sheets.items }
+    {
+        &self.sheets
     }
 
     /// The number of a group; none, exactly where no line named it.

@@ -1,10 +1,10 @@
 //! A watcher of all boards of a batch.
-ghost use Rattle.std.specs.Prelude.{◌≡◌, ℕ, ◌<◌, ◌≤◌, ◌++◌, ◌∷◌, true, false, List, [], None, All, IfOk, IfSome, MatchOption, OnOk, length};
+ghost use Rattle.std.specs.Prelude.{◌≡◌, ℕ, ◌<◌, ◌≤◌, ◌++◌, ◌∷◌, true, false, List, [], None, All, IfOk, MatchOption, OnOk, length};
 ghost use Rattle.slot_evidence.specs.declared.places.Seen.{Seen};
-ghost use Rattle.slot_evidence.specs.Facts.{Facts, facts_of, union};
+ghost use Rattle.slot_evidence.specs.Facts.{Facts, union};
 ghost use Rattle.slot_evidence.specs.Sheet.{IsEnds, facts_in};
 ghost use Rattle.evidence_board.specs.Seats.{Held};
-ghost use Rattle.receiver_pool.specs.Groups.{facts_of_group, AreSheets, Belongs, IsShort, Shows};
+ghost use Rattle.receiver_pool.specs.Groups.{facts_of_group, IsShort, Shows};
 ghost use Rattle.receiver_pool.specs.Rows.{AreAsBefore, HaveSeenNothing, Sit};
 ghost use Rattle.live_watch.specs.declared.batches.WatchedGroup.{WatchedGroup as Begun};
 ghost use Rattle.live_watch.specs.Told.{IsReportOf};
@@ -14,12 +14,11 @@ ghost use Rattle.live_watch.specs.inside.Rounds.{AreJudged, AreOnBoards, IsBoard
 
 use crate::showing::{Unreported, reports};
 use call_values::Call;
-use phasing::LONGEST;
 use receiver_pool::{
-    AllFacts, Alone, Beside, Board, Gate, GroupReception, GroupSheet, Posts, Seat, look_at,
-    meet_entries, pool_groups, pool_groups_beside,
+    AllFacts, Beside, Board, Gate, GroupReception, GroupSheet, Posts, Reading, Seat, look_at,
+    pool_groups, pool_groups_beside,
 };
-use slot_evidence::{Reception, Sheet, ends_are_kept, sheet_has_facts};
+use slot_evidence::{Sheet, ends_are_kept, sheet_has_facts};
 use slot_join::alike_facts_have_one_answer;
 use std::alloc::{AllocError, Global};
 use std::marker::Model;
@@ -413,36 +412,33 @@ pub fn watch_batch<R: Threads + Sync, G: Gate>(
     pool_groups_beside(rt, alloc, known, batch, workers, gate, watcher)
 }
 
-/// Those who join batches into the sheets of their groups while a watcher looks on.
+/// Those who read batches for the sheets of their groups while a watcher looks on.
 pub trait WatchedJoiner: Drop {
-    /// Their way of joining batches joins them.
+    /// Their way of reading batches reads them.
     ghost can_join: { Self → Type 0 };
 
-    /// What a reception shows, where one worker works alone.
-    fn read_alone(&self, heard: &Reception) -> Option<Sheet>
-        requires { length heard.now ≤ LONGEST }
-        ensures { IfSome result (λ sheet. IsEnds (facts_of heard.now) sheet) };
+    /// How they read a reception of which nothing is to be seen beside them.
+    fn reading(&self) -> &Reading;
 
-    /// Joins a batch of receptions into the sheets of their groups, and gives the watcher back. The error is want of
-    /// memory.
-    fn join_watched(
+    /// What a batch of receptions shows of each group, of which this is known, and the watcher, who watched it. The
+    /// error is want of memory.
+    fn read_watched(
         &self,
-        watcher: BatchWatcher,
-        sheets: &mut [Sheet],
+        known: &[Sheet],
         batch: &[GroupReception],
-    ) -> Result<BatchWatcher, AllocError>
+        watcher: BatchWatcher,
+    ) -> Result<(Vec<GroupSheet>, BatchWatcher), AllocError>
         requires joins { can_join self.now }
-        requires belong { All (Belongs (length sheets.old)) batch.now }
-        ensures joined { IfOk result (λ after. (F : ℕ → Facts) (n : ℕ) → AreSheets F sheets.old n
-            → AreSheets (λ k. union (F k) (facts_of_group batch.now k)) sheets.new n) }
-        ensures watched { IfOk result (λ after. HasWatched watcher after sheets.old batch.now) };
+        requires short { All IsShort batch.now }
+        ensures shown { IfOk result (λ v. Shows (facts_of_group batch.now) batch.now v.0.items) }
+        ensures watched { IfOk result (λ v. HasWatched watcher v.1 known.now batch.now) };
 }
 
 /// Workers who read batches by this function, as `watch_batch` does. One who works alone also reads a reception by
 /// itself.
 #[derive(Drop)]
 pub struct WatchedWorkers<J> {
-    alone: Alone,
+    reading: Reading,
     pub join: J,
 }
 
@@ -452,7 +448,7 @@ impl<J: Drop> WatchedWorkers<J> {
         ensures { result.join ≡ join }
     {
         WatchedWorkers {
-            alone: Alone::of(workers, gate),
+            reading: Reading::of(workers, gate),
             join,
         }
     }
@@ -468,18 +464,16 @@ impl<
 > WatchedJoiner for WatchedWorkers<J> {
     ghost can_join = { λ workers. JoinsWatched (J.pre workers.join) (J.post workers.join) };
 
-    fn read_alone(&self, heard: &Reception) -> Option<Sheet> {
-        self.alone.read(heard)
+    fn reading(&self) -> &Reading {
+        &self.reading
     }
 
-    fn join_watched(
+    fn read_watched(
         &self,
-        watcher: BatchWatcher,
-        sheets: &mut [Sheet],
+        known: &[Sheet],
         batch: &[GroupReception],
-    ) -> Result<BatchWatcher, AllocError> {
-        let (entries, watcher) = (self.join)(sheets, batch, watcher)?;
-        meet_entries(sheets, &entries);
-        Ok(watcher)
+        watcher: BatchWatcher,
+    ) -> Result<(Vec<GroupSheet>, BatchWatcher), AllocError> {
+        (self.join)(known, batch, watcher)
     }
 }

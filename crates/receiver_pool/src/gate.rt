@@ -11,7 +11,7 @@ pub trait Gate: Sync {
 /// `enter` alone makes it, and receptions are read for those who have it, so that a thread which reads one before its
 /// workers enter doesn't compile.
 #[derive(Drop)]
-pub(crate) struct Entered {
+pub struct Entered {
     pub(crate) low: u32,
     pub(crate) high: u32,
 }

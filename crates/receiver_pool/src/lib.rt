@@ -24,4 +24,4 @@ pub use pools::{pool, post_all};
 pub use posts::Posts;
 pub use rendezvous::Rendezvous;
 pub use slot_evidence::Reception;
-pub use workers::{Alone, Joiner, Workers, meet_entries};
+pub use workers::{Joiner, Reading, Workers, meet_entries};

@@ -1,8 +1,8 @@
 //! Those who join receptions.
-ghost use Rattle.std.specs.Prelude.{◌≡◌, ◌≤◌, ℕ, All, IfSome, OnOk, length};
+ghost use Rattle.std.specs.Prelude.{◌≡◌, ◌≤◌, ℕ, All, IfOk, IfSome, length};
 ghost use Rattle.slot_evidence.specs.Facts.{Facts, facts_of, union};
 ghost use Rattle.slot_evidence.specs.Sheet.{IsEnds};
-ghost use Rattle.receiver_pool.specs.Groups.{facts_of_group, AreSheets, AreShown, Belongs, IsOneOf};
+ghost use Rattle.receiver_pool.specs.Groups.{facts_of_group, AreSheets, AreShown, IsOneOf, IsShort, Shows};
 ghost use Rattle.receiver_pool.specs.Joining.{JoinsBatches};
 
 use crate::batches::meet_sheet;
@@ -12,68 +12,67 @@ use phasing::LONGEST;
 use slot_evidence::{Reception, Sheet, shown_by};
 use std::alloc::AllocError;
 
-/// Those who join receptions into the sheets of their groups.
-pub trait Joiner: Drop {
-    /// Their way of joining batches joins them.
-    ghost can_join: { Self → Type 0 };
-
-    /// What a reception shows, where one worker works alone. Several wait for a batch.
-    fn read_alone(&self, heard: &Reception) -> Option<Sheet>
-        requires { length heard.now ≤ LONGEST }
-        ensures { IfSome result (λ sheet. IsEnds (facts_of heard.now) sheet) };
-
-    /// Joins a batch of receptions into the sheets of their groups. The error is want of memory.
-    fn join_into(&self, sheets: &mut [Sheet], batch: &[GroupReception]) -> Result<(), AllocError>
-        requires joins { can_join self.now }
-        requires belong { All (Belongs (length sheets.old)) batch.now }
-        ensures { OnOk result ((F : ℕ → Facts) (n : ℕ) → AreSheets F sheets.old n
-            → AreSheets (λ k. union (F k) (facts_of_group batch.now k)) sheets.new n) };
-}
-
-/// What one worker has who works alone, once it entered the gate; nothing, where several work.
+/// How receptions are read.
 #[derive(Drop)]
-pub struct Alone {
-    entered: Option<Entered>,
+pub enum Reading {
+    /// Each at once, by one worker who works alone and has entered the gate.
+    AtOnce(Entered),
+    /// In batches, by several.
+    InBatches,
 }
 
-impl Alone {
+impl Reading {
     /// So many workers. One enters the gate here; several enter it in each batch.
-    pub fn of<G: Gate>(workers: u32, gate: &G) -> Alone {
-        let entered = if workers == 1 {
-            Some(enter(gate, 0, 1))
+    pub fn of<G: Gate>(workers: u32, gate: &G) -> Reading {
+        if workers == 1 {
+            Reading::AtOnce(enter(gate, 0, 1))
         } else {
-            None
-        };
-        Alone { entered }
+            Reading::InBatches
+        }
     }
 
-    /// What a reception shows, where one worker works alone.
+    /// What a reception shows that is read at once.
     pub fn read(&self, heard: &Reception) -> Option<Sheet>
         requires { length heard.now ≤ LONGEST }
         ensures { IfSome result (λ sheet. IsEnds (facts_of heard.now) sheet) }
     {
-        match &self.entered {
-            Some(entered) => Some(read_by(entered, heard)),
-            None => None,
+        match self {
+            Reading::AtOnce(entered) => Some(read_by(entered, heard)),
+            Reading::InBatches => None,
         }
     }
+}
+
+/// Those who read receptions for the sheets of their groups.
+pub trait Joiner: Drop {
+    /// Their way of reading batches reads them.
+    ghost can_join: { Self → Type 0 };
+
+    /// How they read receptions.
+    fn reading(&self) -> &Reading;
+
+    /// What a batch of receptions shows of each group. The error is want of memory.
+    fn read_batch(&self, batch: &[GroupReception]) -> Result<Vec<GroupSheet>, AllocError>
+        requires joins { can_join self.now }
+        requires short { All IsShort batch.now }
+        ensures { IfOk result (λ v. Shows (facts_of_group batch.now) batch.now v.items) };
 }
 
 /// Those who join receptions: one worker, who joins each at once, or several, who read batches by this function, as
 /// `pool_groups` does.
 #[derive(Drop)]
 pub struct Workers<J> {
-    alone: Alone,
+    reading: Reading,
     pub join: J,
 }
 
 impl<J: Drop> Workers<J> {
-    /// So many workers, who enter the gate as `Alone::of` says.
+    /// So many workers, who enter the gate as `Reading::of` says.
     pub fn new<G: Gate>(workers: u32, gate: &G, join: J) -> Workers<J>
         ensures { result.join ≡ join }
     {
         Workers {
-            alone: Alone::of(workers, gate),
+            reading: Reading::of(workers, gate),
             join,
         }
     }
@@ -82,14 +81,12 @@ impl<J: Drop> Workers<J> {
 impl<J: Drop + Fn(&[GroupReception]) -> Result<Vec<GroupSheet>, AllocError>> Joiner for Workers<J> {
     ghost can_join = { λ workers. JoinsBatches (J.pre workers.join) (J.post workers.join) };
 
-    fn read_alone(&self, heard: &Reception) -> Option<Sheet> {
-        self.alone.read(heard)
+    fn reading(&self) -> &Reading {
+        &self.reading
     }
 
-    fn join_into(&self, sheets: &mut [Sheet], batch: &[GroupReception]) -> Result<(), AllocError> {
-        let entries = (self.join)(batch)?;
-        meet_entries(sheets, &entries);
-        Ok(())
+    fn read_batch(&self, batch: &[GroupReception]) -> Result<Vec<GroupSheet>, AllocError> {
+        (self.join)(batch)
     }
 }
 

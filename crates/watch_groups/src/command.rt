@@ -13,10 +13,11 @@ ghost use Rattle.watch_groups.specs.inside.Names.{Names};
 ghost use Rattle.watch_groups.specs.inside.Kept.{Watches, StandsFor, LooksThrough};
 ghost use Rattle.watch_groups.specs.inside.Gives.{gives_told};
 
+use crate::closing::close_watched;
 use crate::telling::{Judged, ToldCalls, look_through, note_untold, watcher_of};
 use byte_streams::Status;
 use input_lines::{JoinLine, LineFault, join_line, one_line};
-use join_groups::{MOST_IN_BATCH, NamedGroups, WriteAnswers, append_groups, take_waiting};
+use join_groups::{MOST_IN_BATCH, NamedGroups, News, WriteAnswers, append_groups, take_read};
 use line_engine::{Command, Refusal};
 use live_watch::{WatchedJoiner, told_calls};
 use std::alloc::{AllocError, Global};
@@ -59,11 +60,11 @@ fn named_by(read: &JoinLine) -> Naming
     }
 }
 
-/// Whether a line names a group of which a call is still to be told.
-fn is_untold(told: &ToldCalls, named: Naming) -> bool {
+/// A reception of a group of which a call is still to be told waits if it shows something new.
+fn news_of(told: &ToldCalls, named: Naming) -> News {
     match named {
-        Naming::Nothing => false,
-        Naming::Evidence(group) | Naming::Reception(group) => !told.has(group),
+        Naming::Reception(group) if !told.has(group) => News::Waits,
+        _ => News::IsRead,
     }
 }
 
@@ -99,7 +100,7 @@ impl<W: WatchedJoiner> WatchGroups<W> {
             out.new.items) }
     {
         let begun = watcher_of(self.alloc, &self.groups, &self.named, &self.judged)?;
-        let watcher = self.groups.close_watched(&self.workers, begun)?;
+        let watcher = close_watched(&mut self.groups, &self.workers, begun)?;
         look_through(
             &self.groups,
             &watcher,
@@ -164,14 +165,10 @@ impl<W: WatchedJoiner> WatchGroups<W> {
         ensures unsaid { IfErr result (λ refusal. refusal ≢ Refusal.Memory → out.new.items ≡ out.old.items) }
     {
         let named = named_by(&read);
-        let is_watched = is_untold(&self.told, named);
-        match take_waiting(&mut self.groups, &self.workers, is_watched, read) {
-            Ok(()) => {
-                self.count(named, out)?;
-                Ok(())
-            }
-            Err(refusal) => Err(refusal),
-        }
+        let news = news_of(&self.told, named);
+        take_read(&mut self.groups, self.workers.reading(), news, read)?;
+        self.count(named, out)?;
+        Ok(())
     }
 }
 

@@ -2,6 +2,7 @@
 //! ends that reports it.
 #![tactic(auto)]
 
+mod closing;
 mod command;
 mod driving;
 mod telling;

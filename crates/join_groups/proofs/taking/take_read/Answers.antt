@@ -8,21 +8,21 @@ use Rattle.join_groups.proofs.Keeping.{says_nothing, says_reception, says_eviden
 use Rattle.join_groups.proofs.taking.take_read.Goals as goal
 
 pub returns-in-Nothing-clause-ok : goal.returns-in-Nothing-clause-ok
-returns-in-Nothing-clause-ok g c = λ said line keeps is.
+returns-in-Nothing-clause-ok c = λ said line keeps is.
     says_nothing said line c.args.groups.now keeps (subst (λ (read : Got). Says line read) c.in-Nothing.is is)
 
 pub returns-in-Reception-clause-ok : goal.returns-in-Reception-clause-ok
-returns-in-Reception-clause-ok g c = on_ok_weaker c.hear.result
+returns-in-Reception-clause-ok c = on_ok_weaker c.wait.result
     (λ ok. λ said line keeps is.
     let says = says_reception line c.in-Reception.group c.in-Reception.elements (subst (λ (read : Got). Says line read) c.in-Reception.is is) in
     let taken = ok (is_named said) (group_facts said) keeps in (
       λ b. taken.0 (brings_full said line c.in-Reception.group says.0 b),
-      keeps_line c.hear.new.self said line c.in-Reception.group (facts_of c.in-Reception.elements) says.0 says.1 taken.1,
+      keeps_line c.wait.new.self said line c.in-Reception.group (facts_of c.in-Reception.elements) says.0 says.1 taken.1,
     ))
-    c.hear.ensures.ok
+    c.wait.ensures.ok
 
 pub returns-in-Reception-clause-err : goal.returns-in-Reception-clause-err
-returns-in-Reception-clause-err g c = IfErr-weaker c.hear.result _ _
+returns-in-Reception-clause-err c = IfErr-weaker c.wait.result _ _
     (λ refusal err. elim err [
       | inl memory ↦ inl memory
       | inr full ↦ inr (λ said line keeps is.
@@ -30,10 +30,10 @@ returns-in-Reception-clause-err g c = IfErr-weaker c.hear.result _ _
           let brings = full (is_named said) (group_facts said) keeps in
           (brings.0, full_brings said line c.in-Reception.group says.0 brings.1))
     ])
-    c.hear.ensures.err
+    c.wait.ensures.err
 
 pub returns-in-Evidence-clause-ok : goal.returns-in-Evidence-clause-ok
-returns-in-Evidence-clause-ok g c = on_ok_weaker c.meet.result
+returns-in-Evidence-clause-ok c = on_ok_weaker c.meet.result
     (λ ok. λ said line keeps is.
     let says = says_evidence line c.in-Evidence.group c.in-Evidence.sheet (subst (λ (read : Got). Says line read) c.in-Evidence.is is) in
     let taken = ok (is_named said) (group_facts said) (facts_of_line c.in-Evidence.group line) keeps says.1 in (
@@ -43,7 +43,7 @@ returns-in-Evidence-clause-ok g c = on_ok_weaker c.meet.result
     c.meet.ensures.ok
 
 pub returns-in-Evidence-clause-err : goal.returns-in-Evidence-clause-err
-returns-in-Evidence-clause-err g c = IfErr-weaker c.meet.result _ _
+returns-in-Evidence-clause-err c = IfErr-weaker c.meet.result _ _
     (λ refusal err. elim err [
       | inl memory ↦ inl memory
       | inr full ↦ inr (λ said line keeps is.

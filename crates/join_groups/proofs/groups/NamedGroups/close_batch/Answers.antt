@@ -1,22 +1,14 @@
-use Rattle.std.proofs.Common.{ℕ, List, [], ◌++◌, length, take, drop, sym, subst}
-use Rattle.plain_laws.proofs.Lists.{lent_whole}
-use Rattle.slot_evidence.specs.declared.places.Seen.{Seen}
-use Rattle.slot_evidence.specs.Facts.{Facts, union}
+use Rattle.std.proofs.Common.{List, length, sym, subst, All}
+use Rattle.std.proofs.lemmas.List.Elements.{All-weaker}
 use Rattle.receiver_pool.specs.declared.group_entries.GroupReception.{GroupReception}
-use Rattle.receiver_pool.specs.Groups.{AreSheets, facts_of_group}
-use Rattle.join_groups.specs.Holds.{HoldsIn, number_in}
-use Rattle.join_groups.proofs.Holding.{holds_closed}
+use Rattle.receiver_pool.specs.Groups.{Belongs, IsShort, Shows, facts_of_group}
 use Rattle.join_groups.proofs.groups.NamedGroups.close_batch.Goals as goal
 
-pub returns-in_ok-reserve_exact-clause-holds : goal.returns-in_ok-reserve_exact-clause-holds
-returns-in_ok-reserve_exact-clause-holds g c = λ named F holds.
+pub read_batch-requires-clause-short : goal.read_batch-requires-clause-short
+read_batch-requires-clause-short g c =
     let old = c.args.self.now in
-    let joined : (C : ℕ → Facts) (m : ℕ) → AreSheets C old.sheets.items m → AreSheets (λ k. union (C k) (facts_of_group old.batch.items k)) c.join_into.new.sheets m =
-    λ C m are.
-    subst (λ (b : List GroupReception). AreSheets (λ k. union (C k) (facts_of_group b k)) c.join_into.new.sheets m) c.deref.ensures.value
-    (c.in_ok-join_into.ensures C m (subst (λ (s : List (List Seen)). AreSheets C s m) (sym c.deref_mut.ensures.value) are)) in
-    let count = (joined holds.closed (length old.sheets.items) holds.are_sheets).count in
-    subst (λ (b : List GroupReception). HoldsIn (number_in old) (take old.sheets.len (c.join_into.new.sheets ++ drop (length c.join_into.new.sheets) old.sheets.items)) b named F) (sym c.clear.ensures.items)
-    (subst (λ (s : List (List Seen)). HoldsIn (number_in old) s [] named F)
-    (sym (lent_whole (List Seen) old.sheets.items c.join_into.new.sheets old.sheets.len old.sheets.ok.0 count))
-    (holds_closed (number_in old) old.sheets.items c.join_into.new.sheets old.batch.items named F joined holds))
+    subst (λ (b : List GroupReception). All IsShort b) (sym c.deref.ensures.value)
+    (All-weaker (Belongs (length old.sheets.items)) IsShort (λ heard is. is.short) old.batch.items c.requires.ready.holds.belong)
+
+pub end_batch-requires-clause-shown : goal.end_batch-requires-clause-shown
+end_batch-requires-clause-shown g c = subst (λ (b : List GroupReception). Shows (facts_of_group b) b c.in_ok-shown.shown.items) c.deref.ensures.value c.in_ok-shown.ensures
