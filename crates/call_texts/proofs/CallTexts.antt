@@ -23,7 +23,7 @@ use Rattle.call_values.specs.Areas.{Rectangle, IsArea}
 use Rattle.call_grammar.specs.Spelling.{category_symbol, end_symbol}
 use Rattle.line_grammar.specs.Shapes.{digits}
 use Rattle.call_values.specs.Calls.{IsCasualty, IsCall}
-use Rattle.dsc_symbols.specs.declared.ends.TheConstants.{ENDS, RELAY_ENDS, TEST_ENDS}
+use Rattle.dsc_symbols.specs.declared.sets.TheConstants.{ENDS, RELAY_ENDS, TEST_ENDS}
 use Rattle.call_texts.specs.CallGrammar as grammar
 use Rattle.call_texts.specs.CallParts.{position_text, time_text, area_text, frequency_text, address_text, relay_end, test_end, message_parts}
 use Rattle.call_texts.specs.inside.Places.{call_parts}

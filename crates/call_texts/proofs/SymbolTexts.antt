@@ -12,8 +12,7 @@ use Rattle.call_values.specs.declared.choices.Category.{Category}
 use Rattle.call_values.specs.declared.choices.End.{End}
 use Rattle.call_values.proofs.PublicLaws.{end_one}
 use Rattle.call_grammar.specs.Spelling.{category_symbol, end_symbol}
-use Rattle.dsc_symbols.specs.declared.categories.TheConstants.{BELOW_DISTRESS}
-use Rattle.dsc_symbols.specs.declared.ends.TheConstants.{ENDS, RELAY_ENDS, TEST_ENDS}
+use Rattle.dsc_symbols.specs.declared.sets.TheConstants.{BELOW_DISTRESS, ENDS, RELAY_ENDS, TEST_ENDS}
 use Rattle.call_texts.specs.CallParts.{relay_end, test_end}
 use Rattle.call_texts.specs.CallGrammar.{identity, symbol, nature, category, comm, first_command, second_command}
 

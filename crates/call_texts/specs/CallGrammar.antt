@@ -1,10 +1,6 @@
 -- The grammar of call texts, one row for each form: this project's profile over the forms of ITU-R M.493.
 use Rattle.std.specs.Prelude.{ℕ, List, [], ◌∷◌, codes}
-use Rattle.dsc_symbols.specs.declared.categories.TheConstants.{BELOW_DISTRESS}
-use Rattle.dsc_symbols.specs.declared.ends.TheConstants.{ENDS, RELAY_ENDS, TEST_ENDS}
-use Rattle.dsc_symbols.specs.declared.natures.TheConstants.{NATURES}
-use Rattle.dsc_symbols.specs.declared.notices.TheConstants.{SECONDS}
-use Rattle.dsc_symbols.specs.declared.telecommands.TheConstants.{COMMS, FIRSTS}
+use Rattle.dsc_symbols.specs.declared.sets.TheConstants.{BELOW_DISTRESS, COMMS, ENDS, FIRSTS, NATURES, RELAY_ENDS, SECONDS, TEST_ENDS}
 use Rattle.call_values.specs.declared.bounds.TheConstants.{IDENTITIES, SIX_DIGITS, EIGHT_DIGITS}
 use Rattle.expansion.specs.declared.bounds.TheConstants.{LAST_ENHANCEMENT, LAST_SPEED, LAST_COURSE}
 use Rattle.line_grammar.specs.Shapes.{Shape, letters, fixed_number, pair, choice}

@@ -11,11 +11,10 @@ ghost use Rattle.line_grammar.specs.inside.Reading.{read_token};
 
 use call_values::bounds::IDENTITIES;
 use call_values::{Category, Comm, End, First, Mmsi, Nature, Second};
-use dsc_symbols::categories::{self, BELOW_DISTRESS};
-use dsc_symbols::ends::{self, ENDS, RELAY_ENDS, TEST_ENDS};
-use dsc_symbols::natures::NATURES;
-use dsc_symbols::notices::SECONDS;
-use dsc_symbols::telecommands::{COMMS, FIRSTS};
+use dsc_symbols::sets::{
+    BELOW_DISTRESS, COMMS, ENDS, FIRSTS, NATURES, RELAY_ENDS, SECONDS, TEST_ENDS,
+};
+use dsc_symbols::{categories, ends};
 use line_grammar::{Left, fixed_number};
 
 /// A value that texts have as one token.

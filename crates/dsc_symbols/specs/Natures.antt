@@ -1,6 +1,6 @@
 -- Natures of distress: ITU-R M.493, nature of distress.
 use Rattle.std.specs.Prelude.{ℕ}
-use Rattle.dsc_symbols.specs.declared.natures.TheConstants.{NATURES}
+use Rattle.dsc_symbols.specs.declared.sets.TheConstants.{NATURES}
 use Rattle.dsc_symbols.specs.Ranges.{IsAmong}
 
 -- the natures of distress: fire or explosion, .., man overboard; and EPIRB emission

@@ -1,7 +1,6 @@
 -- Telecommands: ITU-R M.493, telecommands. Which of them a call may have is this project's profile.
 use Rattle.std.specs.Prelude.{ℕ}
-use Rattle.dsc_symbols.specs.declared.telecommands.TheConstants.{FIRSTS, COMMS}
-use Rattle.dsc_symbols.specs.declared.notices.TheConstants.{SECONDS}
+use Rattle.dsc_symbols.specs.declared.sets.TheConstants.{FIRSTS, COMMS, SECONDS}
 use Rattle.dsc_symbols.specs.Ranges.{IsAmong}
 
 -- the first telecommands: F3E and G3E all modes and duplex, polling, unable to comply, data, J3E, two modes of TTY,

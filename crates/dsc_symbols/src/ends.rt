@@ -8,22 +8,3 @@ pub const ACKNOWLEDGE_BQ: u8 = 122;
 
 /// EOS: neither.
 pub const EOS: u8 = 127;
-
-/// The ends of sequence, in ranges of symbols.
-pub const ENDS: [(u64, u64); 3] = [
-    (ACKNOWLEDGE_RQ as u64, ACKNOWLEDGE_RQ as u64),
-    (ACKNOWLEDGE_BQ as u64, ACKNOWLEDGE_BQ as u64),
-    (EOS as u64, EOS as u64),
-];
-
-/// The ends of sequence of a distress relay, in ranges of symbols.
-pub const RELAY_ENDS: [(u64, u64); 2] = [
-    (ACKNOWLEDGE_RQ as u64, ACKNOWLEDGE_RQ as u64),
-    (EOS as u64, EOS as u64),
-];
-
-/// The ends of sequence of a test and of the reply to one, in ranges of symbols.
-pub const TEST_ENDS: [(u64, u64); 2] = [
-    (ACKNOWLEDGE_RQ as u64, ACKNOWLEDGE_RQ as u64),
-    (ACKNOWLEDGE_BQ as u64, ACKNOWLEDGE_BQ as u64),
-];

@@ -10,6 +10,7 @@ ghost use Rattle.dsc_symbols.specs.declared.notices.TheConstants as notices;
 ghost use Rattle.dsc_symbols.specs.declared.messages.TheConstants as messages;
 ghost use Rattle.dsc_symbols.specs.declared.phasing.TheConstants as phasing;
 ghost use Rattle.dsc_symbols.specs.declared.last_digits.TheConstants as last_digits;
+ghost use Rattle.dsc_symbols.specs.declared.sets.TheConstants as sets;
 
 /// The law that the format specifiers have these numbers (ITU-R M.493, format specifier).
 pub fn format_numbers()
@@ -26,7 +27,7 @@ pub fn category_numbers()
     ensures routine { categories.ROUTINE ≡ 100 }
     ensures safety { categories.SAFETY ≡ 108 }
     ensures urgency { categories.URGENCY ≡ 110 }
-    ensures below_distress { categories.BELOW_DISTRESS ≡ (categories.ROUTINE, categories.ROUTINE) ∷ (categories.SAFETY, categories.SAFETY)
+    ensures below_distress { sets.BELOW_DISTRESS ≡ (categories.ROUTINE, categories.ROUTINE) ∷ (categories.SAFETY, categories.SAFETY)
         ∷ (categories.URGENCY, categories.URGENCY) ∷ [] }
 {}
 
@@ -35,10 +36,10 @@ pub fn end_numbers()
     ensures acknowledge_rq { ends.ACKNOWLEDGE_RQ ≡ 117 }
     ensures acknowledge_bq { ends.ACKNOWLEDGE_BQ ≡ 122 }
     ensures eos { ends.EOS ≡ 127 }
-    ensures ends { ends.ENDS ≡ (ends.ACKNOWLEDGE_RQ, ends.ACKNOWLEDGE_RQ) ∷ (ends.ACKNOWLEDGE_BQ, ends.ACKNOWLEDGE_BQ)
+    ensures ends { sets.ENDS ≡ (ends.ACKNOWLEDGE_RQ, ends.ACKNOWLEDGE_RQ) ∷ (ends.ACKNOWLEDGE_BQ, ends.ACKNOWLEDGE_BQ)
         ∷ (ends.EOS, ends.EOS) ∷ [] }
-    ensures relay_ends { ends.RELAY_ENDS ≡ (ends.ACKNOWLEDGE_RQ, ends.ACKNOWLEDGE_RQ) ∷ (ends.EOS, ends.EOS) ∷ [] }
-    ensures test_ends { ends.TEST_ENDS ≡ (ends.ACKNOWLEDGE_RQ, ends.ACKNOWLEDGE_RQ)
+    ensures relay_ends { sets.RELAY_ENDS ≡ (ends.ACKNOWLEDGE_RQ, ends.ACKNOWLEDGE_RQ) ∷ (ends.EOS, ends.EOS) ∷ [] }
+    ensures test_ends { sets.TEST_ENDS ≡ (ends.ACKNOWLEDGE_RQ, ends.ACKNOWLEDGE_RQ)
         ∷ (ends.ACKNOWLEDGE_BQ, ends.ACKNOWLEDGE_BQ) ∷ [] }
 {}
 
@@ -56,7 +57,7 @@ pub fn nature_numbers()
     ensures piracy { natures.PIRACY ≡ 109 }
     ensures man_overboard { natures.MAN_OVERBOARD ≡ 110 }
     ensures epirb_emission { natures.EPIRB_EMISSION ≡ 112 }
-    ensures natures { natures.NATURES ≡ (natures.FIRE_OR_EXPLOSION, natures.MAN_OVERBOARD)
+    ensures natures { sets.NATURES ≡ (natures.FIRE_OR_EXPLOSION, natures.MAN_OVERBOARD)
         ∷ (natures.EPIRB_EMISSION, natures.EPIRB_EMISSION) ∷ [] }
 {}
 
@@ -74,11 +75,11 @@ pub fn telecommand_numbers()
     ensures tty_arq { telecommands.TTY_ARQ ≡ 115 }
     ensures test { telecommands.TEST ≡ 118 }
     ensures ship_position { telecommands.SHIP_POSITION ≡ 121 }
-    ensures firsts { telecommands.FIRSTS ≡ (telecommands.ALL_MODES, telecommands.DUPLEX)
+    ensures firsts { sets.FIRSTS ≡ (telecommands.ALL_MODES, telecommands.DUPLEX)
         ∷ (telecommands.POLLING, telecommands.UNABLE_TO_COMPLY) ∷ (telecommands.DATA, telecommands.DATA)
         ∷ (telecommands.J3E, telecommands.J3E) ∷ (telecommands.TTY_FEC, telecommands.TTY_FEC)
         ∷ (telecommands.TTY_ARQ, telecommands.TTY_ARQ) ∷ (messages.NO_INFORMATION, messages.NO_INFORMATION) ∷ [] }
-    ensures comms { telecommands.COMMS ≡ (telecommands.ALL_MODES, telecommands.DUPLEX) ∷ (telecommands.DATA, telecommands.DATA)
+    ensures comms { sets.COMMS ≡ (telecommands.ALL_MODES, telecommands.DUPLEX) ∷ (telecommands.DATA, telecommands.DATA)
         ∷ (telecommands.J3E, telecommands.J3E) ∷ (telecommands.TTY_FEC, telecommands.TTY_FEC)
         ∷ (telecommands.TTY_ARQ, telecommands.TTY_ARQ) ∷ (messages.NO_INFORMATION, messages.NO_INFORMATION) ∷ [] }
 {}
@@ -99,7 +100,7 @@ pub fn notice_numbers()
     ensures medical_transport { notices.MEDICAL_TRANSPORT ≡ 111 }
     ensures public_call_office { notices.PUBLIC_CALL_OFFICE ≡ 112 }
     ensures facsimile { notices.FACSIMILE ≡ 113 }
-    ensures seconds { notices.SECONDS ≡ (notices.NO_REASON, notices.FACSIMILE)
+    ensures seconds { sets.SECONDS ≡ (notices.NO_REASON, notices.FACSIMILE)
         ∷ (messages.NO_INFORMATION, messages.NO_INFORMATION) ∷ [] }
 {}
 

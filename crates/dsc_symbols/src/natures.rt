@@ -35,9 +35,3 @@ pub const MAN_OVERBOARD: u8 = 110;
 
 /// Emission of an emergency position-indicating radiobeacon.
 pub const EPIRB_EMISSION: u8 = 112;
-
-/// The natures of distress, in ranges of symbols.
-pub const NATURES: [(u64, u64); 2] = [
-    (FIRE_OR_EXPLOSION as u64, MAN_OVERBOARD as u64),
-    (EPIRB_EMISSION as u64, EPIRB_EMISSION as u64),
-];

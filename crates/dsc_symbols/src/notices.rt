@@ -1,6 +1,4 @@
 //! The second telecommands: why a station can't comply, and what is asked for besides.
-use crate::messages::NO_INFORMATION;
-
 /// No reason given.
 pub const NO_REASON: u8 = 100;
 
@@ -42,9 +40,3 @@ pub const PUBLIC_CALL_OFFICE: u8 = 112;
 
 /// Facsimile.
 pub const FACSIMILE: u8 = 113;
-
-/// The second telecommands, in ranges of symbols.
-pub const SECONDS: [(u64, u64); 2] = [
-    (NO_REASON as u64, FACSIMILE as u64),
-    (NO_INFORMATION as u64, NO_INFORMATION as u64),
-];

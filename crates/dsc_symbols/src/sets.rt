@@ -1,4 +1,4 @@
-//! The symbols that each field of a call may have.
+//! The symbols that each field of a call may have, as ranges for texts and as tests.
 ghost use Rattle.std.specs.Prelude.{◌↔◌, IsTrue};
 ghost use Rattle.dsc_symbols.specs.Formats.{IsFormat};
 ghost use Rattle.dsc_symbols.specs.Categories.{IsCategory};
@@ -11,6 +11,71 @@ use crate::telecommands::{
     ALL_MODES, DATA, DUPLEX, J3E, POLLING, TTY_ARQ, TTY_FEC, UNABLE_TO_COMPLY,
 };
 use crate::{categories, ends, formats, natures, notices};
+
+/// The categories of calls that are no distress calls, in ranges of symbols.
+pub const BELOW_DISTRESS: [(u64, u64); 3] = [
+    (categories::ROUTINE as u64, categories::ROUTINE as u64),
+    (categories::SAFETY as u64, categories::SAFETY as u64),
+    (categories::URGENCY as u64, categories::URGENCY as u64),
+];
+
+/// The ends of sequence, in ranges of symbols.
+pub const ENDS: [(u64, u64); 3] = [
+    (ends::ACKNOWLEDGE_RQ as u64, ends::ACKNOWLEDGE_RQ as u64),
+    (ends::ACKNOWLEDGE_BQ as u64, ends::ACKNOWLEDGE_BQ as u64),
+    (ends::EOS as u64, ends::EOS as u64),
+];
+
+/// The ends of sequence of a distress relay, in ranges of symbols.
+pub const RELAY_ENDS: [(u64, u64); 2] = [
+    (ends::ACKNOWLEDGE_RQ as u64, ends::ACKNOWLEDGE_RQ as u64),
+    (ends::EOS as u64, ends::EOS as u64),
+];
+
+/// The ends of sequence of a test and of the reply to one, in ranges of symbols.
+pub const TEST_ENDS: [(u64, u64); 2] = [
+    (ends::ACKNOWLEDGE_RQ as u64, ends::ACKNOWLEDGE_RQ as u64),
+    (ends::ACKNOWLEDGE_BQ as u64, ends::ACKNOWLEDGE_BQ as u64),
+];
+
+/// The natures of distress, in ranges of symbols.
+pub const NATURES: [(u64, u64); 2] = [
+    (
+        natures::FIRE_OR_EXPLOSION as u64,
+        natures::MAN_OVERBOARD as u64,
+    ),
+    (
+        natures::EPIRB_EMISSION as u64,
+        natures::EPIRB_EMISSION as u64,
+    ),
+];
+
+/// The first telecommands of calls that have no form of their own, in ranges of symbols.
+pub const FIRSTS: [(u64, u64); 7] = [
+    (ALL_MODES as u64, DUPLEX as u64),
+    (POLLING as u64, UNABLE_TO_COMPLY as u64),
+    (DATA as u64, DATA as u64),
+    (J3E as u64, J3E as u64),
+    (TTY_FEC as u64, TTY_FEC as u64),
+    (TTY_ARQ as u64, TTY_ARQ as u64),
+    (NO_INFORMATION as u64, NO_INFORMATION as u64),
+];
+
+/// The subsequent communications of a distress call, in ranges of symbols.
+pub const COMMS: [(u64, u64); 6] = [
+    (ALL_MODES as u64, DUPLEX as u64),
+    (DATA as u64, DATA as u64),
+    (J3E as u64, J3E as u64),
+    (TTY_FEC as u64, TTY_FEC as u64),
+    (TTY_ARQ as u64, TTY_ARQ as u64),
+    (NO_INFORMATION as u64, NO_INFORMATION as u64),
+];
+
+/// The second telecommands, in ranges of symbols.
+pub const SECONDS: [(u64, u64); 2] = [
+    (notices::NO_REASON as u64, notices::FACSIMILE as u64),
+    (NO_INFORMATION as u64, NO_INFORMATION as u64),
+];
 
 /// Whether calls begin with this symbol (ITU-R M.493, format specifier).
 pub fn is_format(symbol: u8) -> bool

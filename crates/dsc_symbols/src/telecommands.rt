@@ -1,6 +1,4 @@
 //! The first telecommands, and the subsequent communications of distress calls.
-use crate::messages::NO_INFORMATION;
-
 /// F3E or G3E telephony, all modes.
 pub const ALL_MODES: u8 = 100;
 
@@ -36,24 +34,3 @@ pub const TEST: u8 = 118;
 
 /// Ship position.
 pub const SHIP_POSITION: u8 = 121;
-
-/// The first telecommands of calls that have no form of their own, in ranges of symbols.
-pub const FIRSTS: [(u64, u64); 7] = [
-    (ALL_MODES as u64, DUPLEX as u64),
-    (POLLING as u64, UNABLE_TO_COMPLY as u64),
-    (DATA as u64, DATA as u64),
-    (J3E as u64, J3E as u64),
-    (TTY_FEC as u64, TTY_FEC as u64),
-    (TTY_ARQ as u64, TTY_ARQ as u64),
-    (NO_INFORMATION as u64, NO_INFORMATION as u64),
-];
-
-/// The subsequent communications of a distress call, in ranges of symbols.
-pub const COMMS: [(u64, u64); 6] = [
-    (ALL_MODES as u64, DUPLEX as u64),
-    (DATA as u64, DATA as u64),
-    (J3E as u64, J3E as u64),
-    (TTY_FEC as u64, TTY_FEC as u64),
-    (TTY_ARQ as u64, TTY_ARQ as u64),
-    (NO_INFORMATION as u64, NO_INFORMATION as u64),
-];
