@@ -29,18 +29,8 @@ fn words_that_are_nearly_a_command(rt: HostRuntime) -> Result<(), Fail> {
 /// The commands as the manual has them: how the program is used names each of them, in ten lines at most.
 #[test]
 fn usage_names_each_command(rt: HostRuntime) -> Result<(), Fail> {
-    for name in [
-        "join",
-        "evidence",
-        "watch",
-        "capture",
-        "encode",
-        "sentences",
-        "book",
-        "replay",
-        "exchange",
-        "make",
-    ] {
+    let names = "join evidence watch capture encode sentences book replay exchange make";
+    for name in names.split_whitespace() {
         assert!(rt; USAGE.split_whitespace().any(|word| word == name), "{name}");
     }
     assert!(rt; USAGE.lines().count() <= 10);

@@ -1,6 +1,6 @@
 //! Who enters the gate, how often, and what was read by then. No clause can see it.
 
-use crate::tests::receptions::{Row, WHOLE, damaged, line, words_of};
+use crate::tests::receptions::{DIFFERENT, WHOLE, damaged, line, words_of};
 use dsc_cmd::{Failed, Source, SureSink, SureSource, run};
 use dsc_symbols::worked::ALERT_SLOTS;
 use receiver_pool::Gate;
@@ -132,12 +132,8 @@ fn entries_of_a_watch_are_counted(rt: HostRuntime) -> Result<(), Fail> {
 #[test]
 fn receptions_without_news_wait_for_no_batch(rt: HostRuntime) -> Result<(), Fail> {
     let alloc = rt.alloc();
-    let other = Row {
-        other: &[(26, 120), (31, 120)],
-        ..WHOLE
-    };
     let whole = line(alloc, &ALERT_SLOTS, &WHOLE)?;
-    let other = line(alloc, &ALERT_SLOTS, &other)?;
+    let other = line(alloc, &ALERT_SLOTS, &DIFFERENT)?;
     let first = damaged(alloc, false)?;
     let second = damaged(alloc, true)?;
     for (lines, want) in [

@@ -32,6 +32,12 @@ pub(crate) const WHOLE: Row = Row {
     other: &[],
 };
 
+// A whole reception with another symbol in both copies of a place.
+pub(crate) const DIFFERENT: Row = Row {
+    other: &[(26, 120), (31, 120)],
+    ..WHOLE
+};
+
 // A reception of the RX copies alone, but for that of place 7.
 pub(crate) const WITHOUT_DX: Row = Row {
     lost: &LOST_DX_AND_PLACE_7,

@@ -1,6 +1,6 @@
 //! Calls that are told while an input is read.
 use crate::tests::receptions::{
-    Row, THREE_DX, WHOLE, compare, damaged, line, of_group, two_damaged, words_of,
+    DIFFERENT, THREE_DX, compare, damaged, line, of_group, two_damaged, words_of,
 };
 use dsc_cmd::{ByteSink, ByteSource, SureSink, SureSource, run};
 use dsc_symbols::worked::ALERT_SLOTS;
@@ -139,12 +139,8 @@ fn two_full_batches_are_told(rt: HostRuntime) -> Result<(), Fail> {
 #[test]
 fn a_told_call_stays_told(rt: HostRuntime) -> Result<(), Fail> {
     let alloc = rt.alloc();
-    let other = Row {
-        other: &[(26, 120), (31, 120)],
-        ..WHOLE
-    };
     let mut input = two_damaged(alloc)?;
-    input.extend_from_slice(&line(alloc, &ALERT_SLOTS, &other)?)?;
+    input.extend_from_slice(&line(alloc, &ALERT_SLOTS, &DIFFERENT)?)?;
     let want = format!(in alloc; "{TOLD}g0 differ 7 106 120\n")?;
     let words = words_of(alloc, "dsc watch")?;
     let mut source = SureSource::new(input, 1);
