@@ -92,10 +92,8 @@ pub fn perhaps_number(
     if is_nothing(text) {
         return Ok(None);
     }
-    match number(k, width, most, text) {
-        Ok(number) => Ok(Some(number)),
-        Err(refusal) => Err(refusal),
-    }
+    let number = number(k, width, most, text)?;
+    Ok(Some(number))
 }
 
 /// Field k, where its text is two digits that make one of these numbers.
@@ -122,10 +120,8 @@ pub fn perhaps_code(k: usize, numbers: &[u8], text: &[u8]) -> Result<Option<u8>,
     if is_nothing(text) {
         return Ok(None);
     }
-    match code(k, numbers, text) {
-        Ok(number) => Ok(Some(number)),
-        Err(refusal) => Err(refusal),
-    }
+    let number = code(k, numbers, text)?;
+    Ok(Some(number))
 }
 
 /// The digits of a text.
@@ -193,10 +189,8 @@ pub fn perhaps_digits<const N: usize>(
     if is_nothing(text) {
         return Ok(None);
     }
-    match digits(k, text) {
-        Ok(digits) => Ok(Some(digits)),
-        Err(refusal) => Err(refusal),
-    }
+    let digits = digits(k, text)?;
+    Ok(Some(digits))
 }
 
 /// Field k, where its text is at most N digits.
