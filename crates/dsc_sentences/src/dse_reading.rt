@@ -94,20 +94,16 @@ fn read_fields(fields: &mut Cursor) -> Result<DseParts, SentenceRefusal>
 fn parts_read(bytes: &[u8]) -> Result<DseParts, SentenceRefusal>
     ensures { inside.PartsAnswer result bytes.now }
 {
-    match fields_of(b"$CDDSE", &[6, 8, 10], bytes) {
-        Ok(mut fields) => read_fields(&mut fields),
-        Err(refusal) => Err(refusal),
-    }
+    let mut fields = fields_of(b"$CDDSE", &[6, 8, 10], bytes)?;
+    read_fields(&mut fields)
 }
 
 /// The DSE sentence whose bytes these are; else the first refusal.
 pub fn read_dse(bytes: &[u8]) -> Result<DseSentence, SentenceRefusal>
     ensures { dse.IsReading bytes.now result }
 {
-    match parts_read(bytes) {
-        Ok(parts) => Ok(sentence_of(&parts)),
-        Err(refusal) => Err(refusal),
-    }
+    let parts = parts_read(bytes)?;
+    Ok(sentence_of(&parts))
 }
 
 /// The sentence of these parts.

@@ -59,18 +59,14 @@ fn append_line_end(bytes: &mut ArrayVec<u8, LONGEST_SENTENCE>, text: &[u8])
 fn heard_as_dsc(bytes: &[u8]) -> Result<Option<DscSentence>, SentenceRefusal>
     ensures { IsHeardAsDsc bytes.now result }
 {
-    match fields_read(bytes) {
-        Ok(fields) => Ok(Some(DscSentence { fields })),
-        Err(refusal) => Err(refusal),
-    }
+    let fields = fields_read(bytes)?;
+    Ok(Some(DscSentence { fields }))
 }
 
 /// What is heard of bytes that are read as a DSE sentence: no DSC sentence, or a refusal.
 fn heard_as_dse(bytes: &[u8]) -> Result<Option<DscSentence>, SentenceRefusal>
     ensures { IsHeardAsDse bytes.now result }
 {
-    match read_dse(bytes) {
-        Ok(_) => Ok(None),
-        Err(refusal) => Err(refusal),
-    }
+    let _sentence = read_dse(bytes)?;
+    Ok(None)
 }

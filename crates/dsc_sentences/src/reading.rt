@@ -50,18 +50,14 @@ fn read_fields(fields: &mut Cursor) -> Result<DscFields, SentenceRefusal>
 pub(crate) fn fields_read(bytes: &[u8]) -> Result<DscFields, SentenceRefusal>
     ensures { inside.FieldsAnswer result bytes.now }
 {
-    match fields_of(b"$CDDSC", &[11], bytes) {
-        Ok(mut fields) => read_fields(&mut fields),
-        Err(refusal) => Err(refusal),
-    }
+    let mut fields = fields_of(b"$CDDSC", &[11], bytes)?;
+    read_fields(&mut fields)
 }
 
 /// The DSC sentence whose bytes these are; else the first refusal.
 pub fn read(bytes: &[u8]) -> Result<DscSentence, SentenceRefusal>
     ensures { IsReading bytes.now result }
 {
-    match fields_read(bytes) {
-        Ok(fields) => Ok(DscSentence { fields }),
-        Err(refusal) => Err(refusal),
-    }
+    let fields = fields_read(bytes)?;
+    Ok(DscSentence { fields })
 }
