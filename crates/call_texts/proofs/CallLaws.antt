@@ -1,9 +1,10 @@
 -- the texts of calls, with and without an expansion
-use Rattle.std.proofs.Common.{◌≡◌, ℕ, true, List, ◌++◌, refl, sym, ◌∙◌, ap}
+use Rattle.std.proofs.Common.{◌≡◌, ℕ, true, List, ◌++◌, Option, Some, None, refl, sym, ◌∙◌, ap, subst}
 use Rattle.call_values.specs.declared.calls.Call.{Call}
 use Rattle.call_values.specs.declared.calls.Call.TheVariants.{Alert, Ack, Relay, RelayAck, AllShips, AreaCall, GroupCall, Individual, Service}
 use Rattle.call_values.specs.declared.parts.Kind.TheVariants.{Test, AskPosition, Position}
 use Rattle.call_values.specs.Calls.{IsCall}
+use Rattle.expansion.specs.declared.values.Sets.{Sets}
 use Rattle.slot_join.specs.declared.joined.Extra.{Extra}
 use Rattle.slot_join.specs.declared.joined.Extra.TheVariants.{Absent, Whole, Broken}
 use Rattle.line_grammar.specs.Grammar.{Grammar, finish, none, Spells, written}
@@ -12,10 +13,10 @@ use Rattle.line_grammar.specs.inside.Soundness.{is_sound}
 use Rattle.line_grammar.proofs.Stops.{IsAlike}
 use Rattle.call_texts.specs.CallGrammar.{calls, expansion, perhaps}
 use Rattle.call_texts.specs.CallParts.{call_text, expansion_text}
-use Rattle.call_texts.specs.Texts.{IsCallText, IsWholeOrAbsent, extra_text, reported_text}
+use Rattle.call_texts.specs.Texts.{IsCallText, IsWholeOrAbsent, extra_of, extra_text, reported_text}
 use Rattle.call_texts.specs.inside.Expansions.{extra_parts}
 use Rattle.call_texts.specs.inside.Places.{call_parts}
-use Rattle.line_grammar.proofs.Sections.{followed, closed}
+use Rattle.line_grammar.proofs.Sections.{Section, followed, closed, renamed}
 use Rattle.call_texts.proofs.CallTexts.{calls_section}
 use Rattle.call_texts.proofs.ExpansionTexts.{extra_section}
 use Rattle.line_grammar.proofs.Forms.{Texts, one_value, texts_alike}
@@ -63,24 +64,45 @@ text_is c x h k =
     ap (λ (l : List ℕ). l ++ extra_text x) (bare_is c) ∙ ap (λ (l : List ℕ). written (calls finish) (call_parts c none) ++ l) (extra_is x k)
     ∙ sym (calls_section.split c h (perhaps expansion finish) (extra_parts x none))
 
+-- what follows a call, by the expansion
+abbrev expansion_in : Extra → Option Sets
+expansion_in (Whole x) = Some x
+expansion_in _ = None
+
+told_again : (x : Option Sets) → expansion_in (extra_of x) ≡ x
+told_again None = refl
+told_again (Some x) = refl
+
+whole_again : (x : Extra) → IsWholeOrAbsent x → extra_of (expansion_in x) ≡ x
+whole_again Absent h = refl
+whole_again (Whole x) h = refl
+whole_again (Broken n) h = absurd h
+
+sent_section : Section {V = Option Sets} (perhaps expansion) (λ x. IsWholeOrAbsent (extra_of x)) (λ x. extra_parts (extra_of x))
+sent_section =
+    renamed extra_section extra_of expansion_in (λ x h. h) (λ w h. subst IsWholeOrAbsent (sym (whole_again w h)) h) (λ x h. told_again x) (λ x h q. refl)
+    (λ w h q. ap (λ (x : Extra). extra_parts x q) (whole_again w h))
+
 pub with_expansion_sound : is_sound with_expansion ≡ true
 unfolding fits
 with_expansion_sound = refl
 
-pub texts : Texts {V = Call × Extra} with_expansion (λ w. IsCall w.0 × IsWholeOrAbsent w.1) (λ w. call_parts w.0 (extra_parts w.1 none)) (λ w. reported_text w.0 w.1)
+pub texts : Texts {V = Call × Option Sets} with_expansion (λ w. IsCall w.0 × IsWholeOrAbsent (extra_of w.1)) (λ w. call_parts w.0 (extra_parts (extra_of w.1) none)) (λ w. reported_text w.0 (extra_of w.1))
 texts = record {
-  form = closed (followed calls_section extra_section);
+  form = closed (followed calls_section sent_section);
   sound = with_expansion_sound;
   plain = refl;
   all = refl;
-  text_is = λ w h. text_is w.0 w.1 h.0 h.1;
+  text_is = λ w h. text_is w.0 (extra_of w.1) h.0 h.1;
 }
 
 -- two texts belong to two calls or to two expansions
 pub one_call : (a b : Call) (x y : Extra) → IsCall a → IsCall b → IsWholeOrAbsent x → IsWholeOrAbsent y → reported_text a x ≡ reported_text b y → (a ≡ b) × (x ≡ y)
 one_call a b x y h k m n e =
-    let same = one_value texts (a, x) (b, y) (h, m) (k, n) e in
-    (ap (λ (w : Call × Extra). w.0) same, ap (λ (w : Call × Extra). w.1) same)
+    let there = whole_again x m in
+    let other = whole_again y n in
+    let same = one_value texts (a, expansion_in x) (b, expansion_in y) (h, subst IsWholeOrAbsent (sym there) m) (k, subst IsWholeOrAbsent (sym other) n) (ap (reported_text a) there ∙ e ∙ sym (ap (reported_text b) other)) in
+    (ap (λ (w : Call × Option Sets). w.0) same, sym there ∙ ap (λ (w : Call × Option Sets). extra_of w.1) same ∙ other)
 
 -- the lines of the grammar are these texts
 pub call_texts_alike : IsAlike (Spells with_expansion) IsCallText

@@ -1,9 +1,10 @@
 -- The texts of calls with what follows them, and of answers: this project's profile.
-use Rattle.std.specs.Prelude.{◌≡◌, ℕ, List, [], ◌∷◌, ◌++◌, codes, decimal}
+use Rattle.std.specs.Prelude.{◌≡◌, ℕ, List, [], ◌∷◌, ◌++◌, Option, Some, None, codes, decimal}
 use Rattle.line_grammar.specs.Bytes.{line_feed}
 use Rattle.call_values.specs.declared.calls.Call.{Call}
 use Rattle.call_values.specs.Calls.{IsCall}
 use Rattle.expansion.specs.Expansions.{IsExpansion}
+use Rattle.expansion.specs.declared.values.Sets.{Sets}
 use Rattle.slot_join.specs.declared.joined.Extra.{Extra}
 use Rattle.slot_join.specs.declared.joined.Extra.TheVariants.{Absent, Whole, Broken}
 use Rattle.slot_join.specs.declared.joined.Joined.{Joined}
@@ -30,9 +31,14 @@ IsWholeOrAbsent Absent = Unit {0}
 IsWholeOrAbsent (Whole x) = IsExpansion x
 IsWholeOrAbsent (Broken n) = ⊥
 
+-- what an answer says after a call that was sent with this expansion after it, or with none
+abbrev pub extra_of : Option Sets → Extra
+extra_of None = Absent
+extra_of (Some x) = Whole x
+
 -- the bytes are the text of a call whose parts are in their ranges, and of such an expansion where one follows
-abbrev pub IsCallText : Call × Extra → List ℕ → Type 0
-IsCallText (call, extra) bytes = (IsCall call × IsWholeOrAbsent extra) × (bytes ≡ reported_text call extra)
+abbrev pub IsCallText : Call × Option Sets → List ℕ → Type 0
+IsCallText (call, expansion) bytes = (IsCall call × IsWholeOrAbsent (extra_of expansion)) × (bytes ≡ reported_text call (extra_of expansion))
 
 -- what an answer says, with the places and symbols that it names as plain numbers
 abbrev pub report_text : Joined → List ℕ

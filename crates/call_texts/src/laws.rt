@@ -1,5 +1,5 @@
 //! Laws: each function here does nothing, and its contract is a theorem over definitions.
-ghost use Rattle.std.specs.Prelude.{◌≡◌, ℕ, ◌+◌, length, Result, Ok, Err};
+ghost use Rattle.std.specs.Prelude.{◌≡◌, ℕ, ◌+◌, length, Option, Result, Ok, Err};
 ghost use Rattle.call_values.specs.declared.calls.Call.{Call};
 ghost use Rattle.call_values.specs.Calls.{IsCall};
 ghost use Rattle.expansion.specs.declared.values.Sets.{Sets};
@@ -7,14 +7,14 @@ ghost use Rattle.slot_join.specs.declared.joined.Extra.{Extra};
 ghost use Rattle.slot_join.specs.declared.joined.Extra.TheVariants.{Whole};
 ghost use Rattle.line_grammar.specs.Columns.{ReadsAs};
 ghost use Rattle.call_texts.specs.CallParts.{call_text};
-ghost use Rattle.call_texts.specs.Texts.{IsBareCallText, IsCallText, IsWholeOrAbsent, reported_text};
+ghost use Rattle.call_texts.specs.Texts.{IsBareCallText, IsCallText, IsWholeOrAbsent, extra_of, reported_text};
 
 /// The law that of a call's text, and of an expansion's where one follows, reading can answer nothing but this call and
 /// this expansion.
 pub fn call_texts_are_read()
-    ensures { (call : Call) (extra : Extra) (answer : Result (Call × Extra) ℕ)
-        → IsCall call → IsWholeOrAbsent extra → ReadsAs IsCallText (reported_text call extra) answer
-        → answer ≡ Ok (call, extra) }
+    ensures { (call : Call) (expansion : Option Sets) (answer : Result (Call × Option Sets) ℕ)
+        → IsCall call → IsWholeOrAbsent (extra_of expansion)
+        → ReadsAs IsCallText (reported_text call (extra_of expansion)) answer → answer ≡ Ok (call, expansion) }
 {}
 
 /// The law that of a call's text, where no expansion may follow, reading can answer nothing but this call.

@@ -21,7 +21,7 @@ use Rattle.slot_join.specs.Intact.{IsExpandedBy}
 use Rattle.expansion.specs.declared.values.Sets.{Sets}
 use Rattle.expansion.specs.Expansions.{IsExpansion}
 use Rattle.slot_evidence.proofs.PublicLaws.{itself}
-use Rattle.input_lines.specs.CallLine.{extra_of}
+use Rattle.call_texts.specs.Texts.{extra_of}
 use Rattle.input_lines.specs.ReceiverLine.{ReceiverLine, nothing, reception, evidence, text_of_reception}
 use Rattle.input_lines.specs.Lines.{facts_of_pairs}
 use Rattle.join_groups.specs.Groups.{names, is_named, facts_of_line, group_facts}

@@ -5,7 +5,7 @@ use Rattle.line_grammar.specs.Bytes.{line_feed}
 use Rattle.call_values.specs.declared.calls.Call.{Call}
 use Rattle.expansion.specs.declared.values.Sets.{Sets}
 use Rattle.slot_join.specs.declared.joined.Joined.TheVariants.{Reported}
-use Rattle.input_lines.specs.CallLine.{extra_of}
+use Rattle.call_texts.specs.Texts.{extra_of}
 use Rattle.input_lines.specs.ReceiverLine.{ReceiverLine, reception, IsLine}
 use Rattle.join_groups.specs.Groups.{names, is_named}
 use Rattle.join_groups.specs.Output.{GroupLine}

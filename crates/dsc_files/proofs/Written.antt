@@ -7,7 +7,7 @@ use Rattle.slot_evidence.specs.declared.places.Seen.{Seen}
 use Rattle.slot_evidence.specs.Sheet.{IsSheet}
 use Rattle.slot_join.specs.declared.joined.Extra.{Extra}
 use Rattle.slot_join.specs.declared.joined.Extra.TheVariants.{Absent, Whole, Broken}
-use Rattle.call_texts.specs.Texts.{IsWholeOrAbsent, reported_text}
+use Rattle.call_texts.specs.Texts.{IsWholeOrAbsent, extra_of, reported_text}
 use Rattle.input_lines.specs.Evidence.{evidence_text}
 use Rattle.input_lines.specs.declared.fault.LineFault.{LineFault}
 use Rattle.input_lines.specs.declared.fault.LineFault.TheVariants as fault
@@ -15,7 +15,7 @@ use Rattle.input_lines.specs.declared.join.JoinLine.{JoinLine as Got}
 use Rattle.input_lines.specs.declared.join.JoinLine.TheVariants as got
 use Rattle.input_lines.specs.declared.calls.CallLine.{CallLine}
 use Rattle.input_lines.specs.declared.calls.CallLine.TheVariants as call
-use Rattle.input_lines.specs.CallLine.{extra_of, IsCallLine}
+use Rattle.input_lines.specs.CallLine.{IsCallLine}
 use Rattle.input_lines.specs.Lines.{ReadsJoin}
 use Rattle.dsc_files.specs.declared.lines.Line.{Line}
 use Rattle.dsc_files.specs.declared.lines.Line.TheVariants as line

@@ -11,6 +11,7 @@ use Rattle.traffic_lines.specs.declared.worlds.EndEvent as entries
 use Rattle.traffic_lines.specs.declared.worlds.EndEvent.TheVariants.{AtShip, AtCoast}
 use Rattle.traffic_lines.specs.declared.worlds.WorldLine.{WorldLine}
 use Rattle.traffic_lines.specs.declared.worlds.WorldLine.TheVariants as world
+use Rattle.call_texts.specs.Texts.{extra_of}
 use Rattle.input_lines.specs.declared.fault.LineFault.{LineFault}
 use Rattle.input_lines.specs.declared.fault.LineFault.TheVariants as fault
 use Rattle.input_lines.specs.declared.join.JoinLine.{JoinLine as Got}
@@ -22,7 +23,7 @@ use Rattle.input_lines.specs.declared.sentences.SentenceLine.{SentenceLine}
 use Rattle.input_lines.specs.declared.sentences.SentenceLine.TheVariants as sentence
 use Rattle.input_lines.specs.declared.books.BookLine.{BookLine}
 use Rattle.input_lines.specs.declared.books.BookLine.TheVariants as book
-use Rattle.input_lines.specs.CallLine.{extra_of, IsCallLine}
+use Rattle.input_lines.specs.CallLine.{IsCallLine}
 use Rattle.input_lines.specs.SentenceLine.{IsSentenceLine}
 use Rattle.input_lines.specs.StreamLine.{IsStreamLine}
 use Rattle.input_lines.specs.BookLine.{IsBookLine}

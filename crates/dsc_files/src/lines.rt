@@ -1,12 +1,11 @@
 //! What a line of a file of any kind says.
 ghost use Rattle.std.specs.Prelude.{◌≡◌, Some};
-ghost use Rattle.input_lines.specs.CallLine as calls;
 ghost use Rattle.dsc_files.specs.Files.{line_of_book, line_of_call, line_of_entry, line_of_join, line_of_point, line_of_sentence, line_of_traffic, line_of_world};
 
 use crate::events::{EventLine, ExchangeLine, event_line, exchange_line};
 use crate::points::PointLine;
+use call_texts::extra_of;
 use call_values::{Band, Call, Mmsi};
-use expansion::Expansion;
 use input_lines::{BookLine, CallLine, JoinLine, SentenceLine};
 use slot_evidence::{Reception, Sheet};
 use slot_join::Extra;
@@ -71,16 +70,6 @@ impl From<JoinLine> for Line {
             JoinLine::Reception { group, elements } => Line::Reception { group, elements },
             JoinLine::Evidence { group, sheet } => Line::Evidence { group, sheet },
         }
-    }
-}
-
-/// What an answer says after a call that was sent with this expansion after it, or with none.
-fn extra_of(expansion: Option<Expansion>) -> Extra
-    ensures { result ≡ calls.extra_of expansion }
-{
-    match expansion {
-        None => Extra::Absent,
-        Some(sets) => Extra::Whole(sets),
     }
 }
 

@@ -8,7 +8,6 @@ use Rattle.call_values.specs.declared.parts.Kind.TheVariants as kind
 use Rattle.call_values.specs.Calls.{IsCall}
 use Rattle.expansion.specs.declared.values.Sets.{Sets}
 use Rattle.slot_join.specs.declared.joined.Extra.{Extra}
-use Rattle.slot_join.specs.declared.joined.Extra.TheVariants.{Absent, Whole, Broken}
 use Rattle.line_grammar.specs.Columns.{Begins, IsColumn}
 use Rattle.line_grammar.specs.Grammar as grammars
 use Rattle.line_grammar.specs.Grammar.{Grammar, finish, anything, word, either, Spells, Parts, written}
@@ -17,7 +16,7 @@ use Rattle.line_grammar.proofs.Grammars.{choice_back}
 use Rattle.line_grammar.proofs.Judged.{HasGrammar, IsJudged, judged, of_grammar, of_alike, of_choice}
 use Rattle.line_grammar.proofs.Stops.{IsChoice, left_le, IsColumn-stops}
 use Rattle.call_texts.specs.CallParts.{call_text}
-use Rattle.call_texts.specs.Texts.{IsCallText, IsWholeOrAbsent, reported_text}
+use Rattle.call_texts.specs.Texts.{IsCallText, IsWholeOrAbsent, extra_of, reported_text}
 use Rattle.call_texts.proofs.PublicLaws.{with_expansion, with_expansion_sound, call_texts_alike}
 use Rattle.traffic_lines.specs.declared.worlds.EndEvent.TheVariants.{AtShip, AtCoast}
 use Rattle.traffic_lines.specs.declared.worlds.ExchangePoint.{ExchangePoint}
@@ -32,7 +31,7 @@ use Rattle.input_lines.specs.declared.calls.CallLine.TheVariants as call_line
 use Rattle.input_lines.specs.declared.sentences.SentenceLine.{SentenceLine}
 use Rattle.input_lines.specs.declared.sentences.SentenceLine.TheVariants.{Said, Sentence}
 use Rattle.input_lines.specs.BookLine.{is_sentence, IsBookLine}
-use Rattle.input_lines.specs.CallLine.{extra_of, IsCallLine}
+use Rattle.input_lines.specs.CallLine.{IsCallLine}
 use Rattle.input_lines.specs.SentenceLine.{IsSentenceLine, SayTheSame}
 use Rattle.input_lines.specs.ReceiverLine.{empty_or_comment, IsNothing, sign_of, signs_parts, ReceiverLine, nothing, reception, evidence, IsLine}
 use Rattle.input_lines.specs.WorldLine.{IsWorldFileLine}
@@ -155,24 +154,12 @@ call_first : (c : Call) (x : Extra) (text : List ℕ) → text ≡ reported_text
 call_first c x text is (inl e) = let s = begins_so c x in eqb-false s.0 35 s.2 (sym s.1 ∙ ap first_of (sym is) ∙ e)
 call_first c x text is (inr e) = let s = begins_so c x in eqb-false s.0 36 s.3 (sym s.1 ∙ ap first_of (sym is) ∙ e)
 
--- the line that a call's text is
-line_of_text : Call × Extra → CallLine
-line_of_text (c, Absent) = call_line.Call c None
-line_of_text (c, Whole x) = call_line.Call c (Some x)
-line_of_text (c, Broken n) = call_line.Call c None
-
-is_line_of_text : (w : Call × Extra) (text : List ℕ) → IsCallText w text → IsCallLine (line_of_text w) text
-unfolding line_of_text
-is_line_of_text (c, Absent) text is = is
-is_line_of_text (c, Whole x) text is = is
-is_line_of_text (c, Broken n) text is = absurd is.0.1
-
 calls_choice : IsChoice Nothings IsCallText IsCallLine
 unfolding Nothings
 calls_choice = record {
   left = λ _ text h. (call_line.Nothing, h);
-  right = λ t text h. (line_of_text t, is_line_of_text t text h);
-  back = elim [ call_line.Nothing ↦ λ text is. inl (tt, is) | call_line.Call c x ↦ λ text is. inr ((c, extra_of x), is) ];
+  right = λ t text h. (call_line.Call t.0 t.1, h);
+  back = elim [ call_line.Nothing ↦ λ text is. inl (tt, is) | call_line.Call c x ↦ λ text is. inr ((c, x), is) ];
 }
 
 call_lines : HasGrammar IsCallLine

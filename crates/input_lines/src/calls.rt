@@ -1,7 +1,5 @@
 //! The lines of files of calls.
-ghost use Rattle.std.specs.Prelude.{◌≡◌};
-ghost use Rattle.call_texts.specs.Texts.{IsWholeOrAbsent};
-ghost use Rattle.input_lines.specs.CallLine.{extra_of, IsCallLine};
+ghost use Rattle.input_lines.specs.CallLine.{IsCallLine};
 ghost use Rattle.input_lines.specs.ReceiverLine.{IsNothing};
 ghost use Rattle.input_lines.specs.Readings.{Reads};
 
@@ -10,7 +8,6 @@ use call_texts::read_call;
 use call_values::Call;
 use expansion::Expansion;
 use line_grammar::Column;
-use slot_join::Extra;
 
 /// What a line of a file of calls says.
 #[derive(Clone, Copy, Debug, PartialEq, Eq)]
@@ -24,27 +21,13 @@ pub enum CallLine {
     },
 }
 
-/// The expansion of what a text says after a call.
-fn expansion_in(extra: &Extra) -> Option<Expansion>
-    requires { IsWholeOrAbsent extra.now }
-    ensures { extra_of result ≡ extra.now }
-{
-    match extra {
-        Extra::Whole(expansion) => Some(*expansion),
-        Extra::Absent | Extra::Broken(_) => None,
-    }
-}
-
 /// Reads a line that says something.
 fn whole_call(line: &[u8]) -> Result<CallLine, Column>
     requires { IsNothing line.now → ⊥ }
     ensures { Reads IsCallLine line.now result }
 {
-    let (call, extra) = read_call(line)?;
-    Ok(CallLine::Call {
-        call,
-        expansion: expansion_in(&extra),
-    })
+    let (call, expansion) = read_call(line)?;
+    Ok(CallLine::Call { call, expansion })
 }
 
 /// Reads one line of a file of calls. An error is the column of bytes that are no such line.

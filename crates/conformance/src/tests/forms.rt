@@ -125,7 +125,7 @@ fn every_form_and_address(rt: HostRuntime) -> Result<(), Fail> {
         assert_eq!(rt; spell(&call).as_slice(), list.as_slice(), "{text}");
         let (bytes, none) = (text.as_bytes(), Extra::Absent);
         assert_eq!(rt; put_call(&call, &none).as_slice(), bytes, "{text}");
-        assert_eq!(rt; read_call(bytes), Ok((call, none)), "{text}");
+        assert_eq!(rt; read_call(bytes), Ok((call, None)), "{text}");
         assert_eq!(rt; read_bare_call(bytes), Ok(call), "{text}");
     }
     Ok(())

@@ -1,12 +1,9 @@
-use Rattle.std.proofs.Common.{sym, subst}
 use Rattle.std.proofs.lemmas.Result.{err_from_is_err_and}
-use Rattle.slot_join.specs.declared.joined.Extra.{Extra}
-use Rattle.call_texts.specs.Texts.{IsCallText}
 use Rattle.input_lines.proofs.Choices.{call_column}
 use Rattle.input_lines.proofs.calls.whole_call.Goals as goal
 
 pub returns : goal.returns
-returns c = subst (λ (x : Extra). IsCallText (c.in_ok-call.call, x) c.args.line.now) (sym c.expansion_in.ensures) c.in_ok-call.ensures.read.0
+returns c = c.in_ok-call.ensures.read.0
 
 pub returns-in_err-call : goal.returns-in_err-call
 returns-in_err-call c =
