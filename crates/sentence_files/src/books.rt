@@ -66,13 +66,12 @@ impl Command for Logs {
 
     fn take(&mut self, line: &[u8], _out: &mut Vec<u8>) -> Result<(), Refusal> {
         one_book_line();
-        match book_line(line) {
-            Ok(BookLine::Nothing) => Ok(()),
-            Ok(BookLine::Sentence) => {
+        match book_line(line)? {
+            BookLine::Nothing => Ok(()),
+            BookLine::Sentence => {
                 self.hear(line)?;
                 Ok(())
             }
-            Err(n) => Err(Refusal::Column(n)),
         }
     }
 

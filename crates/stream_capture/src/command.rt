@@ -107,13 +107,9 @@ impl Command for Capturing {
 
     fn take(&mut self, line: &[u8], out: &mut Vec<u8>) -> Result<(), Refusal> {
         one_stream_line();
-        match stream_line(line) {
-            Ok(signs) => {
-                self.take_signs(signs, out)?;
-                Ok(())
-            }
-            Err(n) => Err(Refusal::Column(n)),
-        }
+        let signs = stream_line(line)?;
+        self.take_signs(signs, out)?;
+        Ok(())
     }
 
     fn finish(&mut self, out: &mut Vec<u8>) -> Result<Status, AllocError> {
