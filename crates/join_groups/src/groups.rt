@@ -29,13 +29,13 @@ pub struct NamedGroups {
     batch: Vec<GroupReception>,
 }
 
-/// What becomes of a reception that shows something new of its group, where one worker works alone.
+/// Which receptions wait for the batch, where one worker works alone.
 #[derive(Clone, Copy, Debug, PartialEq, Eq)]
-pub enum News {
-    /// It is read at once, as any other.
-    IsRead,
-    /// It waits for the batch.
-    Waits,
+pub enum Waiting {
+    /// None: each is read at once.
+    Never,
+    /// One that shows something new of its group.
+    WithMore,
 }
 
 impl NamedGroups {
@@ -131,7 +131,7 @@ impl NamedGroups {
         ensures few { OnOk result (length self.old.batch.items < MOST_IN_BATCH
             → length self.new.batch.items < MOST_IN_BATCH) }
     {
-        self.wait(workers.reading(), News::IsRead, group, heard)?;
+        self.wait(workers.reading(), Waiting::Never, group, heard)?;
         self.close_full(workers)?;
         Ok(())
     }
@@ -141,7 +141,7 @@ impl NamedGroups {
     pub(crate) fn wait(
         &mut self,
         reading: &Reading,
-        news: News,
+        waiting: Waiting,
         group: u32,
         heard: Reception,
     ) -> Result<(), Refusal>
@@ -155,7 +155,7 @@ impl NamedGroups {
             → (refusal ≡ Refusal.TooManyGroups) × IsFull named group)) }
         ensures kept { IfErr result (λ refusal. refusal ≢ Refusal.Memory → self.new ≡ self.old) }
     {
-        if let Some(read) = self.read_at_once(reading, news, group, &heard) {
+        if let Some(read) = self.read_at_once(reading, waiting, group, &heard) {
             return self.meet(group, &read);
         }
         let number = self.number_of(group)?;
@@ -170,7 +170,7 @@ impl NamedGroups {
     fn read_at_once(
         &self,
         reading: &Reading,
-        news: News,
+        waiting: Waiting,
         group: u32,
         heard: &Reception,
     ) -> Option<Sheet>
@@ -180,14 +180,14 @@ impl NamedGroups {
         let Some(read) = reading.read(heard) else {
             return None;
         };
-        if news == News::Waits && self.is_news(group, &read) {
+        if waiting == Waiting::WithMore && self.shows_more(group, &read) {
             return None;
         }
         Some(read)
     }
 
     /// Whether a sheet shows something of a group beyond what is known of it.
-    fn is_news(&self, group: u32, shown: &Sheet) -> bool {
+    fn shows_more(&self, group: u32, shown: &Sheet) -> bool {
         let known = self.known_of(group);
         let mut all = known;
         all.meet(shown);

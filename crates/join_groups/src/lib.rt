@@ -10,7 +10,7 @@ mod telling;
 
 pub use commands::WriteGroups;
 pub use driving::write_groups;
-pub use groups::{MOST_GROUPS, MOST_IN_BATCH, NamedGroups, News};
+pub use groups::{MOST_GROUPS, MOST_IN_BATCH, NamedGroups, Waiting};
 pub use laws::{
     evidence_stands_for_lines, facts_determine_texts, limits, lines_determine_output,
     no_output_is_lacking, texts_forget_order,

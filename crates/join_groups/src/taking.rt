@@ -5,7 +5,7 @@ ghost use Rattle.join_groups.specs.Holds.{HoldsSome};
 ghost use Rattle.join_groups.specs.Meanings.{BringsTooMany};
 ghost use Rattle.join_groups.specs.inside.Kept.{Keeps, IsRefused, IsShort, TakesRead, RefusesRead};
 
-use crate::groups::{MOST_IN_BATCH, NamedGroups, News};
+use crate::groups::{MOST_IN_BATCH, NamedGroups, Waiting};
 use input_lines::{JoinLine, LineFault, join_line};
 use line_engine::{LONGEST_LINE, Refusal};
 use receiver_pool::{Joiner, Reading};
@@ -36,7 +36,7 @@ pub(crate) fn take_line<W: Joiner>(
         Err(LineFault::Column(n)) => return Err(Refusal::Column(n)),
         Err(LineFault::NoMemory) => return Err(Refusal::Memory),
     };
-    take_read(groups, workers.reading(), News::IsRead, read)?;
+    take_read(groups, workers.reading(), Waiting::Never, read)?;
     groups.close_full(workers)?;
     Ok(())
 }
@@ -45,7 +45,7 @@ pub(crate) fn take_line<W: Joiner>(
 pub fn take_read(
     groups: &mut NamedGroups,
     reading: &Reading,
-    news: News,
+    waiting: Waiting,
     read: JoinLine,
 ) -> Result<(), Refusal>
     requires short { IsShort read }
@@ -56,7 +56,7 @@ pub fn take_read(
 {
     match read {
         JoinLine::Nothing => Ok(()),
-        JoinLine::Reception { group, elements } => groups.wait(reading, news, group, elements),
+        JoinLine::Reception { group, elements } => groups.wait(reading, waiting, group, elements),
         JoinLine::Evidence { group, sheet } => groups.meet(group, &sheet),
     }
 }

@@ -17,7 +17,7 @@ use crate::closing::close_watched;
 use crate::telling::{Judged, ToldCalls, look_through, note_untold, watcher_of};
 use byte_streams::Status;
 use input_lines::{JoinLine, LineFault, join_line, one_line};
-use join_groups::{MOST_IN_BATCH, NamedGroups, News, WriteAnswers, append_groups, take_read};
+use join_groups::{MOST_IN_BATCH, NamedGroups, Waiting, WriteAnswers, append_groups, take_read};
 use line_engine::{Command, Refusal};
 use live_watch::{WatchedJoiner, told_calls};
 use std::alloc::{AllocError, Global};
@@ -61,10 +61,10 @@ fn named_by(read: &JoinLine) -> Naming
 }
 
 /// A reception of a group of which a call is still to be told waits if it shows something new.
-fn news_of(told: &ToldCalls, named: Naming) -> News {
+fn waiting_of(told: &ToldCalls, named: Naming) -> Waiting {
     match named {
-        Naming::Reception(group) if !told.has(group) => News::Waits,
-        _ => News::IsRead,
+        Naming::Reception(group) if !told.has(group) => Waiting::WithMore,
+        _ => Waiting::Never,
     }
 }
 
@@ -165,8 +165,8 @@ impl<W: WatchedJoiner> WatchGroups<W> {
         ensures unsaid { IfErr result (λ refusal. refusal ≢ Refusal.Memory → out.new.items ≡ out.old.items) }
     {
         let named = named_by(&read);
-        let news = news_of(&self.told, named);
-        take_read(&mut self.groups, self.workers.reading(), news, read)?;
+        let waiting = waiting_of(&self.told, named);
+        take_read(&mut self.groups, self.workers.reading(), waiting, read)?;
         self.count(named, out)?;
         Ok(())
     }
