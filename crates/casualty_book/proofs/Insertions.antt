@@ -1,11 +1,11 @@
 -- every list of lawful rows has a book
 use Rattle.std.specs.Cmp.{IsTotalOrder}
+use Rattle.std.proofs.Common.{arith, ◌≡◌, ◌↔◌, ◌⊎◌, List, [], ◌∷◌, refl, sym, ◌∙◌, ap, subst, inl, inr}
 use Rattle.std.specs.List.{All, AllByRecursion, Contains}
 use Rattle.std.specs.List.Sorted.{IsStrictlySortedBy}
 use Rattle.std.specs.Ordering.{ordering_reverse}
 use Rattle.std.specs.declared.cmp.Ordering.{Ordering}
 use Rattle.std.specs.declared.cmp.Ordering.TheVariants.{Less, Equal, Greater}
-use Rattle.std.proofs.Common.{◌≡◌, ◌↔◌, ◌⊎◌, List, [], ◌∷◌, refl, sym, ◌∙◌, ap, subst, inl, inr}
 use Rattle.std.proofs.lemmas.List.Elements.{All-nil, All-head, All-tail, All-contains}
 use Rattle.std.proofs.lemmas.Map.Keys.{sorted_tail}
 use Rattle.std.proofs.lemmas.Map.Lookups.{CmpEqualImpliesEq}
@@ -59,17 +59,7 @@ module _ {K : Type 0} {R : K → K → Ordering} (o : IsTotalOrder R) (exact : C
   }
 
   put_same : (k x : K) (xs : List K) → IsStrictlySortedBy R (x ∷ xs) → k ≡ x → Put k (x ∷ xs)
-  put_same k x xs rising same = record {
-    more = x ∷ xs;
-    rising = rising;
-    holds = λ q. (
-      λ here. inl here,
-      λ either. elim either [
-        | inl here ↦ here
-        | inr is ↦ subst (λ (y : K). Contains (x ∷ xs) y) (sym same ∙ is) (first x xs)
-      ],
-    );
-  }
+  put_same k x xs rising same = grind arith
 
   put_behind : (k x : K) (xs : List K) → IsStrictlySortedBy R (x ∷ xs) → R x k ≡ Less → Put k xs → Put k (x ∷ xs)
   unfolding IsStrictlySortedBy

@@ -42,10 +42,7 @@ module _ {K : Type 0} {R : K → K → Ordering} (o : IsTotalOrder R) (exact : C
   above x xs k h there = All-contains (λ q. R x q ≡ Less) xs k (All-after_first R x xs h) there
 
   not_itself : (x y : K) → x ≡ y → R x y ≡ Less → ⊥
-  not_itself x y e h =
-      let tied : R x x ≡ Equal = tied_itself o x in
-      let less : R x x ≡ Less = subst (λ (q : K). R x q ≡ Less) (sym e) h in
-      absurd (cc)
+  not_itself x y e h = grind arith
 
   not_both : (x y : K) → R x y ≡ Less → R y x ≡ Less → ⊥
   not_both x y h g =

@@ -1,5 +1,5 @@
 -- The words of a command with one number: that number.
-use Rattle.std.proofs.Common.{◌≡◌, ◌∙◌, Bool, false, ℕ, List, [], ◌∷◌, refl, ap, ap₂, subst, fold, length}
+use Rattle.std.proofs.Common.{◌≡◌, ◌∙◌, Bool, false, ℕ, List, [], ◌∷◌, refl, ap, ap₂, subst, fold, length, arith}
 use Rattle.std.specs.Prelude.{Option, Some, None, codes, option_and_then, slice_get}
 use Rattle.std.specs.Str.{bytes_eq, chars}
 use Rattle.clap.specs.Lexer.{long_of, long_of_rest, short_of, short_of_rest, strip_byte}
@@ -38,8 +38,7 @@ module _ (name : Text) where
   -- ---- the first word: the number, if it passes
 
   number_char : (word flags : Text) (k : ℕ) (first : Option ℕ) → char_by command before word flags first k ≡ [] → char_next command before word flags first k ≡ behind word
-  number_char word flags k None e = refl
-  number_char word flags k (Some x) e = absurd (some_kind e)
+  number_char word flags k first e = grind arith
 
   number_short : (word : Text) (short : Option Text) → short_by command before word short ≡ [] → short_next command before word short ≡ behind word
   unfolding bundle_met flags_fault

@@ -1,5 +1,5 @@
 -- One word of a command with one option.
-use Rattle.std.proofs.Common.{◌≡◌, ◌∙◌, ◌||◌, ◌⊎◌, inl, inr, Bool, true, false, ℕ, List, [], ◌∷◌, refl, ap, ap₂, sym, length}
+use Rattle.std.proofs.Common.{◌≡◌, ◌∙◌, ◌||◌, ◌⊎◌, inl, inr, Bool, true, false, ℕ, List, [], ◌∷◌, refl, ap, ap₂, sym, length, arith}
 use Rattle.std.specs.Prelude.{Option, Some, None, codes, if◌then◌else◌, option_and_then, slice_get}
 use Rattle.std.specs.Str.{bytes_eq, chars}
 use Rattle.clap.specs.Kinds.{Kinds, or_else}
@@ -96,8 +96,7 @@ module _ (name long : Text) where
 
   rest_char : (rows : List Row) (pending : Option (Text × List Text)) (word flags : Text) (k : ℕ) (first : Option ℕ)
       → char_by command (at_rest rows pending) word flags first k ≡ [] → ⊥
-  rest_char rows pending word flags k None e = some_kind e
-  rest_char rows pending word flags k (Some x) e = some_kind e
+  rest_char rows pending word flags k first e = grind arith
 
   rest_short : (rows : List Row) (pending : Option (Text × List Text)) (word : Text) (short : Option Text)
       → short_by command (at_rest rows pending) word short ≡ [] → ⊥
@@ -121,8 +120,7 @@ module _ (name long : Text) where
 
   option_char : (rows : List Row) (word flags : Text) (k : ℕ) (first : Option ℕ)
       → char_by command (at_option rows) word flags first k ≡ [] → char_next command (at_option rows) word flags first k ≡ with_value rows word
-  option_char rows word flags k None e = refl
-  option_char rows word flags k (Some x) e = absurd (some_kind e)
+  option_char rows word flags k first e = grind arith
 
   option_short : (rows : List Row) (word : Text) (short : Option Text)
       → short_by command (at_option rows) word short ≡ [] → short_next command (at_option rows) word short ≡ with_value rows word
@@ -132,9 +130,7 @@ module _ (name long : Text) where
   option_short rows word (Some (x ∷ xs)) e = option_char rows word (x ∷ xs) (length xs) (slice_get (chars (x ∷ xs)) 0) e
 
   option_long : (rows : List Row) (word : Text) (value : Option Text) (same : Bool) → long_fault_by (at_option rows) word same value ≡ [] → ⊥
-  option_long rows word value false e = some_kind e
-  option_long rows word None true e = some_kind e
-  option_long rows word (Some value) true e = some_kind e
+  option_long rows word value same e = grind arith
 
   pub option_turn : (rows : List Row) (word : Text) (found : Option (Text × Option Text))
       → turn_by command (at_option rows) word false found ≡ [] → next_by command (at_option rows) word false found ≡ with_value rows word

@@ -22,8 +22,7 @@ module _ (p : Call → Bool) where
       ((if counted then 1 else 0) + 0) + (if again && (sent && counted) then 1 else 0) ≤ (if once && (sent && counted) then 1 else 0)
 
   no_more : (counted : Bool) → IsNoMore false true true counted
-  no_more true = omega arith
-  no_more false = omega arith
+  no_more counted = grind arith
 
   one_by : (n at : ℕ) (x : Holding) (sent passed once : Bool) → is_sent x.side ≡ sent → (x.times == 1) ≡ once
       → times_in p (if sent && passed then (if once then Send x.call 1 ∷ [] else GaveUp n ∷ []) else [])
@@ -38,8 +37,7 @@ module _ (p : Call → Bool) where
   one_by n at x false passed once sent is_once = omega arith
 
   one_ticked : (at n : ℕ) (o : Option Holding) → times_in p (repeated at n o) + waits_once p (ticked at o) ≤ waits_once p o
-  one_ticked at n None = omega arith
-  one_ticked at n (Some x) = one_by n at x (is_sent x.side) (has_passed answer_wait x.at at) (x.times == 1) refl refl
+  one_ticked at n o = grind arith
 
   pub times_append : (xs ys : List Act) → times_in p (xs ++ ys) ≡ times_in p xs + times_in p ys
   times_append [] ys = omega arith
@@ -65,8 +63,7 @@ module _ (p : Call → Bool) where
   placed places (suc i) o = set_waiting places i o
 
   no_times : (act : Act) → sends p act ≡ false → times_by p act ≡ 0
-  no_times (Send call times) none = ap (λ (b : Bool). if b then times else 0) none
-  no_times _ none = refl
+  no_times act none = grind arith
 
   -- acts that send no such call send none at any time
   pub none_in : (acts : List Act) → list_any (sends p) acts ≡ false → times_in p acts ≡ 0
@@ -90,13 +87,10 @@ module _ (q : Call → Bool) where
 
   ticked_by : (late once : Bool) (at : ℕ) (x : Holding) → IsSentSuch q (Some x)
       → IsSentSuch q (if late then (if once then sent_at at (Some x) else None) else Some x)
-  ticked_by true true at x is = is
-  ticked_by true false at x is = tt
-  ticked_by false once at x is = is
+  ticked_by late once at x is = grind arith
 
   one_such : (at : ℕ) (o : Option Holding) → IsSentSuch q o → IsSentSuch q (ticked at o)
-  one_such at None is = tt
-  one_such at (Some x) is = ticked_by (is_sent x.side && has_passed answer_wait x.at at) (x.times == 1) at x is
+  one_such at o is = grind arith
 
   pub ticked_such : (at : ℕ) (places : Places) → AreSentSuch q places → AreSentSuch q (map (ticked at) places)
   ticked_such at [] are = tt

@@ -1,5 +1,5 @@
 -- a step of a station, whatever its rules and whatever it keeps of its histories
-use Rattle.std.proofs.Common.{◌≡◌, ℕ, ◌≤◌, Option, None, Result, Ok, Err, List, ◌∷◌, sym, ◌∙◌, ap, subst}
+use Rattle.std.proofs.Common.{◌≡◌, ℕ, ◌≤◌, Option, None, Result, Ok, Err, List, ◌∷◌, sym, ◌∙◌, ap, subst, arith}
 use Rattle.std.specs.Prelude.{OnOk, OnErr}
 use Rattle.traffic_rules.specs.declared.acts.Act.{Act}
 use Rattle.traffic_rules.specs.declared.refusals.StationRefusal.{StationRefusal}
@@ -23,11 +23,4 @@ module _ {What : Type 0} (rules : Rules What) (h : History What) (at : ℕ) (wha
   pub goes_on : (Keeps : History What → Type 0) (result : Result (Unit {0}) StationRefusal) (acts : List Act) → last_moment h ≤ at → rules.IsEvent what → Legal rules h
       → answer_with result acts ≡ refusal_or (rules.refusal h what) (rules.due h at what) → OnErr result (Keeps h)
       → (rules.refusal h what ≡ None → OnOk result (Keeps (entry_at rules h at what ∷ h))) → Legal rules (continued rules h at what) × Keeps (continued rules h at what)
-  goes_on Keeps (Err refusal) acts late event legal answer same after =
-      let is = refused_on_time rules h at what late ∙ refusal_of (rules.refusal h what) (rules.due h at what) refusal answer in
-      subst (λ (g : History What). Legal rules g × Keeps g) (sym (continued_refused rules h at what refusal is)) (legal, same)
-  goes_on Keeps (Ok done) acts late event legal answer same after =
-      let none = (acts_of (rules.refusal h what) (rules.due h at what) acts answer).0 in (
-        legal_continued rules h at what event legal,
-        subst Keeps (sym (continued_accepted rules h at what (refused_on_time rules h at what late ∙ none))) (after none),
-      )
+  goes_on Keeps result acts late event legal answer same after = grind arith

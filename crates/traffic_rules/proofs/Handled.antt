@@ -45,8 +45,7 @@ pub record Handles (own : ℕ) (p : Call → Bool) (tick : Bool) (acts : List Ac
 
 module _ (own : ℕ) (p : Call → Bool) where
   silent_first : (t : ℕ) (s holds : Bool) → t ≡ 0 → s ≡ false → t ≡ one_held s holds + 0
-  silent_first t true holds zeroth none = absurd (false≢true (sym none))
-  silent_first t false holds zeroth none = zeroth
+  silent_first t s holds zeroth none = grind arith
 
   silent_again : (before after : ℕ) (s holds : Bool) → s ≡ false → after ≤ before → 0 + after ≤ before + one_held s holds
   silent_again before after true holds none less = absurd (false≢true (sym none))
@@ -76,14 +75,10 @@ module _ (own : ℕ) (p : Call → Bool) where
   freed (Some n) places = let set = placed p places n None in (omega arith, λ are. placed_such (is_sendable own) places n None tt are)
 
   tick_first : (t : ℕ) (s holds : Bool) → holds ≡ false → t ≡ one_held s holds + t
-  tick_first t s true none = absurd (false≢true (sym none))
-  tick_first t true false none = omega arith
-  tick_first t false false none = omega arith
+  tick_first t s holds none = grind arith
 
   tick_again : (t front rest before after : ℕ) (s holds : Bool) → holds ≡ false → t ≡ front + rest → front ≡ 0 → rest + after ≤ before → t + after ≤ before + one_held s holds
-  tick_again t front rest before after s true none sum zeroth less = absurd (false≢true (sym none))
-  tick_again t front rest before after true false none sum zeroth less = omega arith
-  tick_again t front rest before after false false none sum zeroth less = omega arith
+  tick_again t front rest before after s holds none sum zeroth less = grind arith
 
 repeated_holds : (late once : Bool) (n : ℕ) (x : Holding) → list_any is_holding (if late then (if once then Send x.call 1 ∷ [] else GaveUp n ∷ []) else []) ≡ false
 repeated_holds late once n x = grind arith
@@ -116,22 +111,16 @@ module _ (is_such : Call → Bool) where
   counted = asking is_such
 
   told_none : (call : Call) → list_any (sends counted) (distress_told call) ≡ false
-  told_none (Relay to from casualty ask) = refl
-  told_none _ = refl
+  told_none call = grind arith
 
   least_none : (o : Option ℕ) → list_any (sends counted) (held_under_least o) ≡ false
-  least_none None = refl
-  least_none (Some n) = refl
+  least_none o = grind arith
 
   got_none : (got : Bool) (o : Option ℕ) → list_any (sends counted) (if got then [] else held_under_least o) ≡ false
-  got_none true o = refl
-  got_none false o = least_none o
+  got_none got o = grind arith
 
   question_none : (places : Places) (call : Call) → list_any (sends counted) (question_due places call) ≡ false
-  question_none places call =
-      list_any-append (sends counted) (distress_told call) (if is_got places call then [] else held_under_least (first_free places))
-      ∙ ap (λ (b : Bool). b || list_any (sends counted) (if is_got places call then [] else held_under_least (first_free places))) (told_none call)
-      ∙ got_none (is_got places call) (first_free places)
+  question_none places call = grind arith
 
   question_by : (own : ℕ) (got : Bool) (places : Places) (call : Call) (at : ℕ)
       → (waiting counted (if got then places else held_at (first_free places) places call Got at) ≤ waiting counted places)
@@ -140,12 +129,10 @@ module _ (is_such : Call → Bool) where
   question_by own false places call at = got_at own counted (first_free places) places call at
 
   shown_none : (o : Option ℕ) → list_any (sends counted) (answered_or_shown o) ≡ false
-  shown_none None = refl
-  shown_none (Some n) = refl
+  shown_none o = grind arith
 
   position_none : (own : ℕ) (place : Option Whereabouts) (to : ℕ) (category : Category) → list_any (sends counted) (position_told own place to category) ≡ false
-  position_none own None to category = refl
-  position_none own (Some place) to category = refl
+  position_none own place to category = grind arith
 
   at_once_none : (own : ℕ) (place : Option Whereabouts) (call : Call) → list_any (sends counted) (due_at_once own place call) ≡ false
   at_once_none own place (Alert casualty) = refl
@@ -172,15 +159,10 @@ module _ (is_such : Call → Bool) where
   handles_heard own place places call at = heard_by own place places call at (is_question call) (acknowledges call)
 
   reply_none : (own : ℕ) (accepts : Bool) (call : Call) → list_any (sends counted) (reply_to own accepts call) ≡ false
-  reply_none own true (Individual to category from first second message end) = refl
-  reply_none own false (Individual to category from first second message end) = refl
-  reply_none own true (Relay to from casualty ask) = refl
-  reply_none own true _ = refl
-  reply_none own false _ = refl
+  reply_none own accepts call = grind arith
 
   replied_none : (own : ℕ) (accepts : Bool) (o : Option Holding) → list_any (sends counted) (reply_due_to own accepts o) ≡ false
-  replied_none own accepts None = refl
-  replied_none own accepts (Some x) = reply_none own accepts x.call
+  replied_none own accepts o = grind arith
 
   -- a call is answered or declined
   pub handles_answer : (own : ℕ) (places : Places) (number : ℕ) (accepts : Bool) → Handles own counted false (answer_due own places number accepts) places (after_answering places number)
@@ -189,12 +171,10 @@ module _ (is_such : Call → Bool) where
       handles_silent own counted _ places _ (replied_none own accepts (place_of places number)) (omega arith) (λ are. placed_such (is_sendable own) places number None tt are)
 
   held_first : (c : Bool) → (if c then 1 else 0) + (0 + 0) ≡ one_held (c || (false || false)) true + 0
-  held_first true = refl
-  held_first false = refl
+  held_first c = grind arith
 
   held_again : (before after : ℕ) (c : Bool) → after ≤ before + (if c then 1 else 0) → 0 + after ≤ before + one_held (c || (false || false)) true
-  held_again before after true less = omega arith
-  held_again before after false less = omega arith
+  held_again before after c less = grind arith
 
   send_by : (own : ℕ) (places : Places) (call : Call) (at : ℕ) (a : Bool) (o : Option ℕ) → asks call ≡ a → is_sendable own call ≡ true → (a && is_none o) ≡ false
       → Handles own counted false (Send call 1 ∷ (if a then held_under_least o else [])) places (if a then held_at o places call Sent at else places)
@@ -210,9 +190,7 @@ module _ (is_such : Call → Bool) where
       }
 
   room_of : (must : Bool) (o : Option ℕ) → (if must && is_none o then Some Full else None) ≡ None → (must && is_none o) ≡ false
-  room_of true None none = absurd (none-some Full (sym none))
-  room_of true (Some n) none = refl
-  room_of false o none = refl
+  room_of must o none = grind arith
 
   -- an operator's call is sent
   pub handles_send : (own : ℕ) (places : Places) (call : Call) (at : ℕ) → send_refusal own places call ≡ None

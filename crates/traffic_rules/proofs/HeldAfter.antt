@@ -64,43 +64,30 @@ gives_none at o is = grind arith
 
 module _ {What : Type 0} (occurs : What → Occurrence) where
   pub new_begun : (e : Option (Entry What)) → IsNew (begun occurs e)
-  new_begun None = tt
-  new_begun (Some e) = new_by (occurs e.what) e.at e.acts
+  new_begun e = grind arith
 
   since_nothing : (o : Option Holding) → held_since occurs o [] ≡ o
-  since_nothing None = refl
-  since_nothing (Some x) = either_way (is_sent x.side) (Some x)
+  since_nothing o = grind arith
 
   passed_before : (at : ℕ) (e : Entry What) (later : History What) → is_tick (occurs e.what) ≡ false → first_passed occurs at (e ∷ later) ≡ first_passed occurs at later
-  passed_before at e later quiet =
-      let first = first_passed occurs at later in
-      ap (λ (b : Bool). if is_some first then first else (if b && has_passed answer_wait at e.at then Some e.at else None)) quiet ∙ no_more first
+  passed_before at e later quiet = grind arith
 
   since_silent : (o : Option Holding) (e : Entry What) (later : History What) → is_tick (occurs e.what) ≡ false → held_since occurs o (e ∷ later) ≡ held_since occurs o later
-  since_silent None e later quiet = refl
-  since_silent (Some x) e later quiet = ap (λ (first : Option ℕ). if is_sent x.side then sent_again_at first x else Some x) (passed_before x.at e later quiet)
+  since_silent o e later quiet = grind arith
 
   since_tick : (o : Option Holding) (e : Entry What) (later : History What) → IsNew o → is_tick (occurs e.what) ≡ true
       → gives_up e.at (held_since occurs o later) ≡ false → held_since occurs o (e ∷ later) ≡ ticked e.at (held_since occurs o later)
-  since_tick None e later new tick stays_held = refl
-  since_tick (Some x) e later new tick stays_held =
-      let first = first_passed occurs x.at later in
-      ap (λ (b : Bool). again x.side (if is_some first then first else (if b && has_passed answer_wait x.at e.at then Some e.at else None)) x) tick
-      ∙ tick_of x.call x.side x.at x.times first e.at new stays_held
+  since_tick o e later new tick stays_held = grind arith
 
   opened_before : (e : Entry What) (h : History What) (k : ℕ) → begins occurs k e ≡ false → ends occurs k e ≡ false → opened occurs k (e ∷ h) ≡ opened occurs k h
-  opened_before e h k no_begin no_end =
-      ap (λ (b : Bool). if b then None else (if begins occurs k e then Some e else opened occurs k h)) no_end
-      ∙ ap (λ (b : Bool). if b then Some e else opened occurs k h) no_begin
+  opened_before e h k no_begin no_end = grind arith
 
   since_before : (e : Entry What) (h : History What) (k : ℕ) → begins occurs k e ≡ false → since (begins occurs k) (e ∷ h) ≡ e ∷ since (begins occurs k) h
   since_before e h k no_begin = ap (λ (b : Bool). if b then [] else e ∷ since (begins occurs k) h) no_begin
 
   told_by : (e : Entry What) (h : History What) (k : ℕ) → begins occurs k e ≡ false → ends occurs k e ≡ false
       → held_told occurs (e ∷ h) k ≡ held_since occurs (begun occurs (opened occurs k h)) (e ∷ since (begins occurs k) h)
-  told_by e h k no_begin no_end =
-      ap (λ (o : Option (Entry What)). held_since occurs (begun occurs o) (since (begins occurs k) (e ∷ h))) (opened_before e h k no_begin no_end)
-      ∙ ap (λ (l : History What). held_since occurs (begun occurs (opened occurs k h)) l) (since_before e h k no_begin)
+  told_by e h k no_begin no_end = grind arith
 
   -- an entry that doesn't mention a number, and is no tick, leaves it
   pub silent : (e : Entry What) (h : History What) (k : ℕ) → begins occurs k e ≡ false → ends occurs k e ≡ false → is_tick (occurs e.what) ≡ false
@@ -109,23 +96,16 @@ module _ {What : Type 0} (occurs : What → Occurrence) where
 
   -- an entry frees a number
   pub shuts : (e : Entry What) (h : History What) (k : ℕ) → ends occurs k e ≡ true → held_told occurs (e ∷ h) k ≡ None
-  shuts e h k end =
-      ap (λ (b : Bool). held_since occurs (begun occurs (if b then None else (if begins occurs k e then Some e else opened occurs k h))) (since (begins occurs k) (e ∷ h))) end
+  shuts e h k end = grind arith
 
   -- an entry begins to hold a call
   pub starts : (e : Entry What) (h : History What) (k : ℕ) → begins occurs k e ≡ true → ends occurs k e ≡ false
       → held_told occurs (e ∷ h) k ≡ begun_by (occurs e.what) e.at e.acts
-  starts e h k begin no_end =
-      ap (λ (b : Bool). held_since occurs (begun occurs (if b then None else (if begins occurs k e then Some e else opened occurs k h))) (since (begins occurs k) (e ∷ h))) no_end
-      ∙ ap (λ (b : Bool). held_since occurs (begun occurs (if b then Some e else opened occurs k h)) (if b then [] else e ∷ since (begins occurs k) h)) begin
-      ∙ since_nothing (begun_by (occurs e.what) e.at e.acts)
+  starts e h k begin no_end = grind arith
 
   passes_by : (e : Entry What) (h : History What) (k : ℕ) (b : Bool) → begins occurs k e ≡ false → is_tick (occurs e.what) ≡ true
       → ends occurs k e ≡ b → gives_up e.at (held_told occurs h k) ≡ b → held_told occurs (e ∷ h) k ≡ ticked e.at (held_told occurs h k)
-  passes_by e h k true no_begin tick end up = shuts e h k end ∙ sym (gives_none e.at (held_told occurs h k) up)
-  passes_by e h k false no_begin tick end up =
-      let o = opened occurs k h in
-      told_by e h k no_begin end ∙ since_tick (begun occurs o) e (since (begins occurs k) h) (new_begun o) tick up
+  passes_by e h k b no_begin tick end up = grind arith
 
   -- a tick frees a number exactly where it gives its call up
   pub passes : (e : Entry What) (h : History What) (k : ℕ) → begins occurs k e ≡ false → is_tick (occurs e.what) ≡ true

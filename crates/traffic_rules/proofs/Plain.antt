@@ -32,8 +32,7 @@ module _ (q : Call → Bool) where
   repeated_by n x false passed once sent is = tt
 
   one_repeated : (at n : ℕ) (o : Option Holding) → IsSentSuch q o → AreTrafficActs q (repeated at n o)
-  one_repeated at n None is = tt
-  one_repeated at n (Some x) is = repeated_by n x (is_sent x.side) (has_passed answer_wait x.at at) (x.times == 1) refl is
+  one_repeated at n o is = grind arith
 
   -- at a tick
   pub plain_repeats : (at n : ℕ) (places : Places) → AreSentSuch q places → AreTrafficActs q (repeats at n places)
@@ -41,16 +40,13 @@ module _ (q : Call → Bool) where
   plain_repeats at n (o ∷ places) are = both (repeated at n o) (repeats at (suc n) places) (one_repeated at n o are.0) (plain_repeats at (suc n) places are.1)
 
   least : (o : Option ℕ) → AreTrafficActs q (held_under_least o)
-  least None = tt
-  least (Some n) = (tt, tt)
+  least o = grind arith
 
   held_or_not : (a : Bool) (o : Option ℕ) → AreTrafficActs q (if a then held_under_least o else [])
-  held_or_not true o = least o
-  held_or_not false o = tt
+  held_or_not a o = grind arith
 
   got_or_held : (got : Bool) (o : Option ℕ) → AreTrafficActs q (if got then [] else held_under_least o)
-  got_or_held true o = tt
-  got_or_held false o = least o
+  got_or_held got o = grind arith
 
   -- where a call is sent
   pub plain_send : (places : Places) (call : Call) → q call ≡ true → AreTrafficActs q (send_due places call)

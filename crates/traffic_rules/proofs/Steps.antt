@@ -23,8 +23,7 @@ module _ {What : Type 0} (rules : Rules What) where
   refused_on_time h at what late = ap (λ r. first_refusal r (rules.refusal h what)) (on_time (last_moment h) at late)
 
   by_rules : (back own : Option StationRefusal) → first_refusal back own ≡ None → own ≡ None
-  by_rules None own accepted = accepted
-  by_rules (Some refusal) own accepted = absurd (none-some _ (sym accepted))
+  by_rules back own accepted = grind arith
 
   -- an entry of a legal history isn't refused by the station's rules
   pub follows_rules : (e : Entry What) (h : History What) → Follows rules e h → rules.refusal h e.what ≡ None
@@ -41,8 +40,7 @@ module _ {What : Type 0} (rules : Rules What) where
 
   legal_unless : (h : History What) (at : ℕ) (what : What) → rules.IsEvent what → Legal rules h
       → (r : Option StationRefusal) → refused rules h at what ≡ r → Legal rules (unless_refused r (entry_at h at what) h)
-  legal_unless h at what event legal (Some refusal) is = legal
-  legal_unless h at what event legal None is = (record { event = event; accepted = is; acts = refl }, legal)
+  legal_unless h at what event legal r is = grind arith
 
   -- a legal history goes on legally
   pub legal_continued : (h : History What) (at : ℕ) (what : What) → rules.IsEvent what → Legal rules h → Legal rules (continued rules h at what)

@@ -1,5 +1,5 @@
 -- a test that no act of the shared rules meets
-use Rattle.std.proofs.Common.{◌≡◌, ℕ, Bool, true, false, Option, Some, None, List, [], ◌∷◌, refl, ◌∙◌, ap}
+use Rattle.std.proofs.Common.{◌≡◌, ℕ, Bool, true, false, Option, Some, None, List, [], ◌∷◌, refl, ◌∙◌, ap, arith}
 use Rattle.std.proofs.lemmas.Bool.{or_from}
 use Rattle.std.specs.List.{list_any}
 use Rattle.call_values.specs.declared.calls.Call.{Call}
@@ -26,14 +26,7 @@ pub record MissesSuch (is_such : Call → Bool) (p : Act → Bool) : Type 0 wher
 -- it is met by none of them
 module _ (is_such : Call → Bool) (p : Act → Bool) (m : MissesSuch is_such p) where
   one : (act : Act) → IsTrafficAct is_such act → p act ≡ false
-  one (Send call times) is = ap (λ (n : ℕ). p (Send call n)) is.1 ∙ m.sent call is.0
-  one Shown is = m.shown
-  one (Held number) is = m.held number
-  one (Answered number) is = m.answered number
-  one (GaveUp number) is = m.gave_up number
-  one (Distress casualty) is = m.distress casualty
-  one AlertEnded is = absurd is
-  one (CasualtyClosed mmsi) is = absurd is
+  one act is = grind arith
 
   pub none_such : (acts : List Act) → AreTrafficActs is_such acts → list_any p acts ≡ false
   none_such [] are = refl
@@ -57,12 +50,10 @@ module _ (p : Act → Bool) (m : Misses p) where
   none_sent places call = none_such any p m (send_due places call) (plain_send any places call refl)
 
   pub none_replied : (own : ℕ) (places : Places) (number : ℕ) (accepts : Bool) → list_any p (answer_due own places number accepts) ≡ false
-  none_replied own places number accepts =
-      none_such any p m (answer_due own places number accepts) (plain_answer any own (λ call is. refl) places number accepts)
+  none_replied own places number accepts = grind arith
 
   pub none_repeated : (at number : ℕ) (places : Places) → list_any p (repeats at number places) ≡ false
   none_repeated at number places = none_such any p m (repeats at number places) (plain_repeats any at number places (all_any places))
 
   pub none_heard : (own : ℕ) (place : Option Whereabouts) (places : Places) (call : Call) → list_any p (heard_due own place places call) ≡ false
-  none_heard own place places call =
-      none_such any p m (heard_due own place places call) (plain_heard any own (λ call is. refl) place places call)
+  none_heard own place places call = grind arith
