@@ -1,11 +1,11 @@
 -- words that the rule keeps are those that some events leave
 use native.Mathlib.Omega.{arith}
-use Rattle.std.proofs.Common.{◌≡◌, ℕ, zero, suc, ◌<◌, ◌≤◌, min, max, List, [], ◌∷◌, ◌++◌, refl, ◌∙◌, ap, subst, inl, inr}
+use Rattle.std.proofs.Common.{◌≡◌, ℕ, zero, suc, ◌<◌, ◌≤◌, min, List, [], ◌∷◌, ◌++◌, refl, ◌∙◌, ap, subst, inl, inr}
 use Rattle.std.proofs.lemmas.Bool.{cases_eq}
 use Rattle.evidence_board.specs.Views.{Reach, no_reach, View}
 use Rattle.evidence_board.specs.Rule.{words_of, lowest, IsKept}
 use Rattle.evidence_board.specs.Events.{Event, as_least, as_greatest, words_behind, words_after}
-use Rattle.evidence_board.proofs.Core.{least_here, least_apart, greatest_here, greatest_apart}
+use Rattle.evidence_board.proofs.Core.{least_here, least_apart}
 
 lowest_bound : (p : ℕ) (views : List View) → lowest p views ≤ 128
 lowest_bound p [] = omega arith
@@ -32,14 +32,10 @@ module _ (f : ℕ → Reach) where
   events_below (suc n) = events_at n ++ events_below n
 
   event_here : (p : ℕ) (rest : List Event) → (f p).least ≤ 128 → words_behind p (events_at p ++ rest) no_reach ≡ words_behind p rest (f p)
-  event_here p rest low =
-      let least : min 128 (f p).least ≡ (f p).least = omega (arith, low) in
-      ap (words_behind p (past_event p (f p).past ++ rest)) (least_here p p (f p).least no_reach refl ∙ ap (λ (n : ℕ). record { least = n; past = 0 }) least)
-      ∙ past_here p (f p).past rest (f p).least
+  event_here p rest low = grind arith
 
   event_apart : (p n : ℕ) (rest : List Event) (w : Reach) → (p ≡ n → ⊥) → words_behind p (events_at n ++ rest) w ≡ words_behind p rest w
-  event_apart p n rest w apart =
-      ap (words_behind p (past_event n (f n).past ++ rest)) (least_apart p n (f n).least w apart) ∙ past_apart p n (f n).past rest w apart
+  event_apart p n rest w apart = grind arith
 
   untouched : (n p : ℕ) (w : Reach) → n ≤ p → words_behind p (events_below n) w ≡ w
   untouched zero p w few = refl

@@ -1,5 +1,5 @@
 -- The words that events leave are the ends of what they say.
-use Rattle.std.proofs.Common.{◌≡◌, ◌⊎◌, ℕ, zero, suc, ◌≤◌, min, max, Bool, cond, List, [], ◌∷◌, refl, arith, ap, sym, ◌∙◌, subst, ⊎_elim, inl, inr, Contains}
+use Rattle.std.proofs.Common.{◌≡◌, ◌⊎◌, ℕ, suc, ◌≤◌, min, max, Bool, cond, List, [], ◌∷◌, refl, arith, ap, sym, ◌∙◌, subst, ⊎_elim, inl, inr, Contains}
 use Rattle.std.proofs.lemmas.Bool.{cases_eq, cases_lt, eq-eqb, ne_eqb}
 use Rattle.evidence_board.specs.Views.{Reach, no_reach}
 use Rattle.evidence_board.specs.Events.{Event, as_least, as_greatest, word_after, words_behind, words_after, IsLeast, IsPastGreatest, HaveSame}

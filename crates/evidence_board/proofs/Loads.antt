@@ -1,5 +1,5 @@
 -- What is loaded of a place, and what a sheet then keeps of it.
-use Rattle.std.proofs.Common.{◌≡◌, ℕ, zero, suc, ◌+◌, ◌-◌, ◌<◌, ◌≤◌, min, max, true, List, [], ◌∷◌, length, set, slice_index, get_or, refl, arith, ap, sym, ◌∙◌, subst, inl, inr}
+use Rattle.std.proofs.Common.{◌≡◌, ℕ, zero, suc, ◌+◌, ◌-◌, ◌<◌, ◌≤◌, true, List, [], ◌∷◌, length, set, slice_index, get_or, refl, arith, ap, sym, ◌∙◌, subst, inl, inr}
 use Rattle.std.proofs.lemmas.Bool.{cases_eq, cases_lt, or_cases, eqb-true}
 use Rattle.std.proofs.lemmas.List.{get_or-set_same, get_or-set_other, get_or-map, get_or_past, set-get_or, set-set, length-map, ext_get_or}
 use mathlib.Core.Option.{some, some-injective, some-ne-none}
@@ -9,10 +9,9 @@ use Rattle.slot_evidence.specs.declared.places.Seen.TheVariants as seen
 use Rattle.slot_evidence.specs.Seen.{symbols_in}
 use Rattle.slot_evidence.specs.Sheet.{seen_at}
 use Rattle.slot_evidence.specs.Allowed.{IsAllowed, OnlyAllowed}
-use Rattle.slot_evidence.specs.TwoNumbers.{seen_between, seen_with, least_of, past_of, AreInOrder}
-use Rattle.slot_evidence.specs.inside.Back.{least_back, past_back}
+use Rattle.slot_evidence.specs.TwoNumbers.{seen_between, seen_with, AreInOrder}
 use Rattle.slot_evidence.proofs.PublicLaws.{one_or_differ, order_some}
-use Rattle.evidence_board.specs.Views.{Reach, Place, blank, View, place_at, kept_of, seen_sheet}
+use Rattle.evidence_board.specs.Views.{Place, blank, View, place_at, kept_of, seen_sheet}
 use Rattle.evidence_board.specs.Rule.{words_of, AreAllowed}
 use Rattle.evidence_board.specs.Steps.{loaded_least, loaded_past}
 use Rattle.evidence_board.specs.Seats.{IsResting}

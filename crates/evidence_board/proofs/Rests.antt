@@ -11,12 +11,11 @@ use Rattle.slot_evidence.specs.TwoNumbers.{least_of, past_of, AreInOrder}
 use Rattle.slot_evidence.proofs.PublicLaws.{order_met}
 use Rattle.evidence_board.specs.declared.seats.TheConstants.{WHOLE}
 use Rattle.evidence_board.specs.Views.{Reach, no_reach, united, kept_of, Place, blank, View, place_at, fresh, spent, given_sheet}
-use Rattle.evidence_board.specs.Rule.{words_of, IsWithin, Fits, AreAllowed, IsPlaceKept, IsKept}
+use Rattle.evidence_board.specs.Rule.{words_of, IsWithin, IsPlaceKept, IsKept}
 use Rattle.evidence_board.specs.Steps.{uncounted, joined, new_half, both}
 use Rattle.evidence_board.specs.Seats.{IsResting, IsSeated}
 use Rattle.evidence_board.specs.inside.Through.{Through, LooksAt}
 use Rattle.evidence_board.proofs.Folds.{lowest_alone, highest_alone, total_two}
-use Rattle.evidence_board.proofs.OnePlace.{allowed_none}
 use Rattle.evidence_board.proofs.StepKinds.{place_blank, blanks_long, each_one, place_uncounted, joined_long, joined_at}
 use Rattle.evidence_board.proofs.Loads.{order_small}
 
