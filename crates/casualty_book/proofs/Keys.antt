@@ -6,7 +6,7 @@ use Rattle.std.specs.Option.{option_cmp}
 use Rattle.std.specs.Ordering.{nat_cmp, ordering_then}
 use Rattle.std.specs.declared.cmp.Ordering.{Ordering}
 use Rattle.std.specs.declared.cmp.Ordering.TheVariants.{Less}
-use Rattle.std.proofs.Common.{◌≡◌, ◌+◌, ◌≤◌, ℕ, Option, Some, None, List, [], ◌∷◌, map, length, arith, refl, ap, sym, subst, ◌∙◌, inl, inr, add_comm, add-one}
+use Rattle.std.proofs.Common.{◌≡◌, ◌≤◌, ℕ, Option, List, [], ◌∷◌, map, length, arith, refl, ap, sym, subst, ◌∙◌, inl, inr}
 use Rattle.std.proofs.lemmas.List.Elements.{All-head, All-tail}
 use Rattle.std.proofs.lemmas.Map.Lookups.{CmpEqualImpliesEq, exact_unsigned}
 use Rattle.plain_laws.proofs.Lists.{holds_none}
@@ -17,7 +17,7 @@ use Rattle.casualty_book.specs.contracts.packing.PackedOrd.TheImpl as ord
 use Rattle.casualty_book.specs.contracts.packing.PackedOrd.TheImpl.Laws as laws
 use Rattle.casualty_book.specs.Rows.{row_order, rank, IsLawful}
 use Rattle.casualty_book.specs.inside.Packing.{code, told, key_order, pack, unpack, IsPacked}
-use Rattle.casualty_book.proofs.Numbers.{numbers_order, digits_again, is_less, is_greater, shifted}
+use Rattle.casualty_book.proofs.Numbers.{numbers_order, digits_again}
 use Rattle.casualty_book.proofs.Orders.{both_equal, exact_rank}
 use Rattle.casualty_book.proofs.Sets.{first, later, one_of}
 

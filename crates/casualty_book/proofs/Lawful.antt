@@ -1,5 +1,5 @@
 -- the row of a lawful sentence is lawful
-use Rattle.std.proofs.Common.{ℕ, ◌==◌, ◌≤◌, Bool, true, false, if◌then◌else◌, Option, Some, None, IfSome, List, arith}
+use Rattle.std.proofs.Common.{ℕ, ◌==◌, ◌≤◌, Bool, if◌then◌else◌, Option, Some, None, IfSome, List, arith}
 use Rattle.sentence_frame.specs.Texts.{IsDigits}
 use Rattle.dsc_sentences.specs.declared.dsc.DscFields.{DscFields}
 use Rattle.dsc_sentences.specs.Dsc.{IsDsc}

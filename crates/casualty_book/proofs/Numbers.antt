@@ -1,5 +1,5 @@
 -- digits as one number
-use Rattle.std.proofs.Common.{◌≡◌, ℕ, zero, suc, ◌+◌, ◌-◌, ◌*◌, ◌/◌, ◌%◌, ◌^◌, ◌<◌, ◌≤◌, ◌==◌, ◌⊎◌, Bool, List, [], ◌∷◌, length, arith, refl, sym, ap, subst, ◌∙◌, inl, inr, cond, Ordering, Less, Equal, Greater, nat_cmp, if◌then◌else◌, mul-div_cancel, pow-suc, mul-le-mul_right, mul-lt-mul_of_pos_right, lt-ltb, le-ltb, ltb-true, ne_eqb, eq-eqb, add-sub_cancel, zero-mul, mul-one, mul_assoc, mul_right_comm, add-mul, get_or, drop, drop-cons}
+use Rattle.std.proofs.Common.{◌≡◌, ℕ, zero, suc, ◌+◌, ◌-◌, ◌*◌, ◌/◌, ◌%◌, ◌^◌, ◌<◌, ◌≤◌, ◌==◌, ◌⊎◌, Bool, List, [], ◌∷◌, length, arith, refl, sym, ap, subst, ◌∙◌, inl, inr, cond, Ordering, Less, Equal, Greater, nat_cmp, if◌then◌else◌, mul-div_cancel, pow-suc, mul-le-mul_right, mul-lt-mul_of_pos_right, lt-ltb, ltb-true, ne_eqb, eq-eqb, add-sub_cancel, zero-mul, mul-one, mul_assoc, mul_right_comm, add-mul, get_or, drop, drop-cons}
 use Rattle.std.specs.Cmp.Lexicographic.{slice_cmp}
 use Rattle.std.specs.Ordering.{ordering_then}
 use Rattle.std.proofs.lemmas.Bool.{and_parts}

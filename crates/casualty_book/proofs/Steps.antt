@@ -1,10 +1,8 @@
 -- comparisons one after another
-use Rattle.std.proofs.Common.{◌≡◌, refl, arith}
+use Rattle.std.proofs.Common.{◌≡◌, arith}
 use Rattle.std.specs.Ordering.{ordering_then, nat_cmp}
 use Rattle.std.specs.declared.cmp.Ordering.{Ordering}
-use Rattle.std.specs.declared.cmp.Ordering.TheVariants.{Less, Equal, Greater}
 use Rattle.casualty_book.specs.declared.rows.BookKind.{BookKind}
-use Rattle.casualty_book.specs.declared.rows.BookKind.TheVariants.{Alert, Ack, Relay, RelayAck}
 use Rattle.casualty_book.specs.contracts.rows.BookKindOrd.TheImpl as kinds
 use Rattle.casualty_book.specs.Rows.{rank}
 

@@ -1,6 +1,6 @@
 -- books that have the same rows, and their unions
 use Rattle.std.specs.List.{All, Contains}
-use Rattle.std.proofs.Common.{arith, inl, inr, sym, subst, ◌∙◌, Bool, Option, Some, IsTrue, get_or}
+use Rattle.std.proofs.Common.{arith, inl, sym, subst, Bool, Option, Some, IsTrue, get_or}
 use Rattle.std.specs.Prelude.{◌≡◌, ◌↔◌, ◌⊎◌, List}
 use Rattle.std.proofs.lemmas.List.Elements.{Contains-get_or}
 use Rattle.casualty_book.specs.declared.rows.BookRow.{BookRow}

@@ -1,6 +1,5 @@
 -- what is read of bytes
-use Rattle.std.proofs.Common.{◌≡◌, ℕ, true, false, nat_eq, inl, inr, subst, List, [], ◌∷◌, length, drop, refl, sym, ◌∙◌, ap, codes, Result, Ok, Err, IfOk, arith}
-use Rattle.std.proofs.lemmas.Bool.{eqb-true, or_cases, false≢true}
+use Rattle.std.proofs.Common.{◌≡◌, ℕ, true, subst, List, [], ◌∷◌, length, drop, refl, sym, ◌∙◌, ap, codes, Result, Ok, Err, IfOk, arith}
 use Rattle.sentence_frame.specs.declared.refusals.SentenceRefusal.{SentenceRefusal}
 use Rattle.sentence_frame.specs.Shapes as shape
 use Rattle.sentence_frame.specs.Shapes.{Shape, accepts, is_among, number_of, digits_of}

@@ -1,5 +1,5 @@
 -- what is told of what is read
-use Rattle.std.proofs.Common.{◌≡◌, ℕ, ◌+◌, ◌<◌, List, [], ◌∷◌, length, refl, sym, ◌∙◌, ap, arith, Result, Ok, Err, length-append}
+use Rattle.std.proofs.Common.{◌≡◌, ℕ, ◌+◌, ◌<◌, List, [], ◌∷◌, length, sym, ◌∙◌, ap, arith, Result, Ok, Err, length-append}
 use Rattle.sentence_frame.specs.declared.refusals.SentenceRefusal.{SentenceRefusal}
 use Rattle.sentence_frame.specs.declared.refusals.SentenceRefusal.TheVariants.{TooLong}
 use Rattle.sentence_frame.specs.Refusals.{texts_of}

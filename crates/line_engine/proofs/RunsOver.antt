@@ -3,7 +3,7 @@ use Rattle.std.proofs.Common.{ℕ, List, ◌++◌, Option, ◌⊎◌, inl, inr}
 use Rattle.byte_streams.specs.declared.streams.Source
 use Rattle.byte_streams.specs.declared.streams.Sink
 use Rattle.line_engine.specs.declared.faults.Fault.{Fault}
-use Rattle.line_engine.specs.declared.faults.Fault.TheVariants.{TooManyLines, TooLong, Column, TooManyGroups}
+use Rattle.line_engine.specs.declared.faults.Fault.TheVariants.{TooManyLines}
 use Rattle.byte_streams.specs.Streams.{IsEnded}
 use Rattle.line_engine.specs.Lines.{Lines, lines_of}
 use Rattle.line_engine.specs.Meaning.{Meaning}

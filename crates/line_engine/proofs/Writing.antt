@@ -1,5 +1,5 @@
 -- what a sink gains
-use Rattle.std.proofs.Common.{◌≡◌, ℕ, List, [], ◌++◌, length, false, nat_eq, Option, Result, Ok, Err, OnOk, OnErr, IfErr, IsErrAnd, refl, sym, ◌∙◌, ap, subst, append_assoc, append-nil, arith}
+use Rattle.std.proofs.Common.{◌≡◌, ℕ, List, [], ◌++◌, length, false, nat_eq, Option, Result, OnOk, OnErr, IfErr, IsErrAnd, refl, sym, ◌∙◌, ap, subst, append_assoc, append-nil, arith}
 use Rattle.byte_streams.specs.Streams.{Gains, Rises}
 use Rattle.byte_streams.proofs.PublicLaws.{Gains-none, Gains-more}
 use Rattle.line_engine.specs.inside.Progress.{HasWritten, Fails}

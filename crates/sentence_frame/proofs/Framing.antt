@@ -1,5 +1,5 @@
 -- frames: what is read in one, and what is written in one
-use Rattle.std.proofs.Common.{Err, ◌≡◌, ℕ, ◌+◌, ◌-◌, ◌<◌, ◌≤◌, true, false, nat_eq, nat_lt, List, [], ◌∷◌, ◌++◌, length, get_or, take, drop, refl, sym, ◌∙◌, ap, arith, inl, inr, Ok, append_assoc, length-append, length-take, get_or-drop, get_or-take}
+use Rattle.std.proofs.Common.{Err, ◌≡◌, ℕ, ◌+◌, ◌-◌, ◌<◌, ◌≤◌, true, false, nat_eq, nat_lt, List, ◌∷◌, ◌++◌, length, get_or, take, drop, refl, sym, ◌∙◌, ap, arith, inl, inr, Ok, append_assoc, length-append, length-take, get_or-drop, get_or-take}
 use Rattle.std.specs.List.{list_all, starts_with}
 use Rattle.sentence_frame.specs.declared.refusals.SentenceRefusal.TheVariants.{TooLong}
 use Rattle.std.proofs.lemmas.Bool.{lt-ltb, and_parts, and_from, cases_Bool, ltb-false, eqb-true, le-ltb, eq-eqb}

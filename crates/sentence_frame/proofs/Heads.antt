@@ -1,8 +1,8 @@
 -- what is known of bytes that begin with a head and end as sentences do
-use Rattle.std.proofs.Common.{◌≡◌, ◌≢◌, ℕ, ◌+◌, ◌-◌, ◌<◌, Bool, true, not, ◌&&◌, nat_eq, nat_lt, nat_le, List, length, get_or, take, drop, sym, ◌∙◌, ap, arith, inl, inr, length-drop, get_or-drop, get_or-take}
+use Rattle.std.proofs.Common.{◌≡◌, ◌≢◌, ℕ, ◌+◌, ◌-◌, ◌<◌, Bool, true, ◌&&◌, nat_eq, nat_lt, List, length, get_or, take, drop, sym, ◌∙◌, ap, arith, inl, inr, length-drop, get_or-drop, get_or-take}
 use Rattle.std.specs.List.{list_all, starts_with}
 use Rattle.std.specs.Cmp.Lexicographic.{same_text}
-use Rattle.std.proofs.lemmas.Bool.{and_parts, cases_lt, cases_Bool, not-true, eqb-true, eqb-false, ltb-true, false≢true}
+use Rattle.std.proofs.lemmas.Bool.{and_parts, cases_lt, cases_Bool, eqb-true, ltb-true, false≢true}
 use Rattle.std.proofs.lemmas.List.{get_or_past}
 use Rattle.std.proofs.lemmas.List.Folds.{list_all_at}
 use Rattle.sentence_frame.specs.Refusals.{is_head, is_clean, is_hexadecimal, begins, is_ending, last_five}

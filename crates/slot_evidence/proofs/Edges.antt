@@ -1,6 +1,6 @@
 -- A set of symbols between two numbers: the least symbol, and the number after the greatest.
-use Rattle.std.proofs.Common.{◌≡◌, ◌⊎◌, ℕ, zero, suc, ◌+◌, ◌<◌, ◌≤◌, ◌==◌, min, max, Bool, true, false, cond, ◌||◌, List, length, set, slice_index, slice_index_or, refl, ap, sym, ◌∙◌, arith, subst, inl, inr}
-use Rattle.std.proofs.lemmas.Bool.{cases_lt, eq-eqb, eqb-true, lt-ltb, le-ltb, or_left, or_right, or_cases, false_from_ne_true}
+use Rattle.std.proofs.Common.{◌≡◌, ◌⊎◌, ℕ, suc, ◌+◌, ◌<◌, ◌≤◌, ◌==◌, min, max, Bool, true, false, cond, ◌||◌, List, length, set, slice_index, slice_index_or, ap, sym, ◌∙◌, arith, subst, inl, inr}
+use Rattle.std.proofs.lemmas.Bool.{cases_lt, lt-ltb, le-ltb}
 use Rattle.std.proofs.lemmas.List.{get_or_default, get_or_past, length-set}
 use Rattle.slot_evidence.specs.declared.places.Seen.{Seen}
 use Rattle.slot_evidence.specs.declared.places.Seen.TheVariants as seen
@@ -9,8 +9,8 @@ use Rattle.slot_evidence.specs.Seen.{IsSeen}
 use Rattle.slot_evidence.specs.Sheet.{IsEnds}
 use Rattle.slot_evidence.specs.TwoNumbers.{seen_between, AreInOrder}
 use Rattle.slot_evidence.specs.inside.Kept.{seen_of, past_symbol, AreKept}
-use Rattle.slot_evidence.proofs.Ends.{IsEnds-add, one_symbol}
-use Rattle.slot_evidence.proofs.Kept.{one_or_differ, as_many, ordered_at, ordered_from, ordered_set, seen_set, kept_at, kept_long}
+use Rattle.slot_evidence.proofs.Ends.{IsEnds-add}
+use Rattle.slot_evidence.proofs.Kept.{as_many, ordered_at, ordered_from, ordered_set, seen_set, kept_at, kept_long}
 
 pub record IsEdges (S : Symbols) (least past : ℕ) : Type 0 where
   pub has_least : least < 128 → S least ≡ true

@@ -1,6 +1,5 @@
 -- sets of symbols: what is kept of one is determined, and what is kept of two together
-use Rattle.std.proofs.Common.{◌≡◌, ℕ, min, max, Bool, true, false, ◌||◌, refl, arith, ap, sym, ◌∙◌, inl, inr, subst}
-use Rattle.std.proofs.lemmas.Bool.{or_cases, or_left, or_right, cases_lt}
+use Rattle.std.proofs.Common.{◌≡◌, ℕ, min, max, Bool, true, false, ◌||◌, arith, ap, sym}
 use Rattle.slot_evidence.specs.declared.places.Seen.{Seen}
 use Rattle.slot_evidence.specs.declared.places.Seen.TheVariants as seen
 use Rattle.slot_evidence.specs.Facts.{Symbols}

@@ -4,7 +4,7 @@ use Rattle.std.proofs.lemmas.Bool.{cases_lt, cases_eq, cases_Bool, le-leb, leb-t
 use Rattle.std.proofs.lemmas.List.{get_or-replicate, length-set, get_or-set_same, get_or-set_other}
 use Rattle.std.proofs.Math.Seq.{drop-cons}
 use Rattle.ten_unit.specs.declared.character.Element.{Element}
-use Rattle.ten_unit.specs.declared.character.Element.TheVariants.{Y, B, Lost}
+use Rattle.ten_unit.specs.declared.character.Element.TheVariants.{Lost}
 use Rattle.ten_unit.specs.Word.{word_of, is_word, element_eq, elements_eq}
 use Rattle.ten_unit.specs.inside.Symbol.{IsSymbol, stretch}
 use Rattle.ten_unit.proofs.PublicLaws.{element-sent, is_word-none}
