@@ -1,11 +1,10 @@
 -- words that the rule keeps are those that some events leave
 use native.Mathlib.Omega.{arith}
-use Rattle.std.proofs.Common.{◌≡◌, ℕ, zero, suc, ◌<◌, ◌≤◌, min, List, [], ◌∷◌, ◌++◌, refl, ◌∙◌, ap, subst, inl, inr}
+use Rattle.std.proofs.Common.{◌≡◌, ℕ, zero, suc, ◌<◌, ◌≤◌, List, [], ◌∷◌, ◌++◌, refl, ◌∙◌, subst, inl, inr}
 use Rattle.std.proofs.lemmas.Bool.{cases_eq}
 use Rattle.evidence_board.specs.Views.{Reach, no_reach, View}
 use Rattle.evidence_board.specs.Rule.{words_of, lowest, IsKept}
 use Rattle.evidence_board.specs.Events.{Event, as_least, as_greatest, words_behind, words_after}
-use Rattle.evidence_board.proofs.Core.{least_here, least_apart}
 
 lowest_bound : (p : ℕ) (views : List View) → lowest p views ≤ 128
 lowest_bound p [] = omega arith
@@ -14,12 +13,6 @@ lowest_bound p (view ∷ views) = let rest = lowest_bound p views in omega (arit
 abbrev past_event : (place past : ℕ) → List Event
 past_event place zero = []
 past_event place (suc v) = as_greatest place v ∷ []
-
-past_here : (p past : ℕ) (rest : List Event) (l : ℕ) → words_behind p (past_event p past ++ rest) (record { least = l; past = 0 }) ≡ words_behind p rest (record { least = l; past = past })
-past_here p past rest l = grind arith
-
-past_apart : (p n past : ℕ) (rest : List Event) (w : Reach) → (p ≡ n → ⊥) → words_behind p (past_event n past ++ rest) w ≡ words_behind p rest w
-past_apart p n past rest w apart = grind arith
 
 module _ (f : ℕ → Reach) where
   -- a place saw its least symbol and its greatest one

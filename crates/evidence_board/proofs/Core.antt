@@ -32,10 +32,6 @@ record StepsLeast (p : ℕ) (e : Event) (before after : ℕ) : Type 0 where
   below : (v : ℕ) → e ≡ as_least p v → after ≤ v
   is_one : (after ≡ before) ⊎ (e ≡ as_least p after)
 
--- the lesser of two numbers is one of them
-either_one : (p q v n : ℕ) → p ≡ q → (min n v ≡ n) ⊎ (as_least q v ≡ as_least p (min n v))
-either_one p q v n same = grind arith
-
 either_past : (p q v n : ℕ) → p ≡ q → (max n (suc v) ≡ n) ⊎ ((u : ℕ) × (max n (suc v) ≡ suc u) × (as_greatest q v ≡ as_greatest p u))
 either_past p q v n same =
     elim (cases_lt n (suc v)) [

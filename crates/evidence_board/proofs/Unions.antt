@@ -1,5 +1,5 @@
 -- What a seat gave, as the sheet of a set of facts.
-use Rattle.std.proofs.Common.{◌≡◌, ℕ, suc, ◌<◌, ◌≤◌, ◌||◌, true, List, length, refl, arith, ap, sym, ◌∙◌, subst, inl, inr}
+use Rattle.std.proofs.Common.{◌≡◌, ℕ, ◌<◌, ◌≤◌, ◌||◌, true, List, length, refl, arith, ap, sym, ◌∙◌, subst, inl, inr}
 use Rattle.std.proofs.lemmas.Bool.{cases_lt}
 use Rattle.std.proofs.lemmas.List.{get_or-map, get_or_past, length-map, ext_get_or}
 use Rattle.slot_evidence.specs.declared.places.Seen.{Seen}
@@ -8,7 +8,7 @@ use Rattle.slot_evidence.specs.Facts.{Symbols, Facts, no_facts, union}
 use Rattle.slot_evidence.specs.Seen.{ShowsNone, IsSeen, IsLawful}
 use Rattle.slot_evidence.specs.Sheet.{IsSheet, IsEnds, seen_at}
 use Rattle.slot_evidence.specs.Allowed.{IsAllowed}
-use Rattle.slot_evidence.specs.TwoNumbers.{span_seen, seen_between, AreInOrder}
+use Rattle.slot_evidence.specs.TwoNumbers.{seen_between, AreInOrder}
 use Rattle.slot_evidence.proofs.PublicLaws.{order_met, edges_met, seen_edges, edges_seen, or_none-seen}
 use Rattle.evidence_board.specs.Views.{Reach, united, reach_of, kept_of, Place, blank, View, place_at, fresh, given_sheet, seen_sheet}
 use Rattle.evidence_board.specs.Rule.{IsWithin}
@@ -57,10 +57,6 @@ met_ends F G before after r seated size rest is ends each none =
 
 kept_back : (x : Seen) → IsLawful x → kept_of (reach_of x) ≡ x
 kept_back x lawful = grind arith
-
--- what is kept of a reach reaches as far
-span_within : (a b : ℕ) → IsWithin (record { least = a; past = suc b }) (reach_of (span_seen a b))
-span_within a b = grind arith
 
 between_within : (least past : ℕ) → AreInOrder least past → IsWithin (record { least = least; past = past }) (reach_of (seen_between least past))
 between_within least past order = grind arith

@@ -7,7 +7,7 @@ use Rattle.line_engine.specs.declared.halts.Halt.{Halt}
 use Rattle.line_engine.specs.declared.halts.Halt.TheVariants as halt
 use Rattle.line_engine.specs.Lines.{Lines, lines_of}
 use Rattle.line_engine.specs.Meaning.{Meaning}
-use Rattle.line_engine.specs.Faults.{IsFault, IsFaultless}
+use Rattle.line_engine.specs.Faults.{IsFaultless}
 use Rattle.line_engine.specs.Endings.{IsRest}
 use Rattle.line_engine.specs.inside.Progress.{HasWritten, IsOn, IsThrough, IsNextFault, Stops, StopsAtLine, PassesLimit, IsLimitPassed, IsCounted, TakesLines, PendingFails, RunsInto}
 use Rattle.line_engine.proofs.Cutting.{is_text, IsOpenLine, open_line, none_taken, read_more, next_line, line_taken, at_end}
@@ -158,10 +158,6 @@ stops_in_write {start = start} {rest = rest} {command = command} {before = befor
   fails = stops.1 start on.text on.wrote;
 }
 stops_in_write new after left gives on halt.Memory stops = absurd stops
-
--- a limit that an open line passes stops a run
-limit_fault : (meaning : Meaning) (lines : Lines) (line : List ℕ) (count len : ℕ) (fault : Fault) → count ≡ length lines → len ≤ length line → IsLimitPassed count len fault → IsFault meaning lines line fault
-limit_fault meaning lines line count len fault e le h = grind arith
 
 open_fault : {meaning : Meaning} {all lines : Lines} {rest more : List ℕ} {count : ℕ} {fault : Fault} → IsOpenLine rest more → all ≡ lines ++ lines_of (rest ++ more) → count ≡ length lines
     → IsLimitPassed count (length rest) fault → IsNextFault meaning all lines fault

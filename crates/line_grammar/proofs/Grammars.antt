@@ -6,7 +6,7 @@ use Rattle.line_grammar.specs.Tokens.{Token}
 use Rattle.line_grammar.specs.Grammar.{Grammar, finish, anything, word, field, either, Parts, none, part, first, second, Spells}
 use Rattle.line_grammar.specs.inside.Soundness.{may_follow, is_some_token, is_sound}
 use Rattle.line_grammar.specs.inside.Reading.{ended, after, read_token, and_then, named, and_part, further, read}
-use Rattle.line_grammar.proofs.Stops.{Stops, Reads, IsChoice, Stops-choice, IsAlike}
+use Rattle.line_grammar.proofs.Stops.{Stops, Reads, IsChoice, Stops-choice}
 use Rattle.line_grammar.proofs.Words.{IsByte, Stops-byte, Stops-other, Stops-short}
 use Rattle.line_grammar.proofs.Tokens.{TokenReads}
 use Rattle.line_grammar.proofs.Munching.{some_token, token_reads}
@@ -48,9 +48,6 @@ end_reads (b ∷ bytes) = record {
 -- a word
 byte_of_word : (c : ℕ) (text : List ℕ) (rest : Grammar) → IsByte c (Spells (word text rest)) (Spells (word (c ∷ text) rest))
 byte_of_word c text rest = grind arith
-
-no_word_more : (rest : Grammar) → IsAlike (Spells rest) (Spells (word [] rest))
-no_word_more rest = grind arith
 
 no_word_reads : (rest : Grammar) (bytes : List ℕ) (r : Result Parts ℕ) → Reads (Spells rest) bytes r → Reads (Spells (word [] rest)) bytes r
 no_word_reads rest bytes r h = grind arith

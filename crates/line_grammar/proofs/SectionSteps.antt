@@ -1,5 +1,5 @@
 -- the steps of the readers of sections
-use Rattle.std.proofs.Common.{◌≡◌, ℕ, true, false, List, Result, Ok, Err, is_ok, IfOk, IsOkAnd, IfErr, IsErrAnd, sym, ◌∙◌, ap, subst, arith}
+use Rattle.std.proofs.Common.{◌≡◌, ℕ, true, List, Result, Ok, Err, is_ok, IfOk, IsOkAnd, IfErr, IsErrAnd, sym, ◌∙◌, ap, subst, arith}
 use Rattle.line_grammar.specs.Tokens.{Token}
 use Rattle.line_grammar.specs.Grammar.{Grammar, word, field, either, Parts, part, first, second}
 use Rattle.line_grammar.specs.inside.Reading.{after, read_token, and_then, and_part, named, further, read}
@@ -88,24 +88,12 @@ either_form G H place parts bytes (Err m) (Ok v) h k =
 either_form G H place parts bytes (Err m) (Err n) h k =
     ap (λ (x : Result Parts ℕ). further (named first x) (named second (read H bytes))) h ∙ ap (λ (x : Result Parts ℕ). further (Err m) (named second x)) k
 
--- two sections and what comes after them to the end
-pub two_before : (G H : Grammar → Grammar) (K : Grammar) (f g : Parts → Parts) (old mid new : List ℕ) (r : Result Parts ℕ) → IsRead G f old mid → IsRead H g mid new → read K new ≡ r
-    → read (G (H K)) old ≡ named (λ p. f (g p)) r
-two_before G H K f g old mid new r h k e = both G H f g old mid new h k K ∙ ap (named (λ p. f (g p))) e
-
 -- where the first form was read, or the first wasn't and the second was, that is the answer
 pub first_form : {V : Type 0} (G H : Grammar) (place : Parts → Parts) (parts : V → Parts) (bytes : List ℕ) (r : Result V ℕ) → is_ok r ≡ true
     → ReadsForm G (λ p. place (first p)) parts bytes r → ReadsForm (either G H) place parts bytes r
 unfolding read
 first_form G H place parts bytes (Ok v) ok h = (first h.0, ap (λ (x : Result Parts ℕ). further (named first x) (named second (read H bytes))) h.1, h.2)
 first_form G H place parts bytes (Err m) ok h = absurd (cc)
-
--- the second form is read where the first isn't
-pub second_form : {V : Type 0} (G H : Grammar) (place : Parts → Parts) (parts : V → Parts) (bytes : List ℕ) (r s : Result V ℕ) → is_ok r ≡ false → is_ok s ≡ true
-    → ReadsForm G (λ p. place (first p)) parts bytes r → ReadsForm H (λ p. place (second p)) parts bytes s → ReadsForm (either G H) place parts bytes s
-second_form G H place parts bytes (Ok v) s fails ok h k = absurd (cc)
-second_form G H place parts bytes (Err m) (Ok v) fails ok h k = either_form G H place parts bytes (Err m) (Ok v) h k
-second_form G H place parts bytes (Err m) (Err n) fails ok h k = absurd (cc)
 
 -- the further of two answers, as code gives it
 pub further_form : {V : Type 0} (G H : Grammar) (place : Parts → Parts) (parts : V → Parts) (bytes : List ℕ) (answer r s : Result V ℕ) → answer ≡ further r s

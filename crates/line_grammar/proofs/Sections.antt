@@ -27,9 +27,6 @@ field_is token G p h = grind arith
 either_is : (left right : Grammar) (p : Parts) → AreParts (either left right) p → ((q : Parts) × (p ≡ first q) × AreParts left q) ⊎ ((q : Parts) × (p ≡ second q) × AreParts right q)
 either_is left right p h = grind arith
 
-finish_is : (p : Parts) → AreParts finish p → p ≡ none
-finish_is p h = grind arith
-
 -- a section has the parts of the lawful values, each value its own, and then those of what follows; and it is written
 -- alike whatever follows it, and spelled so
 pub record Section {V : Type 0} (G : Grammar → Grammar) (Lawful : V → Type 0) (parts : V → Parts → Parts) : Type 0 where
@@ -110,15 +107,6 @@ LawfulSide P Q (inr v) = Q v
 abbrev pub side_parts : {U V : Type 0} → (U → Parts → Parts) → (V → Parts → Parts) → U ⊎ V → Parts → Parts
 side_parts f g (inl u) q = first (f u q)
 side_parts f g (inr v) q = second (g v q)
-
-first_is : (p q : Parts) → first p ≡ first q → p ≡ q
-first_is p q e = cc
-
-second_is : (p q : Parts) → second p ≡ second q → p ≡ q
-second_is p q e = cc
-
-sides_differ : (p q : Parts) → first p ≡ second q → ⊥
-sides_differ p q e = absurd (cc)
 
 side_is : {U V : Type 0} {G H : Grammar → Grammar} {P : U → Type 0} {Q : V → Type 0} {f : U → Parts → Parts} {g : V → Parts → Parts} → Section G P f → Section H Q g
     → (w : U ⊎ V) → LawfulSide P Q w → (rest : Grammar) (q : Parts) → AreParts rest q → AreParts (either (G rest) (H rest)) (side_parts f g w q)

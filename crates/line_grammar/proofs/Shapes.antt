@@ -1,5 +1,5 @@
 -- the laws of shapes: what they have, where they begin, and that one ends where it does
-use Rattle.std.proofs.Common.{◌≡◌, ℕ, zero, suc, ◌+◌, ◌-◌, ◌*◌, ◌/◌, ◌%◌, ◌^◌, Bool, true, false, not, ◌==◌, ◌&&◌, ◌||◌, if◌then◌else◌, List, [], ◌∷◌, ◌++◌, length, Option, Some, None, Result, Ok, Err, inl, inr, refl, sym, ◌∙◌, ap, subst, append_assoc, append-nil, codes, arith, length-append}
+use Rattle.std.proofs.Common.{◌≡◌, ℕ, zero, suc, ◌+◌, ◌-◌, ◌*◌, ◌/◌, ◌%◌, ◌^◌, Bool, true, false, not, ◌==◌, ◌&&◌, ◌||◌, if◌then◌else◌, List, [], ◌∷◌, ◌++◌, length, Option, Some, Result, Ok, Err, inl, inr, refl, sym, ◌∙◌, ap, subst, append_assoc, append-nil, codes, arith, length-append}
 use Rattle.std.specs.List.{list_all}
 use Rattle.std.proofs.lemmas.Bool.{and_parts, and_from, or_left, or_right, or_cases, eq-eqb, eqb-true, not-true}
 use Rattle.std.proofs.lemmas.List.{append_cancel_left}
@@ -159,9 +159,6 @@ part left right a r b s h is_a is_b e =
 -- the widths of shapes
 both_is : (a b : Option ℕ) (n : ℕ) → both_widths a b ≡ Some n → (x : ℕ) × (y : ℕ) × (a ≡ Some x) × (b ≡ Some y) × (x + y ≡ n)
 both_is a b n h = grind arith
-
-one_step : (x y n : ℕ) (t : Bool) → (x == y) ≡ t → (if t then Some x else None) ≡ Some n → (x ≡ n) × (y ≡ n)
-one_step x y n t e h = grind arith
 
 one_is : (a b : Option ℕ) (n : ℕ) → one_width a b ≡ Some n → (a ≡ Some n) × (b ≡ Some n)
 one_is a b n h = grind arith

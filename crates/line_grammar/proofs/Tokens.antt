@@ -1,5 +1,5 @@
 -- tokens are read as far as they go
-use Rattle.std.proofs.Common.{◌≡◌, ◌≢◌, ℕ, suc, ◌+◌, ◌<◌, Bool, true, false, ◌==◌, cond, if◌then◌else◌, List, [], ◌∷◌, ◌++◌, length, take, drop, Result, Ok, Err, refl, sym, ◌∙◌, ap, subst, arith}
+use Rattle.std.proofs.Common.{◌≡◌, ◌≢◌, ℕ, ◌+◌, ◌<◌, Bool, true, false, ◌==◌, cond, if◌then◌else◌, List, [], ◌∷◌, ◌++◌, length, take, drop, Result, Ok, Err, refl, sym, ◌∙◌, ap, subst, arith}
 use Rattle.std.specs.List.{prefix_len, list_all}
 use Rattle.std.proofs.lemmas.Bool.{eqb-true, eqb-false, eq-eqb, and_parts, and_from, or_left}
 use Rattle.std.proofs.lemmas.List.{take-append-drop}
@@ -32,10 +32,6 @@ TokenReads token bytes (Err left) = Misses token bytes left
 pub all_have : (p : ℕ → Bool) (a b : List ℕ) (y : ℕ) → list_all p (a ++ (y ∷ b)) ≡ true → p y ≡ true
 all_have p [] b y h = (and_parts (p y) (list_all p b) h).0
 all_have p (x ∷ a) b y h = all_have p a b y (and_parts (p x) (list_all p (a ++ (y ∷ b))) h).1
-
--- a run is as long as its signs go
-one_more : (n : ℕ) → 1 + n ≡ suc n
-one_more n = omega arith
 
 all_step : (p : ℕ → Bool) (x n : ℕ) (xs : List ℕ) (b : Bool) → p x ≡ b → list_all p (take n xs) ≡ true → list_all p (take (cond b (1 + n) 0) (x ∷ xs)) ≡ true
 all_step p x n xs b e h = grind arith

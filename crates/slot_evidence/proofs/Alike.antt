@@ -51,13 +51,6 @@ kept_alike S T (seen.Differ a b) alike several = record {
   between = λ u has. inside_span S T a b u alike several.between has;
 }
 
--- what is between two of a set is between two of a larger one
-wider_left : (S T : Symbols) (v : ℕ) → IsBetween S v → IsBetween (λ w. S w || T w) v
-wider_left S T v b = grind arith
-
-wider_right : (S T : Symbols) (v : ℕ) → IsBetween T v → IsBetween (λ w. S w || T w) v
-wider_right S T v b = grind arith
-
 between_either : (S T U V : Symbols) → ((v : ℕ) → S v ≡ true → IsBetween T v) → ((v : ℕ) → U v ≡ true → IsBetween V v)
     → (v : ℕ) → (S v || U v) ≡ true → IsBetween (λ w. T w || V w) v
 between_either S T U V one other v has = grind arith

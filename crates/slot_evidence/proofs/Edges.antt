@@ -1,6 +1,6 @@
 -- A set of symbols between two numbers: the least symbol, and the number after the greatest.
-use Rattle.std.proofs.Common.{◌≡◌, ◌⊎◌, ℕ, suc, ◌+◌, ◌<◌, ◌≤◌, ◌==◌, min, max, Bool, true, false, cond, ◌||◌, List, length, set, slice_index, slice_index_or, ap, sym, ◌∙◌, arith, subst, inl, inr}
-use Rattle.std.proofs.lemmas.Bool.{cases_lt, lt-ltb, le-ltb}
+use Rattle.std.proofs.Common.{◌≡◌, ℕ, suc, ◌+◌, ◌<◌, ◌≤◌, ◌==◌, min, max, Bool, true, false, ◌||◌, List, length, set, slice_index, slice_index_or, ap, sym, ◌∙◌, arith, subst, inl, inr}
+use Rattle.std.proofs.lemmas.Bool.{cases_lt}
 use Rattle.std.proofs.lemmas.List.{get_or_default, get_or_past, length-set}
 use Rattle.slot_evidence.specs.declared.places.Seen.{Seen}
 use Rattle.slot_evidence.specs.declared.places.Seen.TheVariants as seen
@@ -16,13 +16,6 @@ pub record IsEdges (S : Symbols) (least past : ℕ) : Type 0 where
   pub has_least : least < 128 → S least ≡ true
   pub has_greatest : (v : ℕ) → past ≡ suc v → S v ≡ true
   pub between : (w : ℕ) → S w ≡ true → (least ≤ w) × (w < past)
-
--- order by numbers
-order_tells : (least past : ℕ) → AreInOrder least past → ((least ≡ 128) × (past ≡ 0)) ⊎ ((least < past) × (past ≤ 128))
-order_tells least past order = grind arith
-
-order_none : (least past : ℕ) → least ≡ 128 → past ≡ 0 → AreInOrder least past
-order_none least past is none = grind arith
 
 -- a least symbol below the number past the greatest is in order
 pub order_some : (least past : ℕ) → least < past → past ≤ 128 → AreInOrder least past
@@ -41,13 +34,6 @@ seen_edges S least past order h = grind arith
 -- the edges of two sets together
 pub edges_met : (S T : Symbols) (a b c d : ℕ) → IsEdges S a b → IsEdges T c d → IsEdges (λ v. S v || T v) (min a c) (max b d)
 edges_met S T a b c d s t = grind arith
-
--- the edges of one symbol at most, which is 128 for none
-past_some : (s : ℕ) → s < 128 → past_symbol s ≡ s + 1
-past_some s below = ap (λ (b : Bool). cond b (s + 1) 0) (lt-ltb s 128 below)
-
-past_none : (s : ℕ) → 128 ≤ s → past_symbol s ≡ 0
-past_none s above = ap (λ (b : Bool). cond b (s + 1) 0) (le-ltb s 128 above)
 
 pub order_symbol : (s : ℕ) → s ≤ 128 → AreInOrder s (past_symbol s)
 order_symbol s small = grind arith

@@ -1,23 +1,13 @@
 -- sets of symbols: what is kept of one is determined, and what is kept of two together
-use Rattle.std.proofs.Common.{◌≡◌, ℕ, min, max, Bool, true, false, ◌||◌, arith, ap, sym}
+use Rattle.std.proofs.Common.{◌≡◌, ℕ, min, max, Bool, false, ◌||◌, arith, ap, sym}
 use Rattle.slot_evidence.specs.declared.places.Seen.{Seen}
-use Rattle.slot_evidence.specs.declared.places.Seen.TheVariants as seen
 use Rattle.slot_evidence.specs.Facts.{Symbols}
-use Rattle.slot_evidence.specs.Seen.{ShowsNone, ShowsOne, ShowsSeveral, IsSeen}
+use Rattle.slot_evidence.specs.Seen.{ShowsNone, IsSeen}
 use Rattle.slot_evidence.specs.inside.Span.{IsSpan}
 
 -- the same set is kept in the same way
 pub IsSeen-same : (S T : Symbols) (x : Seen) → ((v : ℕ) → S v ≡ T v) → IsSeen S x → IsSeen T x
 IsSeen-same S T x same s = grind arith
-
-no_symbol : {P : Type 0} (S : Symbols) (v : ℕ) → ShowsNone S → S v ≡ true → P
-no_symbol S v none shown = let unshown = none v in cc
-
-not_several : {P : Type 0} (S : Symbols) (v least greatest : ℕ) → ShowsOne S v → ShowsSeveral S least greatest → P
-not_several S v least greatest one several = grind arith
-
-several_same : (S : Symbols) (a b c d : ℕ) → ShowsSeveral S a b → ShowsSeveral S c d → seen.Differ a b ≡ seen.Differ c d
-several_same S a b c d p q = grind arith
 
 -- a set is kept in one way
 pub one_seen : (S : Symbols) (a b : Seen) → IsSeen S a → IsSeen S b → a ≡ b
@@ -32,17 +22,6 @@ or_none b c h = grind arith
 
 pub or_none-seen : (S T : Symbols) (x : Seen) → IsSeen S x → ShowsNone T → IsSeen (λ v. S v || T v) x
 or_none-seen S T x s none = IsSeen-same S (λ v. S v || T v) x (λ v. or_none (S v) (T v) (none v)) s
-
--- the least of two least symbols is in either set
-has_min : (S T : Symbols) (a c : ℕ) → S a ≡ true → T c ≡ true → (S (min a c) || T (min a c)) ≡ true
-has_min S T a c s t = grind arith
-
-has_max : (S T : Symbols) (b d : ℕ) → S b ≡ true → T d ≡ true → (S (max b d) || T (max b d)) ≡ true
-has_max S T b d s t = grind arith
-
--- the spans of two sets make the span of both
-span_min_max : (S T : Symbols) (a b c d : ℕ) → IsSpan S a b → IsSpan T c d → IsSpan (λ v. S v || T v) (min a c) (max b d)
-span_min_max S T a b c d s t = grind arith
 
 pub span_or : (S T : Symbols) (a b c d least greatest : ℕ) → IsSpan S a b → IsSpan T c d → least ≡ min a c → greatest ≡ max b d → IsSpan (λ v. S v || T v) least greatest
 span_or S T a b c d least greatest s t low high = grind arith
