@@ -47,9 +47,6 @@ latitude_at : (a b : ℕ) (t : Bool) → (a % 10 == 9) ≡ t → Allows (if t th
     → (b / 10 ≤ 9) × (b % 10 ≤ 1) × (a % 10 ≡ 9 → b / 10 ≤ 0)
 latitude_at a b t e h = grind (arith, nat_tests)
 
-latitude_most : (a b : ℕ) → b / 10 ≤ 9 → (a % 10 ≡ 9 → b / 10 ≤ 0) → a % 10 * 10 + b / 10 ≤ 90
-latitude_most a b h k = grind arith
-
 pub area_lawful : (a b c d e : ℕ) → a ≤ 39 → Allows (area_latitude a) b → Allows (longitude_ones b) c → d ≤ 99 → e ≤ 99 → IsArea (area_of a b c d e)
 area_lawful a b c d e ha hb hc hd he = grind (arith, nat_tests)
 

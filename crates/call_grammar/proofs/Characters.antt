@@ -1,5 +1,5 @@
 -- Every symbol of a call's list is below 128.
-use Rattle.std.proofs.Common.{ℕ, zero, suc, Bool, true, false, cond, ◌+◌, ◌*◌, ◌<◌, [], ◌∷◌, ◌++◌, Option, Some, None, arith}
+use Rattle.std.proofs.Common.{ℕ, zero, suc, ◌+◌, ◌*◌, ◌<◌, [], ◌∷◌, ◌++◌, Option, Some, None, arith}
 use Rattle.symbol_reader.proofs.Characters.{AreCharacters, both, ten, of_six, of_eight, of_check}
 use Rattle.call_values.specs.declared.positions.Fix.{Fix}
 use Rattle.call_values.specs.declared.calls.Casualty.{Casualty}
@@ -23,7 +23,7 @@ use Rattle.call_values.specs.Positions.{IsPosition}
 use Rattle.call_values.specs.Clock.{IsHourMinute}
 use Rattle.call_values.specs.Calls.{IsCasualty, IsRequest, IsCall}
 use Rattle.dsc_symbols.specs.declared.telecommands.TheConstants.{DISTRESS_ACKNOWLEDGEMENT, DISTRESS_RELAY}
-use Rattle.call_grammar.specs.Spelling.{position_digits, identity_symbols, position_symbols, time_symbols, casualty_symbols, area_digits, area_symbols, blanks, field_symbols, message_symbols, category_symbol, format_to, address_symbols, distress_symbols, request_symbols, kind_symbols, kind_end, format_of, end_of, fields_of, covered, check_of, spell}
+use Rattle.call_grammar.specs.Spelling.{position_digits, identity_symbols, position_symbols, time_symbols, casualty_symbols, area_digits, area_symbols, blanks, field_symbols, message_symbols, category_symbol, address_symbols, distress_symbols, request_symbols, kind_symbols, format_of, end_of, fields_of, covered, check_of, spell}
 
 of_position : (p : Option Fix) → IsPosition p → AreCharacters (position_symbols p)
 unfolding position_digits
@@ -108,18 +108,8 @@ of_fields (Service m g from k) lawful =
     both (identity_symbols m) (category_symbol g ∷ (identity_symbols from ++ kind_symbols k)) (of_identity m lawful.0)
     (of_category g, both (identity_symbols from) (kind_symbols k) (of_identity from lawful.1) (of_kind k lawful.2))
 
-of_to : (t : To) → format_to t < 128
-of_to t = grind arith
-
 of_format : (c : Call) → format_of c < 128
 of_format c = grind arith
-
-of_choice : (b : Bool) (x y : ℕ) → x < 128 → y < 128 → cond b x y < 128
-of_choice true x y a b = a
-of_choice false x y a b = b
-
-of_kind_end : (k : Kind) → kind_end k < 128
-of_kind_end k = grind arith
 
 of_end : (c : Call) → end_of c < 128
 of_end c = grind arith

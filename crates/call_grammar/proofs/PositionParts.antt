@@ -66,44 +66,13 @@ record Lawful (a b c d e : ℕ) : Type 0 where
   last : e ≤ 59
   half_last : c % 10 ≡ 1 → d ≡ 80 → e ≡ 0
 
-ones_at : (a b : ℕ) (t : Bool) → (a % 10 == 9) ≡ t → Allows (if t then Exactly 0 else Digits 9 5) b
-    → (b / 10 ≤ 9) × (b % 10 ≤ 5) × (a % 10 ≡ 9 → b ≡ 0)
-ones_at a b t e h = grind (arith, nat_tests)
-
-hundreds_at : (a c : ℕ) (t : Bool) → (a % 10 == 9) ≡ t → Allows (if t then UpTo 1 else Digits 9 1) c
-    → (c / 10 ≤ 9) × (c % 10 ≤ 1) × (a % 10 ≡ 9 → c ≤ 1)
-hundreds_at a c t e h = grind (arith, nat_tests)
-
 pub degrees_at : (c d : ℕ) (t : Bool) → (c % 10 == 1) ≡ t → Allows (if t then UpTo 80 else UpTo 99) d
     → (d ≤ 99) × (c % 10 ≡ 1 → d ≤ 80)
 degrees_at c d t e h = grind (arith, nat_tests)
 
-both_test : (m n k l : ℕ) → ((m == n) && (k == l)) ≡ false → m ≡ n → k ≡ l → ⊥
-both_test m n k l e p q = grind (arith, nat_tests)
-
-last_at : (c d e : ℕ) (t : Bool) → ((c % 10 == 1) && (d == 80)) ≡ t → Allows (if t then Exactly 0 else UpTo 59) e
-    → (e ≤ 59) × (c % 10 ≡ 1 → d ≡ 80 → e ≡ 0)
-last_at c d e t test h = grind (arith, nat_tests)
-
 lawful_from : (a b c d e : ℕ) → a ≤ 39 → Allows (latitude_ones a) b → Allows (minutes_and_hundreds a) c → Allows (longitude_ones c) d
     → Allows (longitude_minutes c d) e → Lawful a b c d e
 lawful_from a b c d e ha hb hc hd he = grind (arith, nat_tests)
-
-arc : (degrees minutes most : ℕ) → minutes < 60 → degrees ≤ most → (degrees ≡ most → minutes ≡ 0) → IsArc degrees minutes most
-arc degrees minutes most h k m = grind arith
-
-latitude_most : (a b : ℕ) → b / 10 ≤ 9 → (a % 10 ≡ 9 → b ≡ 0) → a % 10 * 10 + b / 10 ≤ 90
-latitude_most a b h k = grind arith
-
-pub longitude_most : (c d : ℕ) → c % 10 ≤ 1 → d ≤ 99 → (c % 10 ≡ 1 → d ≤ 80) → c % 10 * 100 + d ≤ 180
-longitude_most c d h k l = grind arith
-
-latitude_pole : (a b c : ℕ) → b / 10 ≤ 9 → (a % 10 ≡ 9 → b ≡ 0) → (a % 10 ≡ 9 → c ≤ 1)
-    → a % 10 * 10 + b / 10 ≡ 90 → b % 10 * 10 + c / 10 ≡ 0
-latitude_pole a b c h k l e = grind (arith, nat_tests)
-
-longitude_half : (c d e : ℕ) → c % 10 ≤ 1 → d ≤ 99 → (c % 10 ≡ 1 → d ≡ 80 → e ≡ 0) → c % 10 * 100 + d ≡ 180 → e ≡ 0
-longitude_half c d e h k l p = l (omega arith) (omega arith)
 
 fix_lawful : (a b c d e : ℕ) → Lawful a b c d e → IsFix (fix_of a b c d e)
 fix_lawful a b c d e h = grind (arith, nat_tests)
@@ -185,9 +154,6 @@ hundreds_allowed a c t e h k l = grind (arith, nat_tests)
 
 pub degrees_allowed : (c d : ℕ) (t : Bool) → (c % 10 == 1) ≡ t → d ≤ 99 → (c % 10 ≡ 1 → d ≤ 80) → Allows (if t then UpTo 80 else UpTo 99) d
 degrees_allowed c d t e h k = grind (arith, nat_tests)
-
-both_tests : (m n k l : ℕ) → ((m == n) && (k == l)) ≡ true → (m ≡ n) × (k ≡ l)
-both_tests m n k l e = grind (arith, nat_tests)
 
 last_allowed : (c d e : ℕ) (t : Bool) → ((c % 10 == 1) && (d == 80)) ≡ t → e ≤ 59 → (c % 10 ≡ 1 → d ≡ 80 → e ≡ 0)
     → Allows (if t then Exactly 0 else UpTo 59) e

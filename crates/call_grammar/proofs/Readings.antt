@@ -5,9 +5,8 @@ use Rattle.std.proofs.Math.Seq.{get_or-append_seam}
 use Rattle.symbol_reader.specs.inside.Reading.{Begins, Wants, Leaves}
 use Rattle.symbol_reader.proofs.Laws.{no_word_goes_on}
 use Rattle.call_values.specs.declared.calls.Call.{Call}
-use Rattle.call_values.specs.declared.parts.To.{To}
 use Rattle.call_values.specs.Calls.{IsCall}
-use Rattle.call_grammar.specs.Spelling.{format_to, format_of, fields_of, end_of, covered, check_of, up_to_end, spell}
+use Rattle.call_grammar.specs.Spelling.{format_of, fields_of, end_of, covered, check_of, up_to_end, spell}
 use Rattle.call_grammar.specs.inside.Grammar.{CheckedCharacters}
 use Rattle.dsc_symbols.specs.Formats.{IsFormat}
 use Rattle.symbol_reader.proofs.Steps.{length_left}
@@ -28,9 +27,6 @@ tail_of c = check_of (covered c) ∷ end_of c ∷ end_of c ∷ []
 -- a call's list is what comes up to its end of sequence, and its last symbols
 pub spell-tail : (c : Call) → spell c ≡ up_to_end c ++ tail_of c
 spell-tail c = append_assoc (up_to_end c) (check_of (covered c) ∷ []) (end_of c ∷ end_of c ∷ [])
-
-format_to_lawful : (t : To) → IsFormat (format_to t)
-format_to_lawful t = grind arith
 
 -- calls begin with format specifiers
 pub format_lawful : (c : Call) → IsFormat (format_of c)

@@ -1,5 +1,5 @@
 -- Expansions by their sets.
-use Rattle.std.proofs.Common.{◌≡◌, ℕ, ◌⊎◌, inl, inr, ◌==◌, Bool, true, false, List, [], ◌∷◌, ◌++◌, refl, sym, subst, arith}
+use Rattle.std.proofs.Common.{◌≡◌, ℕ, ◌⊎◌, inl, inr, true, false, List, [], ◌∷◌, ◌++◌, refl, sym, subst, arith}
 use Rattle.std.proofs.lemmas.Bool.{eqb-true}
 use Rattle.symbol_reader.specs.Digits.{eight_digits, four_digits}
 use Rattle.symbol_reader.proofs.Laws.{Good, Alike, alike_good}
@@ -13,7 +13,7 @@ use Rattle.expansion.specs.declared.values.Sets.{Sets}
 use Rattle.expansion.specs.Parts.{IsThere, IsUpTo}
 use Rattle.expansion.specs.Expansions.{IsExpansion}
 use Rattle.expansion.specs.Spelling.{set_symbols, covered}
-use Rattle.expansion.specs.inside.Grammar.{told_symbols, sets_of, AfterSpeed, AfterEnhanced, AfterFirst, SetWords, CheckedSets}
+use Rattle.expansion.specs.inside.Grammar.{told_symbols, sets_of, AfterSpeed, AfterEnhanced, SetWords, CheckedSets}
 use Rattle.expansion.proofs.SetGoods.{CourseAndEnd, SpeedAndRest, set_words_good}
 
 -- a symbol that is no specifier of a set
@@ -24,10 +24,6 @@ pub record IsApart (last : ℕ) : Type 0 where
 
 pub ends_apart : (e : End) → IsApart (end_symbol e)
 ends_apart e = grind arith
-
--- a set that is there: its specifier, and what comes after it
-there : (specifier : ℕ) (digits : ℕ → List ℕ) (p : PartKind) → IsThere p → set_symbols specifier digits p ≡ specifier ∷ told_symbols digits p
-there specifier digits p h = grind arith
 
 abbrev course_and : PartKind → ℕ → List ℕ
 course_and course last = set_symbols COURSE four_digits course ++ (last ∷ [])
@@ -43,10 +39,6 @@ record CourseTold (last : ℕ) (enhanced speed : PartKind) (next : ℕ) (x : Set
   value : x ≡ sets_of enhanced speed course
   list : next ∷ l ≡ course_and course last
 
-to_course : (last : ℕ) (enhanced speed : PartKind) (next : ℕ) (test : Bool) (x : Sets) (l : List ℕ) → (next == COURSE) ≡ test
-    → (next ≡ COURSE) ⊎ (next ≡ last) → AfterSpeed last enhanced speed next x l → CourseTold last enhanced speed next x l
-to_course last enhanced speed next test x l e h p = grind arith
-
 -- the speed and the course that come after this symbol
 record SpeedTold (last : ℕ) (enhanced : PartKind) (next : ℕ) (x : Sets) (l : List ℕ) : Type 0 where
   speed : PartKind
@@ -56,14 +48,6 @@ record SpeedTold (last : ℕ) (enhanced : PartKind) (next : ℕ) (x : Sets) (l :
   some : (next ≡ SPEED) ⊎ (next ≡ COURSE) → IsThere speed ⊎ IsThere course
   value : x ≡ sets_of enhanced speed course
   list : next ∷ l ≡ speed_and speed course last
-
-to_speed : (last : ℕ) (enhanced : PartKind) (next : ℕ) (test : Bool) (x : Sets) (l : List ℕ) → (next == SPEED) ≡ test
-    → (next ≡ SPEED) ⊎ (next ≡ COURSE) ⊎ (next ≡ last) → AfterEnhanced last enhanced next x l → SpeedTold last enhanced next x l
-to_speed last enhanced next test x l e h p = grind arith
-
-to_first : (e : End) (initial : ℕ) (test : Bool) (x : Sets) (l : List ℕ) → (initial == ENHANCED_POSITION) ≡ test
-    → (initial ≡ ENHANCED_POSITION) ⊎ (initial ≡ SPEED) ⊎ (initial ≡ COURSE) → AfterFirst (end_symbol e) initial x l → CheckedSets e x (initial ∷ l)
-to_first e initial test x l t h p = grind arith
 
 to_sets : (e : End) (x : Sets) (word : List ℕ) → SetWords (end_symbol e) x word → CheckedSets e x word
 to_sets e x word p = grind arith

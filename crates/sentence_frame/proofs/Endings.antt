@@ -17,9 +17,6 @@ value_back b h = grind (arith, nat_tests)
 pub digit_is : (d : ℕ) → d < 16 → is_hexadecimal (hexadecimal d) ≡ true
 digit_is d h = grind (arith, nat_tests)
 
-pub digit_back : (d : ℕ) → d < 16 → hexadecimal_value (hexadecimal d) ≡ d
-digit_back d h = grind (arith, nat_tests)
-
 -- a list of five is its five elements
 five : (x : List ℕ) → length x ≡ 5 → x ≡ get_or x 0 0 ∷ get_or x 1 0 ∷ get_or x 2 0 ∷ get_or x 3 0 ∷ get_or x 4 0 ∷ []
 five [] h = absurd (omega (arith, h))

@@ -177,9 +177,6 @@ unfolding accepts
 perhaps_shown s text value Fits k None h = refl
 perhaps_shown s text value Fits k (Some v) h = or_right (is_nothing (text v)) (accepts s (text v)) (k.shown v h)
 
-some_text : (s : Shape) (t : List ℕ) → accepts s [] ≡ false → accepts s t ≡ true → is_nothing t ≡ false
-some_text s t none h = grind arith
-
 perhaps_back : {V : Type 0} (s : Shape) (text : V → List ℕ) (value : List ℕ → V) (Fits : V → Type 0) → IsKind s text value Fits → accepts s [] ≡ false → (o : Option V) → IfSome o Fits → perhaps value (perhaps_text text o) ≡ o
 perhaps_back s text value Fits k none o h = grind arith
 

@@ -1,16 +1,13 @@
 -- sent calls that wait to be sent again, and how often acts send such calls
 use native.Mathlib.Omega.{arith}
-use Rattle.std.proofs.Common.{◌≡◌, ℕ, zero, suc, ◌+◌, ◌≤◌, ◌==◌, ◌&&◌, Bool, true, false, Option, Some, None, List, [], ◌∷◌, ◌++◌, slice_set, if◌then◌else◌, refl, sym, ap, subst}
-use Rattle.std.proofs.lemmas.Bool.{eqb-true, or_parts}
+use Rattle.std.proofs.Common.{◌≡◌, ℕ, zero, suc, ◌+◌, ◌≤◌, ◌&&◌, Bool, false, Option, List, [], ◌∷◌, ◌++◌, slice_set, if◌then◌else◌, refl}
+use Rattle.std.proofs.lemmas.Bool.{or_parts}
 use Rattle.std.specs.Prelude.{map}
 use Rattle.std.specs.List.{list_any}
 use Rattle.call_values.specs.declared.calls.Call.{Call}
 use Rattle.traffic_rules.specs.declared.acts.Act.{Act}
-use Rattle.traffic_rules.specs.declared.acts.Act.TheVariants.{Send, GaveUp}
 use Rattle.traffic_rules.specs.declared.held.Holding.{Holding}
-use Rattle.traffic_rules.specs.Holding.{Places, with_place, sent_at}
-use Rattle.traffic_rules.specs.Moments.{has_passed}
-use Rattle.traffic_rules.specs.HeldTold.{answer_wait, is_sent}
+use Rattle.traffic_rules.specs.Holding.{Places, with_place}
 use Rattle.traffic_rules.specs.Repeating.{repeated, ticked, repeats}
 use Rattle.traffic_rules.specs.Sendings.{sends, times_by, times_in, waits_once, waiting}
 use Rattle.traffic_rules.specs.TrafficActs.{IsSentSuch, AreSentSuch}
@@ -20,21 +17,6 @@ module _ (p : Call → Bool) where
   abbrev pub IsNoMore : (again once sent counted : Bool) → Type 0
   IsNoMore again once sent counted =
       ((if counted then 1 else 0) + 0) + (if again && (sent && counted) then 1 else 0) ≤ (if once && (sent && counted) then 1 else 0)
-
-  no_more : (counted : Bool) → IsNoMore false true true counted
-  no_more counted = grind arith
-
-  one_by : (n at : ℕ) (x : Holding) (sent passed once : Bool) → is_sent x.side ≡ sent → (x.times == 1) ≡ once
-      → times_in p (if sent && passed then (if once then Send x.call 1 ∷ [] else GaveUp n ∷ []) else [])
-      + waits_once p (if sent && passed then (if once then sent_at at (Some x) else None) else Some x) ≤ waits_once p (Some x)
-  one_by n at x true true true sent once =
-      let again : (x.times + 1 == 1) ≡ false = ap (λ (t : ℕ). t + 1 == 1) (eqb-true x.times 1 once) in
-      subst (λ (b : Bool). IsNoMore b (x.times == 1) (is_sent x.side) (p x.call)) (sym again)
-      (subst (λ (b : Bool). IsNoMore false b (is_sent x.side) (p x.call)) (sym once)
-      (subst (λ (b : Bool). IsNoMore false true b (p x.call)) (sym sent) (no_more (p x.call))))
-  one_by n at x true true false sent once = omega arith
-  one_by n at x true false once sent is_once = omega arith
-  one_by n at x false passed once sent is_once = omega arith
 
   one_ticked : (at n : ℕ) (o : Option Holding) → times_in p (repeated at n o) + waits_once p (ticked at o) ≤ waits_once p o
   one_ticked at n o = grind arith
@@ -84,10 +66,6 @@ module _ (q : Call → Bool) where
   pub placed_such : (places : Places) (n : ℕ) (o : Option Holding) → IsSentSuch q o → AreSentSuch q places → AreSentSuch q (with_place places n o)
   placed_such places zero o new are = are
   placed_such places (suc i) o new are = set_such places i o new are
-
-  ticked_by : (late once : Bool) (at : ℕ) (x : Holding) → IsSentSuch q (Some x)
-      → IsSentSuch q (if late then (if once then sent_at at (Some x) else None) else Some x)
-  ticked_by late once at x is = grind arith
 
   one_such : (at : ℕ) (o : Option Holding) → IsSentSuch q o → IsSentSuch q (ticked at o)
   one_such at o is = grind arith

@@ -1,5 +1,5 @@
 -- a step of a station, whatever its rules and whatever it keeps of its histories
-use Rattle.std.proofs.Common.{◌≡◌, ℕ, ◌≤◌, Option, None, Result, Ok, Err, List, ◌∷◌, sym, ◌∙◌, ap, subst, arith}
+use Rattle.std.proofs.Common.{◌≡◌, ℕ, ◌≤◌, Option, None, Result, List, ◌∷◌, sym, ap, subst, arith}
 use Rattle.std.specs.Prelude.{OnOk, OnErr}
 use Rattle.traffic_rules.specs.declared.acts.Act.{Act}
 use Rattle.traffic_rules.specs.declared.refusals.StationRefusal.{StationRefusal}
@@ -7,7 +7,7 @@ use Rattle.traffic_rules.specs.Histories.{History, last_moment}
 use Rattle.traffic_rules.specs.Moments.{time_back}
 use Rattle.traffic_rules.specs.Rules.{Rules, refusal_or, answer_to, continued, Legal}
 use Rattle.traffic_rules.specs.Giving.{answer_with}
-use Rattle.traffic_rules.proofs.Steps.{in_time, entry_at, refused_on_time, continued_refused, continued_accepted, legal_continued, refusal_of, acts_of}
+use Rattle.traffic_rules.proofs.Steps.{in_time, entry_at, refused_on_time}
 
 -- an event that isn't before a station's last moment isn't before the history's
 pub not_before : {What : Type 0} (last : ℕ) (h : History What) (at : ℕ) → last ≡ last_moment h → None ≡ time_back last at → last_moment h ≤ at

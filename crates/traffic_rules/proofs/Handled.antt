@@ -5,13 +5,12 @@ use Rattle.std.proofs.lemmas.Bool.{false≢true}
 use Rattle.std.proofs.lemmas.List.Folds.{list_any-append}
 use Rattle.std.specs.List.{list_any}
 use Rattle.std.specs.Prelude.{replicate}
-use Rattle.std.proofs.lemmas.Option.{none-some}
 use Rattle.call_values.specs.declared.calls.Call.{Call}
-use Rattle.call_values.specs.declared.calls.Call.TheVariants.{Alert, Ack, Relay, Individual, Service}
+use Rattle.call_values.specs.declared.calls.Call.TheVariants.{Alert, Ack, Relay, Service}
 use Rattle.call_values.specs.declared.choices.Category.{Category}
 use Rattle.call_values.specs.declared.parts.Kind.TheVariants.{Test, AskPosition}
 use Rattle.traffic_rules.specs.declared.acts.Act.{Act}
-use Rattle.traffic_rules.specs.declared.acts.Act.TheVariants.{Send, GaveUp}
+use Rattle.traffic_rules.specs.declared.acts.Act.TheVariants.{Send}
 use Rattle.traffic_rules.specs.declared.held.TheConstants.{MOST_HELD}
 use Rattle.traffic_rules.specs.declared.held.Holding.{Holding}
 use Rattle.traffic_rules.specs.declared.held.Side.TheVariants.{Sent, Got}
@@ -22,9 +21,9 @@ use Rattle.traffic_rules.specs.Rules.{Rules, Follows, Legal}
 use Rattle.traffic_rules.specs.Occurrences.{Occurrence, is_tick}
 use Rattle.traffic_rules.specs.HeldTold.{all_held}
 use Rattle.traffic_rules.specs.Sending.{asks, acknowledges, is_sendable, held_under_least, send_refusal, send_due}
-use Rattle.traffic_rules.specs.Answering.{reply_to, reply_due_to, answer_due}
+use Rattle.traffic_rules.specs.Answering.{reply_due_to, answer_due}
 use Rattle.traffic_rules.specs.Repeating.{repeated, repeats}
-use Rattle.traffic_rules.specs.Hearing.{Whereabouts, is_question, is_got, distress_told, question_due, answered_number, answered_or_shown, position_told, due_at_once, heard_due}
+use Rattle.traffic_rules.specs.Hearing.{Whereabouts, is_question, is_got, question_due, answered_number, answered_or_shown, position_told, due_at_once, heard_due}
 use Rattle.traffic_rules.specs.Sendings.{asking, sends, is_holding, times_in, waiting, sends_and_holds, times_held, times_sent, times_sent_again, AreSentAtMostTwice}
 use Rattle.traffic_rules.specs.TrafficActs.{AreSentSuch}
 use Rattle.traffic_rules.specs.After.{held_at, freed_at, after_sending, after_answering, after_tick, after_question, after_hearing}
@@ -80,9 +79,6 @@ module _ (own : ℕ) (p : Call → Bool) where
   tick_again : (t front rest before after : ℕ) (s holds : Bool) → holds ≡ false → t ≡ front + rest → front ≡ 0 → rest + after ≤ before → t + after ≤ before + one_held s holds
   tick_again t front rest before after s holds none sum zeroth less = grind arith
 
-repeated_holds : (late once : Bool) (n : ℕ) (x : Holding) → list_any is_holding (if late then (if once then Send x.call 1 ∷ [] else GaveUp n ∷ []) else []) ≡ false
-repeated_holds late once n x = grind arith
-
 one_holds : (at n : ℕ) (o : Option Holding) → list_any is_holding (repeated at n o) ≡ false
 one_holds at n o = grind arith
 
@@ -109,15 +105,6 @@ handles_tick own p front at places none none_held =
 module _ (is_such : Call → Bool) where
   abbrev counted : Call → Bool
   counted = asking is_such
-
-  told_none : (call : Call) → list_any (sends counted) (distress_told call) ≡ false
-  told_none call = grind arith
-
-  least_none : (o : Option ℕ) → list_any (sends counted) (held_under_least o) ≡ false
-  least_none o = grind arith
-
-  got_none : (got : Bool) (o : Option ℕ) → list_any (sends counted) (if got then [] else held_under_least o) ≡ false
-  got_none got o = grind arith
 
   question_none : (places : Places) (call : Call) → list_any (sends counted) (question_due places call) ≡ false
   question_none places call = grind arith
@@ -157,9 +144,6 @@ module _ (is_such : Call → Bool) where
   pub handles_heard : (own : ℕ) (place : Option Whereabouts) (places : Places) (call : Call) (at : ℕ)
       → Handles own counted false (heard_due own place places call) places (after_hearing places call at)
   handles_heard own place places call at = heard_by own place places call at (is_question call) (acknowledges call)
-
-  reply_none : (own : ℕ) (accepts : Bool) (call : Call) → list_any (sends counted) (reply_to own accepts call) ≡ false
-  reply_none own accepts call = grind arith
 
   replied_none : (own : ℕ) (accepts : Bool) (o : Option Holding) → list_any (sends counted) (reply_due_to own accepts o) ≡ false
   replied_none own accepts o = grind arith

@@ -8,19 +8,18 @@ use Rattle.std.proofs.lemmas.List.Folds.{list_any-append}
 use Rattle.std.proofs.lemmas.Option.{none-some}
 use Rattle.call_values.specs.declared.calls.Call.{Call}
 use Rattle.traffic_rules.specs.declared.acts.Act.{Act}
-use Rattle.traffic_rules.specs.declared.acts.Act.TheVariants.{Send, Held, GaveUp}
+use Rattle.traffic_rules.specs.declared.acts.Act.TheVariants.{Send, Held}
 use Rattle.traffic_rules.specs.declared.held.Holding.{Holding}
 use Rattle.traffic_rules.specs.declared.refusals.StationRefusal.TheVariants.{NoSuchCall}
 use Rattle.traffic_rules.specs.Histories.{Entry, History}
 use Rattle.traffic_rules.specs.declared.held.Side.TheVariants.{Sent, Got}
-use Rattle.call_values.specs.declared.choices.Category.{Category}
 use Rattle.traffic_rules.specs.Holding.{Places, place_of, first_free, newly_held}
 use Rattle.traffic_rules.specs.Occurrences.{Occurrence, ticks, answers, hears, other, is_tick, is_answer}
 use Rattle.traffic_rules.specs.HeldTold.{holds, frees, begun_by, begins, ends, held_told, all_held}
 use Rattle.traffic_rules.specs.Sending.{asks, acknowledges, is_sendable, refused_full, held_under_least, send_refusal, send_due}
-use Rattle.traffic_rules.specs.Answering.{reply_to, reply_due_to, refused_unless_got, answer_refusal, answer_due}
+use Rattle.traffic_rules.specs.Answering.{reply_due_to, refused_unless_got, answer_refusal, answer_due}
 use Rattle.traffic_rules.specs.Repeating.{repeated, repeats}
-use Rattle.traffic_rules.specs.Hearing.{Whereabouts, is_answered_by, is_question, is_got, must_be_held, distress_told, question_due, answered_number, answered_or_shown, position_told, due_at_once, heard_due, heard_refusal}
+use Rattle.traffic_rules.specs.Hearing.{Whereabouts, is_answered_by, is_question, is_got, must_be_held, distress_told, question_due, answered_number, answered_or_shown, due_at_once, heard_due, heard_refusal}
 use Rattle.traffic_rules.specs.After.{held_at, freed_at, after_sending, after_answering, after_tick, after_question, after_hearing}
 use Rattle.traffic_rules.proofs.Places.{place_from, no_place, number_from, free_number}
 use Rattle.traffic_rules.proofs.HeldAfter.{gives_up}
@@ -31,14 +30,6 @@ use Rattle.traffic_rules.proofs.Plain.{sendable}
 pub record AreQuiet (acts : List Act) : Type 0 where
   pub begin : (k : ℕ) → list_any (holds k) acts ≡ false
   pub end : (k : ℕ) → list_any (frees k) acts ≡ false
-
--- the tick's acts
-repeated_begin : (at n k : ℕ) (late once : Bool) (x : Holding) → list_any (holds k) (if late then (if once then Send x.call 1 ∷ [] else GaveUp n ∷ []) else []) ≡ false
-repeated_begin at n k late once x = grind arith
-
-repeated_end : (at n k : ℕ) (late once : Bool) (x : Holding)
-    → list_any (frees k) (if late then (if once then Send x.call 1 ∷ [] else GaveUp n ∷ []) else []) ≡ (((late && not once)) && (n == k))
-repeated_end at n k late once x = grind arith
 
 one_begin : (at n k : ℕ) (o : Option Holding) → list_any (holds k) (repeated at n o) ≡ false
 one_begin at n k o = grind arith
@@ -74,9 +65,6 @@ repeats_end at n k (suc i) (o ∷ places) is =
 room : (must : Bool) (places : Places) (first : Option ℕ) → first_free places ≡ first → refused_full must places ≡ None → must ≡ true → (n : ℕ) × (first ≡ Some n)
 room must places first is none wanted = grind arith
 
-reply_quiet : (own : ℕ) (accepts : Bool) (call : Call) → AreQuiet (reply_to own accepts call)
-reply_quiet own accepts call = grind arith
-
 due_quiet : (own : ℕ) (accepts : Bool) (o : Option Holding) → AreQuiet (reply_due_to own accepts o)
 due_quiet own accepts o = grind arith
 
@@ -85,9 +73,6 @@ told_begin k call = grind arith
 
 told_end : (k : ℕ) (call : Call) → list_any (frees k) (distress_told call) ≡ false
 told_end k call = grind arith
-
-position_quiet : (own : ℕ) (place : Option Whereabouts) (to : ℕ) (category : Category) → AreQuiet (position_told own place to category)
-position_quiet own place to category = grind arith
 
 at_once_quiet : (own : ℕ) (place : Option Whereabouts) (call : Call) → AreQuiet (due_at_once own place call)
 at_once_quiet own place call = grind arith

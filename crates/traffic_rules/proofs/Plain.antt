@@ -1,18 +1,15 @@
 -- acts by the rules of traffic send such calls alone, each once
-use Rattle.std.proofs.Common.{◌≡◌, ℕ, suc, ◌==◌, ◌&&◌, ◌||◌, Bool, true, false, Option, Some, None, List, [], ◌∷◌, ◌++◌, if◌then◌else◌, refl, ap, arith}
+use Rattle.std.proofs.Common.{◌≡◌, ℕ, suc, ◌||◌, Bool, true, false, Option, Some, None, List, [], ◌∷◌, ◌++◌, if◌then◌else◌, refl, ap, arith}
 use Rattle.std.proofs.lemmas.Bool.{eq-eqb, or_right}
 use Rattle.call_values.specs.declared.calls.Call.{Call}
 use Rattle.call_values.specs.declared.calls.Call.TheVariants.{Alert, Ack, Relay, Individual, Service}
 use Rattle.call_values.specs.declared.choices.Category.{Category}
 use Rattle.call_values.specs.declared.parts.Kind.TheVariants.{Test, AskPosition}
 use Rattle.traffic_rules.specs.declared.acts.Act.{Act}
-use Rattle.traffic_rules.specs.declared.acts.Act.TheVariants.{Send, GaveUp}
 use Rattle.traffic_rules.specs.declared.held.Holding.{Holding}
 use Rattle.traffic_rules.specs.declared.refusals.StationRefusal.{StationRefusal}
 use Rattle.traffic_rules.specs.declared.refusals.StationRefusal.TheVariants.{NotSendable}
 use Rattle.traffic_rules.specs.Holding.{Places, place_of, first_free}
-use Rattle.traffic_rules.specs.Moments.{has_passed}
-use Rattle.traffic_rules.specs.HeldTold.{answer_wait, is_sent}
 use Rattle.traffic_rules.specs.Sending.{asks, acknowledges, is_sendable, held_under_least, send_refusal, send_due}
 use Rattle.traffic_rules.specs.Answering.{reply_to, reply_due_to, answer_due}
 use Rattle.traffic_rules.specs.Repeating.{repeated, repeats}
@@ -24,13 +21,6 @@ module _ (q : Call → Bool) where
   both [] ys first last = last
   both (x ∷ xs) ys first last = (first.0, both xs ys first.1 last)
 
-  repeated_by : (n : ℕ) (x : Holding) (sent passed once : Bool) → is_sent x.side ≡ sent → IsSentSuch q (Some x)
-      → AreTrafficActs q (if sent && passed then (if once then Send x.call 1 ∷ [] else GaveUp n ∷ []) else [])
-  repeated_by n x true true true sent is = ((is sent, refl), tt)
-  repeated_by n x true true false sent is = (tt, tt)
-  repeated_by n x true false once sent is = tt
-  repeated_by n x false passed once sent is = tt
-
   one_repeated : (at n : ℕ) (o : Option Holding) → IsSentSuch q o → AreTrafficActs q (repeated at n o)
   one_repeated at n o is = grind arith
 
@@ -38,9 +28,6 @@ module _ (q : Call → Bool) where
   pub plain_repeats : (at n : ℕ) (places : Places) → AreSentSuch q places → AreTrafficActs q (repeats at n places)
   plain_repeats at n [] are = tt
   plain_repeats at n (o ∷ places) are = both (repeated at n o) (repeats at (suc n) places) (one_repeated at n o are.0) (plain_repeats at (suc n) places are.1)
-
-  least : (o : Option ℕ) → AreTrafficActs q (held_under_least o)
-  least o = grind arith
 
   held_or_not : (a : Bool) (o : Option ℕ) → AreTrafficActs q (if a then held_under_least o else [])
   held_or_not a o = grind arith

@@ -1,7 +1,6 @@
 -- the steps of a station, and its legal histories
-use Rattle.std.proofs.Common.{◌≡◌, ℕ, ◌≤◌, Option, Some, None, Result, Ok, Err, [], ◌∷◌, ◌++◌, refl, sym, ap, if◌then◌else◌, arith}
+use Rattle.std.proofs.Common.{◌≡◌, ℕ, ◌≤◌, Option, Some, None, Result, Ok, Err, [], ◌∷◌, ◌++◌, refl, ap, if◌then◌else◌, arith}
 use Rattle.std.proofs.lemmas.Bool.{le-ltb}
-use Rattle.std.proofs.lemmas.Option.{none-some}
 use Rattle.traffic_rules.specs.declared.refusals.StationRefusal.{StationRefusal}
 use Rattle.traffic_rules.specs.declared.refusals.StationRefusal.TheVariants.{TimeBack}
 use Rattle.traffic_rules.specs.Moments.{time_back}

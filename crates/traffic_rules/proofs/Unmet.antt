@@ -1,18 +1,18 @@
 -- a test that no act of the shared rules meets
-use Rattle.std.proofs.Common.{◌≡◌, ℕ, Bool, true, false, Option, Some, None, List, [], ◌∷◌, refl, ◌∙◌, ap, arith}
+use Rattle.std.proofs.Common.{◌≡◌, ℕ, Bool, true, false, Option, Some, None, List, [], ◌∷◌, refl, arith}
 use Rattle.std.proofs.lemmas.Bool.{or_from}
 use Rattle.std.specs.List.{list_any}
 use Rattle.call_values.specs.declared.calls.Call.{Call}
 use Rattle.call_values.specs.declared.calls.Casualty.{Casualty}
 use Rattle.traffic_rules.specs.declared.acts.Act.{Act}
-use Rattle.traffic_rules.specs.declared.acts.Act.TheVariants.{Send, Shown, Held, Answered, GaveUp, Distress, AlertEnded, CasualtyClosed}
+use Rattle.traffic_rules.specs.declared.acts.Act.TheVariants.{Send, Shown, Held, Answered, GaveUp, Distress}
 use Rattle.traffic_rules.specs.Holding.{Places}
 use Rattle.traffic_rules.specs.Sending.{send_due}
 use Rattle.traffic_rules.specs.Answering.{answer_due}
 use Rattle.traffic_rules.specs.Repeating.{repeats}
 use Rattle.traffic_rules.specs.Hearing.{Whereabouts, heard_due}
 use Rattle.traffic_rules.specs.TrafficActs.{IsTrafficAct, AreTrafficActs, AreSentSuch}
-use Rattle.traffic_rules.proofs.Plain.{plain_send, plain_answer, plain_repeats, plain_heard}
+use Rattle.traffic_rules.proofs.Plain.{plain_send, plain_repeats}
 
 -- a test that acts of traffic don't meet, where the calls that they send are such
 pub record MissesSuch (is_such : Call → Bool) (p : Act → Bool) : Type 0 where
