@@ -90,7 +90,7 @@ fn digits_of(width: usize, bytes: &[u8]) -> Option<(u64, &[u8])>
         if !byte.is_ascii_digit() {
             return None;
         }
-        number = 10 * number + u64::from(*byte - b'0');
+        number = 10 * number + (u64::from(*byte) - u64::from(b'0'));
     }
     Some((number, rest))
 }
