@@ -14,16 +14,15 @@ use call_values::bounds::{
     EIGHT_DIGITS, HF_CHANNELS, LAST_HUNDREDS, SIX_DIGITS, TENS, VHF_CHANNELS,
 };
 use call_values::{Area, Field, Fix, HourMinute, Mmsi, Position, To};
-use line_grammar::{Left, fixed_number, further, whole_word, word};
+use line_grammar::{Left, fixed_number, further, word};
 
 /// The value that letters at the front of these bytes stand for, and what follows them.
-#[inline(always)]
 pub fn spelled<'a, T: Drop>(text: &[u8], value: T, bytes: &'a [u8]) -> Result<(T, &'a [u8]), Left>
     ensures value { IfOk result (λ parts. parts.0 ≡ value) }
     ensures rest { IfOk result (λ parts. read_shape (shape.letters text.now) bytes.now ≡ Ok (text.now, parts.1.now)) }
     ensures left { IfErr result (λ left. read_shape (shape.letters text.now) bytes.now ≡ Err left) }
 {
-    let rest = whole_word(text, bytes)?;
+    let rest = word(text, bytes)?;
     Ok((value, rest))
 }
 

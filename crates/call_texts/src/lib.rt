@@ -22,7 +22,7 @@ pub use laws::{
     bare_call_texts_are_read, call_texts_are_read, expansions_are_refused_at_their_blank,
     texts_tell_calls_apart,
 };
-pub use line::{end, take, word};
+pub use line::{end, take, whole_word, word};
 pub use reading::{extra_of, read_bare_call, read_call};
 pub use sections::field;
 pub use tails::Tail;

@@ -4,15 +4,24 @@ ghost use Rattle.line_grammar.specs.Grammar.{none};
 ghost use Rattle.line_grammar.specs.inside.Reading.{after, ended};
 
 use cursor::Cursor;
-use line_grammar::{Left, whole_word};
+use line_grammar::Left;
 
 /// Reads a word.
-#[inline(always)]
 pub fn word(line: &mut Cursor, text: &[u8]) -> Result<(), Left>
     ensures read { OnOk result (after text.now line.old ≡ Ok line.new) }
     ensures left { IfErr result (λ left. after text.now line.old ≡ Err left) }
 {
-    line.go_on(whole_word(text, line.rest())?);
+    line.go_on(line_grammar::word(text, line.rest())?);
+    Ok(())
+}
+
+/// Reads a word that is nearly always there.
+#[inline(always)]
+pub fn whole_word(line: &mut Cursor, text: &[u8]) -> Result<(), Left>
+    ensures read { OnOk result (after text.now line.old ≡ Ok line.new) }
+    ensures left { IfErr result (λ left. after text.now line.old ≡ Err left) }
+{
+    line.go_on(line_grammar::whole_word(text, line.rest())?);
     Ok(())
 }
 
