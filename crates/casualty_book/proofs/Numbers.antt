@@ -202,8 +202,3 @@ none_shown (suc slots) n h = rw (eq-eqb (n / 1152921504606846976) 0 (omega (arit
 pub some_shown : (slots n : ℕ) → 1152921504606846976 ≤ n → digits_or_hyphen (digits_in (suc slots) n) ≡ digit_text (digits_in (suc slots) n)
 unfolding digits_in
 some_shown slots n h = rw (ne_eqb (n / 1152921504606846976) 0 (λ e. omega (arith, e, h))) refl
-
--- the first digit of a number that shows some, and those after it
-pub one_shown : (slots n : ℕ) → 1152921504606846976 ≤ n → digits_in (suc slots) n ≡ (n / 1152921504606846976 - 1) ∷ digits_in slots (n % 1152921504606846976 * 16)
-unfolding digits_in
-one_shown slots n h = rw (ne_eqb (n / 1152921504606846976) 0 (λ e. omega (arith, e, h))) refl

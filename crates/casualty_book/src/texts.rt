@@ -4,7 +4,7 @@ ghost use Rattle.arrayvec.specs.ArrayVec.{array_vec_len};
 ghost use Rattle.sentence_frame.specs.Texts.{digit_text};
 ghost use Rattle.casualty_book.specs.Rows.{IsLawful};
 ghost use Rattle.casualty_book.specs.Texts as texts;
-ghost use Rattle.casualty_book.specs.inside.Packing.{digits_of, told, unpack};
+ghost use Rattle.casualty_book.specs.inside.Packing.{digits_in, digits_of, told, unpack};
 
 use crate::packing::{FIRST_WEIGHT, Packed, pack};
 use crate::rows::{BookKind, BookRow};
@@ -26,11 +26,11 @@ pub(crate) fn put_key(key: &Packed) -> ArrayVec<u8, 160>
 {
     let mut out = ArrayVec::new();
     append(&mut out, b"casualty ");
-    append_packed(&mut out, key.casualty);
+    append_packed(&mut out, 16, key.casualty);
     append(&mut out, b" ");
     append(&mut out, kind_text(key.kind));
     append(&mut out, b" from=");
-    append_packed(&mut out, key.from);
+    append_packed(&mut out, 16, key.from);
     append(&mut out, b" nature=");
     append_code_or_hyphen(&mut out, 2, u16::from(key.nature));
     append(&mut out, b" pos=");
@@ -77,23 +77,20 @@ fn append_packed_or_hyphen(out: &mut ArrayVec<u8, 160>, number: u64)
     if number < FIRST_WEIGHT {
         append(out, b"-");
     } else {
-        append_packed(out, number);
+        append_packed(out, 16, number);
     }
 }
 
-/// Appends the digits of a number. A loop writes them one after the other, and they are appended at once.
-fn append_packed(out: &mut ArrayVec<u8, 160>, number: u64)
-    requires { array_vec_len out.old + 16 ≤ 160 }
-    ensures items { out.new.items ≡ out.old.items ++ digit_text (digits_of number) }
-    ensures len { array_vec_len out.new ≤ array_vec_len out.old + 16 }
+/// Appends at most so many digits of a number.
+#[tactic(auto, unfolding(crate::specs::inside::Packing::digits_in))]
+fn append_packed(out: &mut ArrayVec<u8, 160>, slots: usize, number: u64)
+    requires { array_vec_len out.old + slots ≤ 160 }
+    ensures items { out.new.items ≡ out.old.items ++ digit_text (digits_in slots number) }
+    ensures len { array_vec_len out.new ≤ array_vec_len out.old + slots }
 {
-    let mut text = [b'0'; 16];
-    let mut rest = number;
-    let mut count = 0;
-    while count < 16 && rest >= FIRST_WEIGHT {
-        text[count] = b'0' + (rest / FIRST_WEIGHT - 1) as u8;
-        rest = rest % FIRST_WEIGHT * 16;
-        count += 1;
+    let first = number / FIRST_WEIGHT;
+    if slots > 0 && first > 0 {
+        out.push(b'0' + (first - 1) as u8);
+        append_packed(out, slots - 1, number % FIRST_WEIGHT * 16);
     }
-    append(out, &text[..count]);
 }
