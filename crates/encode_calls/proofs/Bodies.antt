@@ -15,6 +15,10 @@ unfolding transmitted sent dots
 signs_of_body false group call expansion = ap (λ (l : List ℕ). codes "r g" ++ (decimal group ++ (codes " " ++ l))) (append-nil (map sign_of (transmitted false call expansion)))
 signs_of_body true group call expansion = ap (λ (l : List ℕ). codes "r g" ++ (decimal group ++ (codes " " ++ l))) (append-nil (map sign_of (transmitted true call expansion)))
 
+-- what is before the signs
+pub front_appended : (o : List ℕ) (group : ℕ) → o ++ ((([] ++ codes "r g") ++ decimal group) ++ 32 ∷ []) ≡ ((o ++ codes "r g") ++ decimal group) ++ codes " "
+front_appended o group = simp append_assoc
+
 -- the parts of a line, appended one by one
 line_parts : (o n s : List ℕ) → ((((o ++ codes "r g") ++ n) ++ codes " ") ++ s) ++ 10 ∷ [] ≡ o ++ ((codes "r g" ++ (n ++ (codes " " ++ s))) ++ 10 ∷ [])
 line_parts o n s =
