@@ -1,5 +1,5 @@
 -- One word of a command, and the words after it.
-use Rattle.std.proofs.Common.{◌≡◌, Bool, true, false, List, [], ◌∷◌, ℕ, length, fold, subst, sym, arith}
+use Rattle.std.proofs.Common.{◌≡◌, Bool, true, false, List, [], ◌∷◌, ℕ, length, fold, arith}
 use Rattle.std.specs.Prelude.{Option, Some, None, codes, if◌then◌else◌, slice_get}
 use Rattle.std.specs.Option.{option_map_or}
 use Rattle.std.specs.Str.{bytes_eq, chars}
@@ -31,9 +31,7 @@ faults s w ws = or_else (walk_fault s [] w ws) (end_fault s (fold (walked s.rule
 -- words without fault have none at their first word
 pub turn_passes : (s : Shape) (w : Walk) (x : Text) (xs : List Text) → faults s w (x ∷ xs) ≡ [] → turn_fault s [] w x ≡ []
 unfolding walk_fault
-turn_passes s w x xs e =
-    first_passes (turn_fault s [] w x) (walk_fault s [] (walked s.rules [] w x) xs)
-    (first_passes (walk_fault s [] w (x ∷ xs)) (end_fault s (fold (walked s.rules []) w (x ∷ xs)).held) e)
+turn_passes s w x xs e = grind arith
 
 -- words without fault have none after their first word
 pub rest_passes : (s : Shape) (w : Walk) (x : Text) (xs : List Text) → faults s w (x ∷ xs) ≡ [] → faults s (walked s.rules [] w x) xs ≡ []
@@ -46,11 +44,7 @@ rest_passes s w x xs e =
 -- a first word without fault, and a rest without one, have none together
 pub join_turn : (s : Shape) (w next : Walk) (x : Text) (xs : List Text) → turn_fault s [] w x ≡ [] → walked s.rules [] w x ≡ next → faults s next xs ≡ [] → faults s w (x ∷ xs) ≡ []
 unfolding walk_fault
-join_turn s w next x xs turn is e =
-    let v = walked s.rules [] w x in
-    let end = end_fault s (fold (walked s.rules []) v xs).held in
-    let after : or_else (walk_fault s [] v xs) end ≡ [] = subst (λ (u : Walk). faults s u xs ≡ []) (sym is) e in
-    both_pass _ _ (both_pass _ _ turn (first_passes _ _ after)) (second_passes (walk_fault s [] v xs) end after)
+join_turn s w next x xs turn is e = grind arith
 
 -- ---- one word: what is refused of it, and where the walk goes, by what the word looks like
 

@@ -19,7 +19,7 @@ use Rattle.expansion.specs.declared.parts.PartKind.{PartKind}
 use Rattle.expansion.specs.declared.parts.PartKind.TheVariants.{LeftOut, NoInformation, Digits}
 use Rattle.expansion.specs.declared.values.Sets.{Sets}
 use Rattle.expansion.specs.Expansions.{IsExpansion}
-use Rattle.expansion.specs.Parts.{IsThere, IsUpTo}
+use Rattle.expansion.specs.Parts.{IsUpTo}
 use Rattle.dsc_sentences.specs.declared.dse.DseFields.{DseFields}
 use Rattle.dsc_sentences.specs.Dse.{texts, pair_shapes, data_shape, set_texts, expansion_texts, dse, IsDse, IsReading}
 use Rattle.dsc_sentences.specs.inside.DseReading.{FieldsAnswer}
@@ -102,21 +102,8 @@ are_sets x h =
       accepted = set_accepted 0 8 99999999 (2 ∷ 3 ∷ []) x.enhanced later rises_0 h.enhanced pairs2 other0 all2;
     }
 
--- how many texts an expansion has
-set_count : (n width : ℕ) (p : PartKind) → (length (set_texts n width p) ≡ 0) ⊎ (length (set_texts n width p) ≡ 2)
-set_count n width p = grind arith
-
-there_count : (n width : ℕ) (p : PartKind) → IsThere p → length (set_texts n width p) ≡ 2
-there_count n width p h = grind arith
-
 count_ok : (n : ℕ) → (n ≡ 6) ⊎ ((n ≡ 8) ⊎ (n ≡ 10)) → is_among (6 ∷ 8 ∷ 10 ∷ []) n ≡ true
 count_ok n h = grind arith
-
-three_counts : (x y z : ℕ) → (x ≡ 0) ⊎ (x ≡ 2) → (y ≡ 0) ⊎ (y ≡ 2) → (z ≡ 0) ⊎ (z ≡ 2) → (x ≡ 2) ⊎ ((y ≡ 2) ⊎ (z ≡ 2)) → (4 + (x + (y + z)) ≡ 6) ⊎ ((4 + (x + (y + z)) ≡ 8) ⊎ (4 + (x + (y + z)) ≡ 10))
-three_counts x y z h k i s = grind arith
-
-some_count : (x : Sets) → IsThere x.enhanced ⊎ (IsThere x.speed ⊎ IsThere x.course) → (length (set_texts 0 8 x.enhanced) ≡ 2) ⊎ ((length (set_texts 2 4 x.speed) ≡ 2) ⊎ (length (set_texts 3 4 x.course) ≡ 2))
-some_count x h = grind arith
 
 expansion_count : (x : Sets) → IsExpansion x → (4 + length (expansion_texts x) ≡ 6) ⊎ ((4 + length (expansion_texts x) ≡ 8) ⊎ (4 + length (expansion_texts x) ≡ 10))
 expansion_count x h = grind arith
