@@ -6,15 +6,6 @@ use Rattle.casualty_book.specs.declared.rows.BookKind.{BookKind}
 use Rattle.casualty_book.specs.contracts.rows.BookKindOrd.TheImpl as kinds
 use Rattle.casualty_book.specs.Rows.{rank}
 
-three : (a b c : Ordering) → ordering_then (ordering_then a b) c ≡ ordering_then a (ordering_then b c)
-three a b c = grind arith
-
-four : (a b c d : Ordering) → ordering_then (ordering_then (ordering_then a b) c) d ≡ ordering_then a (ordering_then b (ordering_then c d))
-four a b c d = grind arith
-
-five : (a b c d e : Ordering) → ordering_then (ordering_then (ordering_then (ordering_then a b) c) d) e ≡ ordering_then a (ordering_then b (ordering_then c (ordering_then d e)))
-five a b c d e = grind arith
-
 pub six : (a b c d e f : Ordering) → ordering_then (ordering_then (ordering_then (ordering_then (ordering_then a b) c) d) e) f
     ≡ ordering_then a (ordering_then b (ordering_then c (ordering_then d (ordering_then e f))))
 six a b c d e f = grind arith
