@@ -18,14 +18,14 @@ use Rattle.dsc_symbols.specs.Telecommands.{IsComm, IsFirst, IsSecond}
 use Rattle.call_values.specs.Positions.{IsPosition}
 use Rattle.call_values.specs.Clock.{IsHourMinute}
 use Rattle.call_values.specs.Fields.{IsField}
-use Rattle.call_values.specs.Parts.{IsTo, IsMessage}
+use Rattle.call_values.specs.Parts.{IsTo}
 use Rattle.call_values.specs.Areas.{Rectangle, IsArea}
 use Rattle.call_grammar.specs.Spelling.{category_symbol, end_symbol}
 use Rattle.line_grammar.specs.Shapes.{digits}
 use Rattle.call_values.specs.Calls.{IsCasualty, IsCall}
 use Rattle.dsc_symbols.specs.declared.sets.TheConstants.{ENDS, RELAY_ENDS, TEST_ENDS}
 use Rattle.call_texts.specs.CallGrammar as grammar
-use Rattle.call_texts.specs.CallParts.{position_text, time_text, area_text, frequency_text, address_text, relay_end, test_end, message_parts}
+use Rattle.call_texts.specs.CallParts.{position_text, time_text, area_text, frequency_text, address_text, relay_end, test_end}
 use Rattle.call_texts.specs.inside.Places.{call_parts}
 use Rattle.call_texts.proofs.SymbolTexts.{identity_told, nature_told, comm_told, first_told, second_told, category_told, end_told, relay_end_told, test_end_told}
 use Rattle.call_texts.proofs.FieldTexts.{time_told, position_told, area_told, frequency_told, address_told}
@@ -314,29 +314,14 @@ back (inr (inr (inr (inr (inr (inr (inr (inr (inl w))))))))) = Service w.0 w.1.0
 back (inr (inr (inr (inr (inr (inr (inr (inr (inr (inl w)))))))))) = Service w.0 w.1.0 w.1.1 AskPosition
 back (inr (inr (inr (inr (inr (inr (inr (inr (inr (inr (w))))))))))) = Service w.0 w.1.0.0 w.1.0.1 (Position w.1.1.0 w.1.1.1)
 
-message_again : (m : Message) → message_back (message_told m) ≡ m
-message_again m = grind arith
-
 again : (c : Call) → back (told c) ≡ c
 again c = grind arith
-
-message_there : (m : Message) (q : Parts) → message_parts m q ≡ messages (message_told m) q
-message_there m q = grind arith
-
-message_here : (w : Messages) (q : Parts) → message_parts (message_back w) q ≡ messages w q
-message_here w q = grind arith
 
 there : (c : Call) (q : Parts) → call_parts c q ≡ calls (told c) q
 there c q = grind arith
 
 here : (w : Calls) (q : Parts) → call_parts (back w) q ≡ calls w q
 here w q = grind arith
-
-message_is : (m : Message) → IsMessage m → AreMessages (message_told m)
-message_is m h = grind arith
-
-message_of : (w : Messages) → AreMessages w → IsMessage (message_back w)
-message_of w h = grind arith
 
 abbrev casualty_is : (c : Casualty) → IsCasualty c → AreCasualties (c.nature, (c.position, (c.time, c.comm)))
 casualty_is c h = (h.nature, (h.position, (h.time, h.comm)))

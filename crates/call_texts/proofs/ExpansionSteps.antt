@@ -1,17 +1,14 @@
 -- the steps of the readers of expansions
-use Rattle.std.proofs.Common.{◌≡◌, ℕ, List, [], ◌++◌, codes, Result, IfOk, ◌⊎◌, refl, sym, ◌∙◌, ap, append-nil, append_assoc, arith}
+use Rattle.std.proofs.Common.{◌≡◌, ℕ, List, [], ◌++◌, codes, Result, IfOk, ◌⊎◌, sym, ◌∙◌, ap, append-nil, append_assoc, arith}
 use Rattle.expansion.specs.declared.parts.PartKind.{PartKind}
-use Rattle.expansion.specs.declared.parts.PartKind.TheVariants.{LeftOut, NoInformation, Digits}
 use Rattle.expansion.specs.Parts.{IsThere}
 use Rattle.expansion.specs.declared.values.Sets.{Sets}
 use Rattle.expansion.specs.Expansions.{IsExpansion}
-use Rattle.line_grammar.specs.Shapes.{digits}
-use Rattle.line_grammar.specs.Tokens.{Token}
 use Rattle.line_grammar.specs.Grammar.{Grammar, finish, Parts, none, first, second, written}
 use Rattle.line_grammar.specs.inside.Reading.{ended, read}
 use Rattle.call_texts.specs.CallGrammar as grammar
 use Rattle.call_texts.specs.CallGrammar.{perhaps}
-use Rattle.line_grammar.specs.Sections.{labelled, ReadsForm, ReadsTail}
+use Rattle.line_grammar.specs.Sections.{ReadsForm, ReadsTail}
 use Rattle.call_texts.specs.CallParts as parts
 use Rattle.call_texts.specs.CallParts.{perhaps_parts, expansion_text}
 use Rattle.call_texts.specs.inside.Expansions.{set_part, label_and_set}
@@ -37,19 +34,6 @@ there_parts width x q h = grind arith
 pub from_enhanced_parts : (e s c : PartKind) (q : Parts) → IsThere e → parts.set_parts e s c q ≡ first (set_part 8 e (perhaps_parts 4 s (perhaps_parts 4 c q)))
 from_enhanced_parts e s c q h = grind arith
 
--- how sets are written: each after its label, and nothing where it is left out
-there_written : (label : List ℕ) (token : Token) (width : ℕ) (x : PartKind) (rest : Grammar) (q : Parts) → IsThere x
-    → written (labelled label token rest) (set_part width x q) ≡ label_and_set label width x ++ written rest q
-there_written label token width LeftOut rest q h = absurd h
-there_written label token width NoInformation rest q h = sym (append_assoc label (codes "none") (written rest q))
-there_written label token width (Digits n) rest q h = sym (append_assoc label (digits width n) (written rest q))
-
-perhaps_written : (label : List ℕ) (token : Token) (width : ℕ) (x : PartKind) (rest : Grammar) (q : Parts)
-    → written (perhaps (labelled label token) rest) (perhaps_parts width x q) ≡ label_and_set label width x ++ written rest q
-perhaps_written label token width LeftOut rest q = refl
-perhaps_written label token width NoInformation rest q = sym (append_assoc label (codes "none") (written rest q))
-perhaps_written label token width (Digits n) rest q = sym (append_assoc label (digits width n) (written rest q))
-
 abbrev course_word : PartKind → List ℕ
 course_word c = label_and_set (codes " course=") 4 c ++ []
 
@@ -58,20 +42,6 @@ speed_words s c = label_and_set (codes " speed=") 4 s ++ course_word c
 
 abbrev sets_words : PartKind → PartKind → PartKind → List ℕ
 sets_words e s c = label_and_set (codes " enh=") 8 e ++ speed_words s c
-
-course_written : (c : PartKind) → written (perhaps grammar.course finish) (perhaps_parts 4 c none) ≡ course_word c
-course_written c = perhaps_written (codes " course=") (grammar.set 4 3599) 4 c finish none
-
-speed_written : (s c : PartKind) → IsThere s → written (grammar.speed (perhaps grammar.course finish)) (set_part 4 s (perhaps_parts 4 c none)) ≡ speed_words s c
-speed_written s c h = grind arith
-
-enhanced_written : (e s c : PartKind) → IsThere e
-    → written (grammar.enhanced (perhaps grammar.speed (perhaps grammar.course finish))) (set_part 8 e (perhaps_parts 4 s (perhaps_parts 4 c none))) ≡ sets_words e s c
-enhanced_written e s c h = grind arith
-
--- where no other set is there the last one is
-pub last_there : (c : PartKind) → IsThere LeftOut ⊎ IsThere LeftOut ⊎ IsThere c → IsThere c
-last_there c h = grind arith
 
 sets_written : (e s c : PartKind) → IsThere e ⊎ IsThere s ⊎ IsThere c → written (grammar.sets finish) (parts.set_parts e s c none) ≡ sets_words e s c
 sets_written e s c h = grind arith

@@ -182,10 +182,6 @@ area_one a b h k e =
 pub area_told : TokenTexts area IsArea area_text
 area_told = record { is = area_is; of = area_of; one = area_one }
 
--- frequencies and channels
-six_in : (n : ℕ) → (n ≤ 399999) ⊎ ((900000 ≤ n) × (n ≤ 909999)) → is_within ((0, 299999) ∷ (300000, 399999) ∷ (900000, 909999) ∷ []) n ≡ true
-six_in n h = grind (arith, nat_tests)
-
 frequency_is : (f : FieldKind) → IsField f → IsToken frequency (frequency_text f)
 frequency_is f h = grind arith
 
