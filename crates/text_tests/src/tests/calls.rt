@@ -147,7 +147,11 @@ fn expansions_are_written_and_read(rt: HostRuntime) {
             text.as_bytes(),
             "{text}"
         );
-        assert_eq!(rt; read_call(text.as_bytes()), Ok((call, Some(expansion))), "{text}");
+        assert_eq!(rt;
+            read_call(text.as_bytes()),
+            Ok((call, Some(expansion))),
+            "{text}"
+        );
         assert_eq!(rt; read_bare_call(text.as_bytes()), Err(43), "{text}");
     }
 }
