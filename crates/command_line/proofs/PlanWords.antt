@@ -291,14 +291,10 @@ plan_in_range words plan is = go is.rest plan is.is_command
     go : (ws : List Text) (plan : Plan) → IsCommand is.command ws plan → IsInRange plan
     go ws (Join n) c = workers_in_range ws n c.1
     go ws (Evidence n) c = workers_in_range ws n c.1
-    go ws (Encode long) c = tt
-    go ws Sentences c = tt
     go ws (Replay n) c = workers_in_range ws n c.1
-    go ws (Make n) c = (c.1.2.1, c.1.2.2)
-    go ws Capture c = tt
     go ws (Watch n) c = workers_in_range ws n c.1
-    go ws Exchange c = tt
-    go ws Book c = tt
+    go ws (Make n) c = (c.1.2.1, c.1.2.2)
+    go ws _ c = tt
 
 -- the plan that a command and its option's text ask for, where they ask for one
 abbrev plan_at : Text → Option Text → Option Plan
@@ -318,13 +314,10 @@ asked_at : (name : Text) (given : Option Text) (plan : Plan) → IsAsked name gi
 asked_at name given (Join n) (is, workers) = ap (λ c. plan_at c given) is ∙ ap (λ k. Some (Join k)) (workers_are given n workers)
 asked_at name given (Evidence n) (is, workers) = ap (λ c. plan_at c given) is ∙ ap (λ k. Some (Evidence k)) (workers_are given n workers)
 asked_at name given (Encode long) (is, dots) = ap (λ c. plan_at c given) is ∙ ap (λ b. Some (Encode b)) (long_is_at given long dots)
-asked_at name given Sentences is = ap (λ c. plan_at c given) is
-asked_at name given Capture is = ap (λ c. plan_at c given) is
 asked_at name given (Watch n) (is, workers) = ap (λ c. plan_at c given) is ∙ ap (λ k. Some (Watch k)) (workers_are given n workers)
-asked_at name given Exchange is = ap (λ c. plan_at c given) is
-asked_at name given Book is = ap (λ c. plan_at c given) is
 asked_at name given (Replay n) (is, workers) = ap (λ c. plan_at c given) is ∙ ap (λ k. Some (Replay k)) (workers_are given n workers)
 asked_at name given (Make n) (is, groups) = ap (λ c. plan_at c given) is ∙ ap (λ k. Some (Make k)) (groups_are given n groups)
+asked_at name given _ is = ap (λ c. plan_at c given) is
 
 pub plan_is_one : (words : List Text) (a b : Plan) → IsPlan words a → IsPlan words b → a ≡ b
 plan_is_one words a b left right =

@@ -69,26 +69,121 @@ holds_same at sheets batch named other F G n f h = record {
   held = λ k. same_held (named k) (other k) (F k) (G k) h.closed (length sheets) batch (at k) (n k) (f k) (h.held k);
 }
 
--- what is held of a group that has a number, and of one that has none
-pub held_some : (at : ℕ → Option ℕ) (sheets : List (List Seen)) (batch : List GroupReception) (named : ℕ → Bool) (F : ℕ → Facts) (k n : ℕ) → at k ≡ Some n → (h : HoldsIn at sheets batch named F)
-    → IsHeld (named k) (F k) h.closed (length sheets) batch (Some n)
-held_some at sheets batch named F k n is h = subst (λ (o : Option ℕ). IsHeld (named k) (F k) h.closed (length sheets) batch o) is (h.held k)
+-- one that has no number is another group
+no_test : (at : ℕ → Option ℕ) (group n k : ℕ) → at group ≡ Some n → at k ≡ None → (group == k) ≡ false
+no_test at group n k is none = ne_eqb group k (λ e. absurd (never (sym is ∙ ap at e ∙ none)))
+  where
+    never : Some n ≡ None → ⊥
+    never e = absurd cc
 
--- of a group without a number nothing is held
-pub held_none : (at : ℕ → Option ℕ) (sheets : List (List Seen)) (batch : List GroupReception) (named : ℕ → Bool) (F : ℕ → Facts) (k : ℕ) → at k ≡ None → (h : HoldsIn at sheets batch named F)
-    → IsHeld (named k) (F k) h.closed (length sheets) batch None
-held_none at sheets batch named F k is h = subst (λ (o : Option ℕ). IsHeld (named k) (F k) h.closed (length sheets) batch o) is (h.held k)
+-- groups, their sheets and the batch, and what is held of them
+module _ (at : ℕ → Option ℕ) (sheets : List (List Seen)) (batch : List GroupReception) (named : ℕ → Bool) (F : ℕ → Facts) where
+  -- what is held of a group that has a number, and of one that has none
+  pub held_some : (k n : ℕ) → at k ≡ Some n → (h : HoldsIn at sheets batch named F) → IsHeld (named k) (F k) h.closed (length sheets) batch (Some n)
+  held_some k n is h = subst (λ (o : Option ℕ). IsHeld (named k) (F k) h.closed (length sheets) batch o) is (h.held k)
 
--- a group that has a number is named once more
-pub holds_named : (at : ℕ → Option ℕ) (sheets : List (List Seen)) (batch : List GroupReception) (named : ℕ → Bool) (F : ℕ → Facts) (group n : ℕ) → at group ≡ Some n
-    → HoldsIn at sheets batch named F → HoldsIn at sheets batch (named_with group named) F
-holds_named at sheets batch named F group n is h =
-    holds_same at sheets batch named (named_with group named) F F
-    (λ k. elim (cases_eq group k) [
-      | inl here ↦ (let yes : named k ≡ true = subst (λ (j : ℕ). named j ≡ true) here (held_some at sheets batch named F group n is h).0 in yes ∙ sym (or_left (named k) (group == k) yes))
-      | inr apart ↦ sym (ap (λ (b : Bool). named k || b) (ne_eqb group k apart) ∙ or-false (named k))
-    ])
-    (λ k p v. refl) h
+  -- of a group without a number nothing is held
+  pub held_none : (k : ℕ) → at k ≡ None → (h : HoldsIn at sheets batch named F) → IsHeld (named k) (F k) h.closed (length sheets) batch None
+  held_none k is h = subst (λ (o : Option ℕ). IsHeld (named k) (F k) h.closed (length sheets) batch o) is (h.held k)
+
+  -- a group that has a number is named once more
+  pub holds_named : (group n : ℕ) → at group ≡ Some n → HoldsIn at sheets batch named F → HoldsIn at sheets batch (named_with group named) F
+  holds_named group n is h =
+      holds_same at sheets batch named (named_with group named) F F
+      (λ k. elim (cases_eq group k) [
+        | inl here ↦ (let yes : named k ≡ true = subst (λ (j : ℕ). named j ≡ true) here (held_some group n is h).0 in yes ∙ sym (or_left (named k) (group == k) yes))
+        | inr apart ↦ sym (ap (λ (b : Bool). named k || b) (ne_eqb group k apart) ∙ or-false (named k))
+      ])
+      (λ k p v. refl) h
+
+  -- the number of one group is no other's
+  same_test : (group n k m : ℕ) → at group ≡ Some n → at k ≡ Some m → HoldsIn at sheets batch named F → (group == k) ≡ (n == m)
+  same_test group n k m is found h =
+      elim (cases_eq group k) [
+        | inl same ↦ eq-eqb group k same ∙ sym (eq-eqb n m (same_Some n m (sym is ∙ ap at same ∙ found)))
+        | inr apart ↦ ne_eqb group k apart ∙ sym (ne_eqb n m (λ e. apart (sym (h.numbered group n is) ∙ ap h.group_with e ∙ h.numbered k m found)))
+      ]
+
+  module _ (group n : ℕ) (is : at group ≡ Some n) (h : HoldsIn at sheets batch named F) where
+    -- its sheet is met with some facts
+    met_held : (G : Facts) (k : ℕ) (o : Option ℕ) → at k ≡ o → IsHeld (named k) (F k) h.closed (length sheets) batch o
+        → IsHeld (named k) (facts_with group G F k) (λ m. union (h.closed m) (λ p v. n == m && G p v)) (length sheets) batch o
+    met_held G k None found held = (held.0, λ p v. or_from (F k p v) _ (held.1 p v) (and_left (group == k) _ (no_test at group n k is found)))
+    met_held G k (Some m) found held = (
+      held.0,
+      held.1,
+      λ p v.
+          ap (λ (b : Bool). b || (group == k && G p v)) (held.2 p v)
+          ∙ ap (λ (b : Bool). h.closed m p v || facts_of_group batch m p v || (b && G p v)) (same_test group n k m is found h)
+          ∙ more_closed (h.closed m p v) (facts_of_group batch m p v) (n == m && G p v),
+    )
+
+    pub holds_met : (G : Facts) (after : List (List Seen)) → ((C : ℕ → Facts) (m : ℕ) → AreSheets C sheets m → AreSheets (λ k. union (C k) (λ p v. n == k && G p v)) after m)
+        → HoldsIn at after batch named (facts_with group G F)
+    holds_met G after met =
+        let are = met h.closed (length sheets) h.are_sheets in
+        record {
+          closed = λ m. union (h.closed m) (λ p v. n == m && G p v);
+          are_sheets = subst (λ (c : ℕ). AreSheets (λ m. union (h.closed m) (λ p v. n == m && G p v)) after c) (sym are.count) are;
+          belong = subst (λ (c : ℕ). All (Belongs c) batch) (sym are.count) h.belong;
+          group_with = h.group_with;
+          numbered = h.numbered;
+          held = λ k. subst (λ (c : ℕ). IsHeld (named k) (facts_with group G F k) (λ m. union (h.closed m) (λ p v. n == m && G p v)) c batch (at k)) (sym are.count) (met_held G k (at k) refl (h.held k));
+        }
+
+    -- a reception of it waits
+    heard_held : (e : List Element) (k : ℕ) (o : Option ℕ) → at k ≡ o → IsHeld (named k) (F k) h.closed (length sheets) batch o
+        → IsHeld (named k) (facts_with group (facts_of e) F k) h.closed (length sheets) (batch ++ record { group = n; reception = e } ∷ []) o
+    heard_held e k None found held = (held.0, λ p v. or_from (F k p v) _ (held.1 p v) (and_left (group == k) _ (no_test at group n k is found)))
+    heard_held e k (Some m) found held = (
+      held.0,
+      held.1,
+      λ p v.
+          ap (λ (b : Bool). b || (group == k && facts_of e p v)) (held.2 p v)
+          ∙ ap (λ (b : Bool). h.closed m p v || facts_of_group batch m p v || (b && facts_of e p v)) (same_test group n k m is found h)
+          ∙ or_assoc (h.closed m p v) (facts_of_group batch m p v) (n == m && facts_of e p v)
+          ∙ ap (λ (b : Bool). h.closed m p v || b) (sym (batch_push batch (record { group = n; reception = e }) m p v)),
+    )
+
+    pub holds_heard : (e : List Element) → length e ≤ 1000000 → HoldsIn at sheets (batch ++ record { group = n; reception = e } ∷ []) named (facts_with group (facts_of e) F)
+    holds_heard e short = record {
+      closed = h.closed;
+      are_sheets = h.are_sheets;
+      belong = All-push (Belongs (length sheets)) batch (record { group = n; reception = e }) h.belong (record { group = (held_some group n is h).1; short = short });
+      group_with = h.group_with;
+      numbered = h.numbered;
+      held = λ k. heard_held e k (at k) refl (h.held k);
+    }
+
+  -- what a sheet shows of its group, where no reception waits
+  pub shown_whole : (k n : ℕ) (sheet : List Seen) → batch ≡ [] → at k ≡ Some n → (h : HoldsIn at sheets batch named F)
+      → IsEnds (h.closed n) sheet → IsEnds (F k) sheet
+  shown_whole k n sheet ended is h ends =
+      subst (λ (X : Facts). IsEnds X sheet)
+      (same_facts (h.closed n) (F k) (λ p v.
+      sym ((held_some k n is h).2 p v
+      ∙ ap (λ (b : List GroupReception). h.closed n p v || facts_of_group b n p v) ended
+      ∙ ap (λ (b : Bool). h.closed n p v || b) (none_waits n p v) ∙ or-false (h.closed n p v))))
+      ends
+
+  -- a group that has no number has no facts to lose
+  pub holds_unknown : (group : ℕ) → at group ≡ None
+      → HoldsIn at sheets batch named F → HoldsIn at sheets batch named (facts_without group F)
+  holds_unknown group none h =
+      holds_same at sheets batch named named F (facts_without group F) (λ k. refl)
+      (λ k p v. elim (cases_eq group k) [
+        | inl same ↦
+            (let nothing : F k p v ≡ false = subst (λ (j : ℕ). F j p v ≡ false) same ((held_none group none h).1 p v) in
+            nothing ∙ sym (ap (λ (b : Bool). not b && F k p v) (eq-eqb group k same)))
+        | inr apart ↦ sym (ap (λ (b : Bool). not b && F k p v) (ne_eqb group k apart))
+      ]) h
+
+  pub known_is_not_full : (group n : ℕ) → at group ≡ Some n
+      → HoldsIn at sheets batch named F → IsFull named group → ⊥
+  known_is_not_full group n is h full =
+      let known : named group ≡ true = (held_some group n is h).0 in
+      let new : named group ≡ false = full.is_new in
+      absurd (cc (new, known))
 
 -- a group gets the next number
 next_held : (named : Bool) (F : Facts) (closed : ℕ → Facts) (count : ℕ) (batch : List GroupReception) (o : Option ℕ) → IsHeld named F closed count batch o
@@ -156,73 +251,6 @@ holds_numbered at next sheets batch named F group blank none is ends h =
     not_below : (m count : ℕ) → m ≡ count → nat_lt m count ≡ false
     not_below m count e = grind arith
 
--- the number of one group is no other's
-same_test : (at : ℕ → Option ℕ) (sheets : List (List Seen)) (batch : List GroupReception) (named : ℕ → Bool) (F : ℕ → Facts) (group n k m : ℕ) → at group ≡ Some n → at k ≡ Some m → HoldsIn at sheets batch named F
-    → (group == k) ≡ (n == m)
-same_test at sheets batch named F group n k m is found h =
-    elim (cases_eq group k) [
-      | inl same ↦ eq-eqb group k same ∙ sym (eq-eqb n m (same_Some n m (sym is ∙ ap at same ∙ found)))
-      | inr apart ↦ ne_eqb group k apart ∙ sym (ne_eqb n m (λ e. apart (sym (h.numbered group n is) ∙ ap h.group_with e ∙ h.numbered k m found)))
-    ]
-
--- one that has no number is another group
-no_test : (at : ℕ → Option ℕ) (group n k : ℕ) → at group ≡ Some n → at k ≡ None → (group == k) ≡ false
-no_test at group n k is none = ne_eqb group k (λ e. absurd (never (sym is ∙ ap at e ∙ none)))
-  where
-    never : Some n ≡ None → ⊥
-    never e = absurd cc
-
-module _ (at : ℕ → Option ℕ) (sheets : List (List Seen)) (batch : List GroupReception) (named : ℕ → Bool) (F : ℕ → Facts) (group n : ℕ) (is : at group ≡ Some n) (h : HoldsIn at sheets batch named F) where
-  -- its sheet is met with some facts
-  met_held : (G : Facts) (k : ℕ) (o : Option ℕ) → at k ≡ o → IsHeld (named k) (F k) h.closed (length sheets) batch o
-      → IsHeld (named k) (facts_with group G F k) (λ m. union (h.closed m) (λ p v. n == m && G p v)) (length sheets) batch o
-  met_held G k None found held = (held.0, λ p v. or_from (F k p v) _ (held.1 p v) (and_left (group == k) _ (no_test at group n k is found)))
-  met_held G k (Some m) found held = (
-    held.0,
-    held.1,
-    λ p v.
-        ap (λ (b : Bool). b || (group == k && G p v)) (held.2 p v)
-        ∙ ap (λ (b : Bool). h.closed m p v || facts_of_group batch m p v || (b && G p v)) (same_test at sheets batch named F group n k m is found h)
-        ∙ more_closed (h.closed m p v) (facts_of_group batch m p v) (n == m && G p v),
-  )
-
-  pub holds_met : (G : Facts) (after : List (List Seen)) → ((C : ℕ → Facts) (m : ℕ) → AreSheets C sheets m → AreSheets (λ k. union (C k) (λ p v. n == k && G p v)) after m)
-      → HoldsIn at after batch named (facts_with group G F)
-  holds_met G after met =
-      let are = met h.closed (length sheets) h.are_sheets in
-      record {
-        closed = λ m. union (h.closed m) (λ p v. n == m && G p v);
-        are_sheets = subst (λ (c : ℕ). AreSheets (λ m. union (h.closed m) (λ p v. n == m && G p v)) after c) (sym are.count) are;
-        belong = subst (λ (c : ℕ). All (Belongs c) batch) (sym are.count) h.belong;
-        group_with = h.group_with;
-        numbered = h.numbered;
-        held = λ k. subst (λ (c : ℕ). IsHeld (named k) (facts_with group G F k) (λ m. union (h.closed m) (λ p v. n == m && G p v)) c batch (at k)) (sym are.count) (met_held G k (at k) refl (h.held k));
-      }
-
-  -- a reception of it waits
-  heard_held : (e : List Element) (k : ℕ) (o : Option ℕ) → at k ≡ o → IsHeld (named k) (F k) h.closed (length sheets) batch o
-      → IsHeld (named k) (facts_with group (facts_of e) F k) h.closed (length sheets) (batch ++ record { group = n; reception = e } ∷ []) o
-  heard_held e k None found held = (held.0, λ p v. or_from (F k p v) _ (held.1 p v) (and_left (group == k) _ (no_test at group n k is found)))
-  heard_held e k (Some m) found held = (
-    held.0,
-    held.1,
-    λ p v.
-        ap (λ (b : Bool). b || (group == k && facts_of e p v)) (held.2 p v)
-        ∙ ap (λ (b : Bool). h.closed m p v || facts_of_group batch m p v || (b && facts_of e p v)) (same_test at sheets batch named F group n k m is found h)
-        ∙ or_assoc (h.closed m p v) (facts_of_group batch m p v) (n == m && facts_of e p v)
-        ∙ ap (λ (b : Bool). h.closed m p v || b) (sym (batch_push batch (record { group = n; reception = e }) m p v)),
-  )
-
-  pub holds_heard : (e : List Element) → length e ≤ 1000000 → HoldsIn at sheets (batch ++ record { group = n; reception = e } ∷ []) named (facts_with group (facts_of e) F)
-  holds_heard e short = record {
-    closed = h.closed;
-    are_sheets = h.are_sheets;
-    belong = All-push (Belongs (length sheets)) batch (record { group = n; reception = e }) h.belong (record { group = (held_some at sheets batch named F group n is h).1; short = short });
-    group_with = h.group_with;
-    numbered = h.numbered;
-    held = λ k. heard_held e k (at k) refl (h.held k);
-  }
-
 -- the batch is joined into the sheets
 closed_held : (named : Bool) (F : Facts) (closed : ℕ → Facts) (sheets : ℕ) (batch : List GroupReception) (o : Option ℕ) → IsHeld named F closed sheets batch o
     → IsHeld named F (λ m. union (closed m) (facts_of_group batch m)) sheets [] o
@@ -247,17 +275,6 @@ holds_closed at sheets after batch named F joined h =
       numbered = h.numbered;
       held = λ k. subst (λ (c : ℕ). IsHeld (named k) (F k) (λ m. union (h.closed m) (facts_of_group batch m)) c [] (at k)) (sym are.count) (closed_held (named k) (F k) h.closed (length sheets) batch (at k) (h.held k));
     }
-
--- what a sheet shows of its group, where no reception waits
-pub shown_whole : (at : ℕ → Option ℕ) (sheets : List (List Seen)) (batch : List GroupReception) (named : ℕ → Bool) (F : ℕ → Facts) (k n : ℕ) (sheet : List Seen) → batch ≡ [] → at k ≡ Some n → (h : HoldsIn at sheets batch named F)
-    → IsEnds (h.closed n) sheet → IsEnds (F k) sheet
-shown_whole at sheets batch named F k n sheet ended is h ends =
-    subst (λ (X : Facts). IsEnds X sheet)
-    (same_facts (h.closed n) (F k) (λ p v.
-    sym ((held_some at sheets batch named F k n is h).2 p v
-    ∙ ap (λ (b : List GroupReception). h.closed n p v || facts_of_group b n p v) ended
-    ∙ ap (λ (b : Bool). h.closed n p v || b) (none_waits n p v) ∙ or-false (h.closed n p v))))
-    ends
 
 -- its facts begin anew
 pub holds_anew : (at : ℕ → Option ℕ) (sheets after : List (List Seen)) (batch : List GroupReception) (named : ℕ → Bool) (F : ℕ → Facts) (group n : ℕ) → batch ≡ [] → at group ≡ Some n
@@ -288,18 +305,6 @@ holds_anew at sheets after batch named F group n ended is left h =
           ∙ ap (λ (b : Bool). (not (n == m) && h.closed m p v) || b) (sym waits)),
     )
 
--- a group that has no number has no facts to lose
-pub holds_unknown : (at : ℕ → Option ℕ) (sheets : List (List Seen)) (batch : List GroupReception) (named : ℕ → Bool) (F : ℕ → Facts) (group : ℕ) → at group ≡ None
-    → HoldsIn at sheets batch named F → HoldsIn at sheets batch named (facts_without group F)
-holds_unknown at sheets batch named F group none h =
-    holds_same at sheets batch named named F (facts_without group F) (λ k. refl)
-    (λ k p v. elim (cases_eq group k) [
-      | inl same ↦
-          (let nothing : F k p v ≡ false = subst (λ (j : ℕ). F j p v ≡ false) same ((held_none at sheets batch named F group none h).1 p v) in
-          nothing ∙ sym (ap (λ (b : Bool). not b && F k p v) (eq-eqb group k same)))
-      | inr apart ↦ sym (ap (λ (b : Bool). not b && F k p v) (ne_eqb group k apart))
-    ]) h
-
 -- the groups that are held
 is_held_some : (named : Bool) (F : Facts) (closed : ℕ → Facts) (sheets : ℕ) (batch : List GroupReception) (o : Option ℕ) → IsHeld named F closed sheets batch o → is_some o ≡ named
 is_held_some named F closed sheets batch None h = sym h.0
@@ -326,13 +331,6 @@ full_has_many numbers sheets batch named F group ordered h full =
     let same : full.groups ≡ keys_of numbers =
     same_rising full.groups (keys_of numbers) full.rising (rising_keys (keys_of numbers) ordered) (λ k. full.are k ∙ sym (held_groups numbers sheets batch named F h k)) in
     omega (arith, full.many, ap length same, length-keys_of numbers)
-
-pub known_is_not_full : (at : ℕ → Option ℕ) (sheets : List (List Seen)) (batch : List GroupReception) (named : ℕ → Bool) (F : ℕ → Facts) (group n : ℕ) → at group ≡ Some n
-    → HoldsIn at sheets batch named F → IsFull named group → ⊥
-known_is_not_full at sheets batch named F group n is h full =
-    let known : named group ≡ true = (held_some at sheets batch named F group n is h).0 in
-    let new : named group ≡ false = full.is_new in
-    absurd (cc (new, known))
 
 -- nothing is held of no groups
 pub holds_nothing : (at : ℕ → Option ℕ) (sheets : List (List Seen)) (batch : List GroupReception) → ((k : ℕ) → at k ≡ None) → sheets ≡ [] → batch ≡ [] → HoldsIn at sheets batch (λ k. false) (λ k. no_facts)

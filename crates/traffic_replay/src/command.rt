@@ -1,7 +1,7 @@
 //! The command `replay`.
-ghost use Rattle.std.specs.Prelude.{◌≡◌, ◌⊎◌, ◌∷◌, ◌≤◌, ℕ, List, [], length, OnOk, IfErr};
+ghost use Rattle.std.specs.Prelude.{◌≡◌, ◌⊎◌, ◌∷◌, ◌++◌, ◌≤◌, ℕ, List, [], length, OnOk, IfErr};
 ghost use Rattle.line_engine.specs.Commands.{KeepsText};
-ghost use Rattle.input_lines.specs.PointLine.{joined, IsBody};
+ghost use Rattle.input_lines.specs.PointLine.{joined, traffic, IsBody};
 ghost use Rattle.input_lines.specs.ReceiverLine.{ReceiverLine};
 ghost use Rattle.input_lines.specs.Lines.{Says};
 ghost use Rattle.slot_evidence.specs.Facts.{Facts, facts_of};
@@ -10,8 +10,12 @@ ghost use Rattle.join_groups.specs.Meanings.{BringsTooMany};
 ghost use Rattle.traffic_replay.specs.Said.{Said};
 ghost use Rattle.traffic_replay.specs.HeardGroups.{of_receivers};
 ghost use Rattle.traffic_replay.specs.Meaning.{replay_meaning};
+ghost use Rattle.traffic_lines.specs.declared.lines.Point.TheVariants as point;
+ghost use Rattle.traffic_lines.specs.declared.lines.StationOwn.TheVariants as own;
+ghost use Rattle.traffic_lines.specs.declared.lines.TrafficLine.TheVariants as line;
+ghost use Rattle.traffic_lines.specs.Lines.{event_with};
 ghost use Rattle.traffic_replay.specs.declared.stages.Stage.TheVariants as stage;
-ghost use Rattle.traffic_replay.specs.inside.Progress.{Begins, Keeps, StandsFor, IsOwnLine, IsReady, IsShort, IsShown, MayBeRead, RefusesGroup, RefusesLine, TakesLine, point_at};
+ghost use Rattle.traffic_replay.specs.inside.Progress.{Begins, IsBegun, Keeps, StandsFor, IsOwnLine, IsReady, IsShort, IsShown, MayBeRead, RefusesGroup, RefusesLine, TakesLine, point_at};
 ghost use Rattle.traffic_replay.specs.inside.Gives.{gives_text};
 
 use crate::stages::{Stage, behind_base};
@@ -25,7 +29,8 @@ use receiver_pool::Joiner;
 use slot_evidence::{Reception, Sheet};
 use std::alloc::{AllocError, Global};
 use traffic_lines::{
-    ShipLine, StationLine, read_base, read_coast_line, read_ship_line, read_station,
+    Event, Hearing, ShipLine, ShipOwn, StationLine, read_base, read_coast_line, read_ship_line,
+    read_station,
 };
 use traffic_rules::Acts;
 
@@ -209,28 +214,19 @@ impl Replay {
                 match says {
                     ShipLine::Group(mmsi) => groups.name(mmsi)?,
                     ShipLine::Event { at, what } => {
-                        let (base, mut ship) = (groups.base, groups.ship());
-                        let heard = &mut self.heard;
-                        let acts = &mut self.acts;
-                        self.is_well &= happen(
-                            &mut ship, heard, workers, base, at, &what, acts, out,
-                        )?;
-                        self.stage = Stage::Ship { base, ship };
+                        self.stage.begin();
+                        self.take_at_ship(workers, at, &what, out)?;
                     }
                 }
             }
-            Stage::Ship { base, ship } => {
+            Stage::Ship { .. } => {
                 let says = match read_ship_line(None, line) {
                     Ok(says) => says,
                     Err(n) => return Err(Refusal::Column(n)),
                 };
                 match says {
                     ShipLine::Group(_) => unreachable!(),
-                    ShipLine::Event { at, what } => {
-                        let heard = &mut self.heard;
-                        let acts = &mut self.acts;
-                        self.is_well &= happen(ship, heard, workers, *base, at, &what, acts, out)?;
-                    }
+                    ShipLine::Event { at, what } => self.take_at_ship(workers, at, &what, out)?,
                 }
             }
             Stage::Coast(coast) => {
@@ -243,6 +239,29 @@ impl Replay {
                 self.is_well &= happen(coast, heard, workers, 0, at, &what, acts, out)?;
             }
         }
+        Ok(())
+    }
+
+    /// Takes an event of a ship that was begun.
+    fn take_at_ship<W: Joiner>(
+        &mut self,
+        workers: &W,
+        at: u32,
+        what: &Event<ShipOwn, Hearing>,
+        out: &mut Vec<u8>,
+    ) -> Result<(), AllocError>
+        requires ready { IsReady self.old }
+        requires ship { point_at self.old.stage ≡ point.Ship }
+        requires joins { W.can_join workers.now }
+        ensures { OnOk result ((said : Said) (text : List ℕ) → IsBegun self.old said (text ++ out.old.items)
+            → Keeps self.new (traffic (line.Event at (event_with own.Ship what.now)) ∷ said) (text ++ out.new.items)) }
+    {
+        let Stage::Ship { base, ship } = &mut self.stage else {
+            unreachable!();
+        };
+        let heard = &mut self.heard;
+        let acts = &mut self.acts;
+        self.is_well &= happen(ship, heard, workers, *base, at, what, acts, out)?;
         Ok(())
     }
 }

@@ -101,6 +101,10 @@ abbrev pub GoesOn : Stage → Stage → Type 0
 GoesOn (stage.Groups g) to = (s : Ship) × (to ≡ stage.Ship g.base s) × ShipStandsFor s (identities_in g) []
 GoesOn from to = to ≡ from
 
+-- the stage has begun with what was said, of which this is the text, and the groups keep it
+abbrev pub IsBegun : Replay → Said → List ℕ → Type 0
+IsBegun replay said text = KeepsStation replay.stage said text replay.is_well × KeepsGroups replay.heard said × (length replay.heard.batch.items < MOST_IN_BATCH)
+
 -- the stage after the base of a station that was named
 abbrev pub IsBehindBase : StationLine → (base : ℕ) → Stage → Type 0
 IsBehindBase (named.Ship own) base to = (g : Groups) × (to ≡ stage.Groups g) × (identities_in g ≡ record { own = own; groups = [] }) × (g.base ≡ base)
