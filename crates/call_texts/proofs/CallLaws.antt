@@ -14,11 +14,11 @@ use Rattle.line_grammar.proofs.Stops.{IsAlike}
 use Rattle.call_texts.specs.CallGrammar.{calls, expansion, perhaps}
 use Rattle.call_texts.specs.CallParts.{call_text, expansion_text}
 use Rattle.call_texts.specs.Texts.{IsCallText, IsWholeOrAbsent, extra_of, extra_text, reported_text}
-use Rattle.call_texts.specs.inside.Expansions.{extra_parts}
+use Rattle.call_texts.specs.inside.Expansions.{tail_parts}
 use Rattle.call_texts.specs.inside.Places.{call_parts}
 use Rattle.line_grammar.proofs.Sections.{Section, followed, closed, renamed}
 use Rattle.call_texts.proofs.CallTexts.{calls_section}
-use Rattle.call_texts.proofs.ExpansionTexts.{extra_section}
+use Rattle.call_texts.proofs.ExpansionTexts.{tail_section}
 use Rattle.line_grammar.proofs.Forms.{Texts, one_value, texts_alike}
 
 -- the texts of calls with nothing after them
@@ -53,47 +53,37 @@ bare_texts = record {
 abbrev pub with_expansion : Grammar
 with_expansion = calls (perhaps expansion finish)
 
-extra_is : (x : Extra) → IsWholeOrAbsent x → extra_text x ≡ written (perhaps expansion finish) (extra_parts x none)
+tail_is : (x : Option Sets) → extra_text (extra_of x) ≡ written (perhaps expansion finish) (tail_parts x none)
 unfolding expansion_text
-extra_is Absent h = refl
-extra_is (Whole x) h = refl
-extra_is (Broken n) h = absurd h
+tail_is None = refl
+tail_is (Some x) = refl
 
-text_is : (c : Call) (x : Extra) → IsCall c → IsWholeOrAbsent x → reported_text c x ≡ written with_expansion (call_parts c (extra_parts x none))
-text_is c x h k =
-    ap (λ (l : List ℕ). l ++ extra_text x) (bare_is c) ∙ ap (λ (l : List ℕ). written (calls finish) (call_parts c none) ++ l) (extra_is x k)
-    ∙ sym (calls_section.split c h (perhaps expansion finish) (extra_parts x none))
+text_is : (c : Call) (x : Option Sets) → IsCall c → reported_text c (extra_of x) ≡ written with_expansion (call_parts c (tail_parts x none))
+text_is c x h =
+    ap (λ (l : List ℕ). l ++ extra_text (extra_of x)) (bare_is c) ∙ ap (λ (l : List ℕ). written (calls finish) (call_parts c none) ++ l) (tail_is x)
+    ∙ sym (calls_section.split c h (perhaps expansion finish) (tail_parts x none))
 
 -- what follows a call, by the expansion
 abbrev expansion_in : Extra → Option Sets
 expansion_in (Whole x) = Some x
 expansion_in _ = None
 
-told_again : (x : Option Sets) → expansion_in (extra_of x) ≡ x
-told_again None = refl
-told_again (Some x) = refl
-
 whole_again : (x : Extra) → IsWholeOrAbsent x → extra_of (expansion_in x) ≡ x
 whole_again Absent h = refl
 whole_again (Whole x) h = refl
 whole_again (Broken n) h = absurd h
 
-sent_section : Section {V = Option Sets} (perhaps expansion) (λ x. IsWholeOrAbsent (extra_of x)) (λ x. extra_parts (extra_of x))
-sent_section =
-    renamed extra_section extra_of expansion_in (λ x h. h) (λ w h. subst IsWholeOrAbsent (sym (whole_again w h)) h) (λ x h. told_again x) (λ x h q. refl)
-    (λ w h q. ap (λ (x : Extra). extra_parts x q) (whole_again w h))
-
 pub with_expansion_sound : is_sound with_expansion ≡ true
 unfolding fits
 with_expansion_sound = refl
 
-pub texts : Texts {V = Call × Option Sets} with_expansion (λ w. IsCall w.0 × IsWholeOrAbsent (extra_of w.1)) (λ w. call_parts w.0 (extra_parts (extra_of w.1) none)) (λ w. reported_text w.0 (extra_of w.1))
+pub texts : Texts {V = Call × Option Sets} with_expansion (λ w. IsCall w.0 × IsWholeOrAbsent (extra_of w.1)) (λ w. call_parts w.0 (tail_parts w.1 none)) (λ w. reported_text w.0 (extra_of w.1))
 texts = record {
-  form = closed (followed calls_section sent_section);
+  form = closed (followed calls_section tail_section);
   sound = with_expansion_sound;
   plain = refl;
   all = refl;
-  text_is = λ w h. text_is w.0 (extra_of w.1) h.0 h.1;
+  text_is = λ w h. text_is w.0 w.1 h.0;
 }
 
 -- two texts belong to two calls or to two expansions

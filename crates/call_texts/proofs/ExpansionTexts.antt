@@ -1,12 +1,10 @@
 -- expansions and the parts of their texts
-use Rattle.std.proofs.Common.{◌≡◌, ℕ, ◌<◌, ◌^◌, List, ◌⊎◌, inl, inr, codes, slice_index_or, refl, sym, ap, arith}
+use Rattle.std.proofs.Common.{◌≡◌, ℕ, ◌<◌, ◌^◌, List, ◌⊎◌, inl, inr, Option, Some, None, codes, slice_index_or, refl, sym, ap, arith}
 use Rattle.expansion.specs.declared.parts.PartKind.{PartKind}
 use Rattle.expansion.specs.declared.parts.PartKind.TheVariants.{LeftOut, NoInformation, Digits}
 use Rattle.expansion.specs.declared.values.Sets.{Sets}
 use Rattle.expansion.specs.Parts.{IsUpTo}
 use Rattle.expansion.specs.Expansions.{IsExpansion}
-use Rattle.slot_join.specs.declared.joined.Extra.{Extra}
-use Rattle.slot_join.specs.declared.joined.Extra.TheVariants.{Absent, Whole, Broken}
 use Rattle.line_grammar.specs.Grammar.{Grammar, Parts}
 use Rattle.line_grammar.specs.Shapes.{digits}
 use Rattle.line_grammar.specs.Tokens.{IsToken}
@@ -15,8 +13,9 @@ use Rattle.call_texts.specs.CallGrammar as grammar
 use Rattle.call_texts.specs.CallGrammar.{set, perhaps}
 use Rattle.call_texts.specs.CallParts as parts
 use Rattle.call_texts.specs.CallParts.{set_text, perhaps_parts, expansion_parts}
-use Rattle.call_texts.specs.Texts.{IsWholeOrAbsent}
-use Rattle.call_texts.specs.inside.Expansions.{IsSet, set_part, extra_parts}
+use Rattle.call_texts.specs.Texts.{IsWholeOrAbsent, extra_of}
+use Rattle.call_texts.specs.inside.Expansions.{IsSet, set_part, tail_parts}
+use Rattle.line_grammar.proofs.Rows.{under}
 use Rattle.line_grammar.proofs.Sections.{TokenTexts, Section, worded, labelled, nothing, followed, LawfulSide, side_parts, sided, renamed}
 use Rattle.call_texts.proofs.FieldTexts.{most_of}
 
@@ -95,31 +94,31 @@ perhaps_set width most s =
     renamed (sided nothing s) one_told one_back (one_lawful most) (one_lawful_back most) (λ x h. one_again x) (λ x h. one_there width x) (one_here width most)
 
 -- the sets of an expansion, by the first one that is there
-abbrev Some : Type 0
-Some = (PartKind × (PartKind × PartKind)) ⊎ ((PartKind × PartKind) ⊎ PartKind)
+abbrev FirstSet : Type 0
+FirstSet = (PartKind × (PartKind × PartKind)) ⊎ ((PartKind × PartKind) ⊎ PartKind)
 
-abbrev AreSome : Some → Type 0
+abbrev AreSome : FirstSet → Type 0
 AreSome =
     LawfulSide (λ (w : PartKind × (PartKind × PartKind)). IsSet 99999999 w.0 × (IsUpTo 9999 w.1.0 × IsUpTo 3599 w.1.1)) (
     LawfulSide (λ (w : PartKind × PartKind). IsSet 9999 w.0 × IsUpTo 3599 w.1) (IsSet 3599))
 
-abbrev some_parts : Some → Parts → Parts
+abbrev some_parts : FirstSet → Parts → Parts
 some_parts =
     side_parts (λ (w : PartKind × (PartKind × PartKind)) (q : Parts). set_part 8 w.0 (perhaps_parts 4 w.1.0 (perhaps_parts 4 w.1.1 q))) (
     side_parts (λ (w : PartKind × PartKind) (q : Parts). set_part 4 w.0 (perhaps_parts 4 w.1 q)) (set_part 4))
 
-some_section : Section {V = Some} grammar.sets AreSome some_parts
+some_section : Section {V = FirstSet} grammar.sets AreSome some_parts
 some_section =
     let speed = perhaps_set 4 9999 speed_section in
     let course = perhaps_set 4 3599 course_section in
     sided (followed enhanced_section (followed speed course)) (sided (followed speed_section course) course_section)
 
-abbrev some_told : PartKind → PartKind → PartKind → Some
+abbrev some_told : PartKind → PartKind → PartKind → FirstSet
 some_told LeftOut LeftOut c = inr (inr c)
 some_told LeftOut s c = inr (inl (s, c))
 some_told e s c = inl (e, (s, c))
 
-abbrev some_back : Some → Sets
+abbrev some_back : FirstSet → Sets
 some_back (inl w) = record { enhanced = w.0; speed = w.1.0; course = w.1.1 }
 some_back (inr (inl w)) = record { enhanced = LeftOut; speed = w.0; course = w.1 }
 some_back (inr (inr c)) = record { enhanced = LeftOut; speed = LeftOut; course = c }
@@ -127,7 +126,7 @@ some_back (inr (inr c)) = record { enhanced = LeftOut; speed = LeftOut; course =
 some_lawful : (e s c : PartKind) → IsExpansion (record { enhanced = e; speed = s; course = c }) → AreSome (some_told e s c)
 some_lawful e s c h = grind arith
 
-some_lawful_back : (w : Some) → AreSome w → IsExpansion (some_back w)
+some_lawful_back : (w : FirstSet) → AreSome w → IsExpansion (some_back w)
 some_lawful_back w h = grind arith
 
 some_again : (e s c : PartKind) → some_back (some_told e s c) ≡ record { enhanced = e; speed = s; course = c }
@@ -136,7 +135,7 @@ some_again e s c = grind arith
 some_there : (e s c : PartKind) (q : Parts) → parts.set_parts e s c q ≡ some_parts (some_told e s c) q
 some_there e s c q = grind arith
 
-some_here : (w : Some) → AreSome w → (q : Parts) → expansion_parts (some_back w) q ≡ some_parts w q
+some_here : (w : FirstSet) → AreSome w → (q : Parts) → expansion_parts (some_back w) q ≡ some_parts w q
 some_here w h q = grind arith
 
 -- an expansion, as a section
@@ -146,43 +145,10 @@ expansion_section =
     (λ x h. some_lawful x.enhanced x.speed x.course h) some_lawful_back (λ x h. some_again x.enhanced x.speed x.course)
     (λ x h. some_there x.enhanced x.speed x.course) some_here)
 
--- what follows a call, where an expansion may follow
-abbrev extra_told : Extra → Unit {0} ⊎ Sets
-extra_told (Whole x) = inr x
-extra_told _ = inl tt
-
-abbrev extra_back : Unit {0} ⊎ Sets → Extra
-extra_back (inl u) = Absent
-extra_back (inr x) = Whole x
-
-abbrev IsEither : Unit {0} ⊎ Sets → Type 0
-IsEither = LawfulSide (λ (u : Unit {0}). Unit {0}) IsExpansion
-
-abbrev either_parts : Unit {0} ⊎ Sets → Parts → Parts
-either_parts = side_parts (λ (u : Unit {0}) (q : Parts). q) expansion_parts
-
-extra_lawful : (x : Extra) → IsWholeOrAbsent x → IsEither (extra_told x)
-extra_lawful Absent h = tt
-extra_lawful (Whole x) h = h
-extra_lawful (Broken n) h = absurd h
-
-extra_lawful_back : (w : Unit {0} ⊎ Sets) → IsEither w → IsWholeOrAbsent (extra_back w)
-extra_lawful_back (inl u) h = tt
-extra_lawful_back (inr x) h = h
-
-extra_again : (x : Extra) → IsWholeOrAbsent x → extra_back (extra_told x) ≡ x
-extra_again Absent h = refl
-extra_again (Whole x) h = refl
-extra_again (Broken n) h = absurd h
-
-extra_there : (x : Extra) → IsWholeOrAbsent x → (q : Parts) → extra_parts x q ≡ either_parts (extra_told x) q
-extra_there Absent h q = refl
-extra_there (Whole x) h q = refl
-extra_there (Broken n) h q = absurd h
-
-extra_here : (w : Unit {0} ⊎ Sets) → (q : Parts) → extra_parts (extra_back w) q ≡ either_parts w q
-extra_here (inl u) q = refl
-extra_here (inr x) q = refl
-
-pub extra_section : Section {V = Extra} (perhaps grammar.expansion) IsWholeOrAbsent extra_parts
-extra_section = renamed (sided nothing expansion_section) extra_told extra_back extra_lawful extra_lawful_back extra_again extra_there (λ w h. extra_here w)
+-- what may follow a call: nothing, or an expansion
+pub tail_section : Section {V = Option Sets} (perhaps grammar.expansion) (λ x. IsWholeOrAbsent (extra_of x)) tail_parts
+tail_section =
+    under
+    (sided nothing expansion_section)
+    (elim [ inl u ↦ (None, λ q. refl, λ h. h) | inr x ↦ (Some x, λ q. refl, λ h. h) ])
+    (elim [ None ↦ (inl tt, refl, λ h. h) | Some x ↦ (inr x, refl, λ h. h) ])

@@ -10,4 +10,4 @@ pub use Rattle.call_texts.proofs.CallLaws.{bare_sound}
 pub use Rattle.call_texts.proofs.CallLaws.{with_expansion, with_expansion_sound, call_texts_alike}
 -- a call's texts have the parts of the lawful calls, each call its own, and so has what may come after it
 pub use Rattle.call_texts.proofs.CallTexts.{calls_section}
-pub use Rattle.call_texts.proofs.ExpansionTexts.{extra_section}
+pub use Rattle.call_texts.proofs.ExpansionTexts.{tail_section}

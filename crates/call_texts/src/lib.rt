@@ -23,7 +23,7 @@ pub use laws::{
     texts_tell_calls_apart,
 };
 pub use line::{end, take, whole_word, word};
-pub use reading::{extra_of, read_bare_call, read_call};
+pub use reading::{extra_of, read_bare_call, read_call, sets_are_lawful};
 pub use sections::field;
 pub use tails::Tail;
 pub use tokens::Token;

@@ -1,9 +1,7 @@
 //! Reading the text of a call whole.
 ghost use Rattle.std.specs.Prelude.{◌≡◌, ◌≤◌, IfErr};
 ghost use Rattle.line_grammar.specs.Columns.{ReadsAs};
-ghost use Rattle.line_grammar.specs.Grammar.{none};
 ghost use Rattle.call_texts.specs.Texts.{IsBareCallText, IsCallText, IsWholeOrAbsent, extra_of as follows};
-ghost use Rattle.call_texts.specs.inside.Expansions.{expansion_or_end, extra_parts};
 
 use crate::forms::any_call;
 use call_values::Call;
@@ -15,7 +13,6 @@ use slot_join::Extra;
 pub fn extra_of(expansion: Option<Expansion>) -> Extra
     ensures is { result ≡ follows expansion }
     ensures lawful { IsWholeOrAbsent result }
-    ensures parts { extra_parts result none ≡ expansion_or_end expansion }
 {
     match expansion {
         None => Extra::Absent,
@@ -27,7 +24,7 @@ pub fn extra_of(expansion: Option<Expansion>) -> Extra
 }
 
 /// The law that the sets of an expansion are in their ranges.
-fn sets_are_lawful(expansion: &Option<Expansion>)
+pub fn sets_are_lawful(expansion: &Option<Expansion>)
     ensures { IsWholeOrAbsent (follows expansion.now) }
 {
     if let Some(sets) = expansion {

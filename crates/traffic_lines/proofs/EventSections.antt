@@ -1,7 +1,7 @@
 -- the rows of events, and the parts of their texts
 use Rattle.std.proofs.Common.{◌≡◌, ℕ, Bool, true, false, ◌⊎◌, inl, inr, Option, Some, None, codes, refl, arith}
 use Rattle.call_values.specs.declared.calls.Call.{Call}
-use Rattle.call_texts.proofs.PublicLaws.{identity_told, address_told, position_told, nature_told, comm_told, calls_section, extra_section}
+use Rattle.call_texts.proofs.PublicLaws.{identity_told, address_told, position_told, nature_told, comm_told, calls_section, tail_section}
 use Rattle.line_grammar.specs.Grammar.{Grammar, Parts}
 use Rattle.line_grammar.proofs.Rows.{under}
 use Rattle.line_grammar.proofs.Sections.{Section, worded, labelled, nothing, followed, sided}
@@ -64,9 +64,9 @@ station_section =
 pub hearing_section : Section {V = Hearing} hearing_rows IsHearing hearing_parts
 hearing_section =
     under
-    (sided (worded (codes "hear ") (followed calls_section extra_section)) (labelled (codes "heard g") number_told))
+    (sided (worded (codes "hear ") (followed calls_section tail_section)) (labelled (codes "heard g") number_told))
     (elim [ inl w ↦ (Hear w.0 w.1, λ q. refl, λ h. h) | inr group ↦ (Heard group, λ q. refl, λ h. h) ])
-    (elim [ Hear call extra ↦ (inl (call, extra), refl, λ h. h) | Heard group ↦ (inr group, refl, λ h. h) ])
+    (elim [ Hear call tail ↦ (inl (call, tail), refl, λ h. h) | Heard group ↦ (inr group, refl, λ h. h) ])
 
 pub get_section : Section {V = ℕ} get IsGet get_parts
 get_section = labelled (codes "get ") number_told

@@ -11,8 +11,8 @@ use Rattle.dsc_symbols.specs.Telecommands.{IsComm}
 use Rattle.call_texts.specs.CallGrammar as calls
 use Rattle.call_texts.specs.CallGrammar.{perhaps, expansion}
 use Rattle.call_texts.specs.CallParts.{address_text, position_text}
-use Rattle.call_texts.specs.Texts.{IsWholeOrAbsent}
-use Rattle.call_texts.specs.inside.Expansions.{extra_parts}
+use Rattle.call_texts.specs.Texts.{IsWholeOrAbsent, extra_of}
+use Rattle.call_texts.specs.inside.Expansions.{tail_parts}
 use Rattle.call_texts.specs.inside.Places.{call_parts}
 use Rattle.line_grammar.specs.declared.decimal.TheConstants.{LARGEST_NUMBER}
 use Rattle.line_grammar.specs.Shapes.{digits}
@@ -164,12 +164,12 @@ hearing_rows rest = either (hear rest) (heard rest)
 
 -- the parts of a heard call or group
 abbrev pub hearing_parts : Hearing → Parts → Parts
-hearing_parts (Hear call extra) rest = nth 0 (call_parts call (extra_parts extra rest))
+hearing_parts (Hear call tail) rest = nth 0 (call_parts call (tail_parts tail rest))
 hearing_parts (Heard group) rest = last 1 (part (decimal group) rest)
 
 -- a heard call or group, each part in its range
 abbrev pub IsHearing : Hearing → Type 0
-IsHearing (Hear call extra) = IsCall call × IsWholeOrAbsent extra
+IsHearing (Hear call tail) = IsCall call × IsWholeOrAbsent (extra_of tail)
 IsHearing (Heard group) = group < 2 ^ 32
 
 -- get 0

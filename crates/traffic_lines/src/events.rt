@@ -7,7 +7,7 @@ ghost use Rattle.traffic_lines.specs.Events.{IsDeed, IsEvent, IsGet, IsHearing, 
 use crate::lines::{Deed, Event, Hearing};
 use crate::rows::{Rows, spelled, to_end};
 use crate::values::{Held, Number};
-use call_texts::{any_call, extra_of};
+use call_texts::{any_call, sets_are_lawful};
 use expansion::Expansion;
 use line_grammar::{Left, begins_with, further};
 
@@ -18,7 +18,8 @@ fn hear(bytes: &[u8]) -> Result<Hearing, Left>
     let text = line_grammar::word(b"hear ", bytes)?;
     let (call, tail) = any_call::<Option<Expansion>>(text)?;
     call.lawful();
-    Ok(Hearing::Hear(call, extra_of(tail)))
+    sets_are_lawful(&tail);
+    Ok(Hearing::Hear(call, tail))
 }
 
 /// Reads `heard` and the number of a group.

@@ -1,6 +1,6 @@
 //! What the lines of traffic files say.
 use call_values::{AlertDelay, Band, Call, CoastDelay, Comm, Mmsi, Nature, Position, To};
-use slot_join::Extra;
+use expansion::Expansion;
 
 /// Where a line is in a traffic file, not counting empty lines and comments: this decides which lines are well formed.
 #[derive(Clone, Copy, Debug, PartialEq, Eq)]
@@ -75,7 +75,7 @@ pub enum StationOwn {
 #[derive(Clone, Copy, Debug, PartialEq, Eq)]
 pub enum Hearing {
     /// This call. The expansion that may come after it says nothing to a station.
-    Hear(Call, Extra),
+    Hear(Call, Option<Expansion>),
     /// What the receivers of this group heard is joined.
     Heard(u32),
 }

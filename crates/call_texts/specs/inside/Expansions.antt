@@ -4,8 +4,6 @@ use Rattle.expansion.specs.declared.parts.PartKind.{PartKind}
 use Rattle.expansion.specs.declared.parts.PartKind.TheVariants.{LeftOut}
 use Rattle.expansion.specs.declared.values.Sets.{Sets}
 use Rattle.expansion.specs.Parts.{IsThere, IsUpTo}
-use Rattle.slot_join.specs.declared.joined.Extra.{Extra}
-use Rattle.slot_join.specs.declared.joined.Extra.TheVariants.{Absent, Whole, Broken}
 use Rattle.line_grammar.specs.Grammar.{Parts, none, part, first, second}
 use Rattle.call_texts.specs.CallParts.{set_text, perhaps_parts, expansion_parts}
 
@@ -37,16 +35,14 @@ perhaps_speed sets = perhaps_parts 4 sets.0 (perhaps_course sets.1)
 abbrev pub sets : Sets → Parts
 sets x = expansion_parts x none
 
--- the parts of what follows a call, where an expansion may follow
-abbrev pub extra_parts : Extra → Parts → Parts
-extra_parts Absent rest = first rest
-extra_parts (Whole x) rest = second (expansion_parts x rest)
-extra_parts (Broken n) rest = none
+-- the parts of an expansion that may follow a call, and of what comes after it
+abbrev pub tail_parts : Option Sets → Parts → Parts
+tail_parts None rest = first rest
+tail_parts (Some x) rest = second (expansion_parts x rest)
 
--- the same to the end, by the expansion
+-- the same to the end
 abbrev pub expansion_or_end : Option Sets → Parts
-expansion_or_end None = first none
-expansion_or_end (Some x) = second (sets x)
+expansion_or_end tail = tail_parts tail none
 
 -- a set after its label, or nothing where it is left out
 abbrev pub label_and_set : List ℕ → ℕ → PartKind → List ℕ

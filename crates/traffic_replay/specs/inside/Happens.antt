@@ -1,7 +1,7 @@
 -- What happens at an event line, by the rules of a station.
-use Rattle.std.specs.Prelude.{◌≡◌, ℕ, Bool, Some, Result, List, ◌++◌}
+use Rattle.std.specs.Prelude.{◌≡◌, ℕ, Bool, Option, Some, Result, List, ◌++◌}
 use Rattle.call_values.specs.declared.calls.Call.{Call}
-use Rattle.slot_join.specs.declared.joined.Extra.{Extra}
+use Rattle.expansion.specs.declared.values.Sets.{Sets}
 use Rattle.traffic_rules.specs.Histories.{History}
 use Rattle.traffic_rules.specs.Rules.{Rules}
 use Rattle.station_lines.specs.Events.{EventLine}
@@ -19,7 +19,7 @@ use Rattle.traffic_replay.specs.Output.{history_behind, written_behind, is_accep
 -- stations do, each deed gives this event, and each call that it hears this one
 pub record Takes {Own What : Type 0} (taking : Taking What) (own : Own → StationOwn) (does : (at : ℕ) → Deed Own → What) (hears : Call → What) (base : ℕ) : Type 0 where
   pub deeds : (at : ℕ) (deed : Deed Own) → taking.event base at (event.Does (deed_with own deed)) ≡ Some (does at deed)
-  pub calls : (at : ℕ) (call : Call) (extra : Extra) → taking.event base at (event.Comes (Hear call extra)) ≡ Some (hears call)
+  pub calls : (at : ℕ) (call : Call) (tail : Option Sets) → taking.event base at (event.Comes (Hear call tail)) ≡ Some (hears call)
   pub heard : taking.heard ≡ hears
 
 -- what came of an event line after these lines and this history; the station then stands for the history after it, and

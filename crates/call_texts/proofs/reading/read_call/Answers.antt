@@ -1,21 +1,14 @@
-use Rattle.std.proofs.Common.{◌≡◌, Ok, Option, Some, None, refl, sym, ◌∙◌, ap, arith}
-use Rattle.line_grammar.specs.Grammar.{Parts, none}
-use Rattle.expansion.specs.declared.values.Sets.{Sets}
-use Rattle.call_texts.specs.Texts.{IsCallText, extra_of}
-use Rattle.call_texts.specs.inside.Expansions.{expansion_or_end, extra_parts}
-use Rattle.call_texts.specs.inside.Places.{call_parts}
+use Rattle.std.proofs.Common.{Ok, sym, ◌∙◌, ap, arith}
+use Rattle.line_grammar.specs.Grammar.{Parts}
+use Rattle.call_texts.specs.Texts.{IsCallText}
 use Rattle.line_grammar.proofs.Forms.{column_is, text_column, text_left, text_read}
 use Rattle.call_texts.proofs.CallLaws.{texts}
 use Rattle.call_texts.proofs.reading.read_call.Goals as goal
 
-sent_parts : (x : Option Sets) → expansion_or_end x ≡ extra_parts (extra_of x) none
-sent_parts None = refl
-sent_parts (Some x) = refl
-
 pub returns-in-Ok-clause-read : goal.returns-in-Ok-clause-read
 returns-in-Ok-clause-read c =
     text_read texts (c.in-Ok.call, c.in-Ok.expansion) _ (c.lawful.ensures, c.sets_are_lawful.ensures)
-    (c.in-Ok.ensures.1 ∙ ap (λ (p : Parts). Ok p) (sym c.in-Ok.ensures.2 ∙ ap (call_parts c.in-Ok.call) (sent_parts c.in-Ok.expansion)))
+    (c.in-Ok.ensures.1 ∙ ap (λ (p : Parts). Ok p) (sym c.in-Ok.ensures.2))
 
 pub returns-in-Err : goal.returns-in-Err
 returns-in-Err c = record {

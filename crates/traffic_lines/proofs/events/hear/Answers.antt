@@ -24,5 +24,5 @@ returns-in_err-call c =
 pub returns : goal.returns
 returns c =
     let read = c.in_ok-call.ensures in
-    after_row (nth 0) IsHearing hearing_parts (word (codes "hear ")) call _ c.args.bytes.now c.args.bytes.now _ _ read.0 (Hear c.in_ok-call.call c.extra_of.result) refl (word_read _ _ _ c.in_ok-text.ensures.rest) refl read.1
-    (c.lawful.ensures, c.extra_of.ensures.lawful) (ap (λ (p : Parts). first (call_parts c.in_ok-call.call p)) c.extra_of.ensures.parts ∙ ap first read.2)
+    after_row (nth 0) IsHearing hearing_parts (word (codes "hear ")) call _ c.args.bytes.now c.args.bytes.now _ _ read.0 (Hear c.in_ok-call.call c.in_ok-call.tail) refl (word_read _ _ _ c.in_ok-text.ensures.rest) refl read.1
+    (c.lawful.ensures, c.sets_are_lawful.ensures) (ap first read.2)
