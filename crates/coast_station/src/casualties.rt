@@ -167,6 +167,19 @@ impl Casualties {
         ensures room { length acts.new.items ≤ 16 }
         ensures rest { self.new ≡ left.not_due at self.old }
     {
+        if !self.entries.is_empty() {
+            self.acknowledge_some(own, at, acts);
+        }
+    }
+
+    /// The same where casualties are open. It isn't inlined, since the list of those that stay is zeroed where it begins.
+    #[inline(never)]
+    fn acknowledge_some(&mut self, own: Mmsi, at: u64, acts: &mut Acts)
+        requires { acts.old.items ≡ [] }
+        ensures acts { acts.new.items ≡ accepting.acknowledgements_due own at self.old }
+        ensures room { length acts.new.items ≤ 16 }
+        ensures rest { self.new ≡ left.not_due at self.old }
+    {
         acknowledge(&self.entries, own, at, acts);
         self.entries = not_due(&self.entries, at);
     }

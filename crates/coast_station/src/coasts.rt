@@ -58,14 +58,8 @@ impl Coast {
         ensures none { OnErr result (acts.new.items ≡ []) }
         ensures unchanged { OnErr result (self.new ≡ self.old) }
     {
-        acts.clear();
-        match time_back(self.last, event.at) {
-            Some(refusal) => Err(refusal),
-            None => {
-                event.what.lawful();
-                self.handle(event.at, &event.what, acts)
-            }
-        }
+        let at = event.at;
+        self.take(at, &event.what, acts)
     }
 
     /// The same as `step_into`, with the acts in a list of its own.
@@ -75,6 +69,27 @@ impl Coast {
         let mut acts = ArrayVec::new();
         self.step_into(event, &mut acts)?;
         Ok(acts)
+    }
+
+    /// The same as `step_into`, of an event in two parts: a caller that has them makes no event of them, which would be a
+    /// copy.
+    pub fn take(&mut self, at: u64, what: &CoastWhat, acts: &mut Acts) -> Result<(), StationRefusal>
+        ensures answers { AnswersByRules coast_rules StandsFor self.old at what.now (answer_with result acts.new.items) }
+        ensures goes_on { GoesOnByRules coast_rules StandsFor self.old at what.now self.new }
+        ensures none { OnErr result (acts.new.items ≡ []) }
+        ensures unchanged { OnErr result (self.new ≡ self.old) }
+    {
+        match time_back(self.last, at) {
+            Some(refusal) => {
+                acts.clear();
+                Err(refusal)
+            }
+            None => {
+                acts.clear();
+                what.lawful();
+                self.handle(at, what, acts)
+            }
+        }
     }
 
     /// Does what is due at an event that isn't before the last accepted one.

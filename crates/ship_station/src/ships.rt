@@ -80,23 +80,34 @@ impl Ship {
         ensures none { OnErr result (acts.new.items ≡ []) }
         ensures unchanged { OnErr result (self.new ≡ self.old) }
     {
-        event.what.lawful();
+        self.take(event.at, &event.what, acts)
+    }
+
+    /// The same as `step_into`, of an event in two parts: a caller that has them makes no event of them, which would be a
+    /// copy.
+    pub fn take(&mut self, at: u64, what: &ShipWhat, acts: &mut Acts) -> Result<(), StationRefusal>
+        ensures answers { AnswersByRules ship_rules StandsFor self.old at what.now (answer_with result acts.new.items) }
+        ensures goes_on { GoesOnByRules ship_rules StandsFor self.old at what.now self.new }
+        ensures none { OnErr result (acts.new.items ≡ []) }
+        ensures unchanged { OnErr result (self.new ≡ self.old) }
+    {
+        what.lawful();
         acts.clear();
-        if let Some(refusal) = time_back(self.last, event.at) {
+        if let Some(refusal) = time_back(self.last, at) {
             return Err(refusal);
         }
-        match event.what {
+        match *what {
             ShipWhat::Position(position, time) => {
-                self.keep_position(event.at, position, time);
+                self.keep_position(at, position, time);
                 Ok(())
             }
-            ShipWhat::Delay(delay) => self.keep_delay(event.at, delay),
-            ShipWhat::Alert(nature, comm) => self.alert(event.at, nature, comm, acts),
-            ShipWhat::Cancel => self.cancel(event.at, acts),
-            ShipWhat::Tick => self.tick(event.at, acts),
-            ShipWhat::Send(call) => self.send(event.at, &call, acts),
-            ShipWhat::Answer(number, accepts) => self.answer(event.at, number, accepts, acts),
-            ShipWhat::Heard(call) => self.hear(event.at, &call, acts),
+            ShipWhat::Delay(delay) => self.keep_delay(at, delay),
+            ShipWhat::Alert(nature, comm) => self.alert(at, nature, comm, acts),
+            ShipWhat::Cancel => self.cancel(at, acts),
+            ShipWhat::Tick => self.tick(at, acts),
+            ShipWhat::Send(call) => self.send(at, &call, acts),
+            ShipWhat::Answer(number, accepts) => self.answer(at, number, accepts, acts),
+            ShipWhat::Heard(call) => self.hear(at, &call, acts),
         }
     }
 

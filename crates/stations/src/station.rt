@@ -13,8 +13,8 @@ ghost use Rattle.coast_station.specs.StandsFor.{StandsFor as CoastStandsFor};
 ghost use Rattle.call_values.specs.declared.calls.Call.{Call as AnyCall};
 
 use call_values::Call;
-use coast_station::{Coast, CoastEvent, CoastWhat};
-use ship_station::{Ship, ShipEvent, ShipWhat};
+use coast_station::{Coast, CoastWhat};
+use ship_station::{Ship, ShipWhat};
 use traffic_rules::{Acts, StationRefusal};
 
 /// A station of one kind, which goes from event to event.
@@ -63,7 +63,7 @@ impl Station for Ship {
     }
 
     fn happen(&mut self, at: u64, what: &ShipWhat, acts: &mut Acts) -> Result<(), StationRefusal> {
-        self.step_into(&ShipEvent { at, what: *what }, acts)
+        Ship::take(self, at, what, acts)
     }
 }
 
@@ -83,6 +83,6 @@ impl Station for Coast {
     }
 
     fn happen(&mut self, at: u64, what: &CoastWhat, acts: &mut Acts) -> Result<(), StationRefusal> {
-        self.step_into(&CoastEvent { at, what: *what }, acts)
+        Coast::take(self, at, what, acts)
     }
 }

@@ -5,7 +5,7 @@ ghost use Rattle.traffic_lines.specs.Events as rows;
 ghost use Rattle.traffic_lines.specs.Events.{IsCoastOwn, IsPerhapsDelay, ask_parts, coast_parts, delay_parts};
 
 use crate::lines::CoastOwn;
-use crate::rows::{Rows, spelled, to_end};
+use crate::rows::{Begun, Rows, spelled, to_end};
 use crate::values::AckWait;
 use call_texts::field;
 use call_values::{CoastDelay, Mmsi, To};
@@ -77,11 +77,13 @@ impl Rows for CoastOwn {
 
     ghost parts = { coast_parts };
 
-    /// Another first byte than those of the rows is left at once.
     fn read(bytes: &[u8]) -> Result<CoastOwn, Left> {
-        if !begins_with(b"ar", bytes) {
-            return Err(bytes.len());
-        }
         further(&accept(bytes), &relay(bytes))
+    }
+}
+
+impl Begun for CoastOwn {
+    fn begins(bytes: &[u8]) -> bool {
+        begins_with(b"ar", bytes)
     }
 }

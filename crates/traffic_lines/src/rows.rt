@@ -1,6 +1,7 @@
 //! Rows of a grammar, and what each row's reader begins with.
-ghost use Rattle.std.specs.Prelude.{◌≡◌, true, List, ℕ, IfOk};
+ghost use Rattle.std.specs.Prelude.{◌≡◌, false, true, is_ok, List, ℕ, IfOk};
 ghost use Rattle.line_grammar.specs.Grammar.{Grammar, Parts, finish, none, part, word};
+ghost use Rattle.line_grammar.specs.inside.Reading.{read};
 ghost use Rattle.line_grammar.specs.inside.Soundness.{is_sound};
 ghost use Rattle.line_grammar.specs.Sections.{labelled, last, ReadsTail};
 ghost use Rattle.line_grammar.specs.Rows.{ReadsRow, ReadsWhole};
@@ -23,6 +24,13 @@ pub(crate) trait Rows: Copy {
     /// Reads these bytes whole.
     fn read(bytes: &[u8]) -> Result<Self, Left>
         ensures { ReadsRow rows (last 0) lawful parts bytes.now result };
+}
+
+/// Rows of which the first bytes are known.
+pub(crate) trait Begun: Rows {
+    /// Whether a row may begin as these bytes do. Where none may, none is read.
+    fn begins(bytes: &[u8]) -> bool
+        ensures { result ≡ false → is_ok (read (Self.rows finish) bytes.now) ≡ false };
 }
 
 /// Reads a value after its label, to the end of the line.

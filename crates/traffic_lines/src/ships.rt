@@ -5,7 +5,7 @@ ghost use Rattle.traffic_lines.specs.Events as rows;
 ghost use Rattle.traffic_lines.specs.Events.{IsShipOwn, ship_parts};
 
 use crate::lines::ShipOwn;
-use crate::rows::{Rows, spelled, to_end};
+use crate::rows::{Begun, Rows, spelled, to_end};
 use crate::values::Wait;
 use call_texts::field;
 use call_values::{Comm, Nature, Position};
@@ -56,13 +56,15 @@ impl Rows for ShipOwn {
 
     ghost parts = { ship_parts };
 
-    /// Another first byte than those of the rows is left at once.
     fn read(bytes: &[u8]) -> Result<ShipOwn, Left> {
-        if !begins_with(b"pdac", bytes) {
-            return Err(bytes.len());
-        }
         let alerted = further(&alert(bytes), &cancel(bytes));
         let delayed = further(&delay(bytes), &alerted);
         further(&position(bytes), &delayed)
+    }
+}
+
+impl Begun for ShipOwn {
+    fn begins(bytes: &[u8]) -> bool {
+        begins_with(b"pdac", bytes)
     }
 }

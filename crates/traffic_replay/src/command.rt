@@ -15,7 +15,7 @@ ghost use Rattle.traffic_lines.specs.declared.lines.StationOwn.TheVariants as ow
 ghost use Rattle.traffic_lines.specs.declared.lines.TrafficLine.TheVariants as line;
 ghost use Rattle.traffic_lines.specs.Lines.{event_with};
 ghost use Rattle.traffic_replay.specs.declared.stages.Stage.TheVariants as stage;
-ghost use Rattle.traffic_replay.specs.inside.Progress.{Begins, IsBegun, Keeps, StandsFor, IsOwnLine, IsReady, IsShort, IsShown, MayBeRead, RefusesGroup, RefusesLine, TakesLine, point_at};
+ghost use Rattle.traffic_replay.specs.inside.Progress.{AreGroups, Begins, IsBegun, Keeps, StandsFor, IsOwnLine, IsReady, IsShort, IsShown, MayBeRead, RefusesGroup, RefusesLine, TakesLine, point_at};
 ghost use Rattle.traffic_replay.specs.inside.Gives.{gives_text};
 
 use crate::stages::{Stage, behind_base};
@@ -183,62 +183,98 @@ impl Replay {
                 let named = *named;
                 self.take_base(named, line)
             }
-            Stage::Groups(_) => self.take_body(workers, line, out),
-            Stage::Ship { .. } => self.take_body(workers, line, out),
-            Stage::Coast(_) => self.take_body(workers, line, out),
+            Stage::Groups(_) => self.take_among_groups(workers, line, out),
+            Stage::Ship { .. } => self.take_of_ship(workers, line, out),
+            Stage::Coast(_) => self.take_of_coast(workers, line, out),
         }
     }
 
-    /// Takes a line of the station after the base.
-    fn take_body<W: Joiner>(
+    /// Takes a line of a ship whose groups are being named: no line after them pays for what this holds.
+    #[inline(never)]
+    fn take_among_groups<W: Joiner>(
         &mut self,
         workers: &W,
         line: &[u8],
         out: &mut Vec<u8>,
     ) -> Result<(), Refusal>
         requires ready { IsReady self.old }
-        requires body { IsBody (point_at self.old.stage) }
+        requires groups { AreGroups self.old.stage }
         requires joins { W.can_join workers.now }
         requires own { IsOwnLine (point_at self.old.stage) line.now }
         ensures ok { OnOk result (TakesLine self.old self.new line.now out.old.items out.new.items) }
         ensures err { IfErr result (RefusesLine self.old line.now) }
         ensures unsaid { IfErr result (λ refusal. KeepsText refusal out.old.items out.new.items) }
     {
-        match &mut self.stage {
-            Stage::Station | Stage::Base(_) => unreachable!(),
-            Stage::Groups(groups) => {
-                let says = match read_ship_line(Some(groups.held()), line) {
-                    Ok(says) => says,
-                    Err(n) => return Err(Refusal::Column(n)),
-                };
-                match says {
-                    ShipLine::Group(mmsi) => groups.name(mmsi)?,
-                    ShipLine::Event { at, what } => {
-                        self.stage.begin();
-                        self.take_at_ship(workers, at, &what, out)?;
-                    }
-                }
-            }
-            Stage::Ship { .. } => {
-                let says = match read_ship_line(None, line) {
-                    Ok(says) => says,
-                    Err(n) => return Err(Refusal::Column(n)),
-                };
-                match says {
-                    ShipLine::Group(_) => unreachable!(),
-                    ShipLine::Event { at, what } => self.take_at_ship(workers, at, &what, out)?,
-                }
-            }
-            Stage::Coast(coast) => {
-                let (at, what) = match read_coast_line(line) {
-                    Ok(says) => says,
-                    Err(n) => return Err(Refusal::Column(n)),
-                };
-                let heard = &mut self.heard;
-                let acts = &mut self.acts;
-                self.is_well &= happen(coast, heard, workers, 0, at, &what, acts, out)?;
+        let Stage::Groups(groups) = &mut self.stage else {
+            unreachable!();
+        };
+        let says = match read_ship_line(Some(groups.held()), line) {
+            Ok(says) => says,
+            Err(n) => return Err(Refusal::Column(n)),
+        };
+        match says {
+            ShipLine::Group(mmsi) => groups.name(mmsi)?,
+            ShipLine::Event { at, what } => {
+                self.stage.begin();
+                self.take_at_ship(workers, at, &what, out)?;
             }
         }
+        Ok(())
+    }
+
+    /// Takes a line of a ship that was begun. The event is taken where it was read, without a copy.
+    fn take_of_ship<W: Joiner>(
+        &mut self,
+        workers: &W,
+        line: &[u8],
+        out: &mut Vec<u8>,
+    ) -> Result<(), Refusal>
+        requires ready { IsReady self.old }
+        requires ship { point_at self.old.stage ≡ point.Ship }
+        requires joins { W.can_join workers.now }
+        requires own { IsOwnLine (point_at self.old.stage) line.now }
+        ensures ok { OnOk result (TakesLine self.old self.new line.now out.old.items out.new.items) }
+        ensures err { IfErr result (RefusesLine self.old line.now) }
+        ensures unsaid { IfErr result (λ refusal. KeepsText refusal out.old.items out.new.items) }
+    {
+        let read = read_ship_line(None, line);
+        let says = match &read {
+            Ok(says) => says,
+            Err(n) => return Err(Refusal::Column(*n)),
+        };
+        match says {
+            ShipLine::Group(_) => unreachable!(),
+            ShipLine::Event { at, what } => self.take_at_ship(workers, *at, what, out)?,
+        }
+        Ok(())
+    }
+
+    /// Takes a line of a coast station. The event is taken where it was read, without a copy.
+    fn take_of_coast<W: Joiner>(
+        &mut self,
+        workers: &W,
+        line: &[u8],
+        out: &mut Vec<u8>,
+    ) -> Result<(), Refusal>
+        requires ready { IsReady self.old }
+        requires coast { point_at self.old.stage ≡ point.Coast }
+        requires joins { W.can_join workers.now }
+        requires own { IsOwnLine (point_at self.old.stage) line.now }
+        ensures ok { OnOk result (TakesLine self.old self.new line.now out.old.items out.new.items) }
+        ensures err { IfErr result (RefusesLine self.old line.now) }
+        ensures unsaid { IfErr result (λ refusal. KeepsText refusal out.old.items out.new.items) }
+    {
+        let Stage::Coast(coast) = &mut self.stage else {
+            unreachable!();
+        };
+        let read = read_coast_line(line);
+        let says = match &read {
+            Ok(says) => says,
+            Err(n) => return Err(Refusal::Column(*n)),
+        };
+        let heard = &mut self.heard;
+        let acts = &mut self.acts;
+        self.is_well &= happen(coast, heard, workers, 0, says.0, &says.1, acts, out)?;
         Ok(())
     }
 

@@ -90,13 +90,13 @@ pub(crate) fn happen<S: OfLines, W: Joiner>(
         → Happens (S.rules who) taking (S.stands station.new who) h said at (event_with own what.now) out.old.items out.new.items
         accepted) }
 {
-    match *what {
-        Event::Does(deed) => step(station, at, &S::deed(base, at, &deed), acts, out),
+    match what {
+        Event::Does(deed) => step(station, at, &S::deed(base, at, deed), acts, out),
         Event::Comes(hearing) => match hearing {
-            Hearing::Hear(call, _extra) => step(station, at, &S::heard(call), acts, out),
+            Hearing::Hear(call, _extra) => step(station, at, &S::heard(*call), acts, out),
             Hearing::Heard(group) => {
-                let answer = hear(groups, workers, group)?;
-                match heard_call(group, &answer) {
+                let answer = hear(groups, workers, *group)?;
+                match heard_call(*group, &answer) {
                     Ok(call) => step(station, at, &S::heard(call), acts, out),
                     Err(unreported) => append_unreported(out, at, &unreported),
                 }

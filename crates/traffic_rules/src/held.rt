@@ -1,5 +1,5 @@
 //! Held calls, under their numbers from 1 to 16.
-ghost use Rattle.std.specs.Prelude.{◌≡◌, ◌<◌, ◌≤◌, IfSome, IfNone, is_none, length, position, replicate};
+ghost use Rattle.std.specs.Prelude.{◌≡◌, ◌<◌, ◌≤◌, IfSome, IfNone, is_none, length, position, replicate, true};
 ghost use Rattle.traffic_rules.specs.Holding as holding;
 
 use call_values::Call;
@@ -58,17 +58,19 @@ impl Holding {
 #[derive(Drop)]
 pub struct HeldCalls {
     places: [Option<Holding>; MOST_HELD],
+    /// No call is held. It may be false where none is.
+    is_free: bool,
 }
 
 impl Model for HeldCalls {
-    ghost use Rattle.std.specs.Prelude.{◌≡◌, List, Option, length};
+    ghost use Rattle.std.specs.Prelude.{◌≡◌, true, None, List, Option, length, replicate};
     ghost use Rattle.traffic_rules.specs.declared.held.Holding.{Holding};
 
     ghost Value = { List (Option Holding) };
 
     ghost view = { λ h. h.places };
 
-    ghost invariant = { λ h. length h.places ≡ 16 };
+    ghost invariant = { λ h. (length h.places ≡ 16) × (h.is_free ≡ true → h.places ≡ replicate 16 None) };
 }
 
 impl HeldCalls {
@@ -78,6 +80,7 @@ impl HeldCalls {
     {
         HeldCalls {
             places: [None; MOST_HELD],
+            is_free: true,
         }
     }
 
@@ -94,6 +97,7 @@ impl HeldCalls {
             Side::Got => 0,
         };
         let number = self.first_free()?;
+        self.is_free = false;
         self.places[number as usize - 1] = Some(Holding {
             call,
             side,
@@ -123,6 +127,7 @@ impl HeldCalls {
         ensures none { IfNone result (self.new ≡ self.old) }
     {
         let held = self.find(number)?;
+        self.is_free = false;
         self.places[number as usize - 1] = None;
         Some(held)
     }
@@ -135,12 +140,20 @@ impl HeldCalls {
     {
         let place = number as usize - 1;
         if let Some(held) = self.places[place] {
+            self.is_free = false;
             self.places[place] = Some(Holding {
                 at,
                 times: held.times + 1,
                 ..held
             });
         }
+    }
+
+    /// No call is held. False says nothing: a station that once held a call looks at each place.
+    pub(crate) fn is_free(&self) -> bool
+        ensures { result ≡ true → self.now ≡ replicate 16 None }
+    {
+        self.is_free
     }
 
     /// What is held under the numbers 1 to 16, in this order.

@@ -53,6 +53,11 @@ point_at (stage.Groups g) = point.Groups (length g.named.items)
 point_at (stage.Ship base s) = point.Ship
 point_at (stage.Coast s) = point.Coast
 
+-- a ship's groups are being named
+abbrev pub AreGroups : Stage → Type 0
+AreGroups (stage.Groups g) = Unit {0}
+AreGroups _ = ⊥
+
 -- what is known of a stage whatever was said
 abbrev pub IsReadyAt : Stage → Type 0
 IsReadyAt (stage.Groups g) = (g.base ≤ LAST_BASE) × (length g.named.items ≤ 16)

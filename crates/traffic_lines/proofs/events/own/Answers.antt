@@ -1,12 +1,13 @@
-use Rattle.std.proofs.Common.{refl, ap}
-use Rattle.line_grammar.specs.Grammar.{first}
 use Rattle.line_grammar.specs.Sections.{nth}
-use Rattle.line_grammar.proofs.Rows.{leaves_row}
-use Rattle.traffic_lines.specs.Events.{IsDeed, deed_parts}
+use Rattle.line_grammar.proofs.Rows.{row_found, row_misses}
+use Rattle.traffic_lines.specs.Events.{IsEvent, event_parts}
 use Rattle.traffic_lines.proofs.events.own.Goals as goal
 
-pub returns-in_err-what : goal.returns-in_err-what
-returns-in_err-what g c = leaves_row (nth 0) (IsDeed g.O.Rows.lawful) (deed_parts g.O.Rows.parts) g.O.Rows.rows _ c.args.bytes.now _ _ refl c.from_residual.ensures.1 c.in_err-what.ensures
+pub returns-then-not-begins-clause-missed : goal.returns-then-not-begins-clause-missed
+returns-then-not-begins-clause-missed g c = λ no. c.begins.ensures c.if-not-begins.true
 
-pub returns : goal.returns
-returns g c = (c.in_ok-what.ensures.0, (c.in_ok-what.ensures.1.0, c.in_ok-what.ensures.1.1, ap first c.in_ok-what.ensures.1.2))
+pub returns-clause-row : goal.returns-clause-row
+returns-clause-row g c = row_found (nth 1) (IsEvent g.O.Rows.lawful g.C.Rows.lawful) (event_parts g.O.Rows.parts g.C.Rows.parts) g.O.Rows.rows _ _ c.own_row.ensures
+
+pub returns-clause-missed : goal.returns-clause-missed
+returns-clause-missed g c = λ no. row_misses (nth 1) (IsEvent g.O.Rows.lawful g.C.Rows.lawful) (event_parts g.O.Rows.parts g.C.Rows.parts) g.O.Rows.rows _ _ no c.own_row.ensures

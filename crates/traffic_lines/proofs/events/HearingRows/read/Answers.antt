@@ -1,13 +1,8 @@
-use Rattle.std.proofs.Common.{[], ◌∷◌, refl, sym, ◌∙◌}
-use Rattle.line_grammar.specs.Grammar.{finish}
+use Rattle.std.proofs.Common.{sym, ◌∙◌}
 use Rattle.line_grammar.specs.Sections.{last}
-use Rattle.line_grammar.proofs.Fronts.{leaves_at_once}
 use Rattle.line_grammar.proofs.Rows.{first_row, further_row}
-use Rattle.traffic_lines.specs.Events.{hearing_rows, IsHearing, hearing_parts, hear, heard}
+use Rattle.traffic_lines.specs.Events.{IsHearing, hearing_parts, hear, heard}
 use Rattle.traffic_lines.proofs.events.HearingRows.read.Goals as goal
-
-pub returns-then-not-begins_with : goal.returns-then-not-begins_with
-returns-then-not-begins_with c = leaves_at_once (104 ∷ []) _ (hearing_rows finish) refl (sym c.begins_with.ensures ∙ c.if-not-begins_with.true)
 
 pub returns-then-is_ok : goal.returns-then-is_ok
 returns-then-is_ok c = first_row (last 0) IsHearing hearing_parts hear heard _ _ (sym c.is_ok.ensures.value ∙ c.if-is_ok.true) c.hear-call.ensures

@@ -1,13 +1,7 @@
-use Rattle.std.proofs.Common.{[], ◌∷◌, refl, sym, ◌∙◌}
-use Rattle.line_grammar.specs.Grammar.{finish}
 use Rattle.line_grammar.specs.Sections.{last}
-use Rattle.line_grammar.proofs.Fronts.{leaves_at_once}
 use Rattle.line_grammar.proofs.Rows.{or, further_row}
-use Rattle.traffic_lines.specs.Events.{ship_rows, IsShipOwn, ship_parts, position, delay, alert, cancel}
+use Rattle.traffic_lines.specs.Events.{IsShipOwn, ship_parts, position, delay, alert, cancel}
 use Rattle.traffic_lines.proofs.ships.ShipOwnRows.read.Goals as goal
-
-pub returns-then-not-begins_with : goal.returns-then-not-begins_with
-returns-then-not-begins_with c = leaves_at_once (112 ∷ 100 ∷ 97 ∷ 99 ∷ []) _ (ship_rows finish) refl (sym c.begins_with.ensures ∙ c.if-not-begins_with.true)
 
 pub returns : goal.returns
 returns c =

@@ -1,20 +1,16 @@
-use Rattle.std.proofs.Common.{◌++◌, ℕ, refl, sym, ap, subst}
-use Rattle.traffic_lines.specs.Lines.{event_with, line_of_ship, line_of_coast}
+use Rattle.std.proofs.Common.{◌++◌, ℕ, refl, sym, subst}
+use Rattle.traffic_lines.specs.Lines.{event_with, line_of_ship}
 use Rattle.traffic_lines.specs.declared.lines.StationOwn.TheVariants as own
-use Rattle.traffic_lines.specs.declared.lines.Point.{Point}
 use Rattle.traffic_lines.specs.declared.lines.Point.TheVariants as point
 use Rattle.traffic_lines.specs.declared.lines.ShipLine.{ShipLine}
 use Rattle.traffic_lines.specs.declared.lines.TrafficLine.TheVariants.{Group, Event}
 use Rattle.traffic_lines.specs.Lines.{IsTrafficLine}
 use Rattle.traffic_replay.specs.declared.stages.Stage.{Stage}
 use Rattle.traffic_replay.specs.declared.stages.Stage.TheVariants as stage
-use Rattle.traffic_replay.specs.inside.Progress.{KeepsStation, point_at}
-use Rattle.traffic_replay.specs.Said.{base_of}
-use Rattle.traffic_replay.specs.Happenings.{taking_coast}
+use Rattle.traffic_replay.specs.inside.Progress.{KeepsStation}
 use Rattle.traffic_replay.proofs.Bodies.{takes_own, kept_at}
-use Rattle.traffic_replay.proofs.Happened.{coast_takes}
-use Rattle.traffic_replay.proofs.Told.{ship_begins, keeps_group, keeps_at_coast}
-use Rattle.traffic_replay.proofs.command.Replay.take_body.Goals as goal
+use Rattle.traffic_replay.proofs.Told.{ship_begins, keeps_group}
+use Rattle.traffic_replay.proofs.command.Replay.take_among_groups.Goals as goal
 
 pub returns-in_ok-name-in-Group-clause-ok : goal.returns-in_ok-name-in-Group-clause-ok
 returns-in_ok-name-in-Group-clause-ok g c = λ said text keeps.
@@ -41,25 +37,3 @@ returns-in_ok-take_at_ship-in-Event-clause-ok g c = λ said text keeps.
     takes_own old _ (stage.Groups from) said c.args.line.now all (text ++ c.take_at_ship.new.out.items) event c.in-Groups.is keeps
     (subst (λ (n : ℕ). IsTrafficLine (point.Groups n) event c.args.line.now) c.held.ensures line)
     (c.in_ok-take_at_ship-in-Event.ensures said text (subst (λ (s : Stage). KeepsStation s said all old.is_well) (sym begins.1) ship, keeps.heard, keeps.few))
-
-pub returns-in_ok-take_at_ship-in-Event-says-clause-ok : goal.returns-in_ok-take_at_ship-in-Event-says-clause-ok
-returns-in_ok-take_at_ship-in-Event-says-clause-ok g c = λ said text keeps.
-    let old = c.args.self.now in
-    let event = Event c.in-Event-says.at (event_with own.Ship c.in-Event-says.what) in
-    let line : IsTrafficLine point.Ship event c.args.line.now =
-    subst (λ (says : ShipLine). IsTrafficLine point.Ship (line_of_ship says) c.args.line.now) c.in-Event-says.is c.in-Ok-read_ship_line.ensures in
-    takes_own old _ old.stage said c.args.line.now (text ++ c.args.out.now.items) (text ++ c.take_at_ship-in-Event-says.new.out.items) event refl keeps
-    (subst (λ (p : Point). IsTrafficLine p event c.args.line.now) (sym (ap point_at c.in-Ship.is)) line)
-    (c.in_ok-take_at_ship-in-Event-says.ensures said text (keeps.station, keeps.heard, keeps.few))
-
-pub returns-in_ok-self-in-Coast-clause-ok : goal.returns-in_ok-self-in-Coast-clause-ok
-returns-in_ok-self-in-Coast-clause-ok g c = λ said text keeps.
-    let old = c.args.self.now in
-    let out = c.args.out.now.items in
-    let at = stage.Coast c.in-Coast.coast in
-    let says = c.in-Ok-read_coast_line.says in
-    let did = c.in_ok-self-in-Coast.ensures in
-    takes_own old _ at said c.args.line.now (text ++ out) (text ++ c.happen.new.out.items) (line_of_coast says) c.in-Coast.is keeps c.in-Ok-read_coast_line.ensures
-    (keeps_at_coast old _ c.in-Coast.coast c.happen.new.station said text out c.happen.new.out.items c.in_ok-self-in-Coast.field-0 says.0 (event_with own.Coast says.1)
-    (kept_at old at said (text ++ out) c.in-Coast.is keeps) (λ who h stands. did.happens said taking_coast own.Coast who h (coast_takes (base_of said)) keeps.heard stands)
-    (did.kept said own.Coast keeps.heard) (did.few keeps.few) refl refl)
