@@ -7,9 +7,7 @@ use Rattle.line_grammar.specs.Grammar.{finish, none, written}
 use Rattle.line_grammar.specs.Tokens.{HasNoLeadingZero, is_digit}
 use Rattle.line_grammar.proofs.Decimals.{decimal_number}
 use Rattle.traffic_lines.specs.declared.lines.Event as events
-use Rattle.traffic_lines.specs.declared.lines.Hearing.{Hearing}
-use Rattle.traffic_lines.specs.declared.lines.StationOwn.{StationOwn}
-use Rattle.traffic_lines.specs.declared.lines.TrafficLine.{TrafficLine}
+use Rattle.traffic_lines.specs.declared.{lines.Hearing.Hearing, lines.StationOwn.StationOwn, lines.TrafficLine.TrafficLine}
 use Rattle.traffic_lines.specs.declared.lines.TrafficLine.TheVariants.{Ship, Coast, Base, Group, Event}
 use Rattle.traffic_lines.specs.Events.{station_rows, station_parts, hearing_rows, hearing_parts, event, event_parts}
 use Rattle.traffic_lines.specs.Lines.{lines, line_parts, IsFirstByte, IsLineText}

@@ -5,17 +5,12 @@ use Rattle.call_texts.proofs.PublicLaws.{identity_told, address_told, position_t
 use Rattle.line_grammar.specs.Grammar.{Grammar, Parts}
 use Rattle.line_grammar.proofs.Rows.{under}
 use Rattle.line_grammar.proofs.Sections.{Section, worded, labelled, nothing, followed, sided}
-use Rattle.traffic_lines.specs.declared.lines.ShipOwn.{ShipOwn}
+use Rattle.traffic_lines.specs.declared.{lines.ShipOwn.ShipOwn, lines.CoastOwn.CoastOwn, lines.StationOwn.StationOwn, lines.Hearing.Hearing, lines.Event.Event, lines.Deed.Deed}
 use Rattle.traffic_lines.specs.declared.lines.ShipOwn.TheVariants.{Position, Delay, Alert, Cancel}
-use Rattle.traffic_lines.specs.declared.lines.CoastOwn.{CoastOwn}
 use Rattle.traffic_lines.specs.declared.lines.CoastOwn.TheVariants.{Accept, Relay}
-use Rattle.traffic_lines.specs.declared.lines.StationOwn.{StationOwn}
 use Rattle.traffic_lines.specs.declared.lines.StationOwn.TheVariants as own
-use Rattle.traffic_lines.specs.declared.lines.Hearing.{Hearing}
 use Rattle.traffic_lines.specs.declared.lines.Hearing.TheVariants.{Hear, Heard}
-use Rattle.traffic_lines.specs.declared.lines.Event.{Event}
 use Rattle.traffic_lines.specs.declared.lines.Event.TheVariants.{Does, Comes}
-use Rattle.traffic_lines.specs.declared.lines.Deed.{Deed}
 use Rattle.traffic_lines.specs.declared.lines.Deed.TheVariants.{Own, Tick, Send, Answer}
 use Rattle.traffic_lines.specs.Events.{ship_rows, ship_parts, IsShipOwn, perhaps_delay, delay_parts, IsPerhapsDelay, ask_or_tell, ask_parts, coast_rows, coast_parts, IsCoastOwn, station_rows, station_parts, IsStationOwn, hearing_rows, hearing_parts, IsHearing, get, get_parts, IsGet, deeds, deed_parts, IsDeed, event, event_parts, IsEvent}
 use Rattle.traffic_lines.proofs.Tokens.{range_told, number_told}

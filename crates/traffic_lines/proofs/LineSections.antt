@@ -10,15 +10,12 @@ use Rattle.line_grammar.specs.Tokens.{Token}
 use Rattle.line_grammar.specs.Grammar.{Grammar, Parts}
 use Rattle.line_grammar.proofs.Sections.{TokenTexts, Section, worded, fielded, labelled, nothing, followed, sided}
 use Rattle.line_grammar.proofs.Rows.{under}
-use Rattle.traffic_lines.specs.declared.lines.StationLine.{StationLine}
+use Rattle.traffic_lines.specs.declared.{lines.StationLine.StationLine, lines.ShipLine.ShipLine, lines.TrafficLine.TrafficLine, worlds.WorldLine.WorldLine}
 use Rattle.traffic_lines.specs.declared.lines.StationLine.TheVariants as station
-use Rattle.traffic_lines.specs.declared.lines.ShipLine.{ShipLine}
 use Rattle.traffic_lines.specs.declared.lines.ShipLine.TheVariants as body
-use Rattle.traffic_lines.specs.declared.lines.TrafficLine.{TrafficLine}
 use Rattle.traffic_lines.specs.declared.lines.TrafficLine.TheVariants.{Ship, Coast, Base, Group, Event}
 use Rattle.traffic_lines.specs.declared.worlds.EndEvent as entries
 use Rattle.traffic_lines.specs.declared.worlds.EndEvent.TheVariants.{AtShip, AtCoast}
-use Rattle.traffic_lines.specs.declared.worlds.WorldLine.{WorldLine}
 use Rattle.traffic_lines.specs.declared.worlds.WorldLine.TheVariants as world
 use Rattle.traffic_lines.specs.Lines.{ship, band, band_parts, coast, coast_station_parts, stations, stations_parts, IsStation, base, base_parts, IsBase, group, group_parts, at_moment, moment_parts, IsAtMoment, ship_event, ship_event_parts, IsShipEvent, coast_event, coast_event_parts, IsCoastEvent, ship_lines, ship_lines_parts, IsShipLine, station_event, station_event_parts, IsStationEvent, lines, line_parts, IsLine}
 use Rattle.traffic_lines.specs.Worlds.{at_ship, at_coast, end_event, end_event_parts, IsEndEvent, world_lines, world_parts, IsWorld}

@@ -19,17 +19,12 @@ use Rattle.line_grammar.specs.Shapes.{digits}
 use Rattle.line_grammar.specs.Tokens.{Token, free_number}
 use Rattle.line_grammar.specs.Grammar.{Grammar, word, either, Parts, part, first, second}
 use Rattle.line_grammar.specs.Sections.{labelled, nth, last}
-use Rattle.traffic_lines.specs.declared.lines.ShipOwn.{ShipOwn}
+use Rattle.traffic_lines.specs.declared.{lines.ShipOwn.ShipOwn, lines.CoastOwn.CoastOwn, lines.StationOwn.StationOwn, lines.Hearing.Hearing, lines.Deed.Deed, lines.Event.Event}
 use Rattle.traffic_lines.specs.declared.lines.ShipOwn.TheVariants.{Position, Delay, Alert, Cancel}
-use Rattle.traffic_lines.specs.declared.lines.CoastOwn.{CoastOwn}
 use Rattle.traffic_lines.specs.declared.lines.CoastOwn.TheVariants.{Accept, Relay}
-use Rattle.traffic_lines.specs.declared.lines.StationOwn.{StationOwn}
 use Rattle.traffic_lines.specs.declared.lines.StationOwn.TheVariants as own
-use Rattle.traffic_lines.specs.declared.lines.Hearing.{Hearing}
 use Rattle.traffic_lines.specs.declared.lines.Hearing.TheVariants.{Hear, Heard}
-use Rattle.traffic_lines.specs.declared.lines.Deed.{Deed}
 use Rattle.traffic_lines.specs.declared.lines.Deed.TheVariants.{Own, Tick, Send, Answer}
-use Rattle.traffic_lines.specs.declared.lines.Event.{Event}
 use Rattle.traffic_lines.specs.declared.lines.Event.TheVariants.{Does, Comes}
 
 -- the number of a call that is held

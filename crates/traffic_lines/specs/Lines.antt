@@ -1,8 +1,7 @@
 -- The lines of traffic files but for empty lines, comments, receptions and evidence, a row for each: this project's
 -- profile.
 use Rattle.std.specs.Prelude.{◌≡◌, ℕ, ◌<◌, ◌≤◌, ◌^◌, true, List, Option, Some, None, codes, decimal}
-use Rattle.call_values.specs.declared.bounds.TheConstants.{LAST_BASE}
-use Rattle.call_values.specs.declared.choices.Band.{Band}
+use Rattle.call_values.specs.declared.{bounds.TheConstants.LAST_BASE, choices.Band.Band}
 use Rattle.call_values.specs.declared.choices.Band.TheVariants.{Mf, Hf, Vhf}
 use Rattle.call_values.specs.Identity.{IsMmsi}
 use Rattle.call_texts.specs.CallGrammar.{identity}

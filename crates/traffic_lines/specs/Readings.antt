@@ -1,10 +1,7 @@
 -- What is read at a point of a traffic file, and of a file of an exchange: this project's profile.
 use Rattle.std.specs.Prelude.{ℕ, List, Result}
 use Rattle.line_grammar.specs.Rows.{ReadsAmong}
-use Rattle.traffic_lines.specs.declared.lines.Point.{Point}
-use Rattle.traffic_lines.specs.declared.lines.TrafficLine.{TrafficLine}
-use Rattle.traffic_lines.specs.declared.worlds.ExchangePoint.{ExchangePoint}
-use Rattle.traffic_lines.specs.declared.worlds.WorldLine.{WorldLine}
+use Rattle.traffic_lines.specs.declared.{lines.Point.Point, lines.TrafficLine.TrafficLine, worlds.ExchangePoint.ExchangePoint, worlds.WorldLine.WorldLine}
 use Rattle.traffic_lines.specs.Lines.{IsTrafficLine}
 use Rattle.traffic_lines.specs.Worlds.{IsWorldLine}
 

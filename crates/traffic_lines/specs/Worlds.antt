@@ -9,14 +9,11 @@ use Rattle.line_grammar.specs.Tokens.{Token, shaped}
 use Rattle.line_grammar.specs.Grammar.{Grammar, word, either, Parts, part, first, second}
 use Rattle.line_grammar.specs.Sections.{nth, last}
 use Rattle.line_grammar.specs.Rows.{IsWritten}
-use Rattle.traffic_lines.specs.declared.lines.ShipOwn.{ShipOwn}
-use Rattle.traffic_lines.specs.declared.lines.CoastOwn.{CoastOwn}
+use Rattle.traffic_lines.specs.declared.{lines.ShipOwn.ShipOwn, lines.CoastOwn.CoastOwn, worlds.ExchangePoint.ExchangePoint, worlds.WorldLine.WorldLine}
 use Rattle.traffic_lines.specs.declared.lines.Event as events
-use Rattle.traffic_lines.specs.declared.worlds.ExchangePoint.{ExchangePoint}
 use Rattle.traffic_lines.specs.declared.worlds.ExchangePoint.TheVariants as point
 use Rattle.traffic_lines.specs.declared.worlds.EndEvent as entries
 use Rattle.traffic_lines.specs.declared.worlds.EndEvent.TheVariants.{AtShip, AtCoast}
-use Rattle.traffic_lines.specs.declared.worlds.WorldLine.{WorldLine}
 use Rattle.traffic_lines.specs.declared.worlds.WorldLine.TheVariants.{Ship, Coast, Base, EndEvent}
 use Rattle.traffic_lines.specs.Events.{ship_rows, ship_parts, IsShipOwn, coast_rows, coast_parts, IsCoastOwn, get, get_parts, IsGet, event, event_parts, IsEvent}
 use Rattle.traffic_lines.specs.Lines.{ship, coast, coast_station_parts, base, base_parts, IsBase, at_moment, moment_parts, IsAtMoment}

@@ -1,12 +1,10 @@
 -- lines of the station, by the stage
 use Rattle.std.proofs.Common.{◌≡◌, ◌∙◌, ◌≤◌, ◌∷◌, ℕ, List, sym, ap, subst}
 use Rattle.line_grammar.specs.Columns.{IsColumn}
-use Rattle.traffic_lines.specs.declared.lines.Point.{Point}
-use Rattle.traffic_lines.specs.declared.lines.TrafficLine.{TrafficLine}
+use Rattle.traffic_lines.specs.declared.{lines.Point.Point, lines.TrafficLine.TrafficLine}
 use Rattle.traffic_lines.specs.Lines.{IsTrafficLine}
 use Rattle.input_lines.specs.PointLine.{traffic, IsPointLine}
-use Rattle.traffic_replay.specs.declared.command.Replay.{Replay}
-use Rattle.traffic_replay.specs.declared.stages.Stage.{Stage}
+use Rattle.traffic_replay.specs.declared.{command.Replay.Replay, stages.Stage.Stage}
 use Rattle.traffic_replay.specs.Said.{Said, point_of}
 use Rattle.traffic_replay.specs.inside.Progress.{IsOwnLine, IsReadyAt, Keeps, KeepsStation, Takes, point_at}
 use Rattle.traffic_replay.proofs.Receivers.{traffic_taken}

@@ -7,9 +7,8 @@ use Rattle.station_lines.proofs.PublicLaws.{no_more, last_of, begins_itself, beg
 use Rattle.ship_station.specs.ShipRules.{ship_rules}
 use Rattle.coast_station.specs.CoastRules.{coast_rules}
 use Rattle.station_lines.specs.Events.{EventLine}
-use Rattle.traffic_lines.specs.declared.lines.Point.{Point}
+use Rattle.traffic_lines.specs.declared.{lines.Point.Point, lines.TrafficLine.TrafficLine}
 use Rattle.traffic_lines.specs.declared.lines.Point.TheVariants as point
-use Rattle.traffic_lines.specs.declared.lines.TrafficLine.{TrafficLine}
 use Rattle.traffic_lines.specs.declared.lines.TrafficLine.TheVariants as line
 use Rattle.traffic_lines.specs.Lines.{MayStand}
 use Rattle.input_lines.specs.ReceiverLine.{ReceiverLine, nothing, reception, evidence}

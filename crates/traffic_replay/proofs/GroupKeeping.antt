@@ -1,10 +1,7 @@
 -- What is held of groups after one line more.
 use Rattle.std.proofs.Common.{◌≡◌, ℕ, Bool, true, false, not, ◌&&◌, ◌||◌, ◌==◌, [], ◌∷◌, refl, sym, ap, ◌∙◌}
 use Rattle.slot_evidence.specs.Facts.{Facts, no_facts}
-use Rattle.traffic_lines.specs.declared.lines.TrafficLine.{TrafficLine}
-use Rattle.traffic_lines.specs.declared.lines.TrafficLine.TheVariants.{Event}
-use Rattle.traffic_lines.specs.declared.lines.Event.TheVariants.{Comes}
-use Rattle.traffic_lines.specs.declared.lines.Hearing.TheVariants.{Heard}
+use Rattle.traffic_lines.specs.declared.{lines.TrafficLine.TrafficLine, lines.TrafficLine.TheVariants.Event, lines.Event.TheVariants.Comes, lines.Hearing.TheVariants.Heard}
 use Rattle.input_lines.specs.ReceiverLine.{ReceiverLine, nothing}
 use Rattle.input_lines.specs.PointLine.{joined, traffic}
 use Rattle.join_groups.specs.declared.groups.NamedGroups.{NamedGroups}

@@ -9,14 +9,11 @@ use Rattle.traffic_rules.specs.Rules.{Rules, answer_to, continued}
 use Rattle.ship_station.specs.declared.events.ShipWhat.TheVariants as at_ship
 use Rattle.coast_station.specs.declared.events.CoastWhat.TheVariants as at_coast
 use Rattle.station_lines.specs.Events.{EventLine, ship_deed, coast_deed, ship_event, coast_event}
-use Rattle.traffic_lines.specs.declared.lines.ShipOwn.{ShipOwn}
-use Rattle.traffic_lines.specs.declared.lines.CoastOwn.{CoastOwn}
+use Rattle.traffic_lines.specs.declared.{lines.ShipOwn.ShipOwn, lines.CoastOwn.CoastOwn, lines.Deed.Deed, lines.Hearing.TheVariants.Heard}
 use Rattle.traffic_lines.specs.declared.lines.StationOwn.TheVariants as own
-use Rattle.traffic_lines.specs.declared.lines.Deed.{Deed}
 use Rattle.traffic_lines.specs.declared.lines.Deed.TheVariants.{Own, Tick, Send, Answer}
 use Rattle.traffic_lines.specs.Lines.{deed_with}
 use Rattle.traffic_lines.specs.declared.lines.Event.TheVariants as event
-use Rattle.traffic_lines.specs.declared.lines.Hearing.TheVariants.{Heard}
 use Rattle.traffic_replay.specs.declared.outcomes.Unreported.{Unreported}
 use Rattle.traffic_replay.specs.Said.{Said}
 use Rattle.traffic_replay.specs.HeardGroups.{facts_since_heard}

@@ -8,8 +8,7 @@ use Rattle.traffic_rules.specs.Histories.{History}
 use Rattle.traffic_rules.specs.Rules.{Rules, Legal}
 use Rattle.traffic_rules.proofs.PublicLaws.{legal_continued}
 use Rattle.station_lines.specs.Events.{EventLine}
-use Rattle.traffic_lines.specs.declared.lines.Event.TheVariants.{Comes}
-use Rattle.traffic_lines.specs.declared.lines.Hearing.TheVariants.{Heard}
+use Rattle.traffic_lines.specs.declared.{lines.Event.TheVariants.Comes, lines.Hearing.TheVariants.Heard}
 use Rattle.traffic_lines.specs.declared.lines.TrafficLine.TheVariants as line
 use Rattle.traffic_lines.specs.Events.{IsStationOwn, IsHearing, IsEvent}
 use Rattle.input_lines.specs.PointLine.{joined, traffic}

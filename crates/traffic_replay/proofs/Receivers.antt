@@ -5,11 +5,10 @@ use Rattle.ten_unit.specs.declared.character.Element.{Element}
 use Rattle.slot_evidence.specs.declared.places.Seen.{Seen}
 use Rattle.slot_evidence.specs.Facts.{facts_of}
 use Rattle.slot_evidence.specs.Sheet.{IsEnds}
-use Rattle.traffic_lines.specs.declared.lines.TrafficLine.{TrafficLine}
+use Rattle.traffic_lines.specs.declared.{lines.TrafficLine.TrafficLine, lines.Point.Point}
 use Rattle.input_lines.specs.declared.join.JoinLine.{JoinLine as Got}
 use Rattle.input_lines.specs.declared.join.JoinLine.TheVariants as got
 use Rattle.input_lines.specs.ReceiverLine.{ReceiverLine, nothing, reception, evidence}
-use Rattle.traffic_lines.specs.declared.lines.Point.{Point}
 use Rattle.input_lines.specs.PointLine.{joined, traffic, MayBeJoined, IsPointLine}
 use Rattle.input_lines.specs.Lines.{Says, ReadsJoinedAt}
 use Rattle.join_groups.specs.Groups.{facts_of_line}

@@ -4,12 +4,10 @@ use Rattle.traffic_rules.specs.Histories.{History}
 use Rattle.traffic_rules.specs.Rules.{Rules}
 use Rattle.std.proofs.lemmas.List.{length_push}
 use Rattle.call_values.specs.declared.bounds.TheConstants.{LAST_BASE}
-use Rattle.ship_station.specs.declared.events.ShipWhat.{ShipWhat}
-use Rattle.ship_station.specs.declared.ships.Ship.{Ship}
+use Rattle.ship_station.specs.declared.{events.ShipWhat.ShipWhat, ships.Ship.Ship}
 use Rattle.ship_station.specs.ShipRules.{Identities, ship_rules}
 use Rattle.ship_station.specs.StandsFor.{StandsFor as ShipStandsFor}
-use Rattle.coast_station.specs.declared.coasts.Coast.{Coast}
-use Rattle.coast_station.specs.declared.events.CoastWhat.{CoastWhat}
+use Rattle.coast_station.specs.declared.{coasts.Coast.Coast, events.CoastWhat.CoastWhat}
 use Rattle.coast_station.specs.CoastRules.{Station as Who, coast_rules}
 use Rattle.coast_station.specs.StandsFor.{StandsFor as CoastStandsFor}
 use Rattle.station_lines.specs.Events.{EventLine}
@@ -21,9 +19,7 @@ use Rattle.traffic_lines.specs.Lines.{line_of_station}
 use Rattle.input_lines.specs.ReceiverLine.{ReceiverLine}
 use Rattle.input_lines.specs.PointLine.{joined, traffic, IsBody}
 use Rattle.join_groups.specs.declared.groups.TheConstants.{MOST_IN_BATCH}
-use Rattle.traffic_replay.specs.declared.command.Replay.{Replay}
-use Rattle.traffic_replay.specs.declared.stages.Groups.{Groups}
-use Rattle.traffic_replay.specs.declared.stages.Stage.{Stage}
+use Rattle.traffic_replay.specs.declared.{command.Replay.Replay, stages.Groups.Groups, stages.Stage.Stage}
 use Rattle.traffic_replay.specs.declared.stages.Stage.TheVariants as stage
 use Rattle.traffic_replay.specs.Said.{Said, kind_of, base_of, groups_of, identities_of, station_of, among_events, behind_base, point_of}
 use Rattle.traffic_replay.specs.Happenings.{Taking, taking_ship, taking_coast}

@@ -5,9 +5,7 @@ use Rattle.slot_join.specs.declared.joined.Joined.{Joined}
 use Rattle.slot_join.specs.declared.joined.Joined.TheVariants.{Reported, Missing, Differ, Outside, Check}
 use Rattle.slot_join.specs.Answer.{IsAnswer}
 use Rattle.station_lines.specs.Events.{EventLine}
-use Rattle.traffic_lines.specs.declared.lines.Event.TheVariants.{Comes}
-use Rattle.traffic_lines.specs.declared.lines.Hearing.TheVariants.{Heard}
-use Rattle.traffic_lines.specs.declared.lines.TrafficLine.TheVariants.{Event}
+use Rattle.traffic_lines.specs.declared.{lines.Event.TheVariants.Comes, lines.Hearing.TheVariants.Heard, lines.TrafficLine.TheVariants.Event}
 use Rattle.ship_station.specs.declared.events.ShipWhat.{ShipWhat}
 use Rattle.ship_station.specs.declared.events.ShipWhat.TheVariants as ship
 use Rattle.coast_station.specs.declared.events.CoastWhat.{CoastWhat}

@@ -2,9 +2,7 @@
 use Rattle.std.specs.Prelude.{ℕ, ◌==◌, Bool, false, List, [], ◌∷◌, if◌then◌else◌}
 use Rattle.slot_evidence.specs.Facts.{Facts}
 use Rattle.line_engine.specs.Lines.{Lines}
-use Rattle.traffic_lines.specs.declared.lines.Event.TheVariants.{Comes}
-use Rattle.traffic_lines.specs.declared.lines.Hearing.TheVariants.{Heard}
-use Rattle.traffic_lines.specs.declared.lines.TrafficLine.TheVariants.{Event}
+use Rattle.traffic_lines.specs.declared.{lines.Event.TheVariants.Comes, lines.Hearing.TheVariants.Heard, lines.TrafficLine.TheVariants.Event}
 use Rattle.input_lines.specs.ReceiverLine.{ReceiverLine}
 use Rattle.input_lines.specs.PointLine.{PointLine, joined, traffic, IsPointLine}
 use Rattle.join_groups.specs.Groups.{group_facts}

@@ -93,7 +93,7 @@ pub(crate) fn happen<S: OfLines, W: Joiner>(
     match what {
         Event::Does(deed) => step(station, at, &S::deed(base, at, deed), acts, out),
         Event::Comes(hearing) => match hearing {
-            Hearing::Hear(call, _extra) => step(station, at, &S::heard(*call), acts, out),
+            Hearing::Hear(call, _expansion) => step(station, at, &S::heard(*call), acts, out),
             Hearing::Heard(group) => {
                 let answer = hear(groups, workers, *group)?;
                 match heard_call(*group, &answer) {

@@ -3,8 +3,7 @@ use Rattle.std.specs.Prelude.{ℕ, Bool, List, []}
 use Rattle.std.proofs.Common.{sym, subst}
 use Rattle.line_engine.specs.Lines.{Lines}
 use Rattle.traffic_lines.specs.declared.lines.StationLine.TheVariants as named
-use Rattle.traffic_replay.specs.declared.command.Replay.{Replay}
-use Rattle.traffic_replay.specs.declared.stages.Stage.{Stage}
+use Rattle.traffic_replay.specs.declared.{command.Replay.Replay, stages.Stage.Stage}
 use Rattle.traffic_replay.specs.declared.stages.Stage.TheVariants as stage
 use Rattle.traffic_replay.specs.Said.{Said, Kind, ship, coast, kind_of}
 use Rattle.traffic_replay.specs.Meaning.{StationTells, replay_meaning}

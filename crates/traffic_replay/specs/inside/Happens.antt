@@ -6,9 +6,7 @@ use Rattle.traffic_rules.specs.Histories.{History}
 use Rattle.traffic_rules.specs.Rules.{Rules}
 use Rattle.station_lines.specs.Events.{EventLine}
 use Rattle.traffic_lines.specs.declared.lines.Event.TheVariants as event
-use Rattle.traffic_lines.specs.declared.lines.Hearing.TheVariants.{Hear}
-use Rattle.traffic_lines.specs.declared.lines.Deed.{Deed}
-use Rattle.traffic_lines.specs.declared.lines.StationOwn.{StationOwn}
+use Rattle.traffic_lines.specs.declared.{lines.Hearing.TheVariants.Hear, lines.Deed.Deed, lines.StationOwn.StationOwn}
 use Rattle.traffic_lines.specs.Lines.{deed_with}
 use Rattle.traffic_replay.specs.declared.outcomes.Unreported.{Unreported}
 use Rattle.traffic_replay.specs.Said.{Said}

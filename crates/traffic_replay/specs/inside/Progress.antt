@@ -4,9 +4,8 @@ use Rattle.ten_unit.specs.declared.character.Element.{Element}
 use Rattle.slot_evidence.specs.Facts.{Facts}
 use Rattle.phasing.specs.declared.reception.TheConstants.{LONGEST}
 use Rattle.line_engine.specs.Lines.{Lines}
-use Rattle.traffic_lines.specs.declared.lines.Point.{Point}
+use Rattle.traffic_lines.specs.declared.{lines.Point.Point, lines.StationLine.StationLine}
 use Rattle.traffic_lines.specs.declared.lines.Point.TheVariants as point
-use Rattle.traffic_lines.specs.declared.lines.StationLine.{StationLine}
 use Rattle.traffic_lines.specs.declared.lines.StationLine.TheVariants as named
 use Rattle.traffic_rules.specs.Histories.{History}
 use Rattle.traffic_rules.specs.Rules.{Rules}
@@ -16,8 +15,7 @@ use Rattle.ship_station.specs.StandsFor.{StandsFor as ShipStandsFor}
 use Rattle.coast_station.specs.declared.coasts.Coast.{Coast}
 use Rattle.coast_station.specs.CoastRules.{coast_rules}
 use Rattle.coast_station.specs.StandsFor.{StandsFor as CoastStandsFor}
-use Rattle.call_values.specs.declared.choices.Band.{Band}
-use Rattle.call_values.specs.declared.bounds.TheConstants.{LAST_BASE}
+use Rattle.call_values.specs.declared.{choices.Band.Band, bounds.TheConstants.LAST_BASE}
 use Rattle.input_lines.specs.ReceiverLine.{ReceiverLine}
 use Rattle.input_lines.specs.PointLine.{PointLine, joined, IsBody, IsPointLine}
 use Rattle.traffic_lines.specs.Lines.{IsTrafficLine}
@@ -30,9 +28,7 @@ use Rattle.join_groups.specs.Groups.{facts_of_line, names}
 use Rattle.join_groups.specs.declared.groups.TheConstants.{MOST_IN_BATCH}
 use Rattle.join_groups.specs.Holds.{HoldsSome}
 use Rattle.join_groups.specs.Meanings.{BringsTooMany}
-use Rattle.traffic_replay.specs.declared.command.Replay.{Replay}
-use Rattle.traffic_replay.specs.declared.stages.Groups.{Groups}
-use Rattle.traffic_replay.specs.declared.stages.Stage.{Stage}
+use Rattle.traffic_replay.specs.declared.{command.Replay.Replay, stages.Groups.Groups, stages.Stage.Stage}
 use Rattle.traffic_replay.specs.declared.stages.Stage.TheVariants as stage
 use Rattle.traffic_replay.specs.Said.{Said, ship, coast, kind_of, base_of, groups_of, identities_of, station_of, among_events, point_of, AreSaid}
 use Rattle.traffic_replay.specs.HeardGroups.{of_receivers}

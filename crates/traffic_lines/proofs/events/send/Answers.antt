@@ -5,8 +5,7 @@ use Rattle.line_grammar.specs.Sections.{last}
 use Rattle.line_grammar.proofs.Rows.{leaves_row, after_row, leaves_after}
 use Rattle.line_grammar.proofs.SectionSteps.{word_read, word_left}
 use Rattle.traffic_lines.specs.Events.{IsEvent, event_parts, send}
-use Rattle.traffic_lines.specs.declared.lines.Deed.TheVariants.{Send}
-use Rattle.traffic_lines.specs.declared.lines.Event.TheVariants.{Does}
+use Rattle.traffic_lines.specs.declared.{lines.Deed.TheVariants.Send, lines.Event.TheVariants.Does}
 use Rattle.traffic_lines.proofs.events.send.Goals as goal
 
 pub returns-in_err-text : goal.returns-in_err-text

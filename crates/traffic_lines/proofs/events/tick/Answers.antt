@@ -1,8 +1,7 @@
 use Rattle.std.proofs.Common.{codes, refl}
 use Rattle.line_grammar.specs.Sections.{nth}
 use Rattle.line_grammar.proofs.Rows.{word_row}
-use Rattle.traffic_lines.specs.declared.lines.Deed.TheVariants.{Tick}
-use Rattle.traffic_lines.specs.declared.lines.Event.TheVariants.{Does}
+use Rattle.traffic_lines.specs.declared.{lines.Deed.TheVariants.Tick, lines.Event.TheVariants.Does}
 use Rattle.traffic_lines.specs.Events.{IsEvent, event_parts}
 use Rattle.traffic_lines.proofs.events.tick.Goals as goal
 

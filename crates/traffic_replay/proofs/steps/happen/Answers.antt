@@ -2,9 +2,8 @@ use Rattle.std.proofs.Common.{◌≡◌, ◌∷◌, ◌++◌, ◌∙◌, Some, i
 use Rattle.std.proofs.lemmas.Result.{on_ok_weaker}
 use Rattle.call_values.specs.declared.calls.Call.{Call}
 use Rattle.traffic_rules.specs.Rules.{answer_to, continued}
-use Rattle.traffic_lines.specs.declared.lines.Event.{Event}
+use Rattle.traffic_lines.specs.declared.{lines.Event.Event, lines.Hearing.Hearing}
 use Rattle.traffic_lines.specs.declared.lines.Event.TheVariants.{Does, Comes}
-use Rattle.traffic_lines.specs.declared.lines.Hearing.{Hearing}
 use Rattle.traffic_lines.specs.declared.lines.Hearing.TheVariants.{Hear, Heard}
 use Rattle.traffic_lines.specs.declared.lines.TrafficLine.TheVariants as line
 use Rattle.traffic_lines.specs.Lines.{event_with, deed_with}
@@ -35,20 +34,20 @@ returns-in-Does-clause-happens g c = tell c.step.result
 pub returns-in-Hear-clause-kept : goal.returns-in-Hear-clause-kept
 returns-in-Hear-clause-kept g c = on_ok_weaker c.step-in-Hear.result
     (λ stands. λ said own keeps.
-    let here : ◌≡◌ {A = Event g.row.S-Own.Denot Hearing} c.args.what.now (Comes (Hear c.in-Hear.call c.in-Hear._extra)) = c.in-Comes.is ∙ ap (λ (x : Hearing). Comes x) c.in-Hear.is in
+    let here : ◌≡◌ {A = Event g.row.S-Own.Denot Hearing} c.args.what.now (Comes (Hear c.in-Hear.call c.in-Hear._expansion)) = c.in-Comes.is ∙ ap (λ (x : Hearing). Comes x) c.in-Hear.is in
     subst (λ (e : Event g.row.S-Own.Denot Hearing). KeepsGroups c.args.groups.now (traffic (line.Event c.args.at (event_with own e)) ∷ said)) (sym here)
-    (silent c.args.groups.now said (line.Event c.args.at (Comes (Hear c.in-Hear.call c.in-Hear._extra))) (λ k. refl) keeps))
+    (silent c.args.groups.now said (line.Event c.args.at (Comes (Hear c.in-Hear.call c.in-Hear._expansion))) (λ k. refl) keeps))
     c.step-in-Hear.ensures.stands
 
 pub returns-in-Hear-clause-happens : goal.returns-in-Hear-clause-happens
 returns-in-Hear-clause-happens g c = tell c.step-in-Hear.result
     (λ accepted stands lines well. λ said taking own who h takes keeps at_who.
     let call = c.in-Hear.call in
-    let here : ◌≡◌ {A = Event g.row.S-Own.Denot Hearing} c.args.what.now (Comes (Hear call c.in-Hear._extra)) = c.in-Comes.is ∙ ap (λ (x : Hearing). Comes x) c.in-Hear.is in
+    let here : ◌≡◌ {A = Event g.row.S-Own.Denot Hearing} c.args.what.now (Comes (Hear call c.in-Hear._expansion)) = c.in-Comes.is ∙ ap (λ (x : Hearing). Comes x) c.in-Hear.is in
     subst (λ (e : Event g.row.S-Own.Denot Hearing). Happens (g.S.Station.rules who) taking (g.S.Station.stands c.step-in-Hear.new.station who) h said c.args.at (event_with own e) c.args.out.now.items c.step-in-Hear.new.out.items accepted)
     (sym here)
-    (plain_happens (g.S.Station.rules who) taking (g.S.Station.stands c.step-in-Hear.new.station who) h said c.args.at (Comes (Hear call c.in-Hear._extra)) c.args.out.now.items c.step-in-Hear.new.out.items accepted c.heard.result
-    (c.heard.result, takes.calls c.args.at call c.in-Hear._extra ∙ ap (λ (e : g.row.S-What.Denot). Some e) (sym c.heard.ensures), refl) (stands who h at_who) (lines who h at_who) (well who h at_who)))
+    (plain_happens (g.S.Station.rules who) taking (g.S.Station.stands c.step-in-Hear.new.station who) h said c.args.at (Comes (Hear call c.in-Hear._expansion)) c.args.out.now.items c.step-in-Hear.new.out.items accepted c.heard.result
+    (c.heard.result, takes.calls c.args.at call c.in-Hear._expansion ∙ ap (λ (e : g.row.S-What.Denot). Some e) (sym c.heard.ensures), refl) (stands who h at_who) (lines who h at_who) (well who h at_who)))
     c.step-in-Hear.ensures.stands c.step-in-Hear.ensures.lines c.step-in-Hear.ensures.accepted
 
 pub returns-in-Ok-clause-happens : goal.returns-in-Ok-clause-happens

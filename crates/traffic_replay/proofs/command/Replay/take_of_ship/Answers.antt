@@ -1,10 +1,8 @@
 use Rattle.std.proofs.Common.{◌++◌, refl, sym, subst}
 use Rattle.traffic_lines.specs.Lines.{event_with, line_of_ship}
 use Rattle.traffic_lines.specs.declared.lines.StationOwn.TheVariants as own
-use Rattle.traffic_lines.specs.declared.lines.Point.{Point}
+use Rattle.traffic_lines.specs.declared.{lines.Point.Point, lines.ShipLine.ShipLine, lines.TrafficLine.TheVariants.Event}
 use Rattle.traffic_lines.specs.declared.lines.Point.TheVariants as point
-use Rattle.traffic_lines.specs.declared.lines.ShipLine.{ShipLine}
-use Rattle.traffic_lines.specs.declared.lines.TrafficLine.TheVariants.{Event}
 use Rattle.traffic_lines.specs.Lines.{IsTrafficLine}
 use Rattle.traffic_replay.proofs.Bodies.{takes_own}
 use Rattle.traffic_replay.proofs.command.Replay.take_of_ship.Goals as goal
