@@ -205,7 +205,14 @@ pub fn lead<E: Elements>(e: E) -> Option<u32>
     }
     let next = e.planes_from(64);
     let third = phasing_marked(e.planes_from(0), next);
-    first_from(e, 0, Phasing::before(), Phasing::before(), third, next)
+
+    // No word begins before element 0. So the compiler leaves out most of the first block's counting.
+    let none = Phasing::before();
+    let fourth = search_block(e, 0, &none, &none, &third, next);
+    if fourth.phased != 0 {
+        return Some(22 + fourth.phased.trailing_zeros());
+    }
+    first_from(e, 64, none, third, fourth.marks, fourth.behind)
 }
 
 /// The first index of a reception that is a phased origin, whatever is phased before its first element, and its length

@@ -1,3 +1,4 @@
 pub mod Back
 pub mod Kept
+pub mod Six
 pub mod Span

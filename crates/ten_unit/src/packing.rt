@@ -67,6 +67,7 @@ pub fn sign_planes(block: &[u8; 64]) -> Planes
 
 /// The elements of 64 signs as bits: `Y`, `B`, and `-` for a lost one (this project's profile). `None` comes where a
 /// byte is no sign. Lost ones are looked for only where there is a sign that is neither `Y` nor `B`.
+#[inline(always)]
 pub fn pack_signs(block: &[u8; 64]) -> Option<Planes>
     ensures signs { IfSome result (λ _. list_all is_sign block.now ≡ true) }
     ensures planes { IfSome result (λ planes. (base : ℕ) (e : ℕ → Element)

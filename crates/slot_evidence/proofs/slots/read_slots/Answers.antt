@@ -18,8 +18,8 @@ loop-k-preserved g c =
     let room : at < 66 = omega (arith, c.windows-window-end.ensures.most) in
     let planes = c.planes_from-planes.ensures in
     record {
-      dx = filled_more e lead 12 c.loop-k.dx at _ _ (omega arith) room kept.dx (slot_shown e lead (12 + 2 * at) _ _ (omega arith) (c.symbol_at.ensures _ (element_at e) planes));
-      rx = filled_more e lead 13 c.loop-k.rx at _ _ (omega arith) room kept.rx (slot_shown e lead (13 + 2 * at) _ _ (omega arith) (c.symbol_at-in-loop-k.ensures _ (element_at e) planes));
+      dx = filled_more e lead 12 c.loop-k.dx at _ _ (omega arith) room kept.dx (slot_shown e lead (12 + 2 * at) _ _ (omega arith) (c.six_shown-symbols.ensures _ (element_at e) planes (2 * c.loop-k.k) (omega arith)));
+      rx = filled_more e lead 13 c.loop-k.rx at _ _ (omega arith) room kept.rx (slot_shown e lead (13 + 2 * at) _ _ (omega arith) (c.six_shown-symbols.ensures _ (element_at e) planes (2 * c.loop-k.k + 1) (omega arith)));
     }
 
 pub returns : goal.returns
