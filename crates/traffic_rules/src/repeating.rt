@@ -10,7 +10,8 @@ use crate::moments::has_passed;
 use crate::waits::ANSWER_WAIT;
 
 /// At a tick: sends each sent call again that has waited for its answer and was sent once, gives up each that was sent
-/// again, by rising number, and puts the acts last (this project's profile). Where no call was ever held, it looks at no place.
+/// again, by rising number, and puts the acts last (this project's profile). Where no call was ever held, it looks at no
+/// place.
 pub fn repeat(held: &mut HeldCalls, at: u64, acts: &mut Acts)
     requires { length acts.old.items ≤ 16 }
     ensures acts { acts.new.items ≡ acts.old.items ++ repeating.repeats at 1 held.old }
