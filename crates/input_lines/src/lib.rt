@@ -28,6 +28,7 @@ pub use laws::{
     evidence_is_read, exchange_columns, one_book_line, one_call_line, one_exchange_line, one_line,
     one_point_line, one_sentence_line, one_stream_line,
 };
+pub use receptions::packed_reception;
 pub use sentences::{SentenceLine, sentence_line};
 pub use sheets::{put_evidence, put_evidence_line};
 pub use streams::stream_line;

@@ -76,6 +76,7 @@ pub(crate) fn elements_of(alloc: Global, signs: &[u8]) -> Result<Reception, Allo
 }
 
 /// The elements of a body of at least one, read 64 signs at once. `None` comes where no such body is there.
+#[inline(always)]
 fn packed_body(alloc: Global, bytes: &[u8]) -> Result<Option<Reception>, AllocError>
     ensures { IfOk result (λ read. IfSome read (λ elements. bytes.now ≡ body_text elements)) }
 {
@@ -89,6 +90,7 @@ fn packed_body(alloc: Global, bytes: &[u8]) -> Result<Option<Reception>, AllocEr
 }
 
 /// The group and the elements of a reception, after its `r`, where it has some. Most lines are read by this.
+#[inline(always)]
 fn packed_line(alloc: Global, bytes: &[u8]) -> Result<Option<(u32, Reception)>, AllocError>
     ensures { IfOk result (λ read. IfSome read (λ parts. IsLine (reception parts.0 parts.1) (letter_r ∷ bytes.now))) }
 {
@@ -99,6 +101,18 @@ fn packed_line(alloc: Global, bytes: &[u8]) -> Result<Option<(u32, Reception)>, 
         return Ok(None);
     };
     Ok(Some((group, elements)))
+}
+
+/// The group and the elements that this line says, where it is a reception of at least one element. Most lines of
+/// receptions are read by this alone.
+#[inline(always)]
+pub fn packed_reception(alloc: Global, line: &[u8]) -> Result<Option<(u32, Reception)>, AllocError>
+    ensures { IfOk result (λ read. IfSome read (λ parts. IsLine (reception parts.0 parts.1) line.now)) }
+{
+    match line.split_first() {
+        Some((b'r', rest)) => packed_line(alloc, rest),
+        _ => Ok(None),
+    }
 }
 
 /// Reads a reception, which is this line after its `r`.

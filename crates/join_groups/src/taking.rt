@@ -6,7 +6,7 @@ ghost use Rattle.join_groups.specs.Meanings.{BringsTooMany};
 ghost use Rattle.join_groups.specs.inside.Kept.{Keeps, IsRefused, IsShort, TakesRead, RefusesRead};
 
 use crate::groups::{MOST_IN_BATCH, NamedGroups, Waiting};
-use input_lines::{JoinLine, LineFault, join_line};
+use input_lines::{JoinLine, LineFault, join_line, packed_reception};
 use line_engine::{LONGEST_LINE, Refusal};
 use receiver_pool::{Joiner, Reading};
 use std::alloc::Global;
@@ -14,6 +14,32 @@ use std::alloc::Global;
 /// Takes a line of receptions or evidence. A line that is ill-formed, or that brings a group too many, leaves the
 /// groups as they were.
 pub(crate) fn take_line<W: Joiner>(
+    groups: &mut NamedGroups,
+    workers: &W,
+    alloc: Global,
+    text: &[u8],
+) -> Result<(), Refusal>
+    requires short { length text.now ≤ LONGEST_LINE }
+    requires ready { (said : List Line) × Keeps groups.old said }
+    requires joins { W.can_join workers.now }
+    ensures ok { OnOk result ((said : List Line) → Keeps groups.old said
+        → (line : Line) × (IsLine line text.now × (BringsTooMany said line → ⊥)
+        × Keeps groups.new (said ++ line ∷ []))) }
+    ensures err { IfErr result (λ refusal. (said : List Line) → Keeps groups.old said
+        → IsRefused said text.now refusal) }
+    ensures kept { IfErr result (λ refusal. refusal ≢ Refusal.Memory → groups.new ≡ groups.old) }
+    ensures few { OnOk result (length groups.old.batch.items < MOST_IN_BATCH
+        → length groups.new.batch.items < MOST_IN_BATCH) }
+{
+    if let Some((group, elements)) = packed_reception(alloc, text)? {
+        return groups.hear(workers, group, elements);
+    }
+    take_other(groups, workers, alloc, text)
+}
+
+/// The same, for any line.
+#[inline(never)]
+fn take_other<W: Joiner>(
     groups: &mut NamedGroups,
     workers: &W,
     alloc: Global,

@@ -8,7 +8,8 @@ ghost use Rattle.join_groups.specs.Holds.{HoldsSome};
 ghost use Rattle.join_groups.specs.inside.Kept.{Keeps};
 
 use crate::groups::NamedGroups;
-use call_texts::put_answer_line;
+use arrayvec::ArrayVec;
+use call_texts::append_answer_line;
 use input_lines::put_evidence_line;
 use slot_evidence::Sheet;
 use slot_join::{is_reported, report};
@@ -26,6 +27,9 @@ pub trait GroupWriter: Drop {
             → tells F (record { group = group; line = line; is_well = is_well })))) };
 }
 
+/// The line of an answer has at most this many bytes.
+const LONGEST_ANSWER: usize = 183;
+
 /// Writes the answer to a group's facts; all is well where a call was reported.
 #[derive(Drop)]
 pub struct WriteAnswers;
@@ -35,7 +39,9 @@ impl GroupWriter for WriteAnswers {
 
     fn append_group(group: u32, sheet: &Sheet, out: &mut Vec<u8>) -> Result<bool, AllocError> {
         let answer = report(sheet);
-        out.extend_from_slice(&put_answer_line(group, &answer))?;
+        let mut line = ArrayVec::<u8, LONGEST_ANSWER>::new();
+        append_answer_line(&mut line, group, &answer);
+        out.extend_from_slice(&line)?;
         Ok(is_reported(&answer))
     }
 }
