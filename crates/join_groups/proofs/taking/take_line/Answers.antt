@@ -32,10 +32,15 @@ returns-in-Some-clause-ok g c = on_ok_weaker c.hear.result
     (λ ok. λ said keeps.
     let line = reception c.in-Some.group c.in-Some.elements in
     let says = says_reception line c.in-Some.group c.in-Some.elements refl in
-    let taken = ok (is_named said) (group_facts said) keeps in
-    (line, ((is_line c.in_ok-group.field-0 c.args.text.now c.in-Some.group c.in-Some.elements c.in-Some.is c.in_ok-group.ensures), (
-      λ b. taken.0 (brings_full said line c.in-Some.group says.0 b)),
-      keeps_line c.hear.new.self said line c.in-Some.group (facts_of c.in-Some.elements) says.0 says.1 taken.1)))
+    let taken = ok (is_named said) (group_facts said) keeps in (
+      line,
+      (
+        (is_line c.in_ok-group.field-0 c.args.text.now c.in-Some.group c.in-Some.elements c.in-Some.is c.in_ok-group.ensures),
+        (
+            λ b. taken.0 (brings_full said line c.in-Some.group says.0 b)),
+        keeps_line c.hear.new.self said line c.in-Some.group (facts_of c.in-Some.elements) says.0 says.1 taken.1,
+      ),
+    ))
     c.hear.ensures.ok
 
 pub returns-in-Some-clause-err : goal.returns-in-Some-clause-err
