@@ -19,6 +19,7 @@ pub use laws::{
 pub use reading::read;
 pub use spelling::{
     area_digits, category_symbol, end_of, end_symbol, format_of, own_end, position_digits, spell,
+    spell_into,
 };
 pub use symbol_reader::ReadRefusal;
 pub use walking::{Step, Walk};

@@ -1,5 +1,5 @@
 //! The list of a call, as it is sent.
-ghost use Rattle.std.specs.Prelude.{◌≡◌, ◌+◌, ◌<◌, ◌≤◌, ◌++◌, ◌∷◌, length};
+ghost use Rattle.std.specs.Prelude.{◌≡◌, ◌+◌, ◌<◌, ◌≤◌, ◌++◌, ◌∷◌, [], length};
 ghost use Rattle.call_values.specs.Positions.{IsFix};
 ghost use Rattle.call_values.specs.Areas.{IsArea};
 ghost use Rattle.call_grammar.specs.Spelling as sequence;
@@ -19,24 +19,32 @@ use symbol_reader::{check, eight_digits, six_digits, ten_digits};
 pub fn spell(call: &Call) -> ArrayVec<u8, 64>
     ensures { result.items ≡ sequence.spell call.now }
 {
-    let end = end_of(call);
-    let mut list = up_to_end(call);
-    let check = check(&list.as_slice()[1..]);
-    append(&mut list, &[check, end, end]);
+    let mut list = ArrayVec::new();
+    spell_into(&mut list, call);
     list
 }
 
-/// A call's list up to its first end of sequence.
-fn up_to_end(call: &Call) -> ArrayVec<u8, 64>
-    ensures list { result.items ≡ sequence.up_to_end call.now }
-    ensures short { length result.items ≤ 29 }
+/// The same, written into an empty list: a caller that spells many calls has one list for all.
+pub fn spell_into(list: &mut ArrayVec<u8, 64>, call: &Call)
+    requires { list.old.items ≡ [] }
+    ensures { list.new.items ≡ sequence.spell call.now }
+{
+    let end = end_of(call);
+    append_up_to_end(list, call);
+    let check = check(&list.as_slice()[1..]);
+    append(list, &[check, end, end]);
+}
+
+/// Appends a call's list up to its first end of sequence to an empty list.
+fn append_up_to_end(list: &mut ArrayVec<u8, 64>, call: &Call)
+    requires { list.old.items ≡ [] }
+    ensures list { list.new.items ≡ sequence.up_to_end call.now }
+    ensures short { length list.new.items ≤ 29 }
 {
     let format = format_of(call);
-    let mut list = ArrayVec::new();
-    append(&mut list, &[format, format]);
-    append_fields(&mut list, call);
-    append(&mut list, &[end_of(call)]);
-    list
+    append(list, &[format, format]);
+    append_fields(list, call);
+    append(list, &[end_of(call)]);
 }
 
 /// The call's format specifier.
@@ -107,13 +115,19 @@ pub fn append(list: &mut ArrayVec<u8, 64>, symbols: &[u8])
     list.try_extend_from_slice(symbols).unwrap();
 }
 
-/// Appends the fields of a call: its address, and what it says.
+/// Appends the fields of a call: its address, and what it says. An alert has no address, and is taken as it is, since no
+/// call is sent as often.
 fn append_fields(list: &mut ArrayVec<u8, 64>, call: &Call)
     requires { length list.old.items ≤ 2 }
     ensures { list.new.items ≡ list.old.items ++ sequence.fields_of call.now }
 {
-    append_address(list, &call.address());
-    append_body(list, &call.body());
+    match call {
+        Call::Alert(casualty) => append_casualty(list, casualty),
+        _ => {
+            append_address(list, &call.address());
+            append_body(list, &call.body());
+        }
+    }
 }
 
 /// Appends the characters of what a call says, up to its end of sequence (ITU-R M.493, composition of the calls).

@@ -14,7 +14,7 @@ use call_values::bounds::{
     EIGHT_DIGITS, HF_CHANNELS, LAST_HUNDREDS, SIX_DIGITS, TENS, VHF_CHANNELS,
 };
 use call_values::{Area, Field, Fix, HourMinute, Mmsi, Position, To};
-use line_grammar::{Left, fixed_number, further, word};
+use line_grammar::{Left, fixed_number, fixed_number_to, further, word};
 
 /// The value that letters at the front of these bytes stand for, and what follows them.
 pub fn spelled<'a, T: Drop>(text: &[u8], value: T, bytes: &'a [u8]) -> Result<(T, &'a [u8]), Left>
@@ -37,7 +37,7 @@ fn up_to(width: usize, most: u8, bytes: &[u8]) -> Result<(u8, &[u8]), Left>
         ≡ Ok (digits width parts.0, parts.1.now)) }
     ensures left { IfErr result (λ left. read_shape (shape.fixed_number width ((0, most) ∷ [])) bytes.now ≡ Err left) }
 {
-    let (number, rest) = fixed_number(width, &[(0, u64::from(most))], bytes)?;
+    let (number, rest) = fixed_number_to(width, u64::from(most), bytes)?;
     Ok((number as u8, rest))
 }
 

@@ -44,6 +44,7 @@ impl Body {
     }
 
     /// The law that all of its parts are in their ranges. It does nothing.
+    #[inline(always)]
     pub fn lawful(&self)
         ensures { IsBody self.now }
     {

@@ -21,6 +21,7 @@ pub struct Casualty {
 
 impl Casualty {
     /// The law that every casualty's parts are in their ranges. It does nothing.
+    #[inline(always)]
     pub fn lawful(&self)
         ensures { IsCasualty self.now }
     {
@@ -107,6 +108,7 @@ pub enum Call {
 impl Call {
     /// Who the call is addressed to (ITU-R M.493, format specifier and address). A distress alert and its
     /// acknowledgement are for all ships.
+    #[inline(always)]
     pub fn address(&self) -> To
         ensures { result ≡ address_of self.now }
     {
@@ -120,6 +122,7 @@ impl Call {
     }
 
     /// What the call says besides.
+    #[inline(always)]
     pub fn body(&self) -> Body
         ensures { result ≡ body_of self.now }
     {
@@ -202,7 +205,8 @@ impl Call {
         self.body().sender()
     }
 
-    /// The law that every call's parts are in their ranges.
+    /// The law that every call's parts are in their ranges. It is inlined with what it asks, and then does nothing.
+    #[inline(always)]
     pub fn lawful(&self)
         ensures { IsCall self.now }
     {

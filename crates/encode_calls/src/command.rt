@@ -3,7 +3,7 @@ ghost use Rattle.std.specs.Prelude.{◌≡◌, ◌<◌, ◌+◌, ◌++◌, ◌�
 ghost use Rattle.encode_calls.specs.Encoding.{calls_of, encode_meaning, encoded};
 ghost use Rattle.encode_calls.specs.inside.Progress.{HasEncoded};
 
-use crate::lines::append_line;
+use crate::lines::{Room, append_line};
 use input_lines::{CallLine, Status, call_line};
 use line_engine::{Command, MOST_LINES, Refusal};
 use std::alloc::AllocError;
@@ -47,6 +47,7 @@ impl Dots for LongDots {
 pub struct Encode<D: Dots> {
     pub(crate) count: u32,
     dots: D,
+    room: Room,
 }
 
 impl<D: Dots> Encode<D> {
@@ -54,7 +55,11 @@ impl<D: Dots> Encode<D> {
     pub fn new(dots: D) -> Encode<D>
         ensures { HasEncoded D.long result.count [] [] }
     {
-        Encode { count: 0, dots }
+        Encode {
+            count: 0,
+            dots,
+            room: Room::new(),
+        }
     }
 
     /// Appends what a line of calls gives.
@@ -67,7 +72,14 @@ impl<D: Dots> Encode<D> {
         match says {
             CallLine::Nothing => Ok(()),
             CallLine::Call { call, expansion } => {
-                append_line(out, D::is_long(), self.count, call, expansion)?;
+                append_line(
+                    out,
+                    &mut self.room,
+                    D::is_long(),
+                    self.count,
+                    call,
+                    expansion,
+                )?;
                 self.count += 1;
                 Ok(())
             }

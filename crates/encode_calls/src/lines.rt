@@ -2,17 +2,37 @@
 ghost use Rattle.std.specs.Prelude.{◌≡◌, ◌++◌, OnOk};
 ghost use Rattle.encode_calls.specs.Encoding.{encoded_line};
 
-use crate::signs::append_signs;
-use crate::transmissions::write_slots;
+use crate::signs::{ROOM, append_list};
+use crate::transmissions::write_list;
 use arrayvec::ArrayVec;
 use call_values::Call;
 use expansion::Expansion;
 use line_grammar::{append, append_number};
 use std::alloc::AllocError;
 
+/// The room in which a line is made; one room serves every line.
+#[derive(Drop)]
+pub(crate) struct Room {
+    /// The symbols of the last call.
+    list: ArrayVec<u8, 64>,
+    /// The signs of their words.
+    words: [u8; ROOM],
+}
+
+impl Room {
+    /// The room before the first line.
+    pub fn new() -> Room {
+        Room {
+            list: ArrayVec::new(),
+            words: [b'-'; ROOM],
+        }
+    }
+}
+
 /// Appends the line of a reception of this group, which heard the call and the expansion after it whole.
 pub(crate) fn append_line(
     out: &mut Vec<u8>,
+    room: &mut Room,
     long: bool,
     group: u32,
     call: &Call,
@@ -25,9 +45,8 @@ pub(crate) fn append_line(
     append_number(&mut front, u64::from(group));
     front.push(b' ');
     out.extend_from_slice(&front)?;
-    let mut symbols = [0; 144];
-    let count = write_slots(call, expansion, &mut symbols);
-    append_signs(out, &symbols[..count], long)?;
+    write_list(&mut room.list, call, expansion);
+    append_list(out, &mut room.words, &room.list, long)?;
     out.push(b'\n')?;
     Ok(())
 }

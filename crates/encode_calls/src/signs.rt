@@ -1,12 +1,16 @@
 //! The signs of transmissions: those of the dots, and those of each symbol's word.
-ghost use Rattle.std.specs.Prelude.{◌≡◌, ◌<◌, ◌≤◌, ◌+◌, ◌++◌, All, [], length, map, slice_index_or, take, OnOk, OnErr};
+ghost use Rattle.std.specs.Prelude.{◌≡◌, ◌<◌, ◌≤◌, ◌+◌, ◌*◌, ◌++◌, All, [], drop, length, map, slice_index_or, take, OnOk, OnErr};
 ghost use Rattle.std.specs.List.{flat_map};
 ghost use Rattle.phasing.specs.Sent.{dots, dot_count, sent};
+ghost use Rattle.time_diversity.specs.OnAir.{on_air};
+ghost use Rattle.encode_calls.specs.inside.Fronts.{front_signs};
 ghost use Rattle.ten_unit.specs.Word.{word_of};
 ghost use Rattle.input_lines.specs.ReceiverLine.{sign_of};
 ghost use Rattle.line_engine.specs.Determined.{BeginsWith};
 
+use dsc_symbols::phasing::{RX_0, RX_1};
 use std::alloc::AllocError;
+use time_diversity::write_on_air;
 
 /// The signs of the short dot pattern (this project's profile).
 static DOTS: [u8; 20] = *b"BYBYBYBYBYBYBYBYBYBY";
@@ -37,11 +41,34 @@ fn row(symbol: u8) -> [u8; 16]
     WORDS[symbol as usize]
 }
 
+/// The signs of the short dot pattern, and those of the phasing symbols before the first character (ITU-R M.493, dot
+/// pattern and phasing sequence).
+static FRONT: [u8; 140] =
+    *b"BYBYBYBYBYBYBYBYBYBYYBYYYYYBBYYYYYBYYBBYYBYYYYYBBYBYYYBYYBYBYBYYYYYBBYYBYYBYYBYBYBYYYYYBBYBBYYBYYBYYYBYYYYYBBYYYBYBYYBYBYBYYYYYBBYBYBYBYYBYY";
+
+/// The same with the long dot pattern.
+static LONG_FRONT: [u8; 320] =
+    *b"BYBYBYBYBYBYBYBYBYBYBYBYBYBYBYBYBYBYBYBYBYBYBYBYBYBYBYBYBYBYBYBYBYBYBYBYBYBYBYBYBYBYBYBYBYBYBYBYBYBYBYBYBYBYBYBYBYBYBYBYBYBYBYBYBYBYBYBYBYBYBYBYBYBYBYBYBYBYBYBYBYBYBYBYBYBYBYBYBYBYBYBYBYBYBYBYBYBYBYBYYBYYYYYBBYYYYYBYYBBYYBYYYYYBBYBYYYBYYBYBYBYYYYYBBYYBYYBYYBYBYBYYYYYBBYBBYYBYYBYYYBYYYYYBBYYYBYBYYBYBYBYYYYYBBYBYBYBYYBYY";
+
+/// Appends the signs of a dot pattern, and of the phasing symbols before the first character. The error is want of
+/// memory.
+#[inline(always)]
+fn append_front(out: &mut Vec<u8>, long: bool) -> Result<(), AllocError>
+    ensures { OnOk result (out.new.items ≡ out.old.items ++ front_signs long) }
+{
+    if long {
+        out.extend_from_slice(&LONG_FRONT)?;
+    } else {
+        out.extend_from_slice(&FRONT)?;
+    }
+    Ok(())
+}
+
 /// So many words are written together: those of most calls.
 const TOGETHER: usize = 80;
 
 /// The room for that many words, and for what a row has after its word.
-const ROOM: usize = 10 * TOGETHER + 6;
+pub(crate) const ROOM: usize = 10 * TOGETHER + 6;
 
 /// Writes the signs of a symbol's word from this place on, and six more, which the next word is written over: sixteen
 /// signs at once are one move of a processor.
@@ -84,6 +111,79 @@ pub fn append_signs(out: &mut Vec<u8>, slots: &[u8], long: bool) -> Result<(), A
         append_words(out, symbols)?;
     }
     Ok(())
+}
+
+/// The characters of a list whose words are written together: two slots each.
+const CHARACTERS: usize = TOGETHER / 2;
+
+/// Writes the signs of the slots from the first character on: each one's word in its DX slot, and after it the word of
+/// the character two before, or of a phasing symbol, in an RX slot (ITU-R M.493, time diversity).
+#[inline(always)]
+fn write_characters(words: &mut [u8; ROOM], list: &[u8])
+    requires length { (4 ≤ length list.now) × (length list.now ≤ CHARACTERS) }
+    requires symbols { All (λ v. v < 128) list.now }
+    ensures { take (20 * length list.now) words.new ≡ map sign_of (flat_map word_of (drop 12 (on_air list.now))) }
+{
+    write_word(words, 0, list[0]);
+    write_word(words, 10, RX_1);
+    write_word(words, 20, list[1]);
+    write_word(words, 30, RX_0);
+    for place in 2..list.len() {
+        write_word(words, 20 * place, list[place]);
+        write_word(words, 20 * place + 10, list[place - 2]);
+    }
+}
+
+/// Appends the signs of the transmission of a list of so few characters. The words are written first, over those of the
+/// list before. The error is want of memory.
+#[inline(always)]
+fn append_together(
+    out: &mut Vec<u8>,
+    words: &mut [u8; ROOM],
+    list: &[u8],
+    long: bool,
+) -> Result<(), AllocError>
+    requires length { (4 ≤ length list.now) × (length list.now ≤ CHARACTERS) }
+    requires symbols { All (λ v. v < 128) list.now }
+    ensures { OnOk result (out.new.items ≡ out.old.items ++ map sign_of (sent (on_air list.now) long)) }
+{
+    append_front(out, long)?;
+    write_characters(words, list);
+    out.extend_from_slice(&words[..20 * list.len()])?;
+    Ok(())
+}
+
+/// The same of any list. It isn't inlined, since few lists are so long.
+#[inline(never)]
+fn append_slots(out: &mut Vec<u8>, list: &[u8], long: bool) -> Result<(), AllocError>
+    requires length { (4 ≤ length list.now) × (length list.now ≤ 64) }
+    requires symbols { All (λ v. v < 128) list.now }
+    ensures { OnOk result (out.new.items ≡ out.old.items ++ map sign_of (sent (on_air list.now) long)) }
+{
+    let mut symbols = [0; 144];
+    let count = write_on_air(list, &mut symbols);
+    append_signs(out, &symbols[..count], long)
+}
+
+/// Appends the signs of the transmission of a list, which has 4 to 64 symbols below 128 (ITU-R M.493, call sequence and
+/// time diversity). The words of most lists are written in their order, straight from the list. The error is want of
+/// memory.
+#[inline(always)]
+pub(crate) fn append_list(
+    out: &mut Vec<u8>,
+    words: &mut [u8; ROOM],
+    list: &[u8],
+    long: bool,
+) -> Result<(), AllocError>
+    requires length { (4 ≤ length list.now) × (length list.now ≤ 64) }
+    requires symbols { All (λ v. v < 128) list.now }
+    ensures { OnOk result (out.new.items ≡ out.old.items ++ map sign_of (sent (on_air list.now) long)) }
+{
+    if list.len() > CHARACTERS {
+        append_slots(out, list, long)
+    } else {
+        append_together(out, words, list, long)
+    }
 }
 
 /// The signs of the word of each symbol from 0 to 127, each with six more (ITU-R M.493, the ten-unit code).

@@ -1,5 +1,5 @@
 //! Numbers in lines that have so many digits, in ranges.
-ghost use Rattle.std.specs.Prelude.{◌≡◌, ◌+◌, ◌-◌, ◌*◌, ◌<◌, ◌≤◌, ◌^◌, ◌&&◌, true, false, ◌++◌, IfOk, IfErr, IfSome, MatchOption, Ok, Err};
+ghost use Rattle.std.specs.Prelude.{◌≡◌, ◌+◌, ◌-◌, ◌*◌, ◌<◌, ◌≤◌, ◌^◌, ◌&&◌, true, false, ◌++◌, ◌∷◌, [], IfOk, IfErr, IfSome, MatchOption, Ok, Err};
 ghost use Rattle.line_grammar.specs.Bytes.{digit_zero};
 ghost use Rattle.line_grammar.specs.Shapes as shape;
 ghost use Rattle.line_grammar.specs.Shapes.{digits, is_within};
@@ -125,4 +125,38 @@ pub fn fixed_number<'a>(
         return Ok((number, rest));
     }
     digit_by_digit(width, ranges, bytes)
+}
+
+/// What is there instead of such a number, or the number. It isn't inlined, since few lines come here.
+#[inline(never)]
+fn judged<'a>(width: usize, most: u64, bytes: &'a [u8]) -> Result<(u64, &'a [u8]), Left>
+    requires width { width ≤ 10 }
+    requires ranges { are_ranges width ((0, most) ∷ []) ≡ true }
+    ensures number { IfOk result (λ parts. (is_within ((0, most) ∷ []) parts.0 ≡ true)
+        × (read_shape (shape.fixed_number width ((0, most) ∷ [])) bytes.now ≡ Ok (digits width parts.0, parts.1.now))) }
+    ensures left { IfErr result (λ left. read_shape (shape.fixed_number width ((0, most) ∷ [])) bytes.now ≡ Err left) }
+{
+    digit_by_digit(width, &[(0, most)], bytes)
+}
+
+/// A number of at most this in so many digits at the front of these bytes, and what follows it: `fixed_number` of the one
+/// range from 0 on, which is made only where no such number is there.
+#[inline(always)]
+pub fn fixed_number_to<'a>(
+    width: usize,
+    most: u64,
+    bytes: &'a [u8],
+) -> Result<(u64, &'a [u8]), Left>
+    requires width { width ≤ 10 }
+    requires ranges { are_ranges width ((0, most) ∷ []) ≡ true }
+    ensures number { IfOk result (λ parts. (is_within ((0, most) ∷ []) parts.0 ≡ true)
+        × (read_shape (shape.fixed_number width ((0, most) ∷ [])) bytes.now ≡ Ok (digits width parts.0, parts.1.now))) }
+    ensures left { IfErr result (λ left. read_shape (shape.fixed_number width ((0, most) ∷ [])) bytes.now ≡ Err left) }
+{
+    if let Some((number, rest)) = digits_of(width, bytes)
+        && has(&[(0, most)], number)
+    {
+        return Ok((number, rest));
+    }
+    judged(width, most, bytes)
 }

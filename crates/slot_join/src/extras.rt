@@ -35,17 +35,17 @@ pub(crate) fn read_extra(sheet: &Sheet, call: &Call, check_place: u8) -> Extra
     }
 }
 
-/// Whether no place from this one on showed a symbol.
+/// Whether no place from this one on showed a symbol. All of them are looked at, since the compiler looks at sixteen in a
+/// step then: after most calls all are blank.
 fn is_blank_from(sheet: &Sheet, from: u8) -> bool
     ensures blank { IsTrue result → (p : ℕ) → from ≤ p → p < 64 → seen_at sheet.now p ≡ Seen.None }
     ensures some { result ≡ false → (p : ℕ) × ((from ≤ p) × (p < 64) × (seen_at sheet.now p ≡ Seen.None → ⊥)) }
 {
+    let mut is_blank = true;
     for p in from..64 {
-        if !matches!(sheet.at(p), Seen::None) {
-            return false;
-        }
+        is_blank &= matches!(sheet.at(p), Seen::None);
     }
-    true
+    is_blank
 }
 
 /// The symbols of the places from this one on, up to the first that didn't show exactly one.

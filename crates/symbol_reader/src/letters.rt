@@ -45,6 +45,7 @@ pub enum Letter {
 
 impl Letter {
     /// Whether the symbol may be there.
+    #[inline(always)]
     pub fn allows(&self, symbol: u8) -> bool
         ensures { IsTrue result ↔ Allows self.now symbol }
     {

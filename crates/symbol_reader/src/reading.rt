@@ -16,7 +16,9 @@ pub enum Stop {
     Outside,
 }
 
-/// Takes the next symbol where the letter allows it, and else leaves it.
+/// Takes the next symbol where the letter allows it, and else leaves it. It is inlined, since the letter is a constant of
+/// its caller.
+#[inline(always)]
 pub fn symbol(cursor: &mut Cursor, letter: Letter) -> Result<u8, Stop>
     ensures reads { Reads (One (Allows letter)) cursor.old result cursor.new }
     ensures allowed { IfOk result (λ symbol. Allows letter symbol) }

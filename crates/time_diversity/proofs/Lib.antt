@@ -1,3 +1,4 @@
 pub mod PublicLaws
 mod Shows
 mod Copies
+mod InOrder

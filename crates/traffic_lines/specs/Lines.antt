@@ -235,6 +235,10 @@ abbrev pub line_of_ship : ShipLine → TrafficLine
 line_of_ship (body.Group mmsi) = Group mmsi
 line_of_ship (body.Event at what) = Event at (event_with own.Ship what)
 
+-- a moment and an event in a ship's file
+abbrev pub line_of_ship_event : ℕ × events.Event ShipOwn Hearing → TrafficLine
+line_of_ship_event says = Event says.0 (event_with own.Ship says.1)
+
 -- a moment and an event in a coast station's file
 abbrev pub line_of_coast : ℕ × events.Event CoastOwn Hearing → TrafficLine
 line_of_coast says = Event says.0 (event_with own.Coast says.1)

@@ -20,5 +20,5 @@ pub use laws::{one_traffic_line, one_world_line, traffic_lines_begin};
 pub use lines::{
     CoastOwn, Deed, Event, Hearing, Point, ShipLine, ShipOwn, StationLine, StationOwn, TrafficLine,
 };
-pub use reading::{read_base, read_coast_line, read_ship_line, read_station};
+pub use reading::{read_base, read_coast_line, read_ship_event, read_ship_line, read_station};
 pub use worlds::{EndEvent, ExchangePoint, WorldLine};

@@ -1,8 +1,8 @@
 //! Readers of the lines of a traffic file, by the point of each.
 ghost use Rattle.std.specs.Prelude.{◌<◌, Some};
-ghost use Rattle.traffic_lines.specs.Lines.{IsFull, line_of_coast, line_of_ship, line_of_station, ship_point};
+ghost use Rattle.traffic_lines.specs.Lines.{IsFull, line_of_coast, line_of_ship, line_of_ship_event, line_of_station, ship_point};
 ghost use Rattle.traffic_lines.specs.Readings.{ReadsAt};
-ghost use Rattle.traffic_lines.specs.declared.lines.Point.TheVariants.{Station, Base, Coast};
+ghost use Rattle.traffic_lines.specs.declared.lines.Point.TheVariants.{Station, Base, Ship, Coast};
 ghost use Rattle.traffic_lines.specs.declared.lines.TrafficLine.TheVariants as line;
 
 use crate::lines::{CoastOwn, Event, Hearing, ShipLine, ShipOwn, StationLine};
@@ -30,7 +30,7 @@ pub fn read_base(bytes: &[u8]) -> Result<u64, usize>
 }
 
 /// Reads an event of a ship, where no group may come.
-fn read_ship_event(groups: Option<u8>, bytes: &[u8]) -> Result<ShipLine, usize>
+fn read_no_group(groups: Option<u8>, bytes: &[u8]) -> Result<ShipLine, usize>
     requires { IsFull groups }
     ensures { ReadsAt (ship_point groups) line_of_ship bytes.now result }
 {
@@ -53,8 +53,16 @@ pub fn read_ship_line(groups: Option<u8>, bytes: &[u8]) -> Result<ShipLine, usiz
 {
     match groups {
         Some(held) if held < MOST_SHIP_GROUPS => read_group_or_event(held, bytes),
-        _ => read_ship_event(groups, bytes),
+        _ => read_no_group(groups, bytes),
     }
+}
+
+/// What a line says after the first event of a ship's file, and the milliseconds after the base. It is what
+/// `read_ship_line` reads there. An error is the column, as in `read_station`.
+pub fn read_ship_event(bytes: &[u8]) -> Result<(u32, Event<ShipOwn, Hearing>), usize>
+    ensures { ReadsAt Ship line_of_ship_event bytes.now result }
+{
+    whole(bytes)
 }
 
 /// What a line says after the base of a coast station's file, and the milliseconds after the base. An error is the

@@ -29,8 +29,8 @@ use receiver_pool::Joiner;
 use slot_evidence::{Reception, Sheet};
 use std::alloc::{AllocError, Global};
 use traffic_lines::{
-    Event, Hearing, ShipLine, ShipOwn, StationLine, read_base, read_coast_line, read_ship_line,
-    read_station,
+    Event, Hearing, ShipLine, ShipOwn, StationLine, read_base, read_coast_line, read_ship_event,
+    read_ship_line, read_station,
 };
 use traffic_rules::Acts;
 
@@ -237,15 +237,12 @@ impl Replay {
         ensures err { IfErr result (RefusesLine self.old line.now) }
         ensures unsaid { IfErr result (λ refusal. KeepsText refusal out.old.items out.new.items) }
     {
-        let read = read_ship_line(None, line);
+        let read = read_ship_event(line);
         let says = match &read {
             Ok(says) => says,
             Err(n) => return Err(Refusal::Column(*n)),
         };
-        match says {
-            ShipLine::Group(_) => unreachable!(),
-            ShipLine::Event { at, what } => self.take_at_ship(workers, *at, what, out)?,
-        }
+        self.take_at_ship(workers, says.0, &says.1, out)?;
         Ok(())
     }
 
