@@ -134,8 +134,8 @@ fn write_characters(words: &mut [u8; ROOM], list: &[u8])
     }
 }
 
-/// Appends the signs of the transmission of a list of so few characters. The words are written first, over those of the
-/// list before. The error is want of memory.
+/// Appends the signs of the transmission of a list of so few characters. Its words are written over those of the list
+/// before, and then appended after the front. The error is want of memory.
 #[inline(always)]
 fn append_together(
     out: &mut Vec<u8>,
