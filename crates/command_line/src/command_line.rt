@@ -1,6 +1,7 @@
 //! The command line as `clap` sees it.
 ghost use Rattle.std.specs.Prelude.{◌≡◌, IfOk, false};
-ghost use Rattle.clap.specs.Words.{app_of, shape_of};
+ghost use Rattle.clap.specs.Words.{app_of, shape_of, with_subcommand};
+ghost use Rattle.clap.specs.Simple.{new_shape};
 ghost use Rattle.clap.specs.declared.builder.command.Command.TheViews.{out-Command as fields_of};
 ghost use Rattle.command_line.specs.inside.CommandLine.{dsc, program, with_first_commands, with_last_commands, with_number, with_option};
 
@@ -22,11 +23,10 @@ pub fn command_line<'a>(alloc: Global) -> Result<Command<'a>, AllocError>
 fn with_first_commands<'a>(alloc: Global, program: Command<'a>) -> Result<Command<'a>, AllocError>
     ensures { IfOk result (λ r. app_of r ≡ with_first_commands (app_of program.entry)) }
 {
-    let program = program.subcommand(with_option(alloc, "join", "workers")?)?;
-    let program = program.subcommand(with_option(alloc, "evidence", "workers")?)?;
-    let program = program.subcommand(with_option(alloc, "encode", "dots")?)?;
-    let program = program.subcommand(Command::new(alloc, "sentences"))?;
-    Ok(program)
+    let program = add_with_option(alloc, program, "join", "workers")?;
+    let program = add_with_option(alloc, program, "evidence", "workers")?;
+    let program = add_with_option(alloc, program, "encode", "dots")?;
+    add_alone(alloc, program, "sentences")
 }
 
 /// The program with the commands after these.
@@ -34,13 +34,46 @@ fn with_first_commands<'a>(alloc: Global, program: Command<'a>) -> Result<Comman
 fn with_last_commands<'a>(alloc: Global, program: Command<'a>) -> Result<Command<'a>, AllocError>
     ensures { IfOk result (λ r. app_of r ≡ with_last_commands (app_of program.entry)) }
 {
-    let program = program.subcommand(with_option(alloc, "replay", "workers")?)?;
-    let program = program.subcommand(with_number(alloc, "make")?)?;
-    let program = program.subcommand(Command::new(alloc, "capture"))?;
-    let program = program.subcommand(with_option(alloc, "watch", "workers")?)?;
-    let program = program.subcommand(Command::new(alloc, "exchange"))?;
-    let program = program.subcommand(Command::new(alloc, "book"))?;
-    Ok(program)
+    let program = add_with_option(alloc, program, "replay", "workers")?;
+    let program = add_with_number(alloc, program, "make")?;
+    let program = add_alone(alloc, program, "capture")?;
+    let program = add_with_option(alloc, program, "watch", "workers")?;
+    let program = add_alone(alloc, program, "exchange")?;
+    add_alone(alloc, program, "book")
+}
+
+/// The program with one more command, which has one option.
+fn add_with_option<'a>(
+    alloc: Global,
+    program: Command<'a>,
+    name: &'a str,
+    long: &'a str,
+) -> Result<Command<'a>, AllocError>
+    ensures { IfOk result (λ r. app_of r ≡ with_subcommand (app_of program.entry) (with_option name.now long.now)) }
+{
+    program.subcommand(with_option(alloc, name, long)?)
+}
+
+/// The program with one more command, which has a number.
+fn add_with_number<'a>(
+    alloc: Global,
+    program: Command<'a>,
+    name: &'a str,
+) -> Result<Command<'a>, AllocError>
+    ensures { IfOk result (λ r. app_of r ≡ with_subcommand (app_of program.entry) (with_number name.now)) }
+{
+    program.subcommand(with_number(alloc, name)?)
+}
+
+/// The program with one more command, which is its word alone.
+fn add_alone<'a>(
+    alloc: Global,
+    program: Command<'a>,
+    name: &'a str,
+) -> Result<Command<'a>, AllocError>
+    ensures { IfOk result (λ r. app_of r ≡ with_subcommand (app_of program.entry) (new_shape name.now)) }
+{
+    program.subcommand(Command::new(alloc, name))
 }
 
 /// The program without its commands. Help is no command, and no words but a command's are taken.

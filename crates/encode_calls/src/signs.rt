@@ -10,6 +10,7 @@ ghost use Rattle.line_engine.specs.Determined.{BeginsWith};
 
 use dsc_symbols::phasing::{RX_0, RX_1};
 use std::alloc::AllocError;
+use std::simd::prelude::*;
 use time_diversity::write_on_air;
 
 /// The signs of the short dot pattern (this project's profile).
@@ -78,7 +79,7 @@ fn write_word(words: &mut [u8; ROOM], at: usize, symbol: u8)
     requires symbol { symbol < 128 }
     ensures { take (at + 10) words.new ≡ take at words.old ++ map sign_of (word_of symbol) }
 {
-    words[at..at + 16].copy_from_slice(&row(symbol));
+    u8x16::from_array(row(symbol)).copy_to_slice(&mut words[at..at + 16]);
 }
 
 /// Appends the signs of the words of symbols. The error is want of memory.

@@ -99,46 +99,32 @@ fn failing_run<R: Threads + Sync>(
     Ok((sink.bytes().to_vec(alloc)?, status.number()))
 }
 
-// Has one read after the other fail until none does, and answers how many did.
-fn fail_reads<R: Threads + Sync + Abort>(
+// Has one read after the other fail until none does, or one write or flush, and answers how many did.
+fn fail_calls<R: Threads + Sync + Abort>(
     rt: &R,
     alloc: Global,
     case: &Case<'_>,
     whole: &Whole,
+    is_read: bool,
     is_quiet: bool,
 ) -> Result<u64, AllocError> {
-    for read in 1..MOST_CALLS {
-        let (written, status) = failing_run(rt, alloc, case, read, 0)?;
+    for number in 1..MOST_CALLS {
+        let (read, write, refused) = if is_read {
+            (number, 0, 4)
+        } else {
+            (0, number, 5)
+        };
+        let (written, status) = failing_run(rt, alloc, case, read, write)?;
         if status == whole.status {
-            assert_eq!(rt; written.as_slice(), whole.written.as_slice(), "read {read}");
-            return Ok(read - 1);
+            assert!(rt; written == whole.written, "call {number}");
+            return Ok(number - 1);
         }
-        assert_eq!(rt; status, 4, "read {read}");
-        assert!(rt; whole.written.starts_with(&written), "read {read}");
-        assert!(rt; !is_quiet || written.is_empty(), "read {read}");
-    }
-    Ok(0)
-}
-
-// Has one write or flush after the other fail until none does, and answers how many did.
-fn fail_writes<R: Threads + Sync + Abort>(
-    rt: &R,
-    alloc: Global,
-    case: &Case<'_>,
-    whole: &Whole,
-) -> Result<u64, AllocError> {
-    for write in 1..MOST_CALLS {
-        let (written, status) = failing_run(rt, alloc, case, 0, write)?;
-        if status == whole.status {
-            assert_eq!(rt;
-                written.as_slice(),
-                whole.written.as_slice(),
-                "write {write}"
-            );
-            return Ok(write - 1);
-        }
-        assert_eq!(rt; status, 5, "write {write}");
-        assert!(rt; whole.written.starts_with(&written), "write {write}");
+        let is_front = if is_quiet {
+            written.is_empty()
+        } else {
+            whole.written.starts_with(&written)
+        };
+        assert!(rt; status == refused && is_front, "call {number}");
     }
     Ok(0)
 }
@@ -162,15 +148,12 @@ fn try_failures<R: Threads + Sync + Abort>(
         };
         let whole = whole_run(rt, alloc, &case)?;
         assert_eq!(rt; whole.status, status, "{words}");
-        assert!(rt; whole.reads as usize >= input.len() / piece, "{words}");
-        assert!(rt;
-            whole.writes as usize > whole.written.len() / piece,
-            "{words}"
-        );
-        let reads = fail_reads(rt, alloc, &case, &whole, is_quiet)?;
-        assert_eq!(rt; reads, whole.reads, "{words}");
-        let writes = fail_writes(rt, alloc, &case, &whole)?;
-        assert_eq!(rt; writes, whole.writes, "{words}");
+        let is_piecewise = whole.reads as usize >= input.len() / piece
+            && whole.writes as usize > whole.written.len() / piece;
+        assert!(rt; is_piecewise, "{words}");
+        let reads = fail_calls(rt, alloc, &case, &whole, true, is_quiet)?;
+        let writes = fail_calls(rt, alloc, &case, &whole, false, false)?;
+        assert!(rt; reads == whole.reads && writes == whole.writes, "{words}");
     }
     Ok(())
 }

@@ -102,6 +102,12 @@ const SENTENCE: &str = "$CDDSC,12,3380400790,12,06,00,1423108312,2019,,,S,*2F\r\
 
 const SENT: &str = "0 send 5 alert from=338040079 nature=106 pos=9999999999 time=8888 then=100\n";
 
+const SHIP: &[u8] =
+    b"station ship 338040079\nbase 0\n0 delay 210000\n0 alert nature=106 then=100\n";
+
+const BOTH: &[u8] =
+    b"station ship 338040079\nstation coast 002241022 mf\nbase 0\ns 0 delay 210000\ns 0 alert nature=106 then=100\n";
+
 // At the read after these lines the sink has what they give, whatever lines come then.
 fn is_written_before<R: Threads + Sync>(
     rt: &R,
@@ -121,51 +127,24 @@ fn is_written_before<R: Threads + Sync>(
 #[test]
 fn text_is_written_before_each_read(rt: HostRuntime) -> Result<(), Fail> {
     let alloc = rt.alloc();
-    let encoded = {
-        let (text, _) = noted_run(&rt, alloc, "dsc encode", ALERT.as_bytes())?;
-        text
-    };
+    let (encoded, _) = noted_run(&rt, alloc, "dsc encode", ALERT.as_bytes())?;
     assert!(rt; encoded.starts_with(b"r "));
-    let ship = b"station ship 338040079\nbase 0\n0 delay 210000\n0 alert nature=106 then=100\n";
-    let both =
-        b"station ship 338040079\nstation coast 002241022 mf\nbase 0\ns 0 delay 210000\ns 0 alert nature=106 then=100\n";
+    let heard = two_damaged(alloc)?;
+    let stream = stream(alloc)?;
     let told = format!(in alloc; "told g0 {ALERT}")?;
     let captured = format!(in alloc; "at 20 g0 reported {ALERT}")?;
     let exchanged = format!(in alloc; "s {SENT}")?;
-    for (words, front, want) in [
-        ("dsc encode", ALERT.as_bytes().to_vec(alloc)?, encoded),
-        (
-            "dsc sentences",
-            ALERT.as_bytes().to_vec(alloc)?,
-            SENTENCE.as_bytes().to_vec(alloc)?,
-        ),
-        (
-            "dsc watch",
-            two_damaged(alloc)?,
-            told.as_bytes().to_vec(alloc)?,
-        ),
-        (
-            "dsc watch --workers 2",
-            two_damaged(alloc)?,
-            told.as_bytes().to_vec(alloc)?,
-        ),
-        (
-            "dsc capture",
-            stream(alloc)?,
-            captured.as_bytes().to_vec(alloc)?,
-        ),
-        (
-            "dsc replay",
-            ship.to_vec(alloc)?,
-            SENT.as_bytes().to_vec(alloc)?,
-        ),
-        (
-            "dsc exchange",
-            both.to_vec(alloc)?,
-            exchanged.as_bytes().to_vec(alloc)?,
-        ),
-    ] {
-        let is_written = is_written_before(&rt, alloc, words, &front, &want)?;
+    let rows: [(&str, &[u8], &[u8]); 7] = [
+        ("dsc encode", ALERT.as_bytes(), &encoded),
+        ("dsc sentences", ALERT.as_bytes(), SENTENCE.as_bytes()),
+        ("dsc watch", &heard, told.as_bytes()),
+        ("dsc watch --workers 2", &heard, told.as_bytes()),
+        ("dsc capture", &stream, captured.as_bytes()),
+        ("dsc replay", SHIP, SENT.as_bytes()),
+        ("dsc exchange", BOTH, exchanged.as_bytes()),
+    ];
+    for (words, front, want) in rows {
+        let is_written = is_written_before(&rt, alloc, words, front, want)?;
         assert!(rt; is_written, "{words}");
     }
     Ok(())
