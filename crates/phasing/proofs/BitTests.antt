@@ -78,6 +78,13 @@ same_marks w base f g same a = record {
   each = λ i below. a.each i below ∙ ap (λ (b : Bool). cond b 1 0) (same (base + i));
 }
 
+-- a test that is equal at these places
+pub same_marks_from : (w base : ℕ) (f g : ℕ → Bool) → ((i : ℕ) → f (base + i) ≡ g (base + i)) → IsMarks w base f → IsMarks w base g
+same_marks_from w base f g same a = record {
+  fits = a.fits;
+  each = λ i below. a.each i below ∙ ap (λ (b : Bool). cond b 1 0) (same i);
+}
+
 -- the same word, by another test from another place on
 pub moved_marks : (w base shift : ℕ) (f : ℕ → Bool) → IsMarks w (base + shift) f → IsMarks w base (λ p. f (p + shift))
 moved_marks w base shift f a = record {

@@ -6,6 +6,9 @@ mod Bits
 mod Blocks
 mod Counts
 mod Dots
+mod Begins
+mod Filled
+mod Groups
 mod EarlyLeads
 mod Kept
 mod LateStarts

@@ -52,7 +52,7 @@ equal_elements : (a b : Element) → a ≡ b → element_eq a b ≡ true
 equal_elements a b h = ap (element_eq a) (sym h) ∙ element_own a
 
 -- each element is the word's
-each_at : (e : ℕ → Element) (w : List Element) (place : ℕ) → is_at e w place ≡ true → (k : ℕ) → k < length w → e (place + k) ≡ get_or w k Lost
+pub each_at : (e : ℕ → Element) (w : List Element) (place : ℕ) → is_at e w place ≡ true → (k : ℕ) → k < length w → e (place + k) ≡ get_or w k Lost
 each_at e [] place h k below = absurd (omega arith)
 each_at e (a ∷ w) place h zero below =
     ap e (add-zero place) ∙ element_same (e place) a (and_parts (element_eq (e place) a) (is_at e w (place + 1)) h).0
@@ -60,7 +60,7 @@ each_at e (a ∷ w) place h (suc k) below =
     let next : place + suc k ≡ place + 1 + k = omega arith in
     ap e next ∙ each_at e w (place + 1) (and_parts (element_eq (e place) a) (is_at e w (place + 1)) h).1 k (omega arith)
 
-at_each : (e : ℕ → Element) (w : List Element) (place : ℕ) → ((k : ℕ) → k < length w → e (place + k) ≡ get_or w k Lost) → is_at e w place ≡ true
+pub at_each : (e : ℕ → Element) (w : List Element) (place : ℕ) → ((k : ℕ) → k < length w → e (place + k) ≡ get_or w k Lost) → is_at e w place ≡ true
 at_each e [] place h = refl
 at_each e (a ∷ w) place h =
     and_from (element_eq (e place) a) (is_at e w (place + 1))
@@ -81,7 +81,7 @@ pub element_at-past : (e : List Element) (place : ℕ) → length e + 150 ≤ pl
 element_at-past e place past = element_at-inside e place (omega arith) ∙ get_or_past e (place - 150) Lost (omega arith)
 
 -- a place with an element that is not lost
-heard_from : (e : List Element) (place : ℕ) → (element_at e place ≡ Lost → ⊥) → 150 ≤ place
+pub heard_from : (e : List Element) (place : ℕ) → (element_at e place ≡ Lost → ⊥) → 150 ≤ place
 heard_from e place h =
     elim (cases_lt place 150) [ inl low ↦ absurd (h (element_at-before e place low)) | inr high ↦ high ]
 
@@ -155,3 +155,18 @@ pub later_slot : (low high w base from next shift s v : ℕ) (e : List Element) 
 later_slot low high w base from next shift s v e made follows at here there =
     let word = is_at (element_at e) (word_of v) in
     slot_marks w base s v e (subst (λ b. IsMarks w b word) at (made from word here (subst (λ b. IsMarks high b word) follows there)))
+
+-- the same of any elements: marks of a word at a slot's places are marks of the leads at which it begins in the slot
+word_marks : (w base s v : ℕ) (e : ℕ → Element) → IsMarks w (base + 10 * s) (is_at e (word_of v)) → IsMarks w base (λ lead. is_at e (word_of v) (lead + 10 * s))
+word_marks w base s v e h = moved_marks w base (10 * s) (is_at e (word_of v)) h
+
+pub first_word : (w base v : ℕ) (e : ℕ → Element) → IsMarks w base (is_at e (word_of v)) → IsMarks w base (λ lead. is_at e (word_of v) (lead + 10 * 0))
+first_word w base v e h =
+    let at : base ≡ base + 10 * 0 = omega arith in
+    word_marks w base 0 v e (subst (λ b. IsMarks w b (is_at e (word_of v))) at h)
+
+pub later_word : (low high w base from next shift s v : ℕ) (e : ℕ → Element) → ((b : ℕ) (f : ℕ → Bool) → IsMarks low b f → IsMarks high (b + 64) f → IsMarks w (b + shift) f)
+    → next ≡ from + 64 → from + shift ≡ base + 10 * s → IsMarks low from (is_at e (word_of v)) → IsMarks high next (is_at e (word_of v)) → IsMarks w base (λ lead. is_at e (word_of v) (lead + 10 * s))
+later_word low high w base from next shift s v e made follows at here there =
+    let word = is_at e (word_of v) in
+    word_marks w base s v e (subst (λ b. IsMarks w b word) at (made from word here (subst (λ b. IsMarks high b word) follows there)))

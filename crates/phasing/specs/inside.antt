@@ -1,2 +1,3 @@
+pub mod Likely
 pub mod Marked
 pub mod Places

@@ -4,6 +4,7 @@ ghost use Rattle.ten_unit.specs.inside.Marks.{IsMarks, IsPlanes};
 ghost use Rattle.ten_unit.specs.Word.{element_eq, word_of};
 ghost use Rattle.ten_unit.specs.declared.character.Element.{Element};
 ghost use Rattle.phasing.specs.inside.Places.{element_at, is_at};
+ghost use Rattle.phasing.specs.inside.Likely.{filled};
 ghost use Rattle.phasing.specs.inside.Marked.{ArePhasing};
 
 use crate::reception::LEAD_OF_FIRST;
@@ -20,7 +21,10 @@ pub(crate) struct Phasing {
 impl Phasing {
     /// No word begins before a reception's first element, which is at place 150.
     pub fn before() -> Self
-        ensures { (base : ℕ) (e : List Element) → base + 64 ≤ LEAD_OF_FIRST → ArePhasing result base (element_at e) }
+        ensures exact { (base : ℕ) (e : List Element) → base + 64 ≤ LEAD_OF_FIRST
+            → ArePhasing result base (element_at e) }
+        ensures likely { (base : ℕ) (e : List Element) → base + 64 ≤ LEAD_OF_FIRST
+            → ArePhasing result base (filled (element_at e)) }
     {
         Phasing { dx: 0, rx: [0; 8] }
     }
@@ -99,4 +103,26 @@ pub(crate) fn phasing_marked(here: Planes, next: Planes) -> Phasing
             word_marked(&word(RX_0), here, next),
         ],
     }
+}
+
+/// These elements with B in the place of each lost one.
+#[inline(always)]
+fn filled_planes(planes: Planes) -> Planes
+    ensures { (base : ℕ) (e : ℕ → Element) → LEAD_OF_FIRST ≤ base → IsPlanes planes.y planes.b base e
+        → IsPlanes result.y result.b base (filled e) }
+{
+    Planes {
+        y: planes.y,
+        b: !planes.y,
+    }
+}
+
+/// At which of 64 places the words of the phasing symbols begin, if lost elements are taken for B. So it needs one of
+/// the two planes alone. A word that begins without that is among these.
+#[inline(always)]
+pub(crate) fn likely_marked(here: Planes, next: Planes) -> Phasing
+    ensures { (base : ℕ) (e : ℕ → Element) → LEAD_OF_FIRST ≤ base → IsPlanes here.y here.b base e
+        → IsPlanes next.y next.b (base + 64) e → ArePhasing result base (filled e) }
+{
+    phasing_marked(filled_planes(here), filled_planes(next))
 }

@@ -2,15 +2,17 @@
 ghost use Rattle.std.specs.Prelude.{◌≡◌, ℕ, ◌+◌, ◌*◌, ◌<◌, ◌≤◌, true, false, List, length, IfSome, IsNone};
 ghost use Rattle.ten_unit.specs.declared.character.Element.{Element};
 ghost use Rattle.ten_unit.specs.inside.Marks.{IsMarks, IsPlanes};
+ghost use Rattle.phasing.specs.inside.Likely.{HasAll, filled};
 ghost use Rattle.phasing.specs.inside.Marked.{ArePhasing, IsCount, IsFirstPhased};
 ghost use Rattle.phasing.specs.Origin as sequence;
 ghost use Rattle.phasing.specs.inside.Places.{element_at};
 
 use crate::counting::Count;
-use crate::marking::{Phasing, phasing_marked, shifted};
+use crate::marking::{Phasing, likely_marked, phasing_marked, shifted};
 use crate::reception::{LEAD_OF_FIRST, LONGEST};
 use crate::window::Elements;
-use ten_unit::Planes;
+use dsc_symbols::phasing::{DX, RX_7};
+use ten_unit::{Planes, symbol_at};
 
 /// How many DX slots show their phasing symbol at each of 64 leads, from the marks of the places from the first lead
 /// on.
@@ -71,6 +73,101 @@ fn phased(first: &Phasing, second: &Phasing, third: &Phasing, fourth: &Phasing) 
 /// The elements of three slots. In fewer no three phasing symbols can be right.
 const SHORTEST: usize = 30;
 
+/// At which of 64 leads two of five groups of slots have a right symbol, if lost elements are taken for B. The groups
+/// are the DX slots, and the RX slots two by two. Each phased lead is among these, since three right RX symbols are in
+/// two groups. Of leads by chance, one in some 15,000 is.
+#[inline(always)]
+fn likely_phased(first: &Phasing, second: &Phasing, third: &Phasing, fourth: &Phasing) -> u64
+    ensures { (base : ℕ) (e : List Element) → ArePhasing first.now base (filled (element_at e))
+        → ArePhasing second.now (base + 64) (filled (element_at e))
+        → ArePhasing third.now (base + 128) (filled (element_at e))
+        → ArePhasing fourth.now (base + 192) (filled (element_at e)) → HasAll result base (sequence.is_phased e) }
+{
+    let dx = first.dx
+        | shifted(first.dx, second.dx, 20)
+        | shifted(first.dx, second.dx, 40)
+        | shifted(first.dx, second.dx, 60)
+        | shifted(second.dx, third.dx, 16)
+        | shifted(second.dx, third.dx, 36);
+    let rx_1_3 =
+        shifted(first.rx[0], second.rx[0], 10) | shifted(first.rx[1], second.rx[1], 30);
+    let rx_5_7 = shifted(first.rx[2], second.rx[2], 50) | shifted(second.rx[3], third.rx[3], 6);
+    let rx_9_11 =
+        shifted(second.rx[4], third.rx[4], 26) | shifted(second.rx[5], third.rx[5], 46);
+    let rx_13_15 =
+        shifted(third.rx[6], fourth.rx[6], 2) | shifted(third.rx[7], fourth.rx[7], 22);
+    Count::none()
+        .add(dx)
+        .add(rx_1_3)
+        .add(rx_5_7)
+        .add(rx_9_11)
+        .add(rx_13_15)
+        .two
+}
+
+/// Whether the first three slots of a lead show their phasing symbols, which is enough. It looks from the first element
+/// on alone.
+fn begins_well<E: Elements>(e: E, lead: u32) -> bool
+    ensures { result ≡ true → sequence.is_phased (E.list e) lead ≡ true }
+{
+    if lead < LEAD_OF_FIRST {
+        return false;
+    }
+    let planes = e.planes_from((lead - LEAD_OF_FIRST) as usize);
+    let first = symbol_at(&planes, 0);
+    let second = symbol_at(&planes, 10);
+    let third = symbol_at(&planes, 20);
+    (first == DX) & (second == RX_7) & (third == DX)
+}
+
+/// The marks of the block with this number: of the 64 places from 22 after its number times 64 on. No word begins in
+/// the first two.
+fn marks_of<E: Elements>(e: E, block: u32) -> Phasing
+    requires { 64 * block ≤ LONGEST + 1024 }
+    ensures { ArePhasing result (64 * block + 22) (element_at (E.list e)) }
+{
+    if block < 2 {
+        let none = Phasing::before();
+        return none;
+    }
+    let begin = 64 * (block - 2) as usize;
+    phasing_marked(e.planes_from(begin), e.planes_from(begin + 64))
+}
+
+/// Which leads of a block are phased, where all that are phased are among these. Mostly there is one, which begins well.
+/// Else the right symbols are counted at each lead, as far as three.
+#[inline(never)]
+fn confirmed<E: Elements>(e: E, block: u32, likely: u64) -> u64
+    requires block { 64 * block ≤ LONGEST + 512 }
+    requires some { 0 < likely }
+    requires likely { HasAll likely (64 * block + 22) (sequence.is_phased (E.list e)) }
+    ensures { IsMarks result (64 * block + 22) (sequence.is_phased (E.list e)) }
+{
+    let number = likely.trailing_zeros();
+    if likely == 1 << number && begins_well(e, 64 * block + 22 + number) {
+        return likely;
+    }
+    phased(
+        &marks_of(e, block),
+        &marks_of(e, block + 1),
+        &marks_of(e, block + 2),
+        &marks_of(e, block + 3),
+    )
+}
+
+/// The same, where there may be none.
+#[inline(always)]
+fn phased_among<E: Elements>(e: E, block: u32, likely: u64) -> u64
+    requires block { 64 * block ≤ LONGEST + 512 }
+    requires likely { HasAll likely (64 * block + 22) (sequence.is_phased (E.list e)) }
+    ensures { IsMarks result (64 * block + 22) (sequence.is_phased (E.list e)) }
+{
+    if likely == 0 {
+        return 0;
+    }
+    confirmed(e, block, likely)
+}
+
 /// What a block of 64 leads takes from the places after it, and which of its leads are phased.
 #[derive(Drop)]
 struct Searched {
@@ -79,40 +176,40 @@ struct Searched {
     phased: u64,
 }
 
-/// At which of 64 leads, from 22 after this element on, enough phasing symbols are right. The marks are of three blocks
-/// of 64 places, the planes of the elements after them. It gives the marks of the fourth block and the planes after
-/// that.
+/// At which leads of the block with this number enough phasing symbols are right. The marks are of this block and of
+/// the two after it, if lost elements are taken for B, the planes of the elements after them. It gives the marks of the
+/// fourth block and the planes after that.
 #[inline(always)]
 fn search_block<E: Elements>(
     e: E,
-    from: u32,
+    block: u32,
     first: &Phasing,
     second: &Phasing,
     third: &Phasing,
     next: Planes,
 ) -> Searched
-    requires from { from ≤ LONGEST + 512 }
-    requires length { length (E.list e) ≤ LONGEST }
-    requires first { ArePhasing first.now (from + 22) (element_at (E.list e)) }
-    requires second { ArePhasing second.now (from + 86) (element_at (E.list e)) }
-    requires third { ArePhasing third.now (from + LEAD_OF_FIRST) (element_at (E.list e)) }
-    requires next { IsPlanes next.y next.b (from + 214) (element_at (E.list e)) }
-    ensures marks { ArePhasing result.marks (from + 214) (element_at (E.list e)) }
-    ensures behind { IsPlanes result.behind.y result.behind.b (from + 278) (element_at (E.list e)) }
-    ensures phased { IsMarks result.phased (from + 22) (sequence.is_phased (E.list e)) }
+    requires block { 64 * block ≤ LONGEST + 512 }
+    requires first { ArePhasing first.now (64 * block + 22) (filled (element_at (E.list e))) }
+    requires second { ArePhasing second.now (64 * block + 86) (filled (element_at (E.list e))) }
+    requires third { ArePhasing third.now (64 * block + LEAD_OF_FIRST) (filled (element_at (E.list e))) }
+    requires next { IsPlanes next.y next.b (64 * block + 214) (element_at (E.list e)) }
+    ensures marks { ArePhasing result.marks (64 * block + 214) (filled (element_at (E.list e))) }
+    ensures behind { IsPlanes result.behind.y result.behind.b (64 * block + 278) (element_at (E.list e)) }
+    ensures phased { IsMarks result.phased (64 * block + 22) (sequence.is_phased (E.list e)) }
 {
-    let behind = e.planes_from((from + 128) as usize);
-    let fourth = phasing_marked(next, behind);
+    let behind = e.planes_from((64 * block + 128) as usize);
+    let fourth = likely_marked(next, behind);
+    let likely = likely_phased(first, second, third, &fourth);
     Searched {
         marks: fourth,
         behind,
-        phased: phased(first, second, third, &fourth),
+        phased: phased_among(e, block, likely),
     }
 }
 
-/// The first phased lead in so many turns of three blocks, of which the first begins 128 elements before this one. The
-/// marks are of three blocks of 64 places, the planes of the elements after them. The first bit of a block that is
-/// enough is the lead. Three blocks are one turn, so that three marks move to the place of three only once.
+/// The first phased lead in so many turns of three blocks, from the block with this number on. The marks are of its
+/// first three blocks, if lost elements are taken for B, the planes of the elements after them. The first bit of a block
+/// that is phased is the lead. Three blocks are one turn, so that three marks move to the place of three only once.
 #[inline(always)]
 fn first_within<E: Elements>(
     e: E,
@@ -124,35 +221,43 @@ fn first_within<E: Elements>(
     mut next: Planes,
 ) -> Option<u32>
     requires length { length (E.list e) ≤ LONGEST }
-    requires turns { begin + 192 * turns ≤ LONGEST + 512 }
-    requires first { ArePhasing first (begin + 22) (element_at (E.list e)) }
-    requires second { ArePhasing second (begin + 86) (element_at (E.list e)) }
-    requires third { ArePhasing third (begin + LEAD_OF_FIRST) (element_at (E.list e)) }
-    requires next { IsPlanes next.y next.b (begin + 214) (element_at (E.list e)) }
-    ensures first { IfSome result (IsFirstPhased (E.list e) (begin + 22)) }
-    ensures none { IsNone result → (lead : ℕ) → begin + 22 ≤ lead → lead < begin + 192 * turns + 22
+    requires turns { 64 * begin + 192 * turns ≤ LONGEST + 512 }
+    requires first { ArePhasing first (64 * begin + 22) (filled (element_at (E.list e))) }
+    requires second { ArePhasing second (64 * begin + 86) (filled (element_at (E.list e))) }
+    requires third { ArePhasing third (64 * begin + LEAD_OF_FIRST) (filled (element_at (E.list e))) }
+    requires next { IsPlanes next.y next.b (64 * begin + 214) (element_at (E.list e)) }
+    ensures first { IfSome result (IsFirstPhased (E.list e) (64 * begin + 22)) }
+    ensures none { IsNone result → (lead : ℕ) → 64 * begin + 22 ≤ lead → lead < 64 * begin + 192 * turns + 22
         → sequence.is_phased (E.list e) lead ≡ false }
 {
     for turn in 0..turns {
-        let from = begin + 192 * turn;
-        let fourth = search_block(e, from, &first, &second, &third, next);
+        let block = begin + 3 * turn;
+        let from = 64 * block + 22;
+        let fourth = search_block(e, block, &first, &second, &third, next);
         if fourth.phased != 0 {
-            return Some(from + 22 + fourth.phased.trailing_zeros());
+            return Some(from + fourth.phased.trailing_zeros());
         }
-        let fifth = search_block(e, from + 64, &second, &third, &fourth.marks, fourth.behind);
+        let fifth = search_block(
+            e,
+            block + 1,
+            &second,
+            &third,
+            &fourth.marks,
+            fourth.behind,
+        );
         if fifth.phased != 0 {
-            return Some(from + 86 + fifth.phased.trailing_zeros());
+            return Some(from + 64 + fifth.phased.trailing_zeros());
         }
         let sixth = search_block(
             e,
-            from + 128,
+            block + 2,
             &third,
             &fourth.marks,
             &fifth.marks,
             fifth.behind,
         );
         if sixth.phased != 0 {
-            return Some(from + LEAD_OF_FIRST + sixth.phased.trailing_zeros());
+            return Some(from + 128 + sixth.phased.trailing_zeros());
         }
         first = fourth.marks;
         second = fifth.marks;
@@ -162,8 +267,8 @@ fn first_within<E: Elements>(
     None
 }
 
-/// The first phased lead from the first block on, which begins 128 elements before this one. The marks are of three
-/// blocks of 64 places, the planes of the elements after them.
+/// The first phased lead from the block with this number on. The marks are of its first three blocks, if lost elements
+/// are taken for B, the planes of the elements after them.
 #[inline(always)]
 fn first_from<E: Elements>(
     e: E,
@@ -174,15 +279,16 @@ fn first_from<E: Elements>(
     next: Planes,
 ) -> Option<u32>
     requires length { length (E.list e) ≤ LONGEST }
-    requires begin { begin ≤ 128 }
-    requires first { ArePhasing first (begin + 22) (element_at (E.list e)) }
-    requires second { ArePhasing second (begin + 86) (element_at (E.list e)) }
-    requires third { ArePhasing third (begin + LEAD_OF_FIRST) (element_at (E.list e)) }
-    requires next { IsPlanes next.y next.b (begin + 214) (element_at (E.list e)) }
-    ensures first { IfSome result (IsFirstPhased (E.list e) (begin + 22)) }
-    ensures none { IsNone result → (lead : ℕ) → begin + 22 ≤ lead → sequence.is_phased (E.list e) lead ≡ false }
+    requires begin { begin ≤ 2 }
+    requires first { ArePhasing first (64 * begin + 22) (filled (element_at (E.list e))) }
+    requires second { ArePhasing second (64 * begin + 86) (filled (element_at (E.list e))) }
+    requires third { ArePhasing third (64 * begin + LEAD_OF_FIRST) (filled (element_at (E.list e))) }
+    requires next { IsPlanes next.y next.b (64 * begin + 214) (element_at (E.list e)) }
+    ensures first { IfSome result (IsFirstPhased (E.list e) (64 * begin + 22)) }
+    ensures none { IsNone result → (lead : ℕ) → 64 * begin + 22 ≤ lead
+        → sequence.is_phased (E.list e) lead ≡ false }
 {
-    let turns = (e.count() as u32 + 319).saturating_sub(begin) / 192;
+    let turns = (e.count() as u32 + 319).saturating_sub(64 * begin) / 192;
     first_within(e, begin, turns, first, second, third, next)
 }
 
@@ -191,9 +297,10 @@ fn first_from<E: Elements>(
 /// reception has no DX slot and two RX slots at most.
 ///
 /// It tests 64 leads at once, in place of each lead and slot in turn. A block of 64 elements is two words of bits.
-/// Shifts and ands of them give the places at which each phasing symbol's word begins. Three words count the right
-/// symbols at each lead, as far as three. Four blocks of 64 places move over the reception, from lead 22 on, so that
-/// element 0 is the first of a block. It takes under 1 KB of stack at any length.
+/// Shifts and ands of one of them give the places at which each phasing symbol's word begins, if lost elements are
+/// taken for B. Ors of these show the few leads that may be phased; of those alone the right symbols are counted, with
+/// both words. Four blocks of 64 places move over the reception, from lead 22 on, so that element 0 is the first of a
+/// block. It takes under 1 KB of stack at any length.
 pub fn lead<E: Elements>(e: E) -> Option<u32>
     requires { length (E.list e) ≤ LONGEST }
     ensures least { result ≡ sequence.lead_of (E.list e) }
@@ -204,15 +311,15 @@ pub fn lead<E: Elements>(e: E) -> Option<u32>
         return None;
     }
     let next = e.planes_from(64);
-    let third = phasing_marked(e.planes_from(0), next);
+    let third = likely_marked(e.planes_from(0), next);
 
-    // No word begins before element 0. So the compiler leaves out most of the first block's counting.
+    // No word begins before element 0. So the compiler leaves out most of the first block's search.
     let none = Phasing::before();
     let fourth = search_block(e, 0, &none, &none, &third, next);
     if fourth.phased != 0 {
         return Some(22 + fourth.phased.trailing_zeros());
     }
-    first_from(e, 64, none, third, fourth.marks, fourth.behind)
+    first_from(e, 1, none, third, fourth.marks, fourth.behind)
 }
 
 /// The first index of a reception that is a phased origin, whatever is phased before its first element, and its length
@@ -226,10 +333,10 @@ pub fn first_phased<E: Elements>(e: E) -> u32
     let middle = e.planes_from(64);
     let last = e.planes_from(128);
     let next = e.planes_from(192);
-    let first = phasing_marked(e.planes_from(0), middle);
-    let second = phasing_marked(middle, last);
-    let third = phasing_marked(last, next);
-    match first_from(e, 128, first, second, third, next) {
+    let first = likely_marked(e.planes_from(0), middle);
+    let second = likely_marked(middle, last);
+    let third = likely_marked(last, next);
+    match first_from(e, 2, first, second, third, next) {
         Some(lead) => lead - LEAD_OF_FIRST,
         None => e.count() as u32,
     }
@@ -260,17 +367,17 @@ pub fn search_front<E: Elements>(e: E) -> Front
     let middle = e.planes_from(64);
     let last = e.planes_from(128);
     let behind = e.planes_from(192);
-    let first = phasing_marked(e.planes_from(0), middle);
-    let second = phasing_marked(middle, last);
-    let third = phasing_marked(last, behind);
-    let fourth = search_block(e, 128, &first, &second, &third, behind);
+    let first = likely_marked(e.planes_from(0), middle);
+    let second = likely_marked(middle, last);
+    let third = likely_marked(last, behind);
+    let fourth = search_block(e, 2, &first, &second, &third, behind);
     let begins = fourth.phased % 2 == 1;
     let later = fourth.phased / 2;
     if later != 0 {
         let next = 1 + later.trailing_zeros();
         return Front { begins, next };
     }
-    match first_within(e, 192, 7, second, third, fourth.marks, fourth.behind) {
+    match first_within(e, 3, 7, second, third, fourth.marks, fourth.behind) {
         Some(lead) => Front {
             begins,
             next: (lead - LEAD_OF_FIRST).min(FRONT_INDICES),

@@ -17,13 +17,13 @@ none_before : (e : List Element) (k : ℕ) → 22 ≤ k → k < 22 → is_phased
 none_before e k low high = absurd (omega arith)
 
 pub search_block-fourth-requires-clause-first : goal.search_block-fourth-requires-clause-first
-search_block-fourth-requires-clause-first g c = c.before-none.ensures 22 (g.E.Elements.list c.args.e) (lit≤ tt)
+search_block-fourth-requires-clause-first g c = c.before-none.ensures.likely 22 (g.E.Elements.list c.args.e) (lit≤ tt)
 
 pub search_block-fourth-requires-clause-second : goal.search_block-fourth-requires-clause-second
-search_block-fourth-requires-clause-second g c = c.before-none.ensures 86 (g.E.Elements.list c.args.e) (lit≤ tt)
+search_block-fourth-requires-clause-second g c = c.before-none.ensures.likely 86 (g.E.Elements.list c.args.e) (lit≤ tt)
 
 pub search_block-fourth-requires-clause-third : goal.search_block-fourth-requires-clause-third
-search_block-fourth-requires-clause-third g c = c.phasing_marked-third.ensures 150 (element_at (g.E.Elements.list c.args.e)) c.planes_from.ensures c.planes_from-next.ensures
+search_block-fourth-requires-clause-third g c = c.likely_marked-third.ensures 150 (element_at (g.E.Elements.list c.args.e)) (lit≤ tt) c.planes_from.ensures c.planes_from-next.ensures
 
 -- the first phased lead from 22 on is the least of all, since none is below 40
 least_first : (e : List Element) (lead : ℕ) → IsFirstPhased e 22 lead → Some lead ≡ lead_of e
@@ -82,7 +82,7 @@ pub returns-clause-from : goal.returns-clause-from
 returns-clause-from g c = late_of (g.E.Elements.list c.args.e) c.first_from.result c.first_from.ensures.first
 
 pub first_from-requires-clause-first : goal.first_from-requires-clause-first
-first_from-requires-clause-first g c = c.before-none.ensures 86 (g.E.Elements.list c.args.e) (lit≤ tt)
+first_from-requires-clause-first g c = c.before-none.ensures.likely 86 (g.E.Elements.list c.args.e) (lit≤ tt)
 
 pub first_from-requires-clause-second : goal.first_from-requires-clause-second
-first_from-requires-clause-second g c = c.phasing_marked-third.ensures 150 (element_at (g.E.Elements.list c.args.e)) c.planes_from.ensures c.planes_from-next.ensures
+first_from-requires-clause-second g c = c.likely_marked-third.ensures 150 (element_at (g.E.Elements.list c.args.e)) (lit≤ tt) c.planes_from.ensures c.planes_from-next.ensures

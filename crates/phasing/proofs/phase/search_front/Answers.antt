@@ -1,4 +1,4 @@
-use Rattle.std.proofs.Common.{◌+◌, ◌/◌, inl, inr, refl, arith}
+use Rattle.std.proofs.Common.{lit≤, ◌+◌, ◌/◌, inl, inr, refl, arith}
 use Rattle.std.specs.Int.{trailing_zeros, w64}
 use Rattle.std.proofs.lemmas.Bool.{cases_lt}
 use Rattle.phasing.specs.Origin.{is_phased}
@@ -8,19 +8,19 @@ use Rattle.phasing.proofs.Blocks.{none_in_front, next_in_front}
 use Rattle.phasing.proofs.phase.search_front.Goals as goal
 
 pub search_block-fourth-requires-clause-first : goal.search_block-fourth-requires-clause-first
-search_block-fourth-requires-clause-first g c = c.phasing_marked-first.ensures 150 (element_at (g.E.Elements.list c.args.e)) c.planes_from.ensures c.planes_from-middle.ensures
+search_block-fourth-requires-clause-first g c = c.likely_marked-first.ensures 150 (element_at (g.E.Elements.list c.args.e)) (lit≤ tt) c.planes_from.ensures c.planes_from-middle.ensures
 
 pub search_block-fourth-requires-clause-second : goal.search_block-fourth-requires-clause-second
-search_block-fourth-requires-clause-second g c = c.phasing_marked-second.ensures 214 (element_at (g.E.Elements.list c.args.e)) c.planes_from-middle.ensures c.planes_from-last.ensures
+search_block-fourth-requires-clause-second g c = c.likely_marked-second.ensures 214 (element_at (g.E.Elements.list c.args.e)) (lit≤ tt) c.planes_from-middle.ensures c.planes_from-last.ensures
 
 pub search_block-fourth-requires-clause-third : goal.search_block-fourth-requires-clause-third
-search_block-fourth-requires-clause-third g c = c.phasing_marked-third.ensures 278 (element_at (g.E.Elements.list c.args.e)) c.planes_from-last.ensures c.planes_from-behind.ensures
+search_block-fourth-requires-clause-third g c = c.likely_marked-third.ensures 278 (element_at (g.E.Elements.list c.args.e)) (lit≤ tt) c.planes_from-last.ensures c.planes_from-behind.ensures
 
 pub first_within-requires-clause-first : goal.first_within-requires-clause-first
-first_within-requires-clause-first g c = c.phasing_marked-second.ensures 214 (element_at (g.E.Elements.list c.args.e)) c.planes_from-middle.ensures c.planes_from-last.ensures
+first_within-requires-clause-first g c = c.likely_marked-second.ensures 214 (element_at (g.E.Elements.list c.args.e)) (lit≤ tt) c.planes_from-middle.ensures c.planes_from-last.ensures
 
 pub first_within-requires-clause-second : goal.first_within-requires-clause-second
-first_within-requires-clause-second g c = c.phasing_marked-third.ensures 278 (element_at (g.E.Elements.list c.args.e)) c.planes_from-last.ensures c.planes_from-behind.ensures
+first_within-requires-clause-second g c = c.likely_marked-third.ensures 278 (element_at (g.E.Elements.list c.args.e)) (lit≤ tt) c.planes_from-last.ensures c.planes_from-behind.ensures
 
 pub returns-then-later-ne0-clause-begins : goal.returns-then-later-ne0-clause-begins
 returns-then-later-ne0-clause-begins g c = first_bit c.search_block-fourth.result.phased 150 (is_phased (g.E.Elements.list c.args.e)) c.search_block-fourth.ensures.phased
