@@ -107,6 +107,7 @@ fn likely_phased(first: &Phasing, second: &Phasing, third: &Phasing, fourth: &Ph
 
 /// Whether the first three slots of a lead show their phasing symbols, which is enough. It looks from the first element
 /// on alone.
+#[inline(always)]
 fn begins_well<E: Elements>(e: E, lead: u32) -> bool
     ensures { result ≡ true → sequence.is_phased (E.list e) lead ≡ true }
 {
@@ -134,19 +135,12 @@ fn marks_of<E: Elements>(e: E, block: u32) -> Phasing
     phasing_marked(e.planes_from(begin), e.planes_from(begin + 64))
 }
 
-/// Which leads of a block are phased, where all that are phased are among these. Mostly there is one, which begins well.
-/// Else the right symbols are counted at each lead, as far as three.
+/// Which leads of a block are phased. It counts the right symbols at each, as far as three.
 #[inline(never)]
-fn confirmed<E: Elements>(e: E, block: u32, likely: u64) -> u64
-    requires block { 64 * block ≤ LONGEST + 512 }
-    requires some { 0 < likely }
-    requires likely { HasAll likely (64 * block + 22) (sequence.is_phased (E.list e)) }
+fn counted<E: Elements>(e: E, block: u32) -> u64
+    requires { 64 * block ≤ LONGEST + 512 }
     ensures { IsMarks result (64 * block + 22) (sequence.is_phased (E.list e)) }
 {
-    let number = likely.trailing_zeros();
-    if likely == 1 << number && begins_well(e, 64 * block + 22 + number) {
-        return likely;
-    }
     phased(
         &marks_of(e, block),
         &marks_of(e, block + 1),
@@ -155,7 +149,7 @@ fn confirmed<E: Elements>(e: E, block: u32, likely: u64) -> u64
     )
 }
 
-/// The same, where there may be none.
+/// The same, where all that are phased are among these. Mostly there is none, or one, which begins well.
 #[inline(always)]
 fn phased_among<E: Elements>(e: E, block: u32, likely: u64) -> u64
     requires block { 64 * block ≤ LONGEST + 512 }
@@ -165,7 +159,11 @@ fn phased_among<E: Elements>(e: E, block: u32, likely: u64) -> u64
     if likely == 0 {
         return 0;
     }
-    confirmed(e, block, likely)
+    let number = likely.trailing_zeros();
+    if likely == 1 << number && begins_well(e, 64 * block + 22 + number) {
+        return likely;
+    }
+    counted(e, block)
 }
 
 /// What a block of 64 leads takes from the places after it, and which of its leads are phased.
