@@ -1,9 +1,10 @@
 -- elements that are kept as bits, and what two words of bits keep
-use Rattle.std.proofs.Common.{◌≡◌, ℕ, ◌+◌, ◌-◌, ◌*◌, ◌/◌, ◌%◌, ◌<◌, ◌≤◌, Bool, cond, min, inl, inr, true, false, ◌&&◌, zero, suc, List, [], ◌∷◌, ◌++◌, length, map, take, drop, replicate, slice_index_or, get_or, Option, Some, None, IfSome, IsNone, refl, sym, ap, subst, ◌∙◌, arith}
+use Rattle.std.proofs.Common.{◌≡◌, ℕ, ◌+◌, ◌-◌, ◌*◌, ◌/◌, ◌%◌, ◌<◌, ◌≤◌, ◌==◌, Bool, cond, min, inl, inr, true, false, ◌&&◌, zero, suc, List, [], ◌∷◌, ◌++◌, length, map, take, drop, replicate, slice_index_or, get_or, refl, sym, ap, subst, ◌∙◌, arith}
 use Rattle.std.specs.List.{list_all}
 use Rattle.std.proofs.lemmas.Grind.{div_ceil_times}
 use Rattle.std.proofs.lemmas.Bool.{and_parts, and_from, cases_lt, false_from_ne_true}
-use Rattle.std.proofs.lemmas.List.{get_or_past, get_or_default, get_or-take, get_or-drop, get_or_append_left, get_or_push, length_push, length-map, take_all}
+use Rattle.std.proofs.lemmas.Bool.Decides.{nat_tests}
+use Rattle.std.proofs.lemmas.List.{get_or_past, get_or_default, get_or-take, get_or-drop, get_or_append_left, get_or_push, length_push, length-map, length-take-le, length-drop, drop-drop, take_all}
 use Rattle.std.proofs.lemmas.List.Folds.{list_all-append}
 use Rattle.std.proofs.lemmas.List.FromFn.{fill_by_all, length-map-range_with_len}
 use Rattle.std.proofs.Math.ListN.{get_or-map}
@@ -147,23 +148,7 @@ block_padded signs block rest begin is few same =
           ∙ ap (list_all is_sign) (sym whole);
     }
 
--- what 64 signs of a block are as bits
-pub block_planes : (signs block : List ℕ) (begin : ℕ) (r : Option Planes) → IsBlock signs begin block
-    → IfSome r (λ planes. (base : ℕ) (e : ℕ → Element) → ((i : ℕ) → i < 64 → e (base + i) ≡ element_of (get_or block i 0)) → IsPlanes planes.y planes.b base e)
-    → IfSome r (λ planes. IsPlanes planes.y planes.b begin (λ p. element_of (get_or signs p 45)))
-block_planes signs block begin (Some planes) is made = made begin (λ p. element_of (get_or signs p 45)) (λ i below. ap element_of (sym (is.each i below)))
-block_planes signs block begin None is made = tt
-
-pub block_signs : (signs block : List ℕ) (begin : ℕ) (r : Option Planes) → IsBlock signs begin block → IfSome r (λ _. list_all is_sign block ≡ true)
-    → IfSome r (λ _. list_all is_sign (take 64 (drop begin signs)) ≡ true)
-block_signs signs block begin (Some planes) is all = sym is.all ∙ all
-block_signs signs block begin None is all = tt
-
-pub block_unsigned : (signs block : List ℕ) (begin : ℕ) (r : Option Planes) → IsBlock signs begin block → (IsNone r → list_all is_sign block ≡ false) → IsNone r
-    → list_all is_sign (take 64 (drop begin signs)) ≡ false
-block_unsigned signs block begin r is fails none = sym is.all ∙ fails none
-
--- one block more, or one with a byte that is no sign
+-- one block more
 pub packed_more : (signs : List ℕ) (n : ℕ) (planes new : List Planes) (here : Planes) → PackedSoFar signs n planes → IsPlanes here.y here.b (64 * n) (λ p. element_of (get_or signs p 45))
     → list_all is_sign (take 64 (drop (64 * n) signs)) ≡ true → new ≡ planes ++ here ∷ [] → PackedSoFar signs (n + 1) new
 packed_more signs n planes new here so is all e =
@@ -205,6 +190,10 @@ not_all signs begin fails =
     false_from_ne_true (list_all is_sign signs) (λ all.
     let h = sym fails ∙ all_taken is_sign (drop begin signs) 64 (all_dropped is_sign signs begin all) in absurd (cc))
 
+-- a block with a byte that is no sign
+pub not_all_of : (signs block : List ℕ) (begin : ℕ) → IsBlock signs begin block → list_all is_sign block ≡ false → list_all is_sign signs ≡ false
+not_all_of signs block begin is fails = not_all signs begin (sym is.all ∙ fails)
+
 pub all_blocks : (n ceiling block : ℕ) → ceiling ≡ n / 64 + min 1 (n % 64) → ceiling ≤ block → n ≤ 64 * block
 all_blocks n ceiling block is past = let times = div_ceil_times n 64 (omega arith) in omega (arith, times.0, is, past)
 
@@ -228,3 +217,57 @@ pub record KeptSoFar (e : List Element) (n : ℕ) (planes : List Planes) : Type 
 
 pub kept_keep : (e : List Element) (n : ℕ) (planes : List Planes) → KeptSoFar e n planes → length e ≤ 64 * n → Keep planes e
 kept_keep e n planes so enough = record { room = (omega (arith, enough, so.long)); each = λ k below. so.each k (omega (arith, so.long, below)) }
+
+-- the whole blocks of a front are packed, and this is the rest
+pub record PackedFront (signs rest : List ℕ) (planes : List Planes) : Type 0 where
+  pub so_far : PackedSoFar signs (length planes) planes
+  pub behind : rest ≡ drop (64 * length planes) signs
+
+pub none_packed : (signs : List ℕ) (planes : List Planes) → planes ≡ [] → PackedFront signs signs planes
+none_packed signs planes empty =
+    subst (PackedFront signs signs) (sym empty)
+    (record {
+      so_far = record { long = refl; all = refl; each = λ k below. absurd (omega (arith, below)) };
+      behind = refl;
+    })
+
+-- a whole block of the rest
+pub front_block : (signs rest block : List ℕ) (planes : List Planes) → PackedFront signs rest planes → block ≡ take 64 rest → 64 ≤ length rest → IsBlock signs (64 * length planes) block
+front_block signs rest block planes front same enough =
+    block_inside signs block rest (64 * length planes) front.behind same (ap length same ∙ length-take-le 64 rest enough)
+
+-- no sign is left
+pub none_left : (n : ℕ) → true ≡ (n == 0) → n ≡ 0
+none_left n h = grind (arith, nat_tests, h)
+
+-- one block more
+pub front_more : (signs rest more block : List ℕ) (planes new : List Planes) (here : Planes) → PackedFront signs rest planes → IsBlock signs (64 * length planes) block → list_all is_sign block ≡ true
+    → ((base : ℕ) (e : ℕ → Element) → ((i : ℕ) → i < 64 → e (base + i) ≡ element_of (get_or block i 0)) → IsPlanes here.y here.b base e)
+    → new ≡ planes ++ here ∷ [] → more ≡ drop 64 rest → PackedFront signs more new
+front_more signs rest more block planes new here front is all made longer left =
+    let n = length planes in
+    let planes_here = made (64 * n) (λ p. element_of (get_or signs p 45)) (λ i below. ap element_of (sym (is.each i below))) in
+    let so = packed_more signs n planes new here front.so_far planes_here (sym is.all ∙ all) longer in
+    let count : 64 * n + 64 ≡ 64 * length new = omega (arith, so.long) in
+    record {
+      so_far = subst (λ (k : ℕ). PackedSoFar signs k new) (sym so.long) so;
+      behind = left ∙ ap (drop 64) front.behind ∙ drop-drop 64 (64 * n) signs ∙ ap (λ (k : ℕ). drop k signs) count;
+    }
+
+-- all signs are packed where none is left
+front_enough : (signs rest : List ℕ) (planes : List Planes) → PackedFront signs rest planes → length rest ≡ 0 → length signs ≤ 64 * length planes
+front_enough signs rest planes front none =
+    let left : length rest ≡ length signs - 64 * length planes = ap length front.behind ∙ length-drop (64 * length planes) signs in
+    omega (arith, left, none)
+
+pub front_signs : (signs rest : List ℕ) (planes : List Planes) → PackedFront signs rest planes → length rest ≡ 0 → list_all is_sign signs ≡ true
+front_signs signs rest planes front none = packed_signs signs (length planes) planes front.so_far (front_enough signs rest planes front none)
+
+front_kept : (signs rest : List ℕ) (planes : List Planes) → PackedFront signs rest planes → length rest ≡ 0 → Keep planes (map element_of signs)
+front_kept signs rest planes front none = packed_keep signs (length planes) planes front.so_far (front_enough signs rest planes front none)
+
+pub front_keep : (signs rest : List ℕ) (planes : List Planes) → PackedFront signs rest planes → length rest ≡ 0 → Keep planes (elements_in planes (length signs))
+front_keep signs rest planes front none = kept_same planes (map element_of signs) (length signs) (front_kept signs rest planes front none) (sym (length-map signs element_of))
+
+pub front_view : (signs rest : List ℕ) (planes : List Planes) → PackedFront signs rest planes → length rest ≡ 0 → elements_in planes (length signs) ≡ map element_of signs
+front_view signs rest planes front none = kept_view planes (map element_of signs) (length signs) (front_kept signs rest planes front none) (sym (length-map signs element_of))

@@ -89,14 +89,22 @@ impl Reception {
             × (p ≡ map element_of signs.now))) }
         ensures none { IfOk result (λ packed. IsNone packed → list_all is_sign signs.now ≡ false) }
     {
-        let blocks = signs.len().div_ceil(64);
-        let mut planes = Vec::with_capacity(alloc, blocks)?;
-        for block in 0..blocks {
-            let Some(here) = signs_packed(signs, 64 * block) else {
+        let mut planes = Vec::with_capacity(alloc, signs.len().div_ceil(64))?;
+        let mut rest = signs;
+        while let Some((block, more)) = rest.split_first_chunk::<64>() {
+            let Some(here) = pack_signs(block) else {
                 return Ok(None);
             };
             planes.push(here)?;
+            rest = more;
         }
+        if rest.is_empty() {
+            return Ok(Some(Reception::of(planes, signs.len())));
+        }
+        let Some(here) = pack_signs(&padded_signs(rest)) else {
+            return Ok(None);
+        };
+        planes.push(here)?;
         Ok(Some(Reception::of(planes, signs.len())))
     }
 
@@ -187,21 +195,4 @@ pub(crate) fn padded_signs(signs: &[u8]) -> [u8; 64]
     let mut block = [b'-'; 64];
     block[..signs.len()].copy_from_slice(signs);
     block
-}
-
-/// The elements of 64 signs from one on as bits, of which those past the last one are lost. `None` where one of them is
-/// no sign.
-#[inline(always)]
-fn signs_packed(signs: &[u8], begin: usize) -> Option<Planes>
-    requires { begin ≤ length signs.now }
-    ensures planes { IfSome result (λ planes. IsPlanes planes.y planes.b begin
-        (λ p. element_of (slice_index_or signs.now p 45))) }
-    ensures signs { IfSome result (λ _. list_all is_sign (take 64 (drop begin signs.now)) ≡ true) }
-    ensures none { IsNone result → list_all is_sign (take 64 (drop begin signs.now)) ≡ false }
-{
-    let rest = &signs[begin..];
-    match rest.first_chunk::<64>() {
-        Some(block) => pack_signs(block),
-        None => pack_signs(&padded_signs(rest)),
-    }
 }

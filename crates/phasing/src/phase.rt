@@ -89,13 +89,10 @@ fn likely_phased(first: &Phasing, second: &Phasing, third: &Phasing, fourth: &Ph
         | shifted(first.dx, second.dx, 60)
         | shifted(second.dx, third.dx, 16)
         | shifted(second.dx, third.dx, 36);
-    let rx_1_3 =
-        shifted(first.rx[0], second.rx[0], 10) | shifted(first.rx[1], second.rx[1], 30);
+    let rx_1_3 = shifted(first.rx[0], second.rx[0], 10) | shifted(first.rx[1], second.rx[1], 30);
     let rx_5_7 = shifted(first.rx[2], second.rx[2], 50) | shifted(second.rx[3], third.rx[3], 6);
-    let rx_9_11 =
-        shifted(second.rx[4], third.rx[4], 26) | shifted(second.rx[5], third.rx[5], 46);
-    let rx_13_15 =
-        shifted(third.rx[6], fourth.rx[6], 2) | shifted(third.rx[7], fourth.rx[7], 22);
+    let rx_9_11 = shifted(second.rx[4], third.rx[4], 26) | shifted(second.rx[5], third.rx[5], 46);
+    let rx_13_15 = shifted(third.rx[6], fourth.rx[6], 2) | shifted(third.rx[7], fourth.rx[7], 22);
     Count::none()
         .add(dx)
         .add(rx_1_3)
@@ -235,14 +232,7 @@ fn first_within<E: Elements>(
         if fourth.phased != 0 {
             return Some(from + fourth.phased.trailing_zeros());
         }
-        let fifth = search_block(
-            e,
-            block + 1,
-            &second,
-            &third,
-            &fourth.marks,
-            fourth.behind,
-        );
+        let fifth = search_block(e, block + 1, &second, &third, &fourth.marks, fourth.behind);
         if fifth.phased != 0 {
             return Some(from + 64 + fifth.phased.trailing_zeros());
         }
