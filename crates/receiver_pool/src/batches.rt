@@ -77,7 +77,7 @@ fn work<G: Gate>(
     Ok(seats)
 }
 
-/// The workers from `low` on and below `high`, in so many threads by halves of halves, or in one for each of them where
+/// The workers from `low` on and below `high`, in so many threads by parts of parts, or in one for each of them where
 /// that is less. Each thread has a seat of every board.
 #[cycle(groups)]
 pub(crate) fn fork_groups<R: Threads + Sync, G: Gate>(
@@ -102,7 +102,7 @@ pub(crate) fn fork_groups<R: Threads + Sync, G: Gate>(
     if threads == 1 || high - low == 1 {
         return work(alloc, boards, seats, batch, turns, low, high, gate);
     }
-    let middle = parted(low, high, batch.len());
+    let middle = parted(low, high, batch.len(), threads);
     let half = threads / 2;
     let more = threads - half;
     let others = split_each(alloc, boards, &mut seats)?;

@@ -85,7 +85,7 @@ fn work<A: Allowed, G: Gate>(
     seat
 }
 
-/// The workers from `low` on and below `high`, in so many threads by halves of halves, or in one for each of them where
+/// The workers from `low` on and below `high`, in so many threads by parts of parts, or in one for each of them where
 /// that is less.
 #[cycle(workers)]
 fn fork<A: Allowed, R: Threads + Sync, G: Gate>(
@@ -113,7 +113,7 @@ fn fork<A: Allowed, R: Threads + Sync, G: Gate>(
     if threads == 1 || high - low == 1 {
         return work(board, seat, list, low, high, workers, gate);
     }
-    let middle = parted(low, high, list.len());
+    let middle = parted(low, high, list.len(), threads);
     let half = threads / 2;
     let more = threads - half;
     let (first, second) = board.split(seat);
