@@ -1,7 +1,7 @@
 //! Sheets: the ends of a set of facts for 64 places.
 ghost use Rattle.std.specs.Prelude.{◌≡◌, ℕ, ◌||◌, ◌<◌, ◌≤◌, length, replicate, min, max, slice_index, slice_set};
 ghost use Rattle.slot_evidence.specs.Facts.{Facts, Symbols, no_facts, one_fact, union};
-ghost use Rattle.slot_evidence.specs.TwoNumbers.{seen_with};
+ghost use Rattle.slot_evidence.specs.TwoNumbers.{AreInOrder, seen_between, seen_with};
 ghost use Rattle.slot_evidence.specs.inside.Kept.{AreKept, seen_of};
 ghost use Rattle.slot_evidence.specs.Seen.{IsSeen, IsLawful};
 ghost use Rattle.slot_evidence.specs.Sheet.{IsEnds, IsMeet, IsSheet, seen_at, facts_in};
@@ -45,6 +45,15 @@ impl Sheet {
         ensures { result ≡ seen_of leasts pasts }
     {
         Sheet { leasts, pasts }
+    }
+
+    /// What the least symbol of each place and its greatest plus one say: 128 and 0 where no symbol was shown.
+    pub fn between(leasts: [u8; 64], pasts: [u8; 64]) -> Sheet
+        requires { (p : ℕ) → p < 64 → AreInOrder (slice_index leasts p) (slice_index pasts p) }
+        ensures size { length result ≡ 64 }
+        ensures each { (p : ℕ) → p < 64 → seen_at result p ≡ seen_between (slice_index leasts p) (slice_index pasts p) }
+    {
+        Sheet::from_numbers(leasts, pasts)
     }
 
     /// The sheet of no facts.
