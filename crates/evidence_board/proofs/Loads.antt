@@ -1,7 +1,7 @@
 -- What is loaded of a place, and what a sheet then keeps of it.
-use Rattle.std.proofs.Common.{◌≡◌, ℕ, zero, suc, ◌+◌, ◌-◌, ◌<◌, ◌≤◌, true, List, [], ◌∷◌, length, set, slice_index, get_or, refl, arith, ap, sym, ◌∙◌, subst, inl, inr}
+use Rattle.std.proofs.Common.{◌≡◌, ◌⊎◌, ℕ, zero, suc, ◌+◌, ◌-◌, ◌<◌, ◌≤◌, true, List, [], ◌∷◌, length, set, slice_index, get_or, refl, arith, ap, sym, ◌∙◌, subst, inl, inr}
 use Rattle.std.proofs.lemmas.Bool.{cases_eq, cases_lt, or_cases, eqb-true}
-use Rattle.std.proofs.lemmas.List.{get_or-set_same, get_or-set_other, get_or-map, get_or_past, set-get_or, set-set, length-map, ext_get_or}
+use Rattle.std.proofs.lemmas.List.{get_or-set_same, get_or-set_other, get_or-map, get_or_past, set-set, length-map, ext_get_or}
 use mathlib.Core.Option.{some, some-injective, some-ne-none}
 use lib.ListN.{get_elem?}
 use Rattle.slot_evidence.specs.declared.places.Seen.{Seen}
@@ -135,24 +135,20 @@ get_there (y ∷ l) zero x at = some-injective y x at
 get_there (y ∷ l) (suc i) x at = get_there l i x at
 
 -- the words of a place that no thread shares any more
-order_apart : (least past : ℕ) → AreInOrder least past → (past ≡ 0 → ⊥) → (least < past) × (past ≤ 128)
-order_apart least past order some_there = grind arith
+pub word_small : (words : List ℕ) (p n : ℕ) → IsResting (words_of words p) → (get_elem? words p ≡ some n) ⊎ (get_elem? words (64 + p) ≡ some n) → n ≤ 128
+word_small words p n rest at =
+    let small = order_small (slice_index words p) (slice_index words (64 + p)) rest in
+    elim at [
+      | inl least ↦ omega (arith, small.0, get_there words p n least)
+      | inr past ↦ omega (arith, small.1, get_there words (64 + p) n past)
+    ]
 
 module _ (words : List ℕ) (p least past : ℕ) (at : get_elem? words p ≡ some least) (above : get_elem? words (64 + p) ≡ some past) where
   pub words_are : kept_of (words_of words p) ≡ seen_between least past
   words_are = ap (λ (n : ℕ). seen_between n (slice_index words (64 + p))) (get_there words p least at) ∙ ap (seen_between least) (get_there words (64 + p) past above)
 
-  pub words_apart : IsResting (words_of words p) → (past ≡ 0 → ⊥) → (least < past) × (past ≤ 128)
-  words_apart rest some_there =
-      order_apart least past
-      (subst (λ (n : ℕ). AreInOrder n past) (get_there words p least at) (subst (AreInOrder (slice_index words p)) (get_there words (64 + p) past above) rest))
-      some_there
-
-pub words_none : (words : List ℕ) (p past : ℕ) → get_elem? words (64 + p) ≡ some past → past ≡ 0 → kept_of (words_of words p) ≡ seen.None
-words_none words p past above none = ap (seen_between (slice_index words p)) (get_there words (64 + p) past above ∙ none)
-
-pub set_unseen : (sheet : List Seen) (p : ℕ) (x : Seen) → seen_at sheet p ≡ seen.None → x ≡ seen.None → sheet ≡ set sheet p x
-set_unseen sheet p x unseen is = sym (set-get_or sheet p seen.None) ∙ ap (set sheet p) (unseen ∙ sym is)
+  pub words_in_order : IsResting (words_of words p) → AreInOrder least past
+  words_in_order rest = subst (λ (n : ℕ). AreInOrder n past) (get_there words p least at) (subst (AreInOrder (slice_index words p)) (get_there words (64 + p) past above) rest)
 
 -- after a change of one place the sheet of what was seen below it stays
 pub kept_stays : (before after : View) (sheet : List Seen) (k : ℕ) (c : Place) → Changed before k c after → ((p : ℕ) → p < k → seen_at sheet p ≡ kept_of (place_at before p).seen) → (p : ℕ) → p < k → seen_at sheet p ≡ kept_of (place_at after p).seen

@@ -64,33 +64,18 @@ pub(crate) fn look<A: Allowed>(words: &Words<A>, token: &mut Token) -> Sheet
     sheet
 }
 
-/// Takes the words of a place, which no thread shares any more, into a sheet that says nothing of it.
-fn take_place(closed: &Closed<u8, Global>, sheet: &mut Sheet, p: u8)
-    requires count { (slots_len closed.now.words ≡ 128) × IsFull closed.now.words }
-    requires place { p < 64 }
-    requires rest { IsResting (words_of (slots_items closed.now.words) p) }
-    requires size { length sheet.old ≡ 64 }
-    requires unseen { seen_at sheet.old p ≡ seen.None }
-    ensures { sheet.new ≡ slice_set sheet.old p (kept_of (words_of (slots_items closed.now.words) p)) }
-{
-    let past = closed.word(64 + p as usize);
-    if past == 0 {
-        return;
-    }
-    let least = closed.word(p as usize);
-    keep(sheet, p, least, past);
-}
-
-/// What words say that no thread shares any more.
+/// What words say that no thread shares any more. The compiler reads several places a step.
 pub(crate) fn kept_sheet(closed: &Closed<u8, Global>) -> Sheet
     requires count { (slots_len closed.now.words ≡ 128) × IsFull closed.now.words }
     requires rest { (p : ℕ) → p < 64 → IsResting (words_of (slots_items closed.now.words) p) }
     ensures size { length result ≡ 64 }
     ensures each { (p : ℕ) → p < 64 → seen_at result p ≡ kept_of (words_of (slots_items closed.now.words) p) }
 {
-    let mut sheet = Sheet::empty();
-    for p in 0..64u8 {
-        take_place(closed, &mut sheet, p);
+    let mut leasts = [0; 64];
+    let mut pasts = [0; 64];
+    for p in 0..64 {
+        leasts[p] = closed.word(p) as u8;
+        pasts[p] = closed.word(64 + p) as u8;
     }
-    sheet
+    Sheet::between(leasts, pasts)
 }

@@ -1,6 +1,5 @@
 //! What a sheet keeps is posted on the shared words.
-ghost use Rattle.std.specs.Prelude.{◌≡◌, ℕ, ◌+◌, ◌<◌, ◌≤◌, true};
-ghost use Rattle.slot_evidence.specs.Seen.{IsLawful, symbols_in};
+ghost use Rattle.std.specs.Prelude.{◌≡◌, ℕ, ◌+◌, ◌<◌, ◌≤◌};
 ghost use Rattle.slot_evidence.specs.Sheet.{seen_at};
 ghost use Rattle.slot_evidence.specs.Allowed.{IsAllowed, OnlyAllowed};
 ghost use Rattle.evidence_board.specs.Views.{place_at};
@@ -11,7 +10,7 @@ ghost use Rattle.evidence_board.specs.inside.Through.{Through};
 
 use crate::allowed::Allowed;
 use crate::words::{Token, Words};
-use slot_evidence::{Seen, Sheet};
+use slot_evidence::Sheet;
 
 /// Posts the least and the greatest symbol of a place, the least one first.
 fn post_ends<A: Allowed>(words: &Words<A>, token: &mut Token, p: u8, least: u8, greatest: u8)
@@ -29,22 +28,21 @@ fn post_ends<A: Allowed>(words: &Words<A>, token: &mut Token, p: u8, least: u8, 
     words.raise(token, p, greatest);
 }
 
-/// Posts what is kept of a place.
-fn post_place<A: Allowed>(words: &Words<A>, token: &mut Token, p: u8, seen: Seen)
+/// Posts what a sheet keeps of a place, and makes no step where it keeps nothing.
+fn post_place<A: Allowed>(words: &Words<A>, token: &mut Token, p: u8, sheet: &Sheet)
     requires table { token.old.table ≡ words.now }
     requires place { p < 64 }
     requires alive { 1 ≤ token.old.view.share }
     requires small { ((place_at token.old.view p).given.least ≤ 128) × ((place_at token.old.view p).seen.least ≤ 128) }
-    requires lawful { IsLawful seen }
-    requires allowed { (v : ℕ) → symbols_in seen v ≡ true → IsAllowed A.facts p v }
+    requires allowed { OnlyAllowed A.facts sheet.now }
     ensures table { token.new.table ≡ token.old.table }
-    ensures place { Changed token.old.view p (admitted seen (place_at token.old.view p)) token.new.view }
+    ensures place { Changed token.old.view p (admitted (seen_at sheet.now p) (place_at token.old.view p)) token.new.view }
 {
-    match seen {
-        Seen::None => {}
-        Seen::One(symbol) => post_ends(words, token, p, symbol, symbol),
-        Seen::Differ(least, greatest) => post_ends(words, token, p, least, greatest),
+    let (least, past) = sheet.ends_at(p);
+    if past == 0 {
+        return;
     }
+    post_ends(words, token, p, least, past - 1);
 }
 
 /// Posts what is kept of each place.
@@ -57,6 +55,6 @@ pub(crate) fn post<A: Allowed>(words: &Words<A>, token: &mut Token, sheet: &Shee
         ≡ admitted (seen_at sheet.now p) before) token.old.view token.new.view 64 }
 {
     for p in 0..64u8 {
-        post_place(words, token, p, sheet.at(p));
+        post_place(words, token, p, sheet);
     }
 }

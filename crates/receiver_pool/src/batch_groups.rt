@@ -79,7 +79,7 @@ pub(crate) fn number_groups(
     ensures { IfOk result (λ made. AreNumbered batch.now (length batch.now) made.0.items made.1.items) }
 {
     let mut groups = Vec::new(alloc);
-    let mut places = Vec::new(alloc);
+    let mut places = Vec::with_capacity(alloc, batch.len())?;
     let mut remembered = [NOWHERE; 512];
     for heard in batch {
         places.push(place_of(&mut groups, &mut remembered, heard.group)?)?;
@@ -161,7 +161,7 @@ pub(crate) fn entries_of(
         × ((n : ℕ) → All (IsBelow n) groups.now → All (IsOneOf n) v.items)
         × (map (λ entry. entry.group) v.items ≡ groups.now)) }
 {
-    let mut entries = Vec::new(alloc);
+    let mut entries = Vec::with_capacity(alloc, groups.len())?;
     for (k, group) in groups.iter().enumerate() {
         entries.push(GroupSheet {
             group: *group,

@@ -22,8 +22,8 @@ pub(crate) fn boards_for(
     ensures seats { IfOk result (λ made. AreSeats WHOLE (λ k. no_facts) made.0.items made.1.items) }
     ensures unseen { IfOk result (λ made. HaveSeenNothing count made.1.items) }
 {
-    let mut boards = Vec::new(alloc);
-    let mut seats = Vec::new(alloc);
+    let mut boards = Vec::with_capacity(alloc, count)?;
+    let mut seats = Vec::with_capacity(alloc, count)?;
     for _ in 0..count {
         let (board, seat) = Board::new(alloc)?;
         boards.push(board)?;
@@ -76,7 +76,7 @@ pub(crate) fn split_each(
     ensures unseen { IfOk result (λ v. HaveSeenNothing (length boards.now) seats.old
         → HaveSeenNothing (length boards.now) v.items) }
 {
-    let mut others = Vec::new(alloc);
+    let mut others = Vec::with_capacity(alloc, boards.len())?;
     for (k, board) in boards.iter().enumerate() {
         others.push(board.split_off(&mut seats[k]))?;
     }
@@ -162,7 +162,7 @@ fn close_into(
 pub(crate) fn blank_sheets(alloc: Global, count: usize) -> Result<Vec<Sheet>, AllocError>
     ensures { IfOk result (λ v. AreSheets (λ k. no_facts) v.items count) }
 {
-    let mut sheets = Vec::new(alloc);
+    let mut sheets = Vec::with_capacity(alloc, count)?;
     for _ in 0..count {
         sheets.push(Sheet::empty())?;
     }

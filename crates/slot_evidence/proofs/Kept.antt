@@ -58,6 +58,10 @@ kept_long leasts pasts kept = seen_long leasts pasts kept.ordered ∙ kept.place
 pub kept_at : (leasts pasts : List ℕ) → AreKept leasts pasts → (p : ℕ) → seen_at (seen_of leasts pasts) p ≡ seen_between (slice_index_or leasts p 128) (slice_index_or pasts p 0)
 kept_at leasts pasts kept = at_place leasts pasts kept.ordered
 
+pub kept_here : (leasts pasts : List ℕ) → AreKept leasts pasts → (p : ℕ) → p < 64 → seen_at (seen_of leasts pasts) p ≡ seen_between (slice_index leasts p) (slice_index pasts p)
+kept_here leasts pasts kept p inside =
+    kept_at leasts pasts kept p ∙ ap (λ (n : ℕ). seen_between n (slice_index pasts p)) (get_or_default leasts p 128 0 (omega (arith, kept.places)))
+
 -- what the words keep is a sheet
 pub IsSheet-kept : (leasts pasts : List ℕ) → AreKept leasts pasts → IsSheet (seen_of leasts pasts)
 IsSheet-kept leasts pasts kept = record {

@@ -1,7 +1,7 @@
 //! Sheets: the ends of a set of facts for 64 places.
 ghost use Rattle.std.specs.Prelude.{◌≡◌, ℕ, ◌||◌, ◌<◌, ◌≤◌, length, replicate, min, max, slice_index, slice_set};
 ghost use Rattle.slot_evidence.specs.Facts.{Facts, Symbols, no_facts, one_fact, union};
-ghost use Rattle.slot_evidence.specs.TwoNumbers.{seen_with};
+ghost use Rattle.slot_evidence.specs.TwoNumbers.{AreInOrder, least_of, past_of, seen_between, seen_with};
 ghost use Rattle.slot_evidence.specs.inside.Kept.{AreKept, seen_of};
 ghost use Rattle.slot_evidence.specs.Seen.{IsSeen, IsLawful};
 ghost use Rattle.slot_evidence.specs.Sheet.{IsEnds, IsMeet, IsSheet, seen_at, facts_in};
@@ -47,6 +47,15 @@ impl Sheet {
         Sheet { leasts, pasts }
     }
 
+    /// What the least symbol of each place and its greatest plus one say: 128 and 0 where no symbol was shown.
+    pub fn between(leasts: [u8; 64], pasts: [u8; 64]) -> Sheet
+        requires { (p : ℕ) → p < 64 → AreInOrder (slice_index leasts p) (slice_index pasts p) }
+        ensures size { length result ≡ 64 }
+        ensures each { (p : ℕ) → p < 64 → seen_at result p ≡ seen_between (slice_index leasts p) (slice_index pasts p) }
+    {
+        Sheet::from_numbers(leasts, pasts)
+    }
+
     /// The sheet of no facts.
     pub fn empty() -> Sheet
         ensures ends { IsEnds no_facts result }
@@ -62,6 +71,17 @@ impl Sheet {
         ensures lawful { IsLawful result }
     {
         Seen::between(self.leasts[p as usize], self.pasts[p as usize])
+    }
+
+    /// The least symbol that the sheet keeps of a place below 64 and the greatest plus one: 128 and 0 where it keeps
+    /// none.
+    pub fn ends_at(&self, p: u8) -> (u8, u8)
+        requires { p < 64 }
+        ensures least { result.0 ≡ least_of (seen_at self.now p) }
+        ensures past { result.1 ≡ past_of (seen_at self.now p) }
+        ensures order { AreInOrder result.0 result.1 }
+    {
+        (self.leasts[p as usize], self.pasts[p as usize])
     }
 
     /// Takes in all that another sheet keeps: the sheet becomes that of both sets of facts together. The compiler makes

@@ -1,29 +1,19 @@
-use Rattle.std.proofs.Common.{refl}
-use Rattle.slot_evidence.specs.declared.places.Seen.TheVariants as seen
-use Rattle.evidence_board.specs.Views.{place_at}
-use Rattle.evidence_board.proofs.Changes.{unchanged, nothing_admitted, one_admitted, several_admitted, one_in, least_in, greatest_in, posted_as}
+use Rattle.std.proofs.Common.{ℕ, ◌-◌, subst, sym, ◌∙◌}
+use Rattle.slot_evidence.specs.Sheet.{seen_at}
+use Rattle.slot_evidence.specs.Allowed.{IsAllowed}
+use Rattle.evidence_board.proofs.Changes.{least_in, greatest_in}
 use Rattle.evidence_board.proofs.posting.post_place.Goals as goal
 
 pub post_ends-requires-clause-least : goal.post_ends-requires-clause-least
-post_ends-requires-clause-least g c lives last = c.requires.allowed c.in-One.symbol (one_in _ c.in-One.symbol c.in-One.is)
+post_ends-requires-clause-least g c lives last =
+    let ends = c.ends_at-least.ensures in
+    let seen = seen_at c.args.sheet.now c.args.p in
+    subst (IsAllowed g.A.Allowed.facts c.args.p) (sym ends.least)
+    (c.requires.allowed c.args.p _ (least_in seen (λ none. c.if-past-eq0.false (ends.past ∙ none))))
 
 pub post_ends-requires-clause-greatest : goal.post_ends-requires-clause-greatest
-post_ends-requires-clause-greatest g c lives last = c.requires.allowed c.in-One.symbol (one_in _ c.in-One.symbol c.in-One.is)
-
-pub post_ends-requires-in-Differ-clause-least : goal.post_ends-requires-in-Differ-clause-least
-post_ends-requires-in-Differ-clause-least g c lives last = c.requires.allowed c.in-Differ.least (least_in _ c.in-Differ.least c.in-Differ.greatest c.in-Differ.is)
-
-pub post_ends-requires-in-Differ-clause-greatest : goal.post_ends-requires-in-Differ-clause-greatest
-post_ends-requires-in-Differ-clause-greatest g c lives last = c.requires.allowed c.in-Differ.greatest (greatest_in _ c.in-Differ.least c.in-Differ.greatest c.in-Differ.is)
-
-pub returns-in-None-clause-place : goal.returns-in-None-clause-place
-returns-in-None-clause-place g c =
-    let before = place_at c.args.token.now.view c.args.p in
-    posted_as c.args.seen seen.None _ _ c.args.p before (unchanged _ c.args.p before refl) (nothing_admitted before c.requires.small.0 c.requires.small.1) c.in-None.is
-
-pub returns-in-One-clause-place : goal.returns-in-One-clause-place
-returns-in-One-clause-place g c = posted_as c.args.seen (seen.One c.in-One.symbol) _ _ c.args.p _ c.post_ends.ensures.place (one_admitted c.in-One.symbol _) c.in-One.is
-
-pub returns-in-Differ-clause-place : goal.returns-in-Differ-clause-place
-returns-in-Differ-clause-place g c =
-    posted_as c.args.seen (seen.Differ c.in-Differ.least c.in-Differ.greatest) _ _ c.args.p _ c.post_ends-in-Differ.ensures.place (several_admitted c.in-Differ.least c.in-Differ.greatest _) c.in-Differ.is
+post_ends-requires-clause-greatest g c lives last =
+    let ends = c.ends_at-least.ensures in
+    let seen = seen_at c.args.sheet.now c.args.p in
+    subst (λ (n : ℕ). IsAllowed g.A.Allowed.facts c.args.p (n - 1)) (sym ends.past)
+    (c.requires.allowed c.args.p _ (greatest_in seen (λ none. c.if-past-eq0.false (ends.past ∙ none))))

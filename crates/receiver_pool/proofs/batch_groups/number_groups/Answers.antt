@@ -20,7 +20,7 @@ loop-heard-preserved c =
 
 pub loop-heard-init : goal.loop-heard-init
 loop-heard-init c = record {
-  numbered = none_numbered c.args.batch.now _ _ c.new-groups.ensures.items c.new-places.ensures.items;
+  numbered = none_numbered c.args.batch.now _ _ c.new-groups.ensures.items c.in_ok-places.ensures.items;
   remembered = λ i small. absurd (omega (arith, small, ap (λ (gs : List ℕ). length gs) c.new-groups.ensures.items));
 }
 
