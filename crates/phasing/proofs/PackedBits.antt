@@ -240,6 +240,9 @@ front_block signs rest block planes front same enough =
 pub none_left : (n : ℕ) → true ≡ (n == 0) → n ≡ 0
 none_left n h = grind (arith, nat_tests, h)
 
+pub some_left : (n : ℕ) → false ≡ (n == 0) → 0 < n
+some_left n h = grind (arith, nat_tests, h)
+
 -- one block more
 pub front_more : (signs rest more block : List ℕ) (planes new : List Planes) (here : Planes) → PackedFront signs rest planes → IsBlock signs (64 * length planes) block → list_all is_sign block ≡ true
     → ((base : ℕ) (e : ℕ → Element) → ((i : ℕ) → i < 64 → e (base + i) ≡ element_of (get_or block i 0)) → IsPlanes here.y here.b base e)
@@ -254,11 +257,13 @@ front_more signs rest more block planes new here front is all made longer left =
       behind = left ∙ ap (drop 64) front.behind ∙ drop-drop 64 (64 * n) signs ∙ ap (λ (k : ℕ). drop k signs) count;
     }
 
+-- how many are left
+pub front_left : (signs rest : List ℕ) (planes : List Planes) → PackedFront signs rest planes → length rest ≡ length signs - 64 * length planes
+front_left signs rest planes front = ap length front.behind ∙ length-drop (64 * length planes) signs
+
 -- all signs are packed where none is left
 front_enough : (signs rest : List ℕ) (planes : List Planes) → PackedFront signs rest planes → length rest ≡ 0 → length signs ≤ 64 * length planes
-front_enough signs rest planes front none =
-    let left : length rest ≡ length signs - 64 * length planes = ap length front.behind ∙ length-drop (64 * length planes) signs in
-    omega (arith, left, none)
+front_enough signs rest planes front none = omega (arith, front_left signs rest planes front, none)
 
 pub front_signs : (signs rest : List ℕ) (planes : List Planes) → PackedFront signs rest planes → length rest ≡ 0 → list_all is_sign signs ≡ true
 front_signs signs rest planes front none = packed_signs signs (length planes) planes front.so_far (front_enough signs rest planes front none)

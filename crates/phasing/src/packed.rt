@@ -95,7 +95,7 @@ impl Reception {
             let Some(here) = pack_signs(block) else {
                 return Ok(None);
             };
-            planes.push(here)?;
+            planes.push_reserved(here);
             rest = more;
         }
         if rest.is_empty() {
@@ -104,7 +104,7 @@ impl Reception {
         let Some(here) = pack_signs(&padded_signs(rest)) else {
             return Ok(None);
         };
-        planes.push(here)?;
+        planes.push_reserved(here);
         Ok(Some(Reception::of(planes, signs.len())))
     }
 

@@ -9,11 +9,14 @@ use crate::sheets::Sheet;
 use crate::slots::{ShownSlot, read_slots};
 use phasing::{Elements, LAST_LEAD, LONGEST, lead};
 
-/// The number after a symbol, and 0 after none, which is 128.
-fn past(symbol: u8) -> u8
-    ensures { result ≡ past_symbol symbol }
+/// The greater number after either of two symbols, and 0 after none, which is 128. With 128 more, and 256 taken for 0,
+/// none is the least; of it 127 less leaves 0. So the compiler makes it of sixteen pairs a step.
+fn past_of(a: u8, b: u8) -> u8
+    requires { (a ≤ 128) × (b ≤ 128) }
+    ensures { result ≡ max (past_symbol a) (past_symbol b) }
 {
-    if symbol < 128 { symbol + 1 } else { 0 }
+    let later = a.wrapping_add(128).max(b.wrapping_add(128));
+    later.saturating_sub(127)
 }
 
 /// The lesser symbol of each place's two slots.
@@ -31,13 +34,15 @@ fn leasts_of(shown: &ShownSlot) -> [u8; 64]
 
 /// The greater number after the symbol of each place's two slots.
 fn pasts_of(shown: &ShownSlot) -> [u8; 64]
+    requires dx { (k : ℕ) → k < 66 → slice_index shown.now.dx k ≤ 128 }
+    requires rx { (k : ℕ) → k < 66 → slice_index shown.now.rx k ≤ 128 }
     ensures places { length result ≡ 64 }
     ensures each { (p : ℕ) → p < 64 → slice_index result p
         ≡ max (past_symbol (slice_index shown.now.dx p)) (past_symbol (slice_index shown.now.rx (p + 2))) }
 {
     let mut pasts = [0; 64];
     for p in 0..64 {
-        pasts[p] = past(shown.dx[p]).max(past(shown.rx[p + 2]));
+        pasts[p] = past_of(shown.dx[p], shown.rx[p + 2]);
     }
     pasts
 }
