@@ -9,7 +9,7 @@ ghost use Rattle.long_capture.specs.inside.Reads.{IsNextIndex, IsWindow, Looks, 
 
 use crate::bounds::{DECIDING, UNDECIDED, WINDOW};
 use crate::starts::Start;
-use crate::windows::{SearchedSigns, Window};
+use crate::windows::Window;
 use phasing::{
     FRONT_INDICES, LEAD_OF_FIRST, elements_decide, first_phased, none_past_the_end, search_front,
 };
@@ -87,7 +87,7 @@ impl Scan {
         elements_decide();
         none_past_the_end();
         let window = self.window.signs();
-        let front = search_front(SearchedSigns { signs: window });
+        let front = search_front(window);
         self.quiet = front.next - 1;
         if !front.begins {
             return None;
@@ -119,5 +119,5 @@ fn next_index(window: &[u8], found: u32) -> usize
         return found as usize;
     }
     let rest = &window[FRONT_INDICES as usize..];
-    (FRONT_INDICES + first_phased(SearchedSigns { signs: rest })) as usize
+    (FRONT_INDICES + first_phased(rest)) as usize
 }

@@ -4,9 +4,8 @@ ghost use Rattle.ten_unit.specs.declared.character.Element.TheVariants.{Lost};
 ghost use Rattle.ten_unit.specs.Signs.{element_of};
 
 use crate::bounds::WINDOW;
-use phasing::Elements;
 use std::marker::Model;
-use ten_unit::{Element, Planes};
+use ten_unit::Element;
 
 /// Elements that are held before the last ones move to the front.
 const ROOM: usize = 4096;
@@ -74,26 +73,6 @@ impl Window {
         ensures length { length result.now ≡ WINDOW }
     {
         &self.buffer[self.end - WINDOW..self.end]
-    }
-}
-
-/// Signs that are searched. 64 of them are made bits by a call: the search does so at several places, and is then small
-/// enough for the compiler to make one body of it.
-#[derive(Clone, Copy)]
-pub(crate) struct SearchedSigns<'a> {
-    pub signs: &'a [u8],
-}
-
-impl Elements for SearchedSigns<'_> {
-    ghost list = { λ searched. map element_of searched.signs.now };
-
-    fn count(self) -> usize {
-        self.signs.len()
-    }
-
-    #[inline(never)]
-    fn planes_from(self, begin: usize) -> Planes {
-        self.signs.planes_from(begin)
     }
 }
 

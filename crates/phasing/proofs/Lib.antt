@@ -9,6 +9,7 @@ mod Dots
 mod Begins
 mod Filled
 mod Groups
+mod WholeStarts
 mod EarlyLeads
 mod Kept
 mod LateStarts

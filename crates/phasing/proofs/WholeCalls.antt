@@ -54,7 +54,7 @@ sent_shows slots long s below =
       word = ap (λ (n : ℕ). take 10 (drop n (sent slots long))) index ∙ sent_part slots long s below;
     })
 
-phased_start : (format : ℕ) (long : Bool) → is_phased (sent (start_symbols format) long) (dot_count long + 150) ≡ true
+pub phased_start : (format : ℕ) (long : Bool) → is_phased (sent (start_symbols format) long) (dot_count long + 150) ≡ true
 unfolding is_phased shows is_word word_of dots sent
 phased_start format false = refl
 phased_start format true = refl

@@ -1,3 +1,4 @@
+pub mod Intact
 pub mod Likely
 pub mod Marked
 pub mod Places

@@ -3,6 +3,7 @@
 #![tactic(auto)]
 
 mod counting;
+mod intact;
 mod laws;
 mod marking;
 mod one_lead;

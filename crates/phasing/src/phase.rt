@@ -8,6 +8,7 @@ ghost use Rattle.phasing.specs.Origin as sequence;
 ghost use Rattle.phasing.specs.inside.Places.{element_at};
 
 use crate::counting::Count;
+use crate::intact::intact_lead;
 use crate::marking::{Phasing, likely_marked, phasing_marked, shifted};
 use crate::reception::{LEAD_OF_FIRST, LONGEST};
 use crate::window::Elements;
@@ -288,7 +289,7 @@ fn first_from<E: Elements>(
 /// Shifts and ands of one of them give the places at which each phasing symbol's word begins, if lost elements are
 /// taken for B. Ors of these show the few leads that may be phased; of those alone the right symbols are counted, with
 /// both words. Four blocks of 64 places move over the reception, from lead 22 on, so that element 0 is the first of a
-/// block. It takes under 1 KB of stack at any length.
+/// block. It takes under 2 KB of stack at any length.
 pub fn lead<E: Elements>(e: E) -> Option<u32>
     requires { length (E.list e) ≤ LONGEST }
     ensures least { result ≡ sequence.lead_of (E.list e) }
@@ -297,6 +298,10 @@ pub fn lead<E: Elements>(e: E) -> Option<u32>
 {
     if e.count() < SHORTEST {
         return None;
+    }
+    let intact = intact_lead(e);
+    if intact.is_some() {
+        return intact;
     }
     let next = e.planes_from(64);
     let third = likely_marked(e.planes_from(0), next);
@@ -310,6 +315,40 @@ pub fn lead<E: Elements>(e: E) -> Option<u32>
     first_from(e, 1, none, third, fourth.marks, fourth.behind)
 }
 
+/// What a search finds from a reception's first element on: which of the first 64 indices are phased origins, a bit an
+/// index, and, where none of them after index 0 is, the first phased lead after theirs.
+#[derive(Drop)]
+struct FromFirst {
+    near: u64,
+    far: Option<u32>,
+}
+
+/// Searches the first 64 indices, and, where none of them after index 0 is phased, so many turns of three blocks. It is
+/// one body for both of its callers. So the compiler inlines `first_within` here, and no marks go through memory.
+#[inline(never)]
+fn search_from_first<E: Elements>(e: E, turns: u32) -> FromFirst
+    requires length { length (E.list e) ≤ LONGEST }
+    requires turns { 192 * turns ≤ LONGEST + 320 }
+    ensures near { IsMarks result.near LEAD_OF_FIRST (sequence.is_phased (E.list e)) }
+    ensures far { IfSome result.far (IsFirstPhased (E.list e) (LEAD_OF_FIRST + 64)) }
+    ensures none { IsNone result.far → result.near < 2 → (lead : ℕ) → LEAD_OF_FIRST + 64 ≤ lead
+        → lead < 192 * turns + LEAD_OF_FIRST + 64 → sequence.is_phased (E.list e) lead ≡ false }
+{
+    let middle = e.planes_from(64);
+    let last = e.planes_from(128);
+    let behind = e.planes_from(192);
+    let first = likely_marked(e.planes_from(0), middle);
+    let second = likely_marked(middle, last);
+    let third = likely_marked(last, behind);
+    let fourth = search_block(e, 2, &first, &second, &third, behind);
+    let near = fourth.phased;
+    if near > 1 {
+        return FromFirst { near, far: None };
+    }
+    let far = first_within(e, 3, turns, second, third, fourth.marks, fourth.behind);
+    FromFirst { near, far }
+}
+
 /// The first index of a reception that is a phased origin, whatever is phased before its first element, and its length
 /// where none is (ITU-R M.493, phasing sequence). It searches as `lead` does, from lead 150 on.
 pub fn first_phased<E: Elements>(e: E) -> u32
@@ -318,13 +357,11 @@ pub fn first_phased<E: Elements>(e: E) -> u32
     ensures phased { result < length (E.list e) → sequence.is_phased (E.list e) (result + LEAD_OF_FIRST) ≡ true }
     ensures none { (k : ℕ) → k < result → sequence.is_phased (E.list e) (k + LEAD_OF_FIRST) ≡ false }
 {
-    let middle = e.planes_from(64);
-    let last = e.planes_from(128);
-    let next = e.planes_from(192);
-    let first = likely_marked(e.planes_from(0), middle);
-    let second = likely_marked(middle, last);
-    let third = likely_marked(last, next);
-    match first_from(e, 2, first, second, third, next) {
+    let found = search_from_first(e, (e.count() as u32).saturating_sub(64).div_ceil(192));
+    if found.near != 0 {
+        return found.near.trailing_zeros();
+    }
+    match found.far {
         Some(lead) => lead - LEAD_OF_FIRST,
         None => e.count() as u32,
     }
@@ -352,20 +389,14 @@ pub fn search_front<E: Elements>(e: E) -> Front
     ensures phased { result.next < FRONT_INDICES → sequence.is_phased (E.list e) (result.next + LEAD_OF_FIRST) ≡ true }
     ensures none { (k : ℕ) → 1 ≤ k → k < result.next → sequence.is_phased (E.list e) (k + LEAD_OF_FIRST) ≡ false }
 {
-    let middle = e.planes_from(64);
-    let last = e.planes_from(128);
-    let behind = e.planes_from(192);
-    let first = likely_marked(e.planes_from(0), middle);
-    let second = likely_marked(middle, last);
-    let third = likely_marked(last, behind);
-    let fourth = search_block(e, 2, &first, &second, &third, behind);
-    let begins = fourth.phased % 2 == 1;
-    let later = fourth.phased / 2;
+    let found = search_from_first(e, 7);
+    let begins = found.near % 2 == 1;
+    let later = found.near / 2;
     if later != 0 {
         let next = 1 + later.trailing_zeros();
         return Front { begins, next };
     }
-    match first_within(e, 3, 7, second, third, fourth.marks, fourth.behind) {
+    match found.far {
         Some(lead) => Front {
             begins,
             next: (lead - LEAD_OF_FIRST).min(FRONT_INDICES),

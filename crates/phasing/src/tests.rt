@@ -3,6 +3,7 @@ use crate::{
     Elements, FRONT_INDICES, LONGEST, Reception, first_phased, lead, origin, phased, plain,
     search_front, slot_symbol, transmission,
 };
+use dsc_symbols::phasing::RX_3;
 use dsc_symbols::worked::ALERT_SLOTS;
 use std::alloc::{AllocError, Global};
 use std::test::Fail;
@@ -131,6 +132,17 @@ fn is_front_alike(e: &[Element]) -> bool {
     front.begins == phased(e, 0)
         && (1..FRONT_INDICES as i32).all(|o| o > front.next as i32
             || phased(e, o) == (o == front.next as i32))
+}
+
+/// Two slots before its true origin it has five right DX symbols, and a right RX one.
+#[test]
+fn rx_3_in_slot_7_is_an_earlier_origin(rt: HostRuntime) -> Result<(), Fail> {
+    let mut slots = ALERT_SLOTS;
+    slots[7] = RX_3;
+    let elements = received(rt.alloc(), 20, &slots, &[])?;
+    assert!(rt; has_origin(elements.as_slice(), 0));
+    assert!(rt; is_found_alike(elements.as_slice()));
+    Ok(())
 }
 
 /// An alert after dots, which begins later and later: its lead is each from 350 down to 0, and so at each edge of a

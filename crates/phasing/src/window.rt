@@ -19,6 +19,17 @@ fn padded(e: &[Element]) -> [Element; 64]
     block
 }
 
+/// The elements of these signs, fewer than 64, and lost ones after them, as bits. It is a call: a search reads signs at
+/// several places, and the compiler inlines the search of a block only while that is small.
+#[inline(never)]
+fn last_planes(rest: &[u8]) -> Planes
+    requires { length rest.now < 64 }
+    ensures { (base : ℕ) (e : ℕ → AnElement) → ((i : ℕ) → i < 64
+        → e (base + i) ≡ slice_index_or (map element_of rest.now) i Element.Lost) → IsPlanes result.y result.b base e }
+{
+    sign_planes(&padded_signs(rest))
+}
+
 /// Elements in a row that are had as bits.
 pub trait Elements: Copy {
     /// The list of them.
@@ -64,7 +75,7 @@ impl Elements for &[u8] {
         let rest = &self[begin.min(self.len())..];
         match rest.first_chunk::<64>() {
             Some(block) => sign_planes(block),
-            None => sign_planes(&padded_signs(rest)),
+            None => last_planes(rest),
         }
     }
 }

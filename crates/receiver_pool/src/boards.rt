@@ -26,8 +26,8 @@ pub(crate) fn boards_for(
     let mut seats = Vec::with_capacity(alloc, count)?;
     for _ in 0..count {
         let (board, seat) = Board::new(alloc)?;
-        boards.push(board)?;
-        seats.push(seat)?;
+        boards.push_reserved(board);
+        seats.push_reserved(seat);
     }
     Ok((boards, seats))
 }
@@ -78,7 +78,7 @@ pub(crate) fn split_each(
 {
     let mut others = Vec::with_capacity(alloc, boards.len())?;
     for (k, board) in boards.iter().enumerate() {
-        others.push(board.split_off(&mut seats[k]))?;
+        others.push_reserved(board.split_off(&mut seats[k]));
     }
     Ok(others)
 }
@@ -164,7 +164,7 @@ pub(crate) fn blank_sheets(alloc: Global, count: usize) -> Result<Vec<Sheet>, Al
 {
     let mut sheets = Vec::with_capacity(alloc, count)?;
     for _ in 0..count {
-        sheets.push(Sheet::empty())?;
+        sheets.push_reserved(Sheet::empty());
     }
     Ok(sheets)
 }

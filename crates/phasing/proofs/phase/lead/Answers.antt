@@ -1,16 +1,35 @@
-use Rattle.std.proofs.Common.{◌≡◌, ℕ, ◌≤◌, ◌<◌, false, List, Option, Some, None, IfSome, IsNone, inl, inr, refl, lit≤, arith, sym}
+use Rattle.std.proofs.Common.{◌≡◌, ℕ, ◌+◌, ◌≤◌, ◌<◌, true, false, List, length, Option, Some, None, IfSome, IsNone, inl, inr, refl, lit≤, arith, sym}
 use Rattle.std.proofs.lemmas.Bool.{cases_lt}
+use Rattle.plain_laws.proofs.Searches.{find_least}
 use Rattle.ten_unit.specs.declared.character.Element.{Element}
 use Rattle.phasing.specs.Origin.{is_phased, lead_of}
 use Rattle.phasing.specs.inside.Marked.{IsFirstPhased}
 use Rattle.phasing.specs.inside.Places.{element_at}
-use Rattle.phasing.proofs.Blocks.{phased_late, none_in_block, first_in_block}
+use Rattle.phasing.proofs.Blocks.{phased_late, phased_within, none_in_block, first_in_block}
 use Rattle.phasing.proofs.Leads.{least_found, none_found, is_phased-early}
 use Rattle.phasing.proofs.TooShort.{none_short}
 use Rattle.phasing.proofs.phase.lead.Goals as goal
 
 pub returns-then-count-lt-SHORTEST-clause-least : goal.returns-then-count-lt-SHORTEST-clause-least
 returns-then-count-lt-SHORTEST-clause-least g c = sym (none_short (g.E.Elements.list c.args.e) (omega (arith, c.if-count-lt-SHORTEST.true)))
+
+-- a lead of an intact start is the origin's
+phased_of : (e : List Element) (lead : ℕ) → lead_of e ≡ Some lead → is_phased e lead ≡ true
+phased_of e lead h = (find_least (is_phased e) 0 (length e + 150) lead h).passes
+
+within_intact : (e : List Element) (found : Option ℕ) → IfSome found (λ lead. lead_of e ≡ Some lead) → IfSome found (λ lead. lead < length e + 150)
+within_intact e (Some lead) found = phased_within e lead (phased_of e lead found)
+within_intact e None found = tt
+
+from_intact : (e : List Element) (found : Option ℕ) → IfSome found (λ lead. lead_of e ≡ Some lead) → IfSome found (λ lead. 40 ≤ lead)
+from_intact e (Some lead) found = phased_late e lead (phased_of e lead found)
+from_intact e None found = tt
+
+pub returns-then-is_some-clause-within : goal.returns-then-is_some-clause-within
+returns-then-is_some-clause-within g c = within_intact (g.E.Elements.list c.args.e) c.intact_lead-intact.result c.intact_lead-intact.ensures
+
+pub returns-then-is_some-clause-from : goal.returns-then-is_some-clause-from
+returns-then-is_some-clause-from g c = from_intact (g.E.Elements.list c.args.e) c.intact_lead-intact.result c.intact_lead-intact.ensures
 
 -- no lead of the first block is looked at before
 none_before : (e : List Element) (k : ℕ) → 22 ≤ k → k < 22 → is_phased e k ≡ false

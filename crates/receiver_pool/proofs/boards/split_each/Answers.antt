@@ -48,15 +48,17 @@ loop-k-preserved c =
           turned;
       row = λ share F f.
           let turned = was.turned share F f in
-          subst (λ (s : List Held). Row (Seats (share / 2) F boards) no_seat s (k + 1)) (sym c.in_ok-push.ensures.items)
+          subst (λ (s : List Held). Row (Seats (share / 2) F boards) no_seat s (k + 1)) (sym c.push_reserved.ensures.items)
           (row_longer _ no_seat c.loop-k.others.items k other (was.row share F f)
           (half_given share (F k) (table_at boards k) _ new other (told.board.1 ∙ board) told.shares told.halves.1 told.halves.2 told.given.1
           (subst (λ (s : Held). IsSeatOf (table_at boards k) share (F k) s) (sym old) (turned.above k (omega arith) (omega arith)))));
       unseen = λ nothing. turned_up AnySeat Unseen no_seat c.loop-k.seats k (length boards) new (omega arith) refl (was.unseen nothing);
       others = λ nothing.
           let seat = subst (λ (s : Held). IsEnds no_facts (seen_sheet s.view)) (sym old) ((was.unseen nothing).above k (omega arith) (omega arith)) in
-          subst (λ (s : List Held). Row Unseen no_seat s (k + 1)) (sym c.in_ok-push.ensures.items)
+          subst (λ (s : List Held). Row Unseen no_seat s (k + 1)) (sym c.push_reserved.ensures.items)
           (row_longer Unseen no_seat c.loop-k.others.items k other (was.others nothing) (subst (λ (s : List Seen). IsEnds no_facts s) (sym told.seen) seat));
+      made = omega (arith, c.push_reserved.ensures.len, was.made);
+      room = c.push_reserved.ensures.capacity ∙ was.room;
     }
 
 pub returns-clause-halves : goal.returns-clause-halves

@@ -4,7 +4,7 @@ use Rattle.std.proofs.lemmas.List.{get_or-take}
 use Rattle.ten_unit.specs.declared.character.Element.TheVariants.{Lost}
 use Rattle.ten_unit.specs.Signs.{element_of}
 use Rattle.phasing.specs.inside.Places.{element_at}
-use Rattle.phasing.proofs.Padding.{in_rest, padded_at}
+use Rattle.phasing.proofs.Padding.{in_rest}
 use Rattle.phasing.proofs.Words.{element_at-inside}
 use Rattle.phasing.proofs.window.RefSliceU8Elements.planes_from.Goals as goal
 
@@ -15,10 +15,6 @@ at_rest signs begin from i is =
     element_at-inside (map element_of signs) (begin + 150 + i) (omega arith) ∙ ap (λ (n : ℕ). get_or (map element_of signs) n Lost) index
     ∙ get_or-map element_of signs (begin + i) 0
     ∙ ap element_of (in_rest signs 0 begin from i is)
-
--- past the last sign the element is lost, whatever byte is taken there
-no_sign : (signs : List ℕ) (i : ℕ) → element_of (get_or signs i 0) ≡ element_of (get_or signs i 45)
-no_sign signs i = sym (get_or-map element_of signs i 0) ∙ get_or-map element_of signs i 45
 
 pub returns-in-Some : goal.returns-in-Some
 returns-in-Some c =
@@ -33,9 +29,5 @@ pub returns-in-None : goal.returns-in-None
 returns-in-None c =
     let signs = c.args.self.now in
     let rest = take (length signs - c.min.result) (drop c.min.result signs) in
-    let padded = c.padded_signs.result in
-    c.sign_planes-in-None.ensures (c.args.begin + 150) (element_at (map element_of signs))
-    (λ i below.
-    at_rest signs c.args.begin c.min.result i c.min.ensures ∙ no_sign rest i
-    ∙ ap element_of (sym (ap (λ (l : List ℕ). get_or l i 45) c.padded_signs.ensures ∙ padded_at rest 45 i below))
-    ∙ sym (no_sign padded i))
+    c.last_planes.ensures (c.args.begin + 150) (element_at (map element_of signs))
+    (λ i below. at_rest signs c.args.begin c.min.result i c.min.ensures ∙ sym (get_or-map element_of rest i 0))
