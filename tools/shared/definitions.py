@@ -4,7 +4,7 @@ import os
 import re
 
 from shared.program import TOP
-from shared.public_calls import NAME, files_of, offered, subject_of, text_of
+from shared.public_calls import HEAD_BEGINS, NAME, files_of, offered, subject_of, text_of
 
 CRATES = os.path.join(TOP, "crates")
 HEAD = re.compile(rf"^(  )?(?:unfoldable |abbrev )*pub (record |data )?((?!use ){NAME}|◌[^ ]+◌)(?= |$)")
@@ -110,13 +110,13 @@ def contracts_of(crate):
 def _contracts_in(lines, is_public):
     """The contracts of a file's public calls, and the ghost members of its public types and traits but for invariants and proofs."""
     name, clauses, is_open, is_offered, has_no_pub = None, [], False, False, False
-    for line in [*lines, "fn"]:
+    for number, line in enumerate([*lines, "fn"]):
         if is_open:
             clauses.append(line)
             is_open = _is_open(clauses)
             continue
-        if re.match(r"(pub )?(unsafe )?(trait|impl)\b", line):
-            subject, has_no_pub = subject_of(line)
+        if HEAD_BEGINS.match(line):
+            subject, has_no_pub = subject_of(lines, number)
             is_offered = is_public(subject)
         called = re.match(rf"(\s*)(pub |pub\(crate\) )?(?:const )?fn ({NAME})", line)
         ghost = re.match(rf"\s+ghost (?!(?:use|{PROOFS})\b)({NAME})", line)

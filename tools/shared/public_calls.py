@@ -18,9 +18,17 @@ def offered(root):
     return names
 
 
-def subject_of(line):
-    """The type or the trait that an `impl` or a trait is of, and whether all its functions are as public as that."""
-    plain = re.sub(r"<[^<>]*(?:<[^<>]*(?:<[^<>]*>[^<>]*)*>[^<>]*)*>", "", line)
+HEAD_BEGINS = re.compile(r"(pub )?(unsafe )?(trait|impl)\b")
+
+
+def subject_of(lines, first):
+    """The type or the trait whose `impl` or own head begins in this line, and whether all its functions are as public as that."""
+    head = ""
+    for line in lines[first:]:
+        head += f"{line.strip()} "
+        if line.endswith(("{", "}", ";")):
+            break
+    plain = re.sub(r"<[^<>]*(?:<[^<>]*(?:<[^<>]*>[^<>]*)*>[^<>]*)*>", "", head)
     words = [it for it in re.findall(NAME, plain.partition(" for ")[2] or plain) if it not in ("pub", "trait", "impl")]
     return (words[0] if words else None), (" for " in plain or "trait " in plain)
 
@@ -56,8 +64,8 @@ def calls_of(crate_folder):
         lines, subject, is_offered, has_no_pub = text_of(path).splitlines(), None, False, False
         is_open = os.path.splitext(os.path.basename(path))[0] in public
         for number, line in enumerate(lines):
-            if re.match(r"^(pub )?(unsafe )?(trait|impl)\b", line):
-                subject, has_no_pub = subject_of(line)
+            if HEAD_BEGINS.match(line):
+                subject, has_no_pub = subject_of(lines, number)
                 is_offered = subject in public or is_open
             called = re.match(rf"^(\s*)(pub |pub\(crate\) )?(?:const )?fn ({NAME})", line)
             if called and called[1] and is_offered and (has_no_pub or called[2] == "pub "):

@@ -1,7 +1,7 @@
 //! Running a command that writes a line of each group.
 ghost use Rattle.std.specs.Prelude.{◌≤◌, All, IfOk};
 ghost use Rattle.line_engine.specs.Runs.{IsRun};
-ghost use Rattle.receiver_pool.specs.Groups.{facts_of_group, IsShort, Shows};
+ghost use Rattle.receiver_pool.specs.Groups.{facts_of_group, IsShort, ShowsNews};
 ghost use Rattle.join_groups.specs.Meanings.{groups_meaning};
 
 use crate::commands::WriteGroups;
@@ -9,6 +9,7 @@ use crate::telling::GroupWriter;
 use byte_streams::{Sink, Source, Status};
 use line_engine::drive;
 use receiver_pool::{Gate, GroupReception, GroupSheet, Workers, pool_groups};
+use slot_evidence::Sheet;
 use std::alloc::{AllocError, Global};
 use std::thread::Threads;
 
@@ -38,10 +39,10 @@ pub fn write_groups<R: Threads + Sync, S: Source, K: Sink, G: Gate, T: GroupWrit
     requires { (1 ≤ workers) × (workers ≤ 64) }
     ensures { IsRun (groups_meaning T.tells) S.Source K.Sink source.old source.new sink.old sink.new result }
 {
-    let join = |batch: &[GroupReception]| -> Result<Vec<GroupSheet>, AllocError>
+    let join = |known: &[Sheet], batch: &[GroupReception]| -> Result<Vec<GroupSheet>, AllocError>
         requires { (1 ≤ workers) × (workers ≤ 64) × All IsShort batch.now }
-        ensures { IfOk result (λ v. Shows (facts_of_group batch.now) batch.now v.items) }
-    { pool_groups(rt, alloc, batch, workers, gate) };
+        ensures { IfOk result (λ v. ShowsNews known.now (facts_of_group batch.now) batch.now v.items) }
+    { pool_groups(rt, alloc, known, batch, workers, gate) };
     let workers = Workers::new(workers, gate, join);
     let mut command = WriteGroups::new(alloc, workers, teller);
     drive(alloc, &mut command, source, sink)

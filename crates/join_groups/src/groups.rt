@@ -2,7 +2,7 @@
 ghost use Rattle.std.specs.Prelude.{◌≡◌, ◌≢◌, ◌⊎◌, ◌↔◌, ℕ, ◌+◌, ◌<◌, ◌≤◌, Bool, false, nat_le, length, [], None, Some, IfOk, IfErr, IfSome, OnOk};
 ghost use Rattle.slot_evidence.specs.Facts.{Facts, facts_of, no_facts};
 ghost use Rattle.slot_evidence.specs.Sheet.{IsEnds};
-ghost use Rattle.receiver_pool.specs.Groups.{facts_of_group, Shows};
+ghost use Rattle.receiver_pool.specs.Groups.{facts_of_group, ShowsNews};
 ghost use Rattle.join_groups.specs.Holds.{Holds, HoldsSome, IsFull, named_with, facts_with, facts_without, number_in};
 
 use line_engine::Refusal;
@@ -211,7 +211,7 @@ impl NamedGroups {
         ensures empty { OnOk result (self.new.batch.items ≡ []) }
     {
         if !self.batch.is_empty() {
-            let shown = workers.read_batch(&self.batch)?;
+            let shown = workers.read_batch(&self.sheets, &self.batch)?;
             self.end_batch(shown)?;
         }
         Ok(())
@@ -231,10 +231,11 @@ impl NamedGroups {
         Ok(())
     }
 
-    /// Ends the batch, which showed this of its groups.
+    /// Ends the batch, which showed this of its groups beside what was known of them.
     pub fn end_batch(&mut self, shown: Vec<GroupSheet>) -> Result<(), AllocError>
         requires ready { HoldsSome self.old }
-        requires shown { Shows (facts_of_group self.old.batch.items) self.old.batch.items shown.items }
+        requires shown { ShowsNews self.old.sheets.items (facts_of_group self.old.batch.items) self.old.batch.items
+            shown.items }
         ensures holds { OnOk result ((named : ℕ → Bool) (F : ℕ → Facts) → Holds self.old named F
             → Holds self.new named F) }
         ensures empty { OnOk result (self.new.batch.items ≡ []) }

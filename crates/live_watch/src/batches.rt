@@ -4,7 +4,7 @@ ghost use Rattle.slot_evidence.specs.declared.places.Seen.{Seen};
 ghost use Rattle.slot_evidence.specs.Facts.{Facts, union};
 ghost use Rattle.slot_evidence.specs.Sheet.{IsEnds, facts_in};
 ghost use Rattle.evidence_board.specs.Seats.{Held};
-ghost use Rattle.receiver_pool.specs.Groups.{facts_of_group, IsShort, Shows};
+ghost use Rattle.receiver_pool.specs.Groups.{facts_of_group, IsShort, ShowsNews};
 ghost use Rattle.receiver_pool.specs.Rows.{AreAsBefore, HaveSeenNothing, Sit};
 ghost use Rattle.live_watch.specs.declared.batches.WatchedGroup.{WatchedGroup as Begun};
 ghost use Rattle.live_watch.specs.Told.{IsReportOf};
@@ -402,13 +402,14 @@ pub fn watch_batch<R: Threads + Sync, G: Gate>(
 ) -> Result<(Vec<GroupSheet>, BatchWatcher), AllocError>
     requires workers { (1 ≤ workers) × (workers ≤ 64) }
     requires short { All IsShort batch.now }
-    ensures shown { IfOk result (λ v. Shows (facts_of_group batch.now) batch.now v.0.items) }
+    ensures shown { IfOk result (λ v. ShowsNews known.now (facts_of_group batch.now) batch.now v.0.items) }
     ensures watched { IfOk result (λ v. HasWatched watcher v.1 known.now batch.now) }
 {
     if watcher.watched.is_empty() {
-        let entries = pool_groups(rt, alloc, batch, workers, gate)?;
+        let entries = pool_groups(rt, alloc, known, batch, workers, gate)?;
         return Ok((entries, watcher));
     }
+    ends_are_kept();
     pool_groups_beside(rt, alloc, known, batch, workers, gate, watcher)
 }
 
@@ -430,7 +431,7 @@ pub trait WatchedJoiner: Drop {
     ) -> Result<(Vec<GroupSheet>, BatchWatcher), AllocError>
         requires joins { can_join self.now }
         requires short { All IsShort batch.now }
-        ensures shown { IfOk result (λ v. Shows (facts_of_group batch.now) batch.now v.0.items) }
+        ensures shown { IfOk result (λ v. ShowsNews known.now (facts_of_group batch.now) batch.now v.0.items) }
         ensures watched { IfOk result (λ v. HasWatched watcher v.1 known.now batch.now) };
 }
 

@@ -1,5 +1,6 @@
 mod Parts
 mod Posted
+mod Beyond
 mod Entries
 mod Turning
 mod SeatRows

@@ -4,7 +4,8 @@ use Rattle.std.specs.List.{filter, list_any}
 use Rattle.phasing.specs.declared.reception.TheConstants.{LONGEST}
 use Rattle.slot_evidence.specs.declared.places.Seen.{Seen}
 use Rattle.slot_evidence.specs.Facts.{Facts, facts_of}
-use Rattle.slot_evidence.specs.Sheet.{IsEnds}
+use Rattle.slot_evidence.specs.Sheet.{IsEnds, facts_in}
+use Rattle.slot_evidence.specs.Alike.{AreAlike}
 use Rattle.receiver_pool.specs.declared.group_entries.GroupReception.{GroupReception}
 use Rattle.receiver_pool.specs.declared.group_entries.GroupSheet.{GroupSheet}
 
@@ -54,3 +55,17 @@ pub record Shows (F : ℕ → Facts) (batch : List GroupReception) (entries : Li
   pub facts : AreShown F entries
   pub groups : (n : ℕ) → All (Belongs n) batch → All (IsOneOf n) entries
   pub named : map (λ entry. entry.group) entries ≡ groups_of batch
+
+-- what is known of the group with this number: nothing where there is no sheet of it
+abbrev pub known_at : List (List Seen) → ℕ → List Seen
+known_at known k = slice_index_or known k []
+
+-- with what is known, the ones and the others have the same ends at each place
+abbrev pub AreAlikeBeyond : List Seen → Facts → Facts → Type 0
+AreAlikeBeyond known F G = (p : ℕ) → AreAlike (λ v. facts_in known p v || F p v) (λ v. facts_in known p v || G p v)
+
+-- the entries show what is news of each group, and with what is known of it this has the ends of these facts
+pub record ShowsNews (known : List (List Seen)) (F : ℕ → Facts) (batch : List GroupReception) (entries : List GroupSheet) : Type 0 where
+  pub news : ℕ → Facts
+  pub shows : Shows news batch entries
+  pub alike : (k : ℕ) → AreAlikeBeyond (known_at known k) (F k) (news k)

@@ -96,6 +96,9 @@ pub struct Turns {
     /// How many workers there are: worker w takes the receptions whose index leaves w when divided by their number.
     pub workers: u32,
     pub posts: Posts,
+
+    /// What was known before of the group at each place. A worker posts no sheet that shows nothing more.
+    pub known: Vec<Sheet>,
 }
 
 /// Reads the receptions of workers who have entered into the sheets of their groups.

@@ -3,8 +3,8 @@ ghost use Rattle.std.specs.Prelude.{◌≡◌, ℕ, ◌+◌, ◌-◌, ◌<◌, �
 ghost use Rattle.std.specs.Thread.{IsSync, IsSend};
 ghost use Rattle.slot_evidence.specs.Facts.{Facts, no_facts, union};
 ghost use Rattle.slot_evidence.specs.Sheet.{IsEnds};
-ghost use Rattle.receiver_pool.specs.Groups.{facts_of_group, AreSheets, IsShort, Shows};
-ghost use Rattle.receiver_pool.specs.inside.Numbers.{AreTurns, HavePosted, read_by};
+ghost use Rattle.receiver_pool.specs.Groups.{facts_of_group, AreSheets, IsShort, ShowsNews};
+ghost use Rattle.receiver_pool.specs.inside.Numbers.{AreTurns, KeepNews, NewsPosted, read_by};
 ghost use Rattle.receiver_pool.specs.Rows.{Sit};
 
 use crate::at_once::post_turns;
@@ -12,10 +12,11 @@ use crate::batch_groups::{Turns, entries_of, number_groups, shown_to, threads_of
 use crate::boards::{blank_sheets, boards_for, close_each, join_each, post_each, split_each};
 use crate::gate::{Gate, enter};
 use crate::group_entries::{GroupReception, GroupSheet};
+use crate::news::{known_of, leave_news};
 use crate::posts::Posts;
 use crate::threads::parted;
 use evidence_board::{AllFacts, Board, Seat, WHOLE};
-use slot_evidence::Sheet;
+use slot_evidence::{Sheet, ends_are_kept};
 use std::alloc::{AllocError, Global};
 use std::thread::{Threads, join};
 
@@ -41,7 +42,8 @@ pub fn take_sheet(sheets: &mut [Sheet], number: usize) -> Sheet
 }
 
 /// One thread, for the workers from `low` on and below `high`: they enter the gate, and it joins their receptions, and
-/// posts what these showed of each group; where somebody looks at the boards, each reception at once.
+/// posts what these showed of each group beside what is known; where somebody looks at the boards, each reception at
+/// once.
 fn work<G: Gate>(
     alloc: Global,
     boards: &[Board<AllFacts>],
@@ -55,9 +57,11 @@ fn work<G: Gate>(
     requires workers { 0 < turns.now.workers }
     requires seats { Sit 1 boards.now seats.items }
     requires turns { AreTurns (length boards.now) batch.now turns.now }
-    ensures { IfOk result (λ v. HavePosted (read_by batch.now turns.now low high) boards.now seats.items v.items) }
+    ensures { IfOk result (λ v. NewsPosted turns.now.known.items (read_by batch.now turns.now low high) boards.now
+        seats.items v.items) }
 {
     let entered = enter(gate, low, high);
+    ends_are_kept();
     if turns.posts.is_watched() {
         let mut sheets = blank_sheets(alloc, boards.len())?;
         post_turns(
@@ -72,7 +76,8 @@ fn work<G: Gate>(
         );
         return Ok(seats);
     }
-    let sheets = shown_to(&entered, alloc, batch, turns, boards.len())?;
+    let mut sheets = shown_to(&entered, alloc, batch, turns, boards.len())?;
+    leave_news(&mut sheets, &turns.known);
     post_each(boards, &mut seats, &sheets);
     Ok(seats)
 }
@@ -97,7 +102,8 @@ pub(crate) fn fork_groups<R: Threads + Sync, G: Gate>(
     requires threads { 1 ≤ threads }
     requires seats { Sit threads boards.now seats.items }
     requires turns { AreTurns (length boards.now) batch.now turns.now }
-    ensures { IfOk result (λ v. HavePosted (read_by batch.now turns.now low high) boards.now seats.items v.items) }
+    ensures { IfOk result (λ v. NewsPosted turns.now.known.items (read_by batch.now turns.now low high) boards.now
+        seats.items v.items) }
 {
     if threads == 1 || high - low == 1 {
         return work(alloc, boards, seats, batch, turns, low, high, gate);
@@ -111,8 +117,8 @@ pub(crate) fn fork_groups<R: Threads + Sync, G: Gate>(
         move || -> Result<Vec<Seat<AllFacts>>, AllocError>
             requires { IsSync R.row × IsSync G.row × ((low < middle) × (middle ≤ turns.now.workers))
                 × (1 ≤ more) × Sit more boards.now seats.items × AreTurns (length boards.now) batch.now turns.now }
-            ensures { IfOk result (λ v. HavePosted (read_by batch.entry.now turns.entry.now low middle) boards.entry.now
-                seats.items v.items) }
+            ensures { IfOk result (λ v. NewsPosted turns.entry.now.known.items
+                (read_by batch.entry.now turns.entry.now low middle) boards.entry.now seats.items v.items) }
         {
             fork_groups(
                 rt, alloc, boards, seats, batch, turns, low, middle, more, gate,
@@ -121,14 +127,15 @@ pub(crate) fn fork_groups<R: Threads + Sync, G: Gate>(
         move || -> Result<Vec<Seat<AllFacts>>, AllocError>
             requires { IsSync R.row × IsSync G.row × ((middle < high) × (high ≤ turns.now.workers))
                 × (1 ≤ half) × Sit half boards.now others.items × AreTurns (length boards.now) batch.now turns.now }
-            ensures { IfOk result (λ v. HavePosted (read_by batch.entry.now turns.entry.now middle high)
-                boards.entry.now others.items v.items) }
+            ensures { IfOk result (λ v. NewsPosted turns.entry.now.known.items
+                (read_by batch.entry.now turns.entry.now middle high) boards.entry.now others.items v.items) }
         {
             fork_groups(
                 rt, alloc, boards, others, batch, turns, middle, high, half, gate,
             )
         },
     );
+    ends_are_kept();
     let mut joined = first?;
     join_each(boards, &mut joined, second?);
     Ok(joined)
@@ -152,8 +159,8 @@ fn start_groups<R: Threads + Sync, G: Gate>(
     requires threads { 1 ≤ threads }
     requires seats { Sit threads boards.now seats.items }
     requires turns { AreTurns (length boards.now) batch.now turns.now }
-    ensures { IfOk result (λ v. HavePosted (read_by batch.now turns.now 0 turns.now.workers) boards.now seats.items
-        v.items) }
+    ensures { IfOk result (λ v. NewsPosted turns.now.known.items (read_by batch.now turns.now 0 turns.now.workers)
+        boards.now seats.items v.items) }
 {
     let workers = turns.workers;
     if threads <= 2 {
@@ -167,8 +174,8 @@ fn start_groups<R: Threads + Sync, G: Gate>(
         move || -> Result<Vec<Seat<AllFacts>>, AllocError>
             requires { IsSync R.row × IsSync G.row × ((1 ≤ workers) × (workers ≤ turns.now.workers))
                 × (1 ≤ threads) × Sit threads boards.now seats.items × AreTurns (length boards.now) batch.now turns.now }
-            ensures { IfOk result (λ v. HavePosted (read_by batch.entry.now turns.entry.now 0 workers) boards.entry.now
-                seats.items v.items) }
+            ensures { IfOk result (λ v. NewsPosted turns.entry.now.known.items
+                (read_by batch.entry.now turns.entry.now 0 workers) boards.entry.now seats.items v.items) }
         {
             fork_groups(
                 rt, alloc, boards, seats, batch, turns, 0, workers, threads, gate,
@@ -189,8 +196,10 @@ fn share_groups<R: Threads + Sync, G: Gate>(
 ) -> Result<Vec<Sheet>, AllocError>
     requires workers { (1 ≤ turns.now.workers) × (turns.now.workers ≤ 64) }
     requires turns { AreTurns count batch.now turns.now }
-    ensures { IfOk result (λ v. AreSheets (read_by batch.now turns.now 0 turns.now.workers) v.items count) }
+    ensures { IfOk result (λ v. KeepNews turns.now.known.items (read_by batch.now turns.now 0 turns.now.workers) v.items
+        count) }
 {
+    ends_are_kept();
     if turns.workers == 1 {
         let entered = enter(gate, 0, 1);
         return shown_to(&entered, alloc, batch, turns, count);
@@ -202,26 +211,31 @@ fn share_groups<R: Threads + Sync, G: Gate>(
 }
 
 /// What a batch of receptions shows: one entry for each group that it names, in the order in which it first names them,
-/// with what it showed of the group. 1 to 64 workers read them with one fork: worker w takes the receptions whose index
-/// leaves w when divided by their number. Each enters the gate once, first thing, and posts what it read of each group
-/// on that group's board. With one worker nothing is forked, and there is no board. The error is want of memory.
+/// with what it showed of the group beside what is known of it, which is the sheet with the group's number: nothing
+/// where there is none. 1 to 64 workers read them with one fork: worker w takes the receptions whose index leaves w
+/// when divided by their number. Each enters the gate once, first thing, and posts what it read of each group on that
+/// group's board, but where this shows nothing that isn't known. With one worker nothing is forked, and there is no
+/// board. The error is want of memory.
 pub fn pool_groups<R: Threads + Sync, G: Gate>(
     rt: &R,
     alloc: Global,
+    known: &[Sheet],
     batch: &[GroupReception],
     workers: u32,
     gate: &G,
 ) -> Result<Vec<GroupSheet>, AllocError>
     requires workers { (1 ≤ workers) × (workers ≤ 64) }
     requires short { All IsShort batch.now }
-    ensures { IfOk result (λ v. Shows (facts_of_group batch.now) batch.now v.items) }
+    ensures { IfOk result (λ v. ShowsNews known.now (facts_of_group batch.now) batch.now v.items) }
 {
     let (groups, places) = number_groups(alloc, batch)?;
     let turns = Turns {
         places,
         workers,
         posts: Posts::none(alloc),
+        known: known_of(alloc, known, &groups)?,
     };
+    ends_are_kept();
     let sheets = share_groups(rt, alloc, batch, &turns, groups.len(), gate)?;
     entries_of(alloc, &groups, &sheets)
 }

@@ -8,7 +8,7 @@ ghost use Rattle.evidence_board.specs.Rule.{IsWithin};
 ghost use Rattle.evidence_board.specs.Seats.{Held};
 ghost use Rattle.evidence_board.specs.Views.{place_at, reach_of};
 ghost use Rattle.receiver_pool.specs.Groups.{facts_of_group, AreSheets, IsShort, Shows};
-ghost use Rattle.receiver_pool.specs.inside.Numbers.{AreTurns, HavePosted, read_by};
+ghost use Rattle.receiver_pool.specs.inside.Numbers.{AreTurns, NewsPosted, read_by};
 ghost use Rattle.receiver_pool.specs.Rows.{AreAsBefore, AreSeats, HaveSeenNothing, Sit, seat_at};
 ghost use Rattle.receiver_pool.specs.Seeing.{HasGoneRound};
 
@@ -19,7 +19,7 @@ use crate::gate::Gate;
 use crate::group_entries::{GroupReception, GroupSheet};
 use crate::posts::Posts;
 use evidence_board::{AllFacts, Board, Seat, WHOLE};
-use slot_evidence::Sheet;
+use slot_evidence::{Sheet, ends_are_kept};
 use std::alloc::{AllocError, Global};
 use std::thread::{Threads, join};
 
@@ -69,7 +69,7 @@ fn go_beside<G: Gate, B: Beside>(
     (beside, seats)
 }
 
-/// All workers, and somebody beside them, each with a seat of every board.
+/// All workers, and somebody beside them, each with a seat of every board. The workers post all that they read.
 fn fork_beside<R: Threads + Sync, G: Gate, B: Beside>(
     rt: &R,
     alloc: Global,
@@ -91,6 +91,7 @@ fn fork_beside<R: Threads + Sync, G: Gate, B: Beside>(
     requires others { Sit 1 boards.now others.items }
     requires unseen { HaveSeenNothing (length boards.now) others.items }
     requires turns { AreTurns (length boards.now) batch.now turns.now }
+    requires all { turns.now.known.items ≡ [] }
     requires count { length boards.now ≡ length groups.now }
     ensures seats { IfOk result (λ v. (share other : ℕ) (F H : ℕ → Facts) → AreSeats share F boards.now seats.items
         → AreSeats other H boards.now others.items
@@ -101,6 +102,7 @@ fn fork_beside<R: Threads + Sync, G: Gate, B: Beside>(
         × ((k : ℕ) → k < length boards.now → (p : ℕ) → p < 64
         → IsWithin (place_at (seat_at gone k).view p).seen (place_at (seat_at v.1.items k).view p).seen)) }
 {
+    ends_are_kept();
     let workers = turns.workers;
     let (first, joined) = join(
         rt,
@@ -113,8 +115,8 @@ fn fork_beside<R: Threads + Sync, G: Gate, B: Beside>(
         move || -> Result<Vec<Seat<AllFacts>>, AllocError>
             requires { IsSync R.row × IsSync G.row × ((1 ≤ workers) × (workers ≤ turns.now.workers))
                 × (1 ≤ threads) × Sit threads boards.now seats.items × AreTurns (length boards.now) batch.now turns.now }
-            ensures { IfOk result (λ v. HavePosted (read_by batch.entry.now turns.entry.now 0 workers) boards.entry.now
-                seats.items v.items) }
+            ensures { IfOk result (λ v. NewsPosted turns.entry.now.known.items
+                (read_by batch.entry.now turns.entry.now 0 workers) boards.entry.now seats.items v.items) }
         {
             let joined = fork_groups(
                 rt, alloc, boards, seats, batch, turns, 0, workers, threads, gate,
@@ -158,6 +160,7 @@ fn share_beside<R: Threads + Sync, G: Gate, B: Beside>(
 ) -> Result<(Vec<Sheet>, B), AllocError>
     requires workers { (1 ≤ turns.now.workers) × (turns.now.workers ≤ 64) }
     requires turns { AreTurns (length groups.now) batch.now turns.now }
+    requires all { turns.now.known.items ≡ [] }
     ensures sheets { IfOk result (λ v. AreSheets (read_by batch.now turns.now 0 turns.now.workers) v.0.items
         (length groups.now)) }
     ensures seen { IfOk result (λ v. (gone : List Held) × (length gone ≡ length groups.now)
@@ -200,6 +203,7 @@ pub fn pool_groups_beside<R: Threads + Sync, G: Gate, B: Beside>(
         places,
         workers,
         posts: Posts::of(alloc, known, &groups)?,
+        known: Vec::new(alloc),
     };
     let (sheets, beside) = share_beside(rt, alloc, known, &groups, batch, &turns, gate, beside)?;
     let entries = entries_of(alloc, &groups, &sheets)?;

@@ -8,6 +8,7 @@ mod beside;
 mod boards;
 mod gate;
 mod group_entries;
+mod news;
 mod pools;
 mod posts;
 mod rendezvous;

@@ -1,15 +1,16 @@
 //! Those who join receptions.
-ghost use Rattle.std.specs.Prelude.{◌≡◌, ◌≤◌, ℕ, All, IfOk, IfSome, length};
+ghost use Rattle.std.specs.Prelude.{◌≡◌, ◌≤◌, ℕ, List, All, IfOk, IfSome, length};
 ghost use Rattle.slot_evidence.specs.Facts.{Facts, facts_of, union};
 ghost use Rattle.slot_evidence.specs.Sheet.{IsEnds};
-ghost use Rattle.receiver_pool.specs.Groups.{facts_of_group, AreSheets, AreShown, IsOneOf, IsShort, Shows};
+ghost use Rattle.receiver_pool.specs.declared.group_entries.GroupReception.{GroupReception};
+ghost use Rattle.receiver_pool.specs.Groups.{facts_of_group, AreSheets, IsOneOf, IsShort, ShowsNews};
 ghost use Rattle.receiver_pool.specs.Joining.{JoinsBatches};
 
 use crate::batches::meet_sheet;
 use crate::gate::{Entered, Gate, enter};
 use crate::group_entries::{GroupReception, GroupSheet};
 use phasing::LONGEST;
-use slot_evidence::{Reception, Sheet, shown_by};
+use slot_evidence::{Reception, Sheet, ends_are_kept, shown_by};
 use std::alloc::AllocError;
 
 /// How receptions are read.
@@ -51,11 +52,16 @@ pub trait Joiner: Drop {
     /// How they read receptions.
     fn reading(&self) -> &Reading;
 
-    /// What a batch of receptions shows of each group. The error is want of memory.
-    fn read_batch(&self, batch: &[GroupReception]) -> Result<Vec<GroupSheet>, AllocError>
+    /// What a batch of receptions shows of each group beside what is known of it, which is the sheet with the group's
+    /// number. The error is want of memory.
+    fn read_batch(
+        &self,
+        known: &[Sheet],
+        batch: &[GroupReception],
+    ) -> Result<Vec<GroupSheet>, AllocError>
         requires joins { can_join self.now }
         requires short { All IsShort batch.now }
-        ensures { IfOk result (λ v. Shows (facts_of_group batch.now) batch.now v.items) };
+        ensures { IfOk result (λ v. ShowsNews known.now (facts_of_group batch.now) batch.now v.items) };
 }
 
 /// Those who join receptions: one worker, who joins each at once, or several, who read batches by this function, as
@@ -78,15 +84,20 @@ impl<J: Drop> Workers<J> {
     }
 }
 
-impl<J: Drop + Fn(&[GroupReception]) -> Result<Vec<GroupSheet>, AllocError>> Joiner for Workers<J> {
+impl<J: Drop + Fn(&[Sheet], &[GroupReception]) -> Result<Vec<GroupSheet>, AllocError>> Joiner
+    for Workers<J> {
     ghost can_join = { λ workers. JoinsBatches (J.pre workers.join) (J.post workers.join) };
 
     fn reading(&self) -> &Reading {
         &self.reading
     }
 
-    fn read_batch(&self, batch: &[GroupReception]) -> Result<Vec<GroupSheet>, AllocError> {
-        (self.join)(batch)
+    fn read_batch(
+        &self,
+        known: &[Sheet],
+        batch: &[GroupReception],
+    ) -> Result<Vec<GroupSheet>, AllocError> {
+        (self.join)(known, batch)
     }
 }
 
@@ -98,12 +109,13 @@ fn read_by(_entered: &Entered, heard: &Reception) -> Sheet
     shown_by(heard)
 }
 
-/// Takes what was shown of groups into their sheets.
+/// Takes what a batch showed of its groups, beside what their sheets keep, into these sheets.
 pub fn meet_entries(sheets: &mut [Sheet], entries: &[GroupSheet])
     requires { All (IsOneOf (length sheets.old)) entries.now }
-    ensures { (F G : ℕ → Facts) (n : ℕ) → AreSheets F sheets.old n → AreShown G entries.now
-        → AreSheets (λ k. union (F k) (G k)) sheets.new n }
+    ensures { (F G : ℕ → Facts) (batch : List GroupReception) (n : ℕ) → AreSheets F sheets.old n
+        → ShowsNews sheets.old G batch entries.now → AreSheets (λ k. union (F k) (G k)) sheets.new n }
 {
+    ends_are_kept();
     for entry in entries {
         meet_sheet(sheets, entry.group, &entry.sheet);
     }

@@ -1,7 +1,7 @@
 //! Running the command `watch`.
 ghost use Rattle.std.specs.Prelude.{◌≤◌, All, IfOk};
 ghost use Rattle.line_engine.specs.Runs.{IsRun};
-ghost use Rattle.receiver_pool.specs.Groups.{facts_of_group, IsShort, Shows};
+ghost use Rattle.receiver_pool.specs.Groups.{facts_of_group, IsShort, ShowsNews};
 ghost use Rattle.live_watch.specs.Batches.{HasWatched};
 ghost use Rattle.watch_groups.specs.Meaning.{watch_meaning};
 
@@ -49,7 +49,7 @@ pub fn watch_groups<R: Threads + Sync, S: Source, K: Sink, G: Gate>(
         AllocError,
     >
         requires { (1 ≤ workers) × (workers ≤ 64) × All IsShort batch.now }
-        ensures { IfOk result (λ v. Shows (facts_of_group batch.now) batch.now v.0.items
+        ensures { IfOk result (λ v. ShowsNews known.now (facts_of_group batch.now) batch.now v.0.items
             × HasWatched watcher v.1 known.now batch.now) }
     { watch_batch(rt, alloc, known, batch, workers, gate, watcher) };
     let workers = WatchedWorkers::new(workers, gate, join);

@@ -281,7 +281,7 @@ fn receptions_without_an_origin_show_nothing(rt: HostRuntime) -> Result<(), Fail
     }
     assert!(rt; are_all_short(&batch));
     for workers in [1, 2, 64] {
-        let entries = pool_groups(&rt, rt.alloc(), &batch, workers, &Open)?;
+        let entries = pool_groups(&rt, rt.alloc(), &[], &batch, workers, &Open)?;
         assert_eq!(rt; entries.len(), 2, "{workers} workers");
         for entry in &entries {
             assert_eq!(rt; entry.sheet, Sheet::empty(), "{workers} workers");
@@ -296,7 +296,7 @@ fn groups_of_a_batch(rt: HostRuntime) -> Result<(), Fail> {
     let batch = two_groups(rt.alloc())?;
     assert!(rt; are_all_short(&batch));
     for workers in [1, 2, 3, 64] {
-        let entries = pool_groups(&rt, rt.alloc(), &batch, workers, &Open)?;
+        let entries = pool_groups(&rt, rt.alloc(), &[], &batch, workers, &Open)?;
         assert_eq!(rt; entries.len(), 2);
         let second = sheet_of_group(&entries, 513);
         assert_eq!(rt; second.at(6), Seen::None);
@@ -304,8 +304,30 @@ fn groups_of_a_batch(rt: HostRuntime) -> Result<(), Fail> {
         assert_eq!(rt; sheet_of_group(&entries, 1), whole, "{workers} workers");
     }
     let gate = Rendezvous::of(2);
-    let entries = pool_groups(&rt, rt.alloc(), &batch, 2, &gate)?;
+    let entries = pool_groups(&rt, rt.alloc(), &[], &batch, 2, &gate)?;
     assert_eq!(rt; entries.len(), 2);
     assert_eq!(rt; gate.came_together(), 2);
+    Ok(())
+}
+
+#[test]
+fn what_is_known_of_a_group_is_not_posted_again(rt: HostRuntime) -> Result<(), Fail> {
+    let known = [Sheet::empty(), whole_sheet(&rt, rt.alloc())?];
+    let batch = two_groups(rt.alloc())?;
+    assert!(rt; are_all_short(&batch));
+    for workers in [2, 3, 64] {
+        let entries = pool_groups(&rt, rt.alloc(), &known, &batch, workers, &Open)?;
+        assert_eq!(rt; entries.len(), 2, "{workers} workers");
+        assert_eq!(rt;
+            sheet_of_group(&entries, 1),
+            Sheet::empty(),
+            "{workers} workers"
+        );
+        assert_eq!(rt;
+            sheet_of_group(&entries, 513).at(7),
+            Seen::One(106),
+            "{workers} workers"
+        );
+    }
     Ok(())
 }

@@ -7,7 +7,8 @@ use Rattle.evidence_board.specs.Seats.{Held}
 use Rattle.receiver_pool.specs.declared.batch_groups.Turns.{Turns}
 use Rattle.receiver_pool.specs.declared.group_entries.GroupReception.{GroupReception}
 use Rattle.receiver_pool.specs.declared.batch_groups.TheConstants.{NOWHERE, REMEMBERED}
-use Rattle.receiver_pool.specs.Groups.{Belongs, IsShort, groups_of}
+use Rattle.slot_evidence.specs.declared.places.Seen.{Seen}
+use Rattle.receiver_pool.specs.Groups.{AreAlikeBeyond, AreSheets, Belongs, IsShort, groups_of, known_at}
 use Rattle.receiver_pool.specs.Rows.{AreSeats}
 use Rattle.receiver_pool.specs.inside.Turns.{is_turn, taken, nobody}
 
@@ -78,3 +79,19 @@ read_by batch turns low high = place_part (is_turn turns.workers low high) batch
 -- through a seat of each board the facts of its group were posted besides
 abbrev pub HavePosted : (ℕ → Facts) → List TableId → List Held → List Held → Type 0
 HavePosted G boards before after = (share : ℕ) (F : ℕ → Facts) → AreSeats share F boards before → AreSeats share (λ k. union (F k) (G k)) boards after
+
+-- the sheets keep what is news of each group, beside what is known of it
+pub record KeepNews (known : List (List Seen)) (F : ℕ → Facts) (sheets : List (List Seen)) (n : ℕ) : Type 0 where
+  pub news : ℕ → Facts
+  pub are : AreSheets news sheets n
+  pub alike : (k : ℕ) → k < n → AreAlikeBeyond (known_at known k) (F k) (news k)
+
+-- through a seat of each board what is news of these facts was posted besides
+pub record NewsPosted (known : List (List Seen)) (F : ℕ → Facts) (boards : List TableId) (before after : List Held) : Type 0 where
+  pub news : ℕ → Facts
+  pub posted : HavePosted news boards before after
+  pub alike : (k : ℕ) → k < length boards → AreAlikeBeyond (known_at known k) (F k) (news k)
+
+-- what is alike beyond the sheet at each place is alike beyond what is known of the group there
+abbrev pub AreKnown : List (List Seen) → List ℕ → List (List Seen) → Type 0
+AreKnown known groups sheets = (k : ℕ) → k < length groups → (F G : Facts) → AreAlikeBeyond (known_at sheets k) F G → AreAlikeBeyond (known_at known (slice_index groups k)) F G

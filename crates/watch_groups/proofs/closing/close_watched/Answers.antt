@@ -4,7 +4,7 @@ use Rattle.std.proofs.lemmas.List.{nil_from_length}
 use Rattle.std.proofs.lemmas.List.Elements.{All-weaker}
 use Rattle.slot_evidence.specs.declared.places.Seen.{Seen}
 use Rattle.receiver_pool.specs.declared.group_entries.GroupReception.{GroupReception}
-use Rattle.receiver_pool.specs.Groups.{Belongs, IsShort, Shows, facts_of_group}
+use Rattle.receiver_pool.specs.Groups.{Belongs, IsShort, ShowsNews, facts_of_group}
 use Rattle.live_watch.specs.Batches.{HasWatched}
 use Rattle.live_watch.proofs.PublicLaws.{no_batch}
 use Rattle.watch_groups.proofs.closing.close_watched.Goals as goal
@@ -16,7 +16,11 @@ read_watched-requires-clause-short g c =
     (All-weaker (Belongs (length old.sheets.items)) IsShort (λ heard is. is.short) old.batch.items c.requires.ready.holds.belong)
 
 pub end_batch-requires-clause-shown : goal.end_batch-requires-clause-shown
-end_batch-requires-clause-shown g c = subst (λ (b : List GroupReception). Shows (facts_of_group b) b c.in_ok-shown.shown.items) c.batch-2.ensures c.in_ok-shown.ensures.shown
+end_batch-requires-clause-shown g c =
+    let shown = c.in_ok-shown.shown.items in
+    let batch = c.args.groups.now.batch.items in
+    subst (λ (s : List (List Seen)). ShowsNews s (facts_of_group batch) batch shown) c.sheets.ensures
+    (subst (λ (b : List GroupReception). ShowsNews c.sheets.result.now (facts_of_group b) b shown) c.batch-2.ensures c.in_ok-shown.ensures.shown)
 
 pub returns-clause-watched : goal.returns-clause-watched
 returns-clause-watched g c =
